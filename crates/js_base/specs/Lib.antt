@@ -1,0 +1,9 @@
+pub mod CalmFiles
+pub mod Counts
+pub mod Files
+pub mod MemFiles
+pub mod MemSink
+pub mod Name
+pub mod RealFiles
+pub mod Sink
+pub mod Status

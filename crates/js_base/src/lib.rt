@@ -1,0 +1,37 @@
+//! What every crate stands on: the ids, the limits, the exit codes, and the outside world as traits.
+#![tactic(auto)]
+
+mod binary_operator;
+mod calm_files;
+mod calm_sink;
+mod files;
+mod ids;
+pub mod limits;
+mod listed;
+mod mem_files;
+mod mem_sink;
+mod named_files;
+mod real_files;
+mod real_sink;
+mod sink;
+mod status;
+#[cfg(test)]
+mod tests;
+
+pub use binary_operator::BinOp;
+pub use calm_files::CalmFiles;
+pub use calm_sink::CalmSink;
+pub use files::{Files, LoadError, SaveError};
+pub use ids::{
+    EntryId, FieldId, FrameId, HostId, MethodId, PrincipalId, RequestId, SiteId, StmtId, VarId,
+};
+pub use mem_files::MemFiles;
+pub use mem_sink::MemSink;
+pub use real_files::RealFiles;
+pub use real_sink::RealSink;
+pub use sink::{PutError, Sink};
+pub use status::Status;
+
+/// Memory ran out, and nothing else went wrong.
+#[derive(Clone, Copy, Debug, PartialEq, Eq)]
+pub struct OutOfMemory;
