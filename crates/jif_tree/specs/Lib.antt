@@ -1,0 +1,3 @@
+pub mod SourceRun
+pub mod Store
+pub mod Validity

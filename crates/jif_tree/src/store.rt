@@ -1,0 +1,118 @@
+ghost use Rattle.std.specs.Prelude.{◌≡◌, ◌==◌, ◌<◌, length, IfOk, [], List};
+ghost use Rattle.jif_tree.specs.Store.{starting_values, starting_row, element_at, with_element};
+
+use crate::program::{Field, Program};
+use js_base::{FieldId, OutOfMemory};
+use std::alloc::Global;
+use std::marker::Model;
+
+/// The elements of a field. An element that is read out of range is 0, and a write out of range does nothing.
+#[derive(Drop)]
+pub struct Row {
+    elements: Vec<i64>,
+}
+
+impl Model for Row {
+    ghost use Rattle.std.specs.Prelude.{List, ℤ};
+
+    ghost Value = { List ℤ };
+
+    ghost view = { λ r. r.elements.items };
+}
+
+impl Row {
+    /// The row that a field starts with.
+    pub fn starting(alloc: Global, field: &Field) -> Result<Row, OutOfMemory>
+        ensures { IfOk result (λ row. row ≡ starting_row field.now) }
+    {
+        match vec![in alloc; field.first; field.size as usize] {
+            Ok(elements) => Ok(Row { elements }),
+            Err(_) => Err(OutOfMemory),
+        }
+    }
+
+    /// A row of no elements.
+    pub fn empty(alloc: Global) -> Row
+        ensures { result ≡ [] }
+    {
+        Row {
+            elements: Vec::new(alloc),
+        }
+    }
+
+    /// A row of the same elements.
+    pub fn copied(&self, alloc: Global) -> Result<Row, OutOfMemory>
+        ensures { IfOk result (λ row. row ≡ self.now) }
+    {
+        match Vec::from_slice(alloc, &self.elements) {
+            Ok(elements) => Ok(Row { elements }),
+            Err(_) => Err(OutOfMemory),
+        }
+    }
+
+    /// The elements in order.
+    pub fn elements(&self) -> &[i64]
+        ensures { result.now ≡ self.now }
+    {
+        &self.elements
+    }
+
+    /// The element at an index.
+    pub fn element(&self, index: i64) -> i64
+        ensures { result ≡ element_at self.now index }
+    {
+        match usize::try_from(index) {
+            Ok(index) => self.elements.get(index).copied().unwrap_or(0),
+            Err(_) => 0,
+        }
+    }
+
+    /// Writes the element at an index.
+    pub fn set_element(&mut self, index: i64, value: i64)
+        ensures { self.new ≡ with_element self.old index value }
+    {
+        if let Ok(index) = usize::try_from(index)
+            && index < self.elements.len()
+        {
+            self.elements[index] = value;
+        }
+    }
+}
+
+/// A number for each element of each field: a row a field, in order. A plain field has a row of one element.
+#[derive(Drop)]
+pub struct Store {
+    rows: Vec<Row>,
+}
+
+impl Model for Store {
+    ghost use Rattle.std.specs.Prelude.{List, ℤ};
+
+    ghost Value = { List (List ℤ) };
+
+    ghost view = { λ s. s.rows.items };
+}
+
+impl Store {
+    /// The store of the values that the program's text gives.
+    pub fn starting(alloc: Global, program: &Program) -> Result<Store, OutOfMemory>
+        ensures { IfOk result (λ store. store ≡ starting_values program.now) }
+    {
+        let mut rows = Vec::new(alloc);
+        for field in &program.fields {
+            let row = Row::starting(alloc, field)?;
+            rows.push(row).map_err(|_| OutOfMemory)?;
+        }
+        Ok(Store { rows })
+    }
+
+    /// The rows in the order of the fields.
+    pub fn rows(&self) -> &[Row]
+        ensures { result.now ≡ self.now }
+    {
+        &self.rows
+    }
+}
+
+#[cfg(test)]
+mod tests;
