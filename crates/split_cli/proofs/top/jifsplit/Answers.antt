@@ -1,0 +1,12 @@
+use Rattle.split_cli.proofs.Faithful.{done_is_faithful}
+use Rattle.split_cli.proofs.top.jifsplit.Goals as goal
+
+pub returns-clause-headline : goal.returns-clause-headline
+returns-clause-headline g c =
+    done_is_faithful
+    (λ tree file code store script w set ran. record {
+      follows = c.all_obey.ensures.follows tree file code store script w set ran;
+      idle = c.all_obey.ensures.idle tree file code store script w set ran;
+      ignored = c.all_obey.ensures.ignored tree file code store script w set ran;
+    })
+    _ _ _ _ _ c.answered.ensures.answer

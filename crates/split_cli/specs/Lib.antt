@@ -1,0 +1,12 @@
+pub mod Answers
+pub mod Faithful
+pub mod HostsForm
+pub mod HostsParts
+pub mod LineValues
+pub mod Loads
+pub mod ProgramForm
+pub mod Replay
+pub mod Report
+pub mod Resolution
+pub mod Shown
+pub mod Text

@@ -1,0 +1,144 @@
+// What is owed for what the three files hold.
+
+ghost use Rattle.std.specs.Prelude.{◌≡◌, ◌≤◌, ◌<◌, ◌^◌, ℕ, List, All, length, map, string_bytes, option_copied, IfOk, IfSome, IfNone, IsSomeAnd};
+ghost use Rattle.split_cli.specs.ProgramForm.{FieldForm, AssignmentForm, SpellsProgram};
+ghost use Rattle.split_cli.specs.HostsForm.{HostForm, SpellsHosts};
+ghost use Rattle.split_cli.specs.Replay.{DueForBytes, due_for_script};
+ghost use Rattle.split_cli.specs.Shown.{shown, IsLoaded, IsBuiltOf, IsNotBuilt};
+ghost use Rattle.jif_tree.specs.Store.{starting_values};
+ghost use Rattle.net_world.specs.World.{world_at_start};
+ghost use Rattle.net_world.specs.Events.{script_of};
+
+use crate::first_code::code_of;
+use crate::hosts_form::{HostsDraft, read_hosts};
+use crate::program_form::{ProgramDraft, read_program};
+use crate::report::report_text;
+use crate::resolve::resolve;
+use crate::resolve_hosts::resolve_hosts;
+use crate::verdict::Verdict;
+use jif_tree::{Program, Store};
+use js_base::OutOfMemory;
+use net_world::event_text::{EventsError, read_events};
+use net_world::host_code::Code;
+use net_world::world::{EventError, World};
+use std::alloc::Global;
+
+/// An accepted program, as a tree and as the code of its hosts.
+#[derive(Drop)]
+struct Accepted {
+    tree: Program,
+    code: Code,
+}
+
+/// What is owed for what the three files hold, where `None` is a file that is too long and `name` is that of the
+/// third.
+pub fn verdict_for(
+    alloc: Global,
+    name: &str,
+    program: Option<&[u8]>,
+    hosts: Option<&[u8]>,
+    events: Option<&[u8]>,
+) -> Result<Verdict, OutOfMemory>
+    requires program { IfSome (option_copied program) (λ bytes. length bytes ≤ 1048576) }
+    requires events { IfSome (option_copied events) (λ bytes. length bytes ≤ 16777216) }
+    ensures { IfOk result (λ verdict. (p h e : List ℕ) →
+        IsLoaded 1048576 p (option_copied program.entry) → IsLoaded 65536 h (option_copied hosts.entry) → IsLoaded 16777216 e (option_copied events.entry) →
+        DueForBytes name.now p h e (shown verdict)) }
+{
+    let Some(program) = program_draft(alloc, program)? else {
+        return Verdict::program_not_built(alloc);
+    };
+    let Some(hosts) = hosts_draft(alloc, hosts)? else {
+        return Verdict::hosts_not_built(alloc);
+    };
+    let Some(accepted) = build(alloc, program, hosts)? else {
+        return Verdict::program_not_built(alloc);
+    };
+    match events {
+        Some(events) => replayed(alloc, name, &accepted, events),
+        None => Verdict::too_long(alloc, name),
+    }
+}
+
+/// The program that was loaded, by the first form, or `None` where it is too long or has none.
+fn program_draft(alloc: Global, program: Option<&[u8]>) -> Result<Option<ProgramDraft>, OutOfMemory>
+    ensures found { IfOk result (λ found. IfSome found (λ draft. IsSomeAnd (option_copied program.entry) (λ bytes.
+        SpellsProgram bytes draft.fields.items draft.assignments.items))) }
+    ensures none { IfOk result (λ found. IfNone found (IfSome (option_copied program.entry) (λ bytes.
+        (fields : List FieldForm) (assignments : List AssignmentForm) → ¬ SpellsProgram bytes fields assignments))) }
+{
+    match program {
+        Some(bytes) => read_program(alloc, bytes),
+        None => Ok(None),
+    }
+}
+
+/// The host file that was loaded, by the first form, or `None` where it is too long or has none.
+fn hosts_draft(alloc: Global, hosts: Option<&[u8]>) -> Result<Option<HostsDraft>, OutOfMemory>
+    ensures found { IfOk result (λ found. IfSome found (λ draft. IsSomeAnd (option_copied hosts.entry) (λ bytes.
+        SpellsHosts bytes (map string_bytes draft.principals.items) draft.hosts.items))) }
+    ensures none { IfOk result (λ found. IfNone found (IfSome (option_copied hosts.entry) (λ bytes.
+        (principals : List (List ℕ)) (hosts : List HostForm) → ¬ SpellsHosts bytes principals hosts))) }
+{
+    match hosts {
+        Some(bytes) => read_hosts(alloc, bytes),
+        None => Ok(None),
+    }
+}
+
+/// The tree and the code that the lines of the two files stand for, or `None` where a name is bad or a field has no
+/// host.
+fn build(
+    alloc: Global,
+    program: ProgramDraft,
+    hosts: HostsDraft,
+) -> Result<Option<Accepted>, OutOfMemory>
+    requires fields { length program.fields.items < 2 ^ 31 }
+    requires assignments { length program.assignments.items < 2 ^ 31 }
+    requires values { All (λ a. a.value ≤ 9223372036854775807) program.assignments.items }
+    requires hosts { (bytes : List ℕ) × SpellsHosts bytes (map string_bytes hosts.principals.items) hosts.hosts.items }
+    ensures found { IfOk result (λ found. IfSome found (λ it.
+        IsBuiltOf program.fields.items program.assignments.items (map string_bytes hosts.principals.items) hosts.hosts.items it.tree it.code)) }
+    ensures none { IfOk result (λ found. IfNone found (
+        IsNotBuilt program.fields.items program.assignments.items (map string_bytes hosts.principals.items) hosts.hosts.items)) }
+{
+    let hosts = resolve_hosts(alloc, hosts)?;
+    let Some(tree) = resolve(alloc, program, hosts.principals())? else {
+        return Ok(None);
+    };
+    let Some(code) = code_of(alloc, &tree, &hosts)? else {
+        return Ok(None);
+    };
+    Ok(Some(Accepted { tree, code }))
+}
+
+/// What is owed for a script of events of an accepted program, where `None` is a script that is too long.
+fn replayed(
+    alloc: Global,
+    name: &str,
+    accepted: &Accepted,
+    events: &[u8],
+) -> Result<Verdict, OutOfMemory>
+    requires script { length events.now ≤ 16777216 }
+    requires fields { length accepted.now.code.fields < 2 ^ 32 }
+    ensures { IfOk result (λ verdict. shown verdict ≡ due_for_script name.now accepted.now.code
+        (world_at_start accepted.now.code (starting_values accepted.now.tree)) (script_of accepted.now.code.hosts events.now)) }
+{
+    let code = &accepted.code;
+    let script = match read_events(alloc, code, events) {
+        Ok(script) => script,
+        Err(EventsError::BadLine(line)) => return Verdict::no_form(alloc, name, line),
+        Err(EventsError::TooLong) => return Verdict::too_long(alloc, name),
+        Err(EventsError::OutOfMemory) => return Err(OutOfMemory),
+    };
+    let store = Store::starting(alloc, &accepted.tree)?;
+    let mut world = World::start(alloc, code, &store)?;
+    match world.run(code, script.events()) {
+        Ok(()) => Ok(Verdict::Print(report_text(alloc, code, &world)?)),
+        Err((line, EventError::NotThere)) => Verdict::not_there(alloc, name, line),
+        Err((line, EventError::HostBusy)) => Verdict::host_busy(alloc, name, line),
+        Err((_, EventError::OutOfMemory)) => Err(OutOfMemory),
+        // No host of a world that has just started is stopped.
+        Err((_, EventError::Stopped)) => unreachable!(),
+    }
+}

@@ -1,0 +1,85 @@
+//! The lines of what is in flight.
+
+ghost use Rattle.std.specs.Prelude.{◌≡◌, ◌<◌, ◌≤◌, ◌∷◌, [], ◌++◌, OnOk, length};
+ghost use Rattle.std.specs.String.{string_bytes};
+ghost use Rattle.net_world.specs.World.{world_of};
+ghost use Rattle.split_cli.specs.Report.{flying_line, flying_lines, host_name, lines_from, queue_lines};
+ghost use Rattle.split_cli.specs.Text.{lines_text};
+
+use crate::report::hosts::host_name;
+use js_base::{HostId, OutOfMemory};
+use net_world::event_text::message_text;
+use net_world::host_code::{Code, Message};
+use net_world::world::World;
+use std::alloc::Global;
+use std::fmt::Write;
+
+/// Adds the lines of what is in flight, by pairs of hosts.
+#[tactic(auto, using(crate::proofs::ReportLines::below_more))]
+pub fn push_flying(
+    alloc: Global,
+    text: &mut String,
+    code: &Code,
+    world: &World,
+) -> Result<(), OutOfMemory>
+    requires { length world.now.hosts ≤ 16 }
+    ensures { OnOk result (string_bytes text.new ≡ string_bytes text.old ++ lines_text (flying_lines code.now (world_of world.now))) }
+{
+    for from in 0..world.host_count() {
+        push_flying_from(alloc, text, code, world, HostId(from as u8))?;
+    }
+    Ok(())
+}
+
+/// Adds the lines of what is in flight from a host to each host.
+#[tactic(auto, using(crate::proofs::ReportLines::below_more))]
+fn push_flying_from(
+    alloc: Global,
+    text: &mut String,
+    code: &Code,
+    world: &World,
+    from: HostId,
+) -> Result<(), OutOfMemory>
+    requires { length world.now.hosts ≤ 16 }
+    ensures { OnOk result (string_bytes text.new ≡ string_bytes text.old ++ lines_text (lines_from code.now (world_of world.now) from.0)) }
+{
+    for to in 0..world.host_count() {
+        let to = HostId(to as u8);
+        push_queue(alloc, text, code, (from, to), world.flying(from, to))?;
+    }
+    Ok(())
+}
+
+/// Adds the lines of the messages in flight from the first host of a pair to the second.
+#[tactic(auto, using(crate::proofs::ReportLines::queue_lines_more))]
+fn push_queue(
+    alloc: Global,
+    text: &mut String,
+    code: &Code,
+    pair: (HostId, HostId),
+    queue: &[Message],
+) -> Result<(), OutOfMemory>
+    ensures { OnOk result (string_bytes text.new ≡ string_bytes text.old ++ lines_text (queue_lines code.now pair.0.0 pair.1.0 0 queue.now)) }
+{
+    for (place, message) in queue.iter().enumerate() {
+        push_message(alloc, text, code, pair, place, message)?;
+    }
+    Ok(())
+}
+
+/// Adds the line of a message in flight from the first host of a pair to the second.
+fn push_message(
+    alloc: Global,
+    text: &mut String,
+    code: &Code,
+    pair: (HostId, HostId),
+    place: usize,
+    message: &Message,
+) -> Result<(), OutOfMemory>
+    ensures { OnOk result (string_bytes text.new ≡ string_bytes text.old ++ (flying_line code.now pair.0.0 pair.1.0 place message.now ++ 10 ∷ [])) }
+{
+    let from = host_name(code, pair.0);
+    let to = host_name(code, pair.1);
+    let said = message_text(alloc, code, message)?;
+    writeln!(text, "flying {from} {to} {place}: {said}").map_err(|_| OutOfMemory)
+}

@@ -1,0 +1,116 @@
+use js_base::{OutOfMemory, Status};
+use std::alloc::Global;
+
+/// What is owed for the words and the files: a refusal with its status and its line on the error output, or a report on
+/// the output.
+#[derive(Debug, Drop)]
+pub enum Verdict {
+    Refuse { status: Status, line: String },
+    Print(String),
+}
+
+impl Verdict {
+    ghost use Rattle.std.specs.Prelude.{◌≡◌, IfOk};
+    ghost use Rattle.split_cli.specs.Replay as replay;
+    ghost use Rattle.split_cli.specs.Shown.{shown};
+    ghost use Rattle.net_world.specs.World.{not_there, host_busy};
+
+    /// A refusal whose line says this after the program's name.
+    fn refusal(alloc: Global, status: Status, text: &str) -> Result<Verdict, OutOfMemory>
+        ensures { IfOk result (λ verdict. shown verdict ≡ replay.Refuse status (replay.error_line text.now)) }
+    {
+        match format!(in alloc; "jifsplit: {text}\n") {
+            Ok(line) => Ok(Verdict::Refuse { status, line }),
+            Err(_) => Err(OutOfMemory),
+        }
+    }
+
+    /// A refusal of a line of a file.
+    fn at_line(alloc: Global, file: &str, line: u32, text: &str) -> Result<Verdict, OutOfMemory>
+        ensures { IfOk result (λ verdict. shown verdict ≡ replay.at_file_line file.now line text.now) }
+    {
+        match format!(in alloc; "{file} line {line}: {text}") {
+            Ok(whole) => Verdict::refusal(alloc, Status::InputRefused, whole.as_str()),
+            Err(_) => Err(OutOfMemory),
+        }
+    }
+
+    /// The words have no form.
+    pub fn usage(alloc: Global) -> Result<Verdict, OutOfMemory>
+        ensures { IfOk result (λ verdict. shown verdict ≡ replay.usage) }
+    {
+        Verdict::refusal(alloc, Status::Usage, USAGE)
+    }
+
+    /// Nothing is held under the name of a file.
+    pub fn no_such_file(alloc: Global, file: &str) -> Result<Verdict, OutOfMemory>
+        ensures { IfOk result (λ verdict. shown verdict ≡ replay.no_such_file file.now) }
+    {
+        match format!(in alloc; "{file}: no such file") {
+            Ok(text) => Verdict::refusal(alloc, Status::InputRefused, text.as_str()),
+            Err(_) => Err(OutOfMemory),
+        }
+    }
+
+    /// The files failed at a file.
+    pub fn file_fault(alloc: Global, file: &str) -> Result<Verdict, OutOfMemory>
+        ensures { IfOk result (λ verdict. shown verdict ≡ replay.file_fault file.now) }
+    {
+        match format!(in alloc; "jifsplit: file fault: {file}\n") {
+            Ok(line) => Ok(Verdict::Refuse {
+                status: Status::FileFault,
+                line,
+            }),
+            Err(_) => Err(OutOfMemory),
+        }
+    }
+
+    /// The program is none of the first form, or its names or hosts are wrong.
+    pub fn program_not_built(alloc: Global) -> Result<Verdict, OutOfMemory>
+        ensures { IfOk result (λ verdict. shown verdict ≡ replay.program_not_built) }
+    {
+        Verdict::refusal(alloc, Status::SourceRefused, "program: not built yet")
+    }
+
+    /// The host file is none of the first form.
+    pub fn hosts_not_built(alloc: Global) -> Result<Verdict, OutOfMemory>
+        ensures { IfOk result (λ verdict. shown verdict ≡ replay.hosts_not_built) }
+    {
+        Verdict::refusal(alloc, Status::InputRefused, "hosts: not built yet")
+    }
+
+    /// A script has too many bytes.
+    pub fn too_long(alloc: Global, file: &str) -> Result<Verdict, OutOfMemory>
+        ensures { IfOk result (λ verdict. shown verdict ≡ replay.too_long file.now) }
+    {
+        match format!(in alloc; "{file}: too long") {
+            Ok(text) => Verdict::refusal(alloc, Status::InputRefused, text.as_str()),
+            Err(_) => Err(OutOfMemory),
+        }
+    }
+
+    /// A line of a script has no form.
+    pub fn no_form(alloc: Global, file: &str, line: u32) -> Result<Verdict, OutOfMemory>
+        ensures { IfOk result (λ verdict. shown verdict ≡ replay.no_form file.now line) }
+    {
+        Verdict::at_line(alloc, file, line, "no form")
+    }
+
+    /// There is no such event as a line of a script says.
+    pub fn not_there(alloc: Global, file: &str, line: u32) -> Result<Verdict, OutOfMemory>
+        ensures { IfOk result (λ verdict. shown verdict ≡ replay.event_refused file.now line not_there) }
+    {
+        Verdict::at_line(alloc, file, line, "not there")
+    }
+
+    /// The host of an event runs a thread.
+    pub fn host_busy(alloc: Global, file: &str, line: u32) -> Result<Verdict, OutOfMemory>
+        ensures { IfOk result (λ verdict. shown verdict ≡ replay.event_refused file.now line host_busy) }
+    {
+        Verdict::at_line(alloc, file, line, "host busy")
+    }
+}
+
+/// All forms of the words, those too that are not built yet.
+const USAGE: &str =
+    "usage: check P H / split P H OUT / run P H START N / replay P H EVENTS / drive P H START N / compare P H EVENTS1 EVENTS2 / make N";
