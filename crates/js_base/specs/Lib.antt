@@ -1,3 +1,4 @@
+pub mod Bits
 pub mod CalmFiles
 pub mod Counts
 pub mod Files

@@ -2,6 +2,7 @@
 #![tactic(auto)]
 
 mod binary_operator;
+pub mod bits;
 mod calm_files;
 mod calm_sink;
 mod files;
@@ -11,6 +12,7 @@ mod listed;
 mod mem_files;
 mod mem_sink;
 mod named_files;
+pub mod names;
 mod real_files;
 mod real_sink;
 mod sink;
