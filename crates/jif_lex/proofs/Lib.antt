@@ -1,0 +1,11 @@
+pub mod Lists
+pub mod Begins
+pub mod Meanings
+pub mod Pieces
+pub mod Cuts
+pub mod Runs
+pub mod Fronts
+pub mod Skips
+pub mod Texts
+pub mod Reading
+pub mod Sizes

@@ -1,0 +1,14 @@
+ghost use Rattle.std.specs.Prelude.{◌≡◌, ◌≤◌, ℕ, List, length};
+ghost use Rattle.jif_lex.specs.declared.token.Token.{Token};
+ghost use Rattle.jif_lex.specs.Tokens.{Reading, ReadsAs, tokens};
+ghost use Rattle.jif_lex.specs.TokenLists.{AreTokens};
+
+/// A text has one reading only: the same tokens, or the same fault at the same place.
+pub fn lex_laws()
+    ensures { (text : List ℕ) (first second : Reading) → ReadsAs text first → ReadsAs text second → first ≡ second }
+{}
+
+/// The tokens of a text that is not too long are few, and each is small.
+pub fn token_laws()
+    ensures { (text : List ℕ) (list : List Token) → length text ≤ 1048576 → ReadsAs text (tokens list) → AreTokens list }
+{}

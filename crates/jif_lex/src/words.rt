@@ -1,0 +1,74 @@
+//! Names and keywords.
+
+ghost use Rattle.std.specs.Prelude.{◌≡◌, ◌≢◌, ◌≤◌, ◌↔◌, length, IfOk, IfSome, IfNone, IsTrue};
+ghost use Rattle.std.specs.List.{list_all, prefix_len};
+ghost use Rattle.std.specs.String.{string_bytes};
+ghost use Rattle.js_base.specs.Name.{IsName, starts_name, continues_name};
+ghost use Rattle.jif_lex.specs.declared.token.Word.{Word};
+ghost use Rattle.jif_lex.specs.Symbols.{word_text};
+ghost use Rattle.jif_lex.specs.Tokens.{IsWordLike, IsKind};
+ghost use Rattle.jif_lex.specs.Lexing.{BeginsWord};
+
+use crate::{Name, TokenKind, Word};
+use js_base::OutOfMemory;
+use js_base::names::{continues_name, name_text, starts_name};
+use std::alloc::Global;
+
+/// Whether a text begins with an ASCII letter or `_`.
+pub fn begins_word(text: &[u8]) -> bool
+    ensures { IsTrue result ↔ BeginsWord text.now }
+{
+    match text.first() {
+        Some(first) => starts_name(*first),
+        None => false,
+    }
+}
+
+/// How many letters, digits and `_` a text begins with.
+pub fn word_len(text: &[u8]) -> usize
+    ensures len { result ≡ prefix_len continues_name text.now }
+    ensures within { result ≤ length text.now }
+{
+    text.iter()
+        .take_while(|byte| continues_name(**byte))
+        .count()
+}
+
+/// The keyword or the name that a text is.
+pub fn word_kind(alloc: Global, text: &[u8]) -> Result<TokenKind, OutOfMemory>
+    requires { IsWordLike text.now }
+    ensures { IfOk result (IsKind text.now) }
+{
+    if let Some(word) = keyword(text) {
+        return Ok(TokenKind::Word(word));
+    }
+    Ok(TokenKind::Name(name_of(alloc, text)?))
+}
+
+/// The name that a text is.
+fn name_of(alloc: Global, text: &[u8]) -> Result<Name, OutOfMemory>
+    requires { IsName text.now }
+    ensures { IfOk result (λ name. name ≡ text.now) }
+{
+    Ok(Name::new(name_text(alloc, text)?))
+}
+
+/// The keyword that a text is.
+fn keyword(text: &[u8]) -> Option<Word>
+    ensures some { IfSome result (λ word. text.now ≡ word_text word) }
+    ensures none { IfNone result ((word : Word) → text.now ≢ word_text word) }
+{
+    match text {
+        b"int" => Some(Word::Int),
+        b"void" => Some(Word::Void),
+        b"if" => Some(Word::If),
+        b"else" => Some(Word::Else),
+        b"while" => Some(Word::While),
+        b"return" => Some(Word::Return),
+        b"where" => Some(Word::Where),
+        b"authority" => Some(Word::Authority),
+        b"declassify" => Some(Word::Declassify),
+        b"endorse" => Some(Word::Endorse),
+        _ => None,
+    }
+}
