@@ -1,0 +1,61 @@
+-- What becomes of the names and the pairs that are to be declared.
+use Rattle.std.specs.Prelude.{◌≡◌, ◌≤◌, ◌<◌, ◌⊎◌, ℕ, List, [], ◌∷◌, Contains, length, map, take, Some, slice_get, String, string_bytes, ⊤}
+use Rattle.std.specs.List.{AllZip, IsDistinct}
+use Rattle.std.specs.Str.{bytes_eq}
+use Rattle.std.specs.declared.alloc.Global.{Global}
+use Rattle.principals.specs.ActsFor.{Declared, AreDeclarable}
+use Rattle.principals.specs.declared.principals.PrincipalError.{PrincipalError}
+use Rattle.principals.specs.declared.principals.PrincipalError.TheVariants.{OutOfMemory, TooMany, Twice, Unknown}
+
+-- pairs of names as they are written
+abbrev pub written_pair : String Global × String Global → List ℕ × List ℕ
+written_pair pair = (string_bytes pair.0, string_bytes pair.1)
+
+abbrev pub written_pairs : List (String Global × String Global) → List (List ℕ × List ℕ)
+written_pairs pairs = map written_pair pairs
+
+-- the principal's name
+abbrev pub IsNamed : List (List ℕ) → List ℕ → ℕ → Type 0
+IsNamed names name principal = slice_get names principal ≡ Some name
+
+-- the principals with these two names
+abbrev pub IsPairOf : List (List ℕ) → List ℕ × List ℕ → ℕ × ℕ → Type 0
+IsPairOf names written pair = IsNamed names written.0 pair.0 × IsNamed names written.1 pair.1
+
+-- these names and pairs of names were declared
+pub record AreDeclaredAs (names : List (List ℕ)) (pairs : List (List ℕ × List ℕ)) (principals : Declared) : Type 0 where
+  pub names_are : principals.names ≡ names
+  pub pairs_are : AllZip (IsPairOf names) pairs principals.pairs
+
+-- the first name that repeats an earlier one
+pub record IsFirstRepeated (names : List (List ℕ)) (name : List ℕ) : Type 0 where
+  pub place : ℕ
+  pub here : slice_get names place ≡ Some name
+  pub repeated : Contains (take place names) name
+  pub none_before : IsDistinct bytes_eq (take place names)
+
+-- the names that pairs mention, in order
+abbrev pub mentioned : List (List ℕ × List ℕ) → List (List ℕ)
+mentioned [] = []
+mentioned (pair ∷ pairs) = pair.0 ∷ pair.1 ∷ mentioned pairs
+
+-- the first of the mentioned names that none of the names is
+abbrev pub IsFirstUnknown : List (List ℕ) → List (List ℕ) → List ℕ → Type 0
+IsFirstUnknown names [] name = ⊥
+IsFirstUnknown names (next ∷ rest) name =
+    ((¬ Contains names next) × (name ≡ next)) ⊎ (Contains names next × IsFirstUnknown names rest name)
+
+-- memory ran out, or the first of these names that is none of the names is this one
+abbrev pub IsUnknownIn : List (List ℕ) → List (List ℕ) → PrincipalError → Type 0
+IsUnknownIn names used OutOfMemory = ⊤
+IsUnknownIn names used TooMany = ⊥
+IsUnknownIn names used (Twice name) = ⊥
+IsUnknownIn names used (Unknown name) = IsFirstUnknown names used (string_bytes name)
+
+-- Why names and pairs are not declared: too many names, else a repeated name, else a pair with an undeclared name. Memory
+-- may run out at any time.
+abbrev pub Refuses : List (List ℕ) → List (List ℕ × List ℕ) → PrincipalError → Type 0
+Refuses names pairs OutOfMemory = ⊤
+Refuses names pairs TooMany = 63 < length names
+Refuses names pairs (Twice name) = (length names ≤ 63) × IsFirstRepeated names (string_bytes name)
+Refuses names pairs (Unknown name) = AreDeclarable names × IsFirstUnknown names (mentioned pairs) (string_bytes name)

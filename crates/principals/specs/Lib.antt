@@ -1,0 +1,4 @@
+pub mod ActsFor
+pub mod Closure
+pub mod Declaring
+pub mod Pairs

@@ -1,0 +1,154 @@
+ghost use Rattle.std.specs.Prelude.{◌≡◌, ℕ, ◌<◌, ◌≤◌, ◌↔◌, length, map, Some, IsTrue, IfSome, IfNone, All, Contains, slice_get, MatchResult, Bool};
+ghost use Rattle.std.specs.String.{string_bytes};
+ghost use Rattle.js_base.specs.Name.{IsName};
+ghost use Rattle.principals.specs.ActsFor.{Declared, ActsFor, IsDeclared, IsPreorder, outsider};
+ghost use Rattle.principals.specs.Declaring.{AreDeclaredAs, Refuses, written_pairs};
+
+use crate::closure::rows_of;
+use crate::declaring::{copies, copy_of, first_repeated, pair_ids, place_of};
+use js_base::PrincipalId;
+use js_base::bits::has_bit;
+use js_base::limits::PRINCIPALS;
+use std::alloc::{AllocError, Global};
+use std::marker::Model;
+use thiserror::Error;
+
+/// Why principals were not declared.
+#[derive(Debug, PartialEq, Eq, Drop, Error)]
+pub enum PrincipalError {
+    #[error("out of memory")]
+    OutOfMemory,
+    /// There are more than 63 names.
+    #[error("too many principals")]
+    TooMany,
+    /// The first name that repeats an earlier one.
+    #[error("principal {0} twice")]
+    Twice(String),
+    /// The first name in the pairs that is not declared.
+    #[error("unknown principal {0}")]
+    Unknown(String),
+}
+
+impl From<AllocError> for PrincipalError {
+    ghost use Rattle.std.specs.Prelude.{◌≡◌};
+    ghost use Rattle.principals.specs.declared.principals.PrincipalError.TheVariants.{OutOfMemory};
+
+    ghost from_gives = { λ _ error. error ≡ OutOfMemory };
+
+    fn from(_error: AllocError) -> Self {
+        PrincipalError::OutOfMemory
+    }
+}
+
+/// The declared principals by their names, at most 63 and no two of one name, and who acts for whom.
+#[derive(Debug, Drop)]
+pub struct Principals {
+    names: Vec<String>,
+    /// The declared pairs. The first principal acts for the second.
+    pairs: Vec<(PrincipalId, PrincipalId)>,
+    /// For each principal a word with a bit for each principal that it acts for.
+    rows: [u64; PRINCIPALS],
+}
+
+impl Model for Principals {
+    ghost use Rattle.std.specs.Prelude.{map};
+    ghost use Rattle.std.specs.String.{string_bytes};
+    ghost use Rattle.principals.specs.ActsFor.{Declared, IsDeclared};
+    ghost use Rattle.principals.specs.Closure.{AreRowsOf};
+    ghost use Rattle.principals.specs.Pairs.{pairs_of};
+
+    ghost Value = { Declared };
+
+    ghost view = { λ p. record { names = map string_bytes p.names.items; pairs = pairs_of p.pairs.items } };
+
+    ghost invariant = { λ p.
+        IsDeclared (record { names = map string_bytes p.names.items; pairs = pairs_of p.pairs.items })
+        × AreRowsOf (pairs_of p.pairs.items) p.rows };
+}
+
+impl Principals {
+    /// The principals of these names, in their order, where the first of each pair acts for the second.
+    ///
+    /// # Errors
+    /// More than 63 names, else a name that stands twice, else an undeclared name in a pair.
+    pub fn new(
+        alloc: Global,
+        names: &[String],
+        pairs: &[(String, String)],
+    ) -> Result<Principals, PrincipalError>
+        requires { All (λ name. IsName (string_bytes name)) names.now }
+        ensures { MatchResult result
+            (AreDeclaredAs (map string_bytes names.now) (written_pairs pairs.now))
+            (Refuses (map string_bytes names.now) (written_pairs pairs.now)) }
+    {
+        if names.len() > PRINCIPALS {
+            return Err(PrincipalError::TooMany);
+        }
+        if let Some(place) = first_repeated(names) {
+            return Err(PrincipalError::Twice(copy_of(alloc, names[place].as_str())?));
+        }
+        let pairs = pair_ids(alloc, names, pairs)?;
+        let names = copies(alloc, names)?;
+        let rows = rows_of(&pairs);
+        Ok(Principals { names, pairs, rows })
+    }
+
+    /// How many are declared, at most 63.
+    pub fn count(&self) -> u8
+        ensures count { result ≡ length self.now.names }
+        ensures declared { IsDeclared self.now }
+    {
+        self.names.len() as u8
+    }
+
+    /// The name of a declared principal.
+    pub fn name(&self, p: PrincipalId) -> &str
+        requires { p.0 < length self.now.names }
+        ensures { slice_get self.now.names p.0 ≡ Some result.now }
+    {
+        self.names[p.0 as usize].as_str()
+    }
+
+    /// The principal of this name, if it is declared.
+    pub fn find(&self, name: &str) -> Option<PrincipalId>
+        ensures found { IfSome result (λ p. slice_get self.now.names p.0 ≡ Some name.now) }
+        ensures declared { IfSome result (λ p. p.0 < length self.now.names) }
+        ensures none { IfNone result (¬ Contains self.now.names name.now) }
+    {
+        let place = place_of(&self.names, name)?;
+        Some(PrincipalId(place as u8))
+    }
+
+    /// Whether `p` acts for `q`: a chain of declared pairs leads from the one to the other. Each acts for itself.
+    pub fn acts_for(&self, p: PrincipalId, q: PrincipalId) -> bool
+        requires first { p.0 < length self.now.names }
+        requires second { q.0 < length self.now.names }
+        ensures { IsTrue result ↔ ActsFor self.now p.0 q.0 }
+    {
+        has_bit(self.rows[p.0 as usize], q.0)
+    }
+}
+
+/// Laws of who acts for whom, for who reasons about it. The call does nothing.
+pub fn acts_for_laws()
+    // It is the smallest relation that leads from each to itself, goes on over another, and holds the declared pairs.
+    ensures reflexive { (principals : Declared) (p : ℕ) → ActsFor principals p p }
+    ensures transitive { (principals : Declared) (p q r : ℕ) → ActsFor principals p q → ActsFor principals q r →
+        ActsFor principals p r }
+    ensures declared { (principals : Declared) (p q : ℕ) → Contains principals.pairs (p, q) → ActsFor principals p q }
+    ensures smallest { (principals : Declared) (relation : ℕ → ℕ → Bool) → IsPreorder relation →
+        ((p q : ℕ) → Contains principals.pairs (p, q) → IsTrue (relation p q)) →
+        (p q : ℕ) → ActsFor principals p q → IsTrue (relation p q) }
+
+    // The outsider acts for itself alone, and only itself acts for it.
+    ensures of_outsider { (principals : Declared) (p : ℕ) → IsDeclared principals → ActsFor principals outsider p →
+        p ≡ outsider }
+    ensures for_outsider { (principals : Declared) (p : ℕ) → IsDeclared principals → ActsFor principals p outsider →
+        p ≡ outsider }
+
+    // Whom a declared principal acts for is declared, and so is who acts for one.
+    ensures of_declared { (principals : Declared) (p q : ℕ) → IsDeclared principals → p < length principals.names →
+        ActsFor principals p q → q < length principals.names }
+    ensures for_declared { (principals : Declared) (p q : ℕ) → IsDeclared principals → q < length principals.names →
+        ActsFor principals p q → p < length principals.names }
+{}
