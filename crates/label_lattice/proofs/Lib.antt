@@ -1,3 +1,10 @@
-pub mod BitLemmas
-pub mod NameLemmas
+pub mod Joins
+pub mod KnownNames
+pub mod LatticeLemmas
+pub mod NamesLoop
+pub mod OneLabel
+pub mod PartLemmas
+pub mod PartsLoop
 pub mod PolicyLemmas
+pub mod TokenCuts
+pub mod TrustLemmas

@@ -1,13 +1,14 @@
--- What a label means: which readers each owner forbids, and who trusts. Owners are 0 to 62 and readers 0 to 63
--- (Principals). The representation is a word for each owner, with a bit set for each reader that the owner allows,
+-- What a label means, after the decentralized label model of Myers and Liskov: a set of forbidden pairs, an owner and a
+-- reader each, and a set of trusting principals. Owners are 0 to 62, readers 0 to 63, where 63 is the outsider
+-- (principals, ActsFor). A label is kept as a word for each owner, with a bit set for each reader that the owner allows,
 -- and one word with a bit set for each principal that trusts.
-use Rattle.std.specs.Prelude.{◌≡◌, ℕ, ◌<◌, ◌↔◌, ◌⊎◌, List, All, slice_index}
+use Rattle.std.specs.Prelude.{◌≡◌, ℕ, ◌<◌, ◌↔◌, ◌⊎◌, ◌^◌, List, All, Any, length, slice_index}
 use Rattle.std.specs.Int.{bit_at}
 use Rattle.js_base.specs.declared.ids.PrincipalId.{PrincipalId}
+use Rattle.principals.specs.ActsFor.{Declared, ActsFor, IsReader}
 use Rattle.label_lattice.specs.declared.label.Label.{Label}
-use Rattle.label_lattice.specs.Principals.{ActsFor, IsReader}
 
--- the owner's bit for the reader is clear
+-- the pair is forbidden: the owner's bit for the reader is clear
 abbrev pub Forbids : Label → ℕ → ℕ → Type 0
 Forbids label owner reader = bit_at (slice_index label.rows owner) reader ≡ 0
 
@@ -15,38 +16,66 @@ Forbids label owner reader = bit_at (slice_index label.rows owner) reader ≡ 0
 abbrev pub Trusts : Label → ℕ → Type 0
 Trusts label principal = bit_at label.trust principal ≡ 1
 
--- what the first label forbids, the second forbids too: confidentiality may flow from the first to the second
+-- what every label is: 63 words, and one
+pub record IsLabel (label : Label) : Type 0 where
+  pub long : length label.rows ≡ 63
+  pub words : All (λ row. row < 2 ^ 64) label.rows
+  pub trust : label.trust < 2 ^ 64
+
+-- confidentiality may flow from the first to the second: every pair that the first forbids, the second forbids
 abbrev pub ConfFlows : Label → Label → Type 0
-ConfFlows from to = (owner reader : ℕ) → owner < 63 → reader < 64 →
-    Forbids from owner reader → Forbids to owner reader
+ConfFlows from to = (owner reader : ℕ) → owner < 63 → reader < 64 → Forbids from owner reader → Forbids to owner reader
+
+-- integrity may flow from the first to the second: whoever trusts the second trusts the first
+abbrev pub IntegFlows : Label → Label → Type 0
+IntegFlows from to = (principal : ℕ) → principal < 64 → Trusts to principal → Trusts from principal
+
+-- the first may flow to the second
+abbrev pub Flows : Label → Label → Type 0
+Flows from to = ConfFlows from to × IntegFlows from to
+
+abbrev pub SameForbidden : Label → Label → Type 0
+SameForbidden old new = (owner reader : ℕ) → owner < 63 → reader < 64 → (Forbids new owner reader ↔ Forbids old owner reader)
+
+abbrev pub SameTrust : Label → Label → Type 0
+SameTrust old new = (principal : ℕ) → principal < 64 → (Trusts new principal ↔ Trusts old principal)
 
 -- the label forbids no reader at all
 abbrev pub ForbidsNothing : Label → Type 0
 ForbidsNothing label = (owner reader : ℕ) → owner < 63 → reader < 64 → ¬ Forbids label owner reader
 
+-- nobody trusts it
+abbrev pub IsUntrusted : Label → Type 0
+IsUntrusted label = (principal : ℕ) → principal < 64 → ¬ Trusts label principal
+
+-- it forbids nothing, and every declared principal trusts it
+pub record IsBottom (principals : Declared) (label : Label) : Type 0 where
+  pub forbids : ForbidsNothing label
+  pub trusts : (principal : ℕ) → principal < 64 → (Trusts label principal ↔ (principal < length principals.names))
+
 -- The policy of an owner who names some readers keeps out each reader who acts for neither the owner nor one of those.
 -- A place past the declared principals is no reader, and no policy clears its bit.
-pub record KeepsOut (principals : List (List ℕ)) (owner : PrincipalId) (readers : List PrincipalId) (reader : ℕ)
-    : Type 0 where
+pub record KeepsOut (principals : Declared) (owner : PrincipalId) (readers : List PrincipalId) (reader : ℕ) : Type 0 where
   pub is_reader : IsReader principals reader
   pub not_owner : ¬ ActsFor principals reader owner.0
   pub not_named : All (λ named. ¬ ActsFor principals reader named.0) readers
 
 -- it forbids them on behalf of each principal whom the owner acts for
-abbrev pub PolicyForbids : List (List ℕ) → PrincipalId → List PrincipalId → ℕ → ℕ → Type 0
+abbrev pub PolicyForbids : Declared → PrincipalId → List PrincipalId → ℕ → ℕ → Type 0
 PolicyForbids principals owner readers principal reader =
     ActsFor principals owner.0 principal × KeepsOut principals owner readers reader
 
 -- the label forbids what the policy forbids, and nothing else
-abbrev pub IsPolicy : Label → List (List ℕ) → PrincipalId → List PrincipalId → Type 0
+abbrev pub IsPolicy : Label → Declared → PrincipalId → List PrincipalId → Type 0
 IsPolicy label principals owner readers = (principal reader : ℕ) → principal < 63 → reader < 64 →
     (Forbids label principal reader ↔ PolicyForbids principals owner readers principal reader)
 
 -- the new label forbids what the old one or the policy forbids
-abbrev pub AddsPolicy : Label → Label → List (List ℕ) → PrincipalId → List PrincipalId → Type 0
+abbrev pub AddsPolicy : Label → Label → Declared → PrincipalId → List PrincipalId → Type 0
 AddsPolicy old new principals owner readers = (principal reader : ℕ) → principal < 63 → reader < 64 →
     (Forbids new principal reader ↔ (Forbids old principal reader ⊎ PolicyForbids principals owner readers principal reader))
 
--- the same principals trust
-abbrev pub SameTrust : Label → Label → Type 0
-SameTrust old new = (principal : ℕ) → (Trusts new principal ↔ Trusts old principal)
+-- the new label is also trusted by each principal whom one of these acts for
+abbrev pub AddsTrust : Label → Label → Declared → List PrincipalId → Type 0
+AddsTrust old new principals by = (principal : ℕ) → principal < 64 →
+    (Trusts new principal ↔ (Trusts old principal ⊎ Any (λ member. ActsFor principals member.0 principal) by))

@@ -1,3 +1,4 @@
-pub mod Bits
 pub mod Label
-pub mod Principals
+pub mod Lattice
+pub mod Written
+pub mod Reading

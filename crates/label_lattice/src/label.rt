@@ -1,31 +1,32 @@
-ghost use Rattle.std.specs.Prelude.{◌≡◌, ℕ, ◌<◌, ◌↔◌, IsTrue, List, [], All, length};
-ghost use Rattle.std.specs.Int.{bit_at};
-ghost use Rattle.js_base.specs.declared.ids.PrincipalId.{PrincipalId};
-ghost use Rattle.label_lattice.specs.declared.label.Label.{Label};
-ghost use Rattle.label_lattice.specs.Label.{ConfFlows, ForbidsNothing, KeepsOut, IsPolicy, AddsPolicy};
+ghost use Rattle.std.specs.Prelude.{◌≡◌, ℕ, ◌<◌, ◌↔◌, IsTrue, List, All, length};
+ghost use Rattle.label_lattice.specs.Label.{ConfFlows, IntegFlows};
 
-use crate::Principals;
-use crate::bits::{bits_within, with_bit, without_bits};
+#[cfg(test)]
+mod tests;
+
+use crate::policy::{acted_for, forbidden_readers};
 use js_base::PrincipalId;
+use js_base::bits::{all_bits, bits_within, common_bits, with_bit, without_bits};
 use js_base::limits::PRINCIPALS;
+use principals::{Principals, acts_for_laws};
 
-/// The bit of the reader who stands for everyone that is no declared principal.
-const OUTSIDER: u8 = 63;
-
-/// Which readers each owner of a value forbids, and which principals trust it.
+/// Which readers each owner of a value forbids, and which principals trust it. At most 63 principals are owners.
 #[derive(Clone, Copy, Debug, PartialEq, Eq)]
 pub struct Label {
+    /// For each owner a word with a bit for each reader that the owner allows. Bit 63 is that of the outsider.
     rows: [u64; PRINCIPALS],
+    /// A word with a bit for each principal that trusts.
     trust: u64,
 }
 
 impl Label {
-    ghost use Rattle.label_lattice.specs.Label.{Trusts, ConfFlows, ForbidsNothing, AddsPolicy, SameTrust};
+    ghost use Rattle.label_lattice.specs.Label.{IsUntrusted, IsBottom, ConfFlows, IntegFlows, ForbidsNothing, AddsPolicy, AddsTrust, SameTrust, SameForbidden};
+    ghost use Rattle.label_lattice.specs.Lattice.{IsJoin, IsIntegrityMeet};
 
-    /// The label that forbids nothing and is trusted by nobody.
+    /// The label `{}`, which forbids nothing and is trusted by nobody.
     pub fn empty() -> Self
         ensures forbids { ForbidsNothing result }
-        ensures trusts { (principal : ℕ) → ¬ Trusts result principal }
+        ensures trusts { IsUntrusted result }
     {
         Label {
             rows: [u64::MAX; PRINCIPALS],
@@ -33,18 +34,34 @@ impl Label {
         }
     }
 
-    /// The label with one more policy: the owner, and the readers whom the owner names. It is trusted as before.
+    /// The label that forbids nothing and is trusted by every declared principal. It may flow to every label.
+    pub fn bottom(principals: &Principals) -> Self
+        ensures { IsBottom principals.now result }
+    {
+        let mut trust = 0;
+        for place in 0..principals.count() {
+            trust = with_bit(trust, place);
+        }
+        Label {
+            rows: [u64::MAX; PRINCIPALS],
+            trust,
+        }
+    }
+
+    /// The label with one more policy, that of the owner and of the readers whom the owner names. It forbids a reader who
+    /// acts for none of these, on behalf of each principal whom the owner acts for. It is trusted as before.
     pub fn with_policy(
         self,
         principals: &Principals,
         owner: PrincipalId,
         readers: &[PrincipalId],
     ) -> Self
-        requires owner { owner.0 < length principals.now }
-        requires readers { All (λ named. named.0 < length principals.now) readers.now }
+        requires owner { owner.0 < length principals.now.names }
+        requires readers { All (λ named. named.0 < length principals.now.names) readers.now }
         ensures forbids { AddsPolicy self result principals.now owner readers.now }
         ensures trusts { SameTrust self result }
     {
+        acts_for_laws();
         let forbidden = forbidden_readers(principals, owner, readers);
         let mut rows = self.rows;
         for place in 0..principals.count() {
@@ -58,6 +75,43 @@ impl Label {
         }
     }
 
+    /// The label that is also trusted by every principal whom one of these acts for. It forbids as before.
+    pub fn with_trust(self, principals: &Principals, by: &[PrincipalId]) -> Self
+        requires { All (λ member. member.0 < length principals.now.names) by.now }
+        ensures forbids { SameForbidden self result }
+        ensures trusts { AddsTrust self result principals.now by.now }
+    {
+        let rows = self.rows;
+        let mut trust = self.trust;
+        for member in by {
+            trust = all_bits(trust, acted_for(principals, *member));
+        }
+        Label { rows, trust }
+    }
+
+    /// The least label to which both may flow: it forbids what either forbids, and is trusted by whoever trusts both.
+    pub fn join(self, other: Label) -> Self
+        ensures { IsJoin self other result }
+    {
+        let mut rows = self.rows;
+        for owner in 0..PRINCIPALS {
+            rows[owner] = common_bits(rows[owner], other.rows[owner]);
+        }
+        Label {
+            rows,
+            trust: common_bits(self.trust, other.trust),
+        }
+    }
+
+    /// The label with this one's confidentiality that is trusted by whoever trusts either.
+    pub fn meet_integrity(self, other: Label) -> Self
+        ensures { IsIntegrityMeet self other result }
+    {
+        let rows = self.rows;
+        let trust = all_bits(self.trust, other.trust);
+        Label { rows, trust }
+    }
+
     /// Whether the confidentiality of this label may flow to that of the other.
     pub fn conf_flows(&self, to: &Label) -> bool
         ensures { IsTrue result ↔ ConfFlows self.now to.now }
@@ -69,61 +123,11 @@ impl Label {
         }
         true
     }
-}
 
-/// The readers whom a policy keeps out, a bit for each.
-fn forbidden_readers(principals: &Principals, owner: PrincipalId, readers: &[PrincipalId]) -> u64
-    requires owner { owner.0 < length principals.now }
-    requires readers { All (λ named. named.0 < length principals.now) readers.now }
-    ensures { (reader : ℕ) → reader < 64 →
-        ((bit_at result reader ≡ 1) ↔ KeepsOut principals.now owner readers.now reader) }
-{
-    let mut forbidden = with_bit(0, OUTSIDER);
-    for place in 0..principals.count() {
-        if is_kept_out(principals, owner, readers, PrincipalId(place)) {
-            forbidden = with_bit(forbidden, place);
-        }
+    /// Whether the integrity of this label may flow to that of the other.
+    pub fn integ_flows(&self, to: &Label) -> bool
+        ensures { IsTrue result ↔ IntegFlows self.now to.now }
+    {
+        bits_within(to.trust, self.trust)
     }
-    forbidden
 }
-
-/// Whether a policy keeps out this reader.
-fn is_kept_out(
-    principals: &Principals,
-    owner: PrincipalId,
-    readers: &[PrincipalId],
-    reader: PrincipalId,
-) -> bool
-    requires owner { owner.0 < length principals.now }
-    requires readers { All (λ named. named.0 < length principals.now) readers.now }
-    requires reader { reader.0 < length principals.now }
-    ensures { IsTrue result ↔ KeepsOut principals.now owner readers.now reader.0 }
-{
-    !principals.acts_for(reader, owner)
-        && readers
-            .iter()
-            .all(|named| !principals.acts_for(reader, *named))
-}
-
-/// Laws of flows, for who reasons about them. The call does nothing.
-pub fn label_laws()
-    ensures reflexive { (label : Label) → ConfFlows label label }
-    ensures transitive { (first second third : Label) →
-        ConfFlows first second → ConfFlows second third → ConfFlows first third }
-
-    // A label without policies flows to every label, and none with a policy flows to it.
-    ensures from_free { (free label : Label) → ForbidsNothing free → ConfFlows free label }
-    ensures to_free { (label free : Label) (principals : List (List ℕ)) (owner : PrincipalId)
-        (readers : List PrincipalId) → owner.0 < 63 → All (λ named. named.0 < 63) readers →
-        IsPolicy label principals owner readers → ForbidsNothing free → ¬ ConfFlows label free }
-
-    // A policy that is added to such a label is all that the label forbids.
-    ensures first_policy { (free label : Label) (principals : List (List ℕ)) (owner : PrincipalId)
-        (readers : List PrincipalId) → ForbidsNothing free → AddsPolicy free label principals owner readers →
-        IsPolicy label principals owner readers }
-
-    // What one owner keeps from all others flows to what another keeps from all others just where the two are one.
-    ensures owners { (from to : Label) (principals : List (List ℕ)) (first second : PrincipalId) →
-        first.0 < 63 → second.0 < 63 → IsPolicy from principals first [] → IsPolicy to principals second [] →
-        (ConfFlows from to ↔ (first ≡ second)) }
-{}

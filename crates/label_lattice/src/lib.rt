@@ -1,12 +1,13 @@
-//! Principals, and the labels that say who may read a value and who trusts it.
+//! Labels, which say who may read a value and who trusts it.
 #![tactic(auto)]
 
-mod bits;
 mod label;
-mod principals;
-
-pub use label::{Label, label_laws};
-pub use principals::Principals;
-
+mod laws;
+mod policy;
 #[cfg(test)]
-mod tests;
+mod test_principals;
+mod tokens;
+
+pub use label::Label;
+pub use laws::label_laws;
+pub use tokens::read_label;

@@ -2,6 +2,7 @@
 use Rattle.std.specs.Prelude.{ℕ, ◌<◌, ◌≤◌, List, length, map}
 use Rattle.std.specs.List.{IsDistinct}
 use Rattle.std.specs.Str.{bytes_eq}
+use Rattle.principals.specs.ActsFor.{Declared}
 use Rattle.label_lattice.specs.declared.label.Label.{Label}
 
 -- a host, and the most that it may see
@@ -10,7 +11,7 @@ pub record HostShape : Type 0 where
   pub label : Label
 
 pub record HostsShape : Type 0 where
-  pub principals : List (List ℕ)
+  pub principals : Declared
   pub hosts : List HostShape
 
 -- what the hosts of every host file keep

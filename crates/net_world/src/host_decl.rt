@@ -3,7 +3,8 @@
 ghost use Rattle.std.specs.Prelude.{◌≡◌, length, map};
 ghost use Rattle.net_world.specs.Hosts.{AreHosts};
 
-use label_lattice::{Label, Principals};
+use label_lattice::Label;
+use principals::Principals;
 use std::marker::Model;
 
 /// A host, and its label: the most that it may see.

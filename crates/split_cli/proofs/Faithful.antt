@@ -14,6 +14,7 @@ use Rattle.net_world.specs.Events.{script_of}
 use Rattle.net_world.specs.Hosts.{HostsShape}
 use Rattle.net_world.specs.World.{World, Refusal, not_there, host_busy, run, world_at_start, has_halted}
 use Rattle.net_world.specs.AllObey.{IsSet, Follows, IsIdle, IsAfter}
+use Rattle.split_cli.specs.Resolution.{unrelated}
 use Rattle.split_cli.specs.Replay.{Verdict, Refuse, Print, IsReplay, Told, AreAccepted, DueForBytes, no_program, no_hosts, bad_name, no_holder, long_script, script, DueForFiles, Due, no_words, replay, due_after, due_for_script, event_refused, no_such_file}
 use Rattle.split_cli.specs.Answers.{SinkChange, FilesChange, Puts, IsAnswered, IsOwed, AnswersTo}
 use Rattle.split_cli.specs.Faithful.{IsReplayed, IsFaithful, PutsFaithfully}
@@ -55,10 +56,10 @@ bytes_say file program hosts events _ (script code tree accepted short) = script
 
 -- what the premises of the laws ask of an accepted program
 is_set : (program hosts : List ℕ) (code : CodeShape) (tree : Program) (accepted : AreAccepted program hosts code tree) →
-    IsSet tree (record { principals = accepted.forms.principals; hosts = accepted.forms.host_rows }) code (starting_values tree)
+    IsSet tree (record { principals = unrelated accepted.forms.principals; hosts = accepted.forms.host_rows }) code (starting_values tree)
 is_set program hosts code tree accepted = record {
   valid = valid_program _ _ _ tree accepted.tree_is;
-  hosts_are = are_hosts hosts accepted.forms.principals accepted.forms.principals accepted.forms.host_forms accepted.forms.host_rows accepted.forms.hosts_spelled accepted.forms.rows;
+  hosts_are = are_hosts hosts accepted.forms.principals (unrelated accepted.forms.principals) accepted.forms.host_forms accepted.forms.host_rows accepted.forms.hosts_spelled accepted.forms.rows;
   code_is = accepted.code_is;
   rows = rw length-map;
 }

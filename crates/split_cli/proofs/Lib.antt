@@ -5,6 +5,7 @@ pub mod Faithful
 pub mod FirstCode
 pub mod FormLines
 pub mod FourWords
+pub mod HostPrincipals
 pub mod HostRows
 pub mod HostsListing
 pub mod HostsNaming

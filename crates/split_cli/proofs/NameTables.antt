@@ -1,25 +1,17 @@
--- A text among the texts of some items, and texts of which no two are the same.
+-- A text among the texts of some items.
 use Rattle.std.proofs.Common.{◌≡◌, ℕ, ◌+◌, ◌<◌, Bool, true, false, not, List, [], ◌∷◌, ◌++◌, length, map, take, get_or, slice_get, position, Option, Some, None, is_some, sym, ap, subst, ◌∙◌, refl, arith}
 use Rattle.std.specs.Prelude.{Contains, IfSome, IfNone, IsTrue, ◌↔◌, ◌||◌}
-use Rattle.std.specs.Cmp.{IsEquivalence}
 use Rattle.std.specs.List.{list_any, IsDistinct}
 use Rattle.std.specs.Option.{option_map}
 use Rattle.std.specs.Str.{bytes_eq}
-use Rattle.std.proofs.lemmas.Bool.{false≢true, false_from_ne_true}
-use Rattle.std.proofs.lemmas.Bool.Decides.{same_from_decides}
+use Rattle.std.proofs.lemmas.Bool.{false≢true}
 use Rattle.std.proofs.lemmas.List.{get_or-map, get_or-take, length-map, length-take, map_more, take-map}
 use Rattle.std.proofs.lemmas.List.Quantifiers.{position-Some}
-use Rattle.std.proofs.lemmas.Map.Keys.{IsDistinct-push, apart_from_distinct}
+use Rattle.std.proofs.lemmas.Map.Keys.{apart_from_distinct}
 use Rattle.std.proofs.lemmas.Map.Views.{list_any-from_Contains, Contains-from_any}
 use Rattle.std.proofs.lemmas.Option.{slice_get-map, slice_get-get_or}
 use Rattle.std.proofs.lemmas.Slice.Eq.{bytes_eq-Decides}
-
-bytes_eq_laws : IsEquivalence bytes_eq
-bytes_eq_laws = record {
-  refl = λ x. (bytes_eq-Decides x x).1 refl;
-  symm = λ x y. same_from_decides (bytes_eq x y) (bytes_eq y x) (bytes_eq-Decides x y) (λ is. sym ((bytes_eq-Decides y x).0 is), λ same. (bytes_eq-Decides y x).1 (sym same));
-  congr = λ x y z is. ap (λ w. bytes_eq w z) ((bytes_eq-Decides x y).0 is);
-}
+use Rattle.js_base.proofs.Texts.{bytes_eq_laws}
 
 any_text : {X : Type 0} (f : X → List ℕ) (p : List ℕ → Bool) (xs : List X) → list_any p (map f xs) ≡ list_any (λ x. p (f x)) xs
 any_text f p [] = refl
@@ -53,15 +45,6 @@ new_text f text xs added is = by (list_any (λ x. bytes_eq text (f x)) xs) refl
     by true there = (λ new. absurd (false≢true (sym (is ∙ ap not there) ∙ new)), λ lacks. absurd (lacks (has_text f text xs there)))
     by false there = (λ _. lacks_text f text xs there, λ _. is ∙ ap not there)
 
-pub no_texts : IsDistinct bytes_eq []
-unfolding IsDistinct
-no_texts = tt
-
--- one more text, which none is the same as
-pub distinct_more : (texts : List (List ℕ)) (text : List ℕ) → IsDistinct bytes_eq texts → ¬ Contains texts text → IsDistinct bytes_eq (texts ++ text ∷ [])
-distinct_more texts text distinct lacks =
-    IsDistinct-push bytes_eq_laws texts text distinct (false_from_ne_true _ (λ is. lacks (Contains-from_any (λ x y. (bytes_eq-Decides x y).0) text texts is)))
-
 -- the texts of the first items, and of one item more
 pub texts_more : {X : Type 0} (f : X → List ℕ) (items : List X) (place : ℕ) (x : X) (text : List ℕ) (texts : List (List ℕ)) → place < length items → x ≡ get_or items place x → text ≡ f x → texts ≡ map f (take place items) → texts ++ text ∷ [] ≡ map f (take (place + 1) items)
 texts_more f items place x text texts within read text_is so_far =
@@ -69,7 +52,7 @@ texts_more f items place x text texts within read text_is so_far =
     rw (so_far, here) (sym (map_more f items place x within))
 
 -- a text that stands before its place stands twice
-twice : (texts : List (List ℕ)) (place : ℕ) (text : List ℕ) → place < length texts → get_or texts place text ≡ text → Contains (take place texts) text → ¬ IsDistinct bytes_eq texts
+pub twice : (texts : List (List ℕ)) (place : ℕ) (text : List ℕ) → place < length texts → get_or texts place text ≡ text → Contains (take place texts) text → ¬ IsDistinct bytes_eq texts
 twice texts place text within here before distinct =
     let earlier : before.0 < place = omega (arith, before.1, length-take place texts) in
     let there : get_or texts before.0 text ≡ text = sym (get_or-take place texts before.0 text earlier) ∙ before.2 in

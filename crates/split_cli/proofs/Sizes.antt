@@ -7,7 +7,7 @@ use Rattle.net_world.specs.Code.{CodeShape}
 use Rattle.net_world.specs.FirstCode.{IsPlaced}
 use Rattle.split_cli.specs.ProgramForm.{FieldForm, AssignmentForm, SpellsProgram}
 use Rattle.split_cli.specs.HostsForm.{HostForm}
-use Rattle.split_cli.specs.Resolution.{IsFieldOf}
+use Rattle.split_cli.specs.Resolution.{unrelated, IsFieldOf}
 use Rattle.split_cli.specs.Shown.{IsBuiltOf}
 use Rattle.split_cli.proofs.Drafts.{small_values, few_fields, few_assignments}
 
@@ -22,4 +22,4 @@ read_sizes (Some bytes) fields assignments short spells =
 pub code_fields : (fields : List FieldForm) (assignments : List AssignmentForm) (principals : List (List ℕ)) (hosts : List HostForm) (tree : Program) (code : CodeShape) → IsBuiltOf fields assignments principals hosts tree code →
     length code.fields ≡ length fields
 code_fields fields assignments principals hosts tree code built =
-    omega (arith, AllZip-long (IsPlaced built.rows) tree.fields.items code.fields built.code_is.fields, AllZip-long (IsFieldOf principals) fields tree.fields.items built.tree_is.fields_are)
+    omega (arith, AllZip-long (IsPlaced built.rows) tree.fields.items code.fields built.code_is.fields, AllZip-long (IsFieldOf (unrelated principals)) fields tree.fields.items built.tree_is.fields_are)

@@ -1,13 +1,12 @@
--- One host or two, and at most one principal, as tests make them.
-use Rattle.std.proofs.Common.{◌≡◌, ℕ, ◌≤◌, false, List, [], ◌∷◌, length, arith}
+-- One host or two, and the names of a few principals, as tests make them.
+use Rattle.std.proofs.Common.{◌≡◌, ℕ, false, List, [], ◌∷◌, arith}
 use Rattle.std.specs.List.{IsDistinct}
 use Rattle.std.specs.Str.{bytes_eq}
-use Rattle.label_lattice.specs.Principals.{AreDeclarable}
+use Rattle.std.specs.Prelude.{String, string_bytes, All}
+use Rattle.std.proofs.lemmas.List.Elements.{All-nil, All-cons}
+use Rattle.std.specs.declared.alloc.Global.{Global}
+use Rattle.js_base.specs.Name.{IsName}
 use Rattle.net_world.specs.Hosts.{AreHosts, HostShape}
-
-none_distinct : IsDistinct bytes_eq []
-unfolding IsDistinct
-none_distinct = tt
 
 one_distinct : (name : List ℕ) → IsDistinct bytes_eq (name ∷ [])
 unfolding IsDistinct
@@ -17,10 +16,20 @@ two_distinct : (first second : List ℕ) → bytes_eq first second ≡ false →
 unfolding IsDistinct
 two_distinct first second apart = ((apart, tt), (tt, tt))
 
-pub few_declarable : (names : List (List ℕ)) → length names ≤ 1 → AreDeclarable names
-few_declarable [] few = record { few = omega arith; distinct = none_distinct }
-few_declarable (name ∷ []) few = record { few = omega arith; distinct = one_distinct name }
-few_declarable (a ∷ b ∷ names) few = absurd (omega arith)
+abbrev pub AreSpelled : List (String Global) → Type 0
+AreSpelled names = All (λ (name : String Global). IsName (string_bytes name)) names
+
+none_spelled : AreSpelled []
+none_spelled = All-nil (λ (name : String Global). IsName (string_bytes name))
+
+one_more : (name : String Global) (names : List (String Global)) → IsName (string_bytes name) → AreSpelled names → AreSpelled (name ∷ names)
+one_more name names is others = All-cons (λ (n : String Global). IsName (string_bytes n)) name names is others
+
+pub one_spelled : (names : List (String Global)) (name : String Global) → names ≡ name ∷ [] → IsName (string_bytes name) → AreSpelled names
+one_spelled names name are is = rw are (one_more name [] is none_spelled)
+
+pub two_spelled : (names : List (String Global)) (first second : String Global) → names ≡ first ∷ second ∷ [] → IsName (string_bytes first) → IsName (string_bytes second) → AreSpelled names
+two_spelled names first second are first_is second_is = rw are (one_more first (second ∷ []) first_is (one_more second [] second_is none_spelled))
 
 pub one_host : (hosts : List HostShape) (host : HostShape) → hosts ≡ host ∷ [] → AreHosts hosts
 one_host hosts host is = rw is (record { some = omega arith; few = omega arith; distinct = one_distinct host.name })

@@ -5,6 +5,7 @@ use Rattle.std.proofs.lemmas.List.{length-map}
 use Rattle.std.proofs.lemmas.List.Elements.{All-nil, All-cons}
 use Rattle.std.proofs.lemmas.Option.{slice_get_within}
 use Rattle.std.proofs.lemmas.Slice.Zip.{AllZip-long}
+use Rattle.principals.specs.ActsFor.{Declared}
 use Rattle.jif_tree.specs.declared.program.Program.{Program}
 use Rattle.jif_tree.specs.declared.program.Stmt.{Stmt}
 use Rattle.jif_tree.specs.declared.program.StmtKind.{StmtKind}
@@ -27,7 +28,7 @@ name_fields names number (f ∷ fs) (s ∷ ss) all =
 named_once : (fields : List FieldForm) → length (names_of fields) ≡ length fields
 named_once fields = rw length-map
 
-pub valid_program : (principals : List (List ℕ)) (fields : List FieldForm) (assignments : List AssignmentForm) (program : Program) → IsProgramOf principals fields assignments program → IsValid program
+pub valid_program : (principals : Declared) (fields : List FieldForm) (assignments : List AssignmentForm) (program : Program) → IsProgramOf principals fields assignments program → IsValid program
 valid_program principals fields assignments program is =
     let count : length (names_of fields) ≡ length program.fields.items = omega (arith, AllZip-long (IsFieldOf principals) fields program.fields.items is.fields_are, named_once fields) in
     let named = name_fields (names_of fields) 0 assignments is.main_method.body.items is.main_is.body in

@@ -16,7 +16,7 @@ use Rattle.net_world.specs.Events.{script_of}
 use Rattle.net_world.specs.World.{World, Refusal, not_there, host_busy, run, world_at_start}
 use Rattle.split_cli.specs.ProgramForm.{FieldForm, AssignmentForm, SpellsProgram}
 use Rattle.split_cli.specs.HostsForm.{HostForm, SpellsHosts}
-use Rattle.split_cli.specs.Resolution.{IsProgramOf, HasBadName, IsHostOf}
+use Rattle.split_cli.specs.Resolution.{unrelated, IsProgramOf, HasBadName, IsHostOf}
 use Rattle.split_cli.specs.Report.{report}
 
 -- a refusal with its status and its line, or a report to be put out
@@ -82,13 +82,13 @@ pub record HaveForms (program hosts : List ℕ) : Type 0 where
   pub hosts_short : length hosts ≤ 65536
   pub program_spelled : SpellsProgram program fields assignments
   pub hosts_spelled : SpellsHosts hosts principals host_forms
-  pub rows : AllZip (IsHostOf principals) host_forms host_rows
+  pub rows : AllZip (IsHostOf (unrelated principals)) host_forms host_rows
 
 -- The two files are accepted, and give this code, in which the fields start so.
 pub record AreAccepted (program hosts : List ℕ) (code : CodeShape) (tree : Program) : Type 0 where
   pub forms : HaveForms program hosts
-  pub tree_is : IsProgramOf forms.principals forms.fields forms.assignments tree
-  pub code_is : IsCodeOf tree (record { principals = forms.principals; hosts = forms.host_rows }) code
+  pub tree_is : IsProgramOf (unrelated forms.principals) forms.fields forms.assignments tree
+  pub code_is : IsCodeOf tree (record { principals = unrelated forms.principals; hosts = forms.host_rows }) code
 
 -- what is due for the script of events of a code
 abbrev pub due_after : List ℕ → CodeShape → Result World (ℕ × Refusal) → Verdict
@@ -103,8 +103,8 @@ due_for_script file code w (Ok script) = due_after file code (run code w script)
 pub data DueForBytes (file program hosts events : List ℕ) : Verdict → Type 0 where
   no_program : IsNoProgram program → DueForBytes file program hosts events program_not_built
   no_hosts : (fields : List FieldForm) (assignments : List AssignmentForm) → length program ≤ 1048576 → SpellsProgram program fields assignments → IsNoHosts hosts → DueForBytes file program hosts events hosts_not_built
-  bad_name : (forms : HaveForms program hosts) → HasBadName forms.principals forms.fields forms.assignments → DueForBytes file program hosts events program_not_built
-  no_holder : (forms : HaveForms program hosts) (tree : Program) → IsProgramOf forms.principals forms.fields forms.assignments tree → Any (HasNoHolder forms.host_rows) tree.fields.items → DueForBytes file program hosts events program_not_built
+  bad_name : (forms : HaveForms program hosts) → HasBadName (unrelated forms.principals) forms.fields forms.assignments → DueForBytes file program hosts events program_not_built
+  no_holder : (forms : HaveForms program hosts) (tree : Program) → IsProgramOf (unrelated forms.principals) forms.fields forms.assignments tree → Any (HasNoHolder forms.host_rows) tree.fields.items → DueForBytes file program hosts events program_not_built
   long_script : (code : CodeShape) (tree : Program) → AreAccepted program hosts code tree → 16777216 < length events → DueForBytes file program hosts events (too_long file)
   script : (code : CodeShape) (tree : Program) → AreAccepted program hosts code tree → length events ≤ 16777216 →
       DueForBytes file program hosts events (due_for_script file code (world_at_start code (starting_values tree)) (script_of code.hosts events))

@@ -4,8 +4,9 @@ use Rattle.std.specs.List.{AllZip, IsDistinct}
 use Rattle.std.specs.Str.{bytes_eq}
 use Rattle.js_base.specs.declared.ids.PrincipalId.{PrincipalId}
 use Rattle.js_base.specs.declared.ids.FieldId.{FieldId}
+use Rattle.principals.specs.ActsFor.{Declared}
 use Rattle.label_lattice.specs.declared.label.Label.{Label}
-use Rattle.label_lattice.specs.Label.{Trusts, ForbidsNothing, IsPolicy}
+use Rattle.label_lattice.specs.Label.{ForbidsNothing, IsUntrusted, IsPolicy}
 use Rattle.jif_tree.specs.declared.program.Program.{Program}
 use Rattle.jif_tree.specs.declared.program.Field.{Field}
 use Rattle.jif_tree.specs.declared.program.Method.{Method}
@@ -16,19 +17,23 @@ use Rattle.net_world.specs.Hosts.{HostShape}
 use Rattle.split_cli.specs.ProgramForm.{FieldForm, AssignmentForm}
 use Rattle.split_cli.specs.HostsForm.{HostForm}
 
+-- principals of these names, of whom each acts for itself alone
+abbrev pub unrelated : List (List ℕ) → Declared
+unrelated names = record { names = names; pairs = [] }
+
 -- the label forbids what the one policy of this owner forbids, or nothing
-abbrev pub ForbidsByOwner : List (List ℕ) → Label → Option (List ℕ) → Type 0
+abbrev pub ForbidsByOwner : Declared → Label → Option (List ℕ) → Type 0
 ForbidsByOwner principals label None = ForbidsNothing label
 ForbidsByOwner principals label (Some name) =
-    (owner : PrincipalId) × (slice_get principals owner.0 ≡ Some name) × IsPolicy label principals owner []
+    (owner : PrincipalId) × (slice_get principals.names owner.0 ≡ Some name) × IsPolicy label principals owner []
 
 -- the label `{}` or `{OWNER:}`
-pub record HasOwner (principals : List (List ℕ)) (label : Label) (owner : Option (List ℕ)) : Type 0 where
+pub record HasOwner (principals : Declared) (label : Label) (owner : Option (List ℕ)) : Type 0 where
   pub forbids : ForbidsByOwner principals label owner
-  pub trusts : (principal : ℕ) → ¬ Trusts label principal
+  pub trusts : IsUntrusted label
 
 -- a plain field that starts with 0
-pub record IsFieldOf (principals : List (List ℕ)) (form : FieldForm) (field : Field) : Type 0 where
+pub record IsFieldOf (principals : Declared) (form : FieldForm) (field : Field) : Type 0 where
   pub name : string_bytes field.name ≡ form.name
   pub label : HasOwner principals field.label form.owner
   pub size : field.size ≡ 1
@@ -58,13 +63,13 @@ names_of fields = map (λ field. field.name) fields
 pub record IsMainOf (names : List (List ℕ)) (assignments : List AssignmentForm) (method : Method) : Type 0 where
   pub name : string_bytes method.name ≡ codes "main"
   pub begin : ForbidsNothing method.begin
-  pub begin_trust : (principal : ℕ) → ¬ Trusts method.begin principal
+  pub begin_trust : IsUntrusted method.begin
   pub head : method.head ≡ record { 0 = 0 }
   pub line : method.line ≡ length names + 1
   pub body : AreStatementsOf names 0 assignments method.body.items
 
 -- the program of these fields and assignments: the field names are distinct, and every name is known
-pub record IsProgramOf (principals : List (List ℕ)) (fields : List FieldForm) (assignments : List AssignmentForm) (program : Program) : Type 0 where
+pub record IsProgramOf (principals : Declared) (fields : List FieldForm) (assignments : List AssignmentForm) (program : Program) : Type 0 where
   pub main_method : Method
   pub distinct : IsDistinct bytes_eq (names_of fields)
   pub fields_are : AllZip (IsFieldOf principals) fields program.fields.items
@@ -73,18 +78,18 @@ pub record IsProgramOf (principals : List (List ℕ)) (fields : List FieldForm) 
   pub main_is : IsMainOf (names_of fields) assignments main_method
 
 -- an owner that is no declared principal
-abbrev pub IsUndeclared : List (List ℕ) → Option (List ℕ) → Type 0
+abbrev pub IsUndeclared : Declared → Option (List ℕ) → Type 0
 IsUndeclared principals None = ⊥
-IsUndeclared principals (Some owner) = ¬ Contains principals owner
+IsUndeclared principals (Some owner) = ¬ Contains principals.names owner
 
 -- a field name is repeated, an owner is no declared principal, or an assigned field is unknown
-abbrev pub HasBadName : List (List ℕ) → List FieldForm → List AssignmentForm → Type 0
+abbrev pub HasBadName : Declared → List FieldForm → List AssignmentForm → Type 0
 HasBadName principals fields assignments =
     (¬ IsDistinct bytes_eq (names_of fields))
     ⊎ (Any (λ field. IsUndeclared principals field.owner) fields
     ⊎ Any (λ assignment. ¬ Contains (names_of fields) assignment.field) assignments)
 
 -- a host with the label of its owner
-pub record IsHostOf (principals : List (List ℕ)) (form : HostForm) (host : HostShape) : Type 0 where
+pub record IsHostOf (principals : Declared) (form : HostForm) (host : HostShape) : Type 0 where
   pub name : host.name ≡ form.name
   pub label : HasOwner principals host.label form.owner

@@ -9,7 +9,7 @@ use Rattle.split_cli.specs.declared.verdict.Verdict as owed
 use Rattle.split_cli.specs.declared.verdict.Verdict.TheVariants as variants
 use Rattle.split_cli.specs.ProgramForm.{FieldForm, AssignmentForm}
 use Rattle.split_cli.specs.HostsForm.{HostForm}
-use Rattle.split_cli.specs.Resolution.{IsProgramOf, HasBadName, IsHostOf}
+use Rattle.split_cli.specs.Resolution.{unrelated, IsProgramOf, HasBadName, IsHostOf}
 use Rattle.split_cli.specs.Replay.{Verdict, Refuse, Print}
 
 abbrev pub shown : owed.Verdict → Verdict
@@ -24,19 +24,19 @@ IsLoaded most held (Some bytes) = (bytes ≡ held) × (length held ≤ most)
 -- the tree and the code that the lines of the two files stand for
 pub record IsBuiltOf (fields : List FieldForm) (assignments : List AssignmentForm) (principals : List (List ℕ)) (hosts : List HostForm) (tree : Program) (code : CodeShape) : Type 0 where
   pub rows : List HostShape
-  pub rows_are : AllZip (IsHostOf principals) hosts rows
-  pub tree_is : IsProgramOf principals fields assignments tree
-  pub code_is : IsCodeOf tree (record { principals = principals; hosts = rows }) code
+  pub rows_are : AllZip (IsHostOf (unrelated principals)) hosts rows
+  pub tree_is : IsProgramOf (unrelated principals) fields assignments tree
+  pub code_is : IsCodeOf tree (record { principals = unrelated principals; hosts = rows }) code
 
 -- no host may hold some field
 pub record HasNoPlace (fields : List FieldForm) (assignments : List AssignmentForm) (principals : List (List ℕ)) (hosts : List HostForm) : Type 0 where
   pub rows : List HostShape
   pub tree : Program
-  pub rows_are : AllZip (IsHostOf principals) hosts rows
-  pub tree_is : IsProgramOf principals fields assignments tree
+  pub rows_are : AllZip (IsHostOf (unrelated principals)) hosts rows
+  pub tree_is : IsProgramOf (unrelated principals) fields assignments tree
   pub no_holder : Any (HasNoHolder rows) tree.fields.items
 
 -- why the lines of the two files stand for no code: a bad name, or a field that no host may hold
 abbrev pub IsNotBuilt : List FieldForm → List AssignmentForm → List (List ℕ) → List HostForm → Type 0
 IsNotBuilt fields assignments principals hosts =
-    ((rows : List HostShape) × AllZip (IsHostOf principals) hosts rows × HasBadName principals fields assignments) ⊎ HasNoPlace fields assignments principals hosts
+    ((rows : List HostShape) × AllZip (IsHostOf (unrelated principals)) hosts rows × HasBadName (unrelated principals) fields assignments) ⊎ HasNoPlace fields assignments principals hosts

@@ -3,7 +3,8 @@ ghost use Rattle.std.specs.Option.{option_map};
 ghost use Rattle.std.specs.String.{string_bytes};
 ghost use Rattle.split_cli.specs.Resolution.{HasOwner, IsUndeclared};
 
-use label_lattice::{Label, Principals, label_laws};
+use label_lattice::{Label, label_laws};
+use principals::Principals;
 
 /// The label `{}` where there is no owner, and `{OWNER:}` of a declared one. `None` where the owner is not declared.
 pub fn owner_label(principals: &Principals, owner: &Option<String>) -> Option<Label>

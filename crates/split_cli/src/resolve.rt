@@ -12,8 +12,9 @@ use crate::program_form::{AssignmentDraft, ProgramDraft};
 use fields::{field_names, fields};
 use jif_tree::{Method, Program};
 use js_base::{MethodId, OutOfMemory, StmtId};
-use label_lattice::{Label, Principals};
+use label_lattice::Label;
 use name_table::NameTable;
+use principals::Principals;
 use statements::statements;
 use std::alloc::Global;
 

@@ -19,6 +19,17 @@ use net_world::laws::all_obey;
 use std::alloc::Global;
 
 /// Runs `jifsplit` on the words after its name.
+///
+/// It answers `Done` where the report of a replay was put on `out`. Any other answer is a refusal or a fault:
+/// - `Usage`: the words are none that it knows.
+/// - `SourceRefused`: the program has not the first form or is too long, or a name in it is bad, or no host may hold a field.
+/// - `InputRefused`: a file is absent, the host file has not its form or is too long, or the script of events is too long, or a
+///   line of it has no form or asks for what cannot happen.
+/// - `FileFault`: a file could not be read.
+/// - `OutFault`: what was due could not all be put out.
+/// - `NoMemory`: memory ran out.
+///
+/// The first four put a line on `err` that says why.
 pub fn jifsplit<F: Files, S: Sink, E: Sink>(
     alloc: Global,
     words: &[String],

@@ -5,24 +5,26 @@ ghost use Rattle.net_world.specs.Hosts.{AreHosts};
 use super::code_of;
 use jif_tree::{Expr, Field, Method, Program, Stmt, StmtKind};
 use js_base::{FieldId, HostId, MethodId, PrincipalId, StmtId};
-use label_lattice::{Label, Principals};
+use label_lattice::Label;
 use net_world::host_code::{Code, Instr, Op};
 use net_world::host_decl::{HostRow, Hosts};
+use principals::Principals;
 use std::test::Fail;
 
 /// The label of what Bob alone may read.
 fn bobs_label(rt: &HostRuntime) -> Result<Label, Fail> {
     let bob = String::from_str(rt.alloc(), "Bob")?;
-    let principals = Principals::new(vec![in rt.alloc(); bob]?);
+    let names = vec![in rt.alloc(); bob]?;
+    let principals = Principals::new(rt.alloc(), &names, &[])?;
     Ok(Label::empty().with_policy(&principals, PrincipalId(0), &[]))
 }
 
 /// These hosts, in a file that declares no principal.
-fn hosts_of(rt: &HostRuntime, rows: Vec<HostRow>) -> Hosts
+fn hosts_of(rt: &HostRuntime, rows: Vec<HostRow>) -> Result<Hosts, Fail>
     requires { AreHosts rows.items }
 {
-    let nobody = Principals::new(Vec::new(rt.alloc()));
-    Hosts::new(nobody, rows)
+    let nobody = Principals::new(rt.alloc(), &[], &[])?;
+    Ok(Hosts::new(nobody, rows))
 }
 
 /// A host of this name, which may see nothing that is kept from anyone.
@@ -50,14 +52,14 @@ fn two_hosts(rt: &HostRuntime) -> Result<Hosts, Fail> {
     let first = open_host(rt, "A")?;
     let second = bobs_host(rt, "B")?;
     let rows = vec![in rt.alloc(); first, second]?;
-    Ok(hosts_of(rt, rows))
+    hosts_of(rt, rows)
 }
 
 /// The host A alone.
 fn one_host(rt: &HostRuntime) -> Result<Hosts, Fail> {
     let first = open_host(rt, "A")?;
     let rows = vec![in rt.alloc(); first]?;
-    Ok(hosts_of(rt, rows))
+    hosts_of(rt, rows)
 }
 
 /// A plain field that starts with 0.

@@ -8,7 +8,7 @@ use crate::labels::owner_label;
 use crate::program_form::FieldDraft;
 use jif_tree::Field;
 use js_base::OutOfMemory;
-use label_lattice::Principals;
+use principals::Principals;
 use std::alloc::Global;
 
 /// The names of the fields in order, or `None` where one is repeated.

@@ -2,14 +2,16 @@ use super::resolve;
 use crate::program_form::read_program;
 use jif_tree::{Expr, Program, Stmt, StmtKind};
 use js_base::{FieldId, StmtId};
-use label_lattice::{Label, Principals};
+use label_lattice::Label;
+use principals::Principals;
 use std::alloc::Global;
 use std::test::Fail;
 
 fn alice_and_bob(alloc: Global) -> Result<Principals, Fail> {
     let alice = String::from_str(alloc, "Alice")?;
     let bob = String::from_str(alloc, "Bob")?;
-    Ok(Principals::new(vec![in alloc; alice, bob]?))
+    let names = vec![in alloc; alice, bob]?;
+    Ok(Principals::new(alloc, &names, &[])?)
 }
 
 /// What a text resolves to, which spells a program of fewer than 1,000,000 fields and assignments.

@@ -1,5 +1,5 @@
 use Rattle.std.proofs.Common.{inl, inr, ◌∙◌, subst, arith}
-use Rattle.std.specs.Prelude.{List, ℕ}
+use Rattle.principals.specs.ActsFor.{Declared}
 use Rattle.split_cli.specs.Resolution.{HasBadName, IsProgramOf}
 use Rattle.split_cli.proofs.Building.{none_holds, main_size}
 use Rattle.split_cli.proofs.replay.build.Goals as goal
@@ -10,7 +10,7 @@ returns-in_default-clause-none c =
     inl (
       c.in_ok-hosts.hosts.hosts,
       c.in_ok-hosts.ensures.hosts,
-      subst (λ (ps : List (List ℕ)). HasBadName ps c.args.program.fields.items c.args.program.assignments.items) (c.principals.ensures ∙ c.in_ok-hosts.ensures.principals) bad,
+      subst (λ (ps : Declared). HasBadName ps c.args.program.fields.items c.args.program.assignments.items) (c.principals.ensures ∙ c.in_ok-hosts.ensures.principals) bad,
     )
 
 pub code_of-requires : goal.code_of-requires
@@ -23,6 +23,6 @@ returns-in_default-2-clause-none c =
       rows = c.in_ok-hosts.hosts.hosts;
       tree = c.in-Some.tree;
       rows_are = c.in_ok-hosts.ensures.hosts;
-      tree_is = subst (λ (ps : List (List ℕ)). IsProgramOf ps c.args.program.fields.items c.args.program.assignments.items c.in-Some.tree) (c.principals.ensures ∙ c.in_ok-hosts.ensures.principals) (rw c.in-Some.is at c.in_ok-tree.ensures.found);
+      tree_is = subst (λ (ps : Declared). IsProgramOf ps c.args.program.fields.items c.args.program.assignments.items c.in-Some.tree) (c.principals.ensures ∙ c.in_ok-hosts.ensures.principals) (rw c.in-Some.is at c.in_ok-tree.ensures.found);
       no_holder = none_holds _ _ c.in_default-2.not-Some c.in_ok-code.ensures.none;
     })

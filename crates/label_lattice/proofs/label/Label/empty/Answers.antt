@@ -1,5 +1,5 @@
 use Rattle.std.proofs.Common.{arith, refl}
-use Rattle.label_lattice.proofs.BitLemmas.{set_in_ones}
+use Rattle.js_base.proofs.BitLemmas.{set_in_ones}
 use Rattle.label_lattice.proofs.label.Label.empty.Goals as goal
 
 pub returns-clause-forbids : goal.returns-clause-forbids

@@ -4,7 +4,8 @@ use Rattle.std.specs.List.{IsDistinct}
 use Rattle.std.specs.Str.{bytes_eq}
 use Rattle.std.proofs.lemmas.Bool.{false≢true}
 use Rattle.split_cli.specs.ProgramForm.{FieldForm}
-use Rattle.split_cli.proofs.NameTables.{no_texts, distinct_more, texts_more, not_distinct}
+use Rattle.js_base.proofs.Texts.{no_texts, distinct_more}
+use Rattle.split_cli.proofs.NameTables.{texts_more, not_distinct}
 use Rattle.split_cli.proofs.resolve.fields.field_names.Goals as goal
 
 pub loop-draft-init : goal.loop-draft-init
