@@ -1,0 +1,12 @@
+pub mod Items
+pub mod Least
+pub mod BadKeys
+pub mod Keys
+pub mod Texts
+pub mod Costs
+pub mod SoundLinks
+pub mod HostRows
+pub mod Meanings
+pub mod DeclaredNames
+pub mod LabelTexts
+pub mod Lists

@@ -1,0 +1,15 @@
+-- The label that a text is read as.
+use Rattle.std.specs.Prelude.{ℕ, ◌≤◌, List, length}
+use Rattle.principals.specs.ActsFor.{Declared}
+use Rattle.jif_lex.specs.declared.token.Token.{Token}
+use Rattle.jif_lex.specs.Tokens.{ReadsAs, tokens}
+use Rattle.label_lattice.specs.declared.label.Label.{Label}
+use Rattle.label_lattice.specs.Written.{IsLabelOf}
+
+-- The text has tokens that are this label, written with names of these principals. No text of a host file is so long
+-- that it has too many bytes for tokens.
+pub record IsLabelText (principals : Declared) (text : List ℕ) (label : Label) : Type 0 where
+  pub few : length text ≤ 1048576
+  pub list : List Token
+  pub reads : ReadsAs text (tokens list)
+  pub means : IsLabelOf principals list label

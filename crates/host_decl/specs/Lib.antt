@@ -1,0 +1,7 @@
+pub mod Schema
+pub mod Form
+pub mod FormView
+pub mod Hosts
+pub mod LabelText
+pub mod Meaning
+pub mod Reading

@@ -1,0 +1,38 @@
+-- What becomes of the bytes of a host file.
+use Rattle.std.specs.Prelude.{◌≡◌, ◌⊎◌, ℕ, ◌<◌, ◌≤◌, List, length, Some, IsUtf8, string_bytes, ⊤}
+use Rattle.toml.specs.Data.{Members}
+use Rattle.toml.specs.Parse.{parse_document}
+use Rattle.host_decl.specs.declared.error.HostsError.{HostsError}
+use Rattle.host_decl.specs.declared.error.HostsError.TheVariants as error
+use Rattle.host_decl.specs.Schema.{IsFirstBadKey, IsSoundFile, file_tables}
+use Rattle.host_decl.specs.Form.{file_of}
+use Rattle.host_decl.specs.Hosts.{HostsShape}
+use Rattle.host_decl.specs.Meaning.{IsMeaningOf, RefusesFile}
+
+-- the bytes are few enough, and are the text of a TOML document with these members
+pub record IsDocument (bytes : List ℕ) (file : Members) : Type 0 where
+  pub few : length bytes ≤ 65536
+  pub text : IsUtf8 bytes
+  pub reads : parse_document bytes ≡ Some file
+
+-- the bytes say these hosts
+abbrev pub ReadsHosts : List ℕ → HostsShape → Type 0
+ReadsHosts bytes hosts = (file : Members) × IsDocument bytes file × IsSoundFile file × IsMeaningOf (file_of file) hosts
+
+-- the bytes are no document
+abbrev pub DocumentFails : List ℕ → HostsError → Type 0
+DocumentFails bytes error.OutOfMemory = ⊤
+DocumentFails bytes error.NotToml = (file : Members) → ¬ IsDocument bytes file
+DocumentFails bytes _ = ⊥
+
+abbrev pub KeysFail : Members → HostsError → Type 0
+KeysFail file (error.BadKey key) = IsFirstBadKey (file_tables file) (string_bytes key)
+KeysFail file _ = ⊥
+
+-- Why bytes say no hosts: there are too many, else they are no document, else a key is bad, else what the file says has no
+-- meaning. Memory may run out at any time.
+abbrev pub RefusesHosts : List ℕ → HostsError → Type 0
+RefusesHosts bytes refusal =
+    ((refusal ≡ error.TooLong) × (65536 < length bytes))
+    ⊎ ((length bytes ≤ 65536) × DocumentFails bytes refusal)
+    ⊎ ((file : Members) × IsDocument bytes file × (KeysFail file refusal ⊎ (IsSoundFile file × RefusesFile (file_of file) refusal)))

@@ -1,0 +1,33 @@
+//! What a host file says, as texts and numbers: names are not yet looked up, and labels are not yet read.
+
+ghost use Rattle.std.specs.Prelude.{◌≡◌, length};
+
+/// A host, as a host file writes it.
+#[derive(Debug, Drop)]
+pub struct HostForm {
+    pub name: String,
+    /// The text of its label.
+    pub label: String,
+    /// Its key, or the default one.
+    pub key: [u8; 32],
+    /// The path of its socket, or the default one.
+    pub path: String,
+    ghost whole_key: { length key ≡ 32 },
+}
+
+/// A link, as a host file writes it: the names of its hosts, and any cost.
+#[derive(Debug, Drop)]
+pub struct LinkForm {
+    pub from: String,
+    pub to: String,
+    pub cost: i64,
+}
+
+/// A host file: the names of principals, who of them acts for whom, the hosts and the links.
+#[derive(Debug, Drop)]
+pub struct HostsForm {
+    pub names: Vec<String>,
+    pub pairs: Vec<(String, String)>,
+    pub hosts: Vec<HostForm>,
+    pub links: Vec<LinkForm>,
+}

@@ -1,0 +1,23 @@
+//! The host file: which principals there are, which hosts with their labels, keys and paths, and what links cost.
+//!
+//! The file is TOML. `schema` says which keys it may have, `file_form` reads what it says as texts and numbers, and `resolve`
+//! finds its meaning, with `rows` for the hosts and `links` for the links.
+#![tactic(auto)]
+
+mod error;
+mod file_form;
+mod form;
+mod hosts;
+mod key;
+mod label_text;
+mod links;
+mod read;
+mod resolve;
+mod rows;
+mod schema;
+#[cfg(test)]
+mod tests;
+
+pub use error::HostsError;
+pub use hosts::{HostRow, Hosts};
+pub use read::read_hosts;

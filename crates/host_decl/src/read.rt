@@ -1,0 +1,45 @@
+ghost use Rattle.std.specs.Prelude.{◌≤◌, length, MatchResult, IfOk, IfErr};
+ghost use Rattle.toml.specs.View.{table_view};
+ghost use Rattle.host_decl.specs.Reading.{IsDocument, ReadsHosts, RefusesHosts, DocumentFails};
+
+use crate::error::HostsError;
+use crate::file_form::read_form;
+use crate::hosts::Hosts;
+use crate::resolve::resolve;
+use crate::schema::bad_key;
+use js_base::limits::HOSTS_BYTES;
+use std::alloc::Global;
+use toml::Table;
+
+/// The principals, hosts and costs that the bytes of a host file say.
+///
+/// # Errors
+/// Each in the order that `HostsError` gives.
+pub fn read_hosts(alloc: Global, bytes: &[u8]) -> Result<Hosts, HostsError>
+    ensures { MatchResult result (ReadsHosts bytes.now) (RefusesHosts bytes.now) }
+{
+    if bytes.len() > HOSTS_BYTES {
+        return Err(HostsError::TooLong);
+    }
+    let file = document(alloc, bytes)?;
+    if let Some(key) = bad_key(&file) {
+        return match String::from_str(alloc, key) {
+            Ok(key) => Err(HostsError::BadKey(key)),
+            Err(_) => Err(HostsError::OutOfMemory),
+        };
+    }
+    let form = read_form(alloc, &file)?;
+    resolve(alloc, form)
+}
+
+/// The TOML document in the bytes.
+fn document(alloc: Global, bytes: &[u8]) -> Result<Table, HostsError>
+    requires { length bytes.now ≤ 65536 }
+    ensures { MatchResult result (λ file. IsDocument bytes.now (table_view file)) (DocumentFails bytes.now) }
+{
+    match toml::table_from_slice(alloc, bytes) {
+        Ok(file) => Ok(file),
+        Err(error) if error.is_memory() => Err(HostsError::OutOfMemory),
+        Err(_) => Err(HostsError::NotToml),
+    }
+}
