@@ -10,7 +10,7 @@ use Rattle.net_world.specs.declared.host_code.Message.TheVariants.{Set, Ack}
 use Rattle.net_world.specs.declared.event_text.Event.{Event}
 use Rattle.net_world.specs.declared.event_text.Event.TheVariants.{Take, Turn}
 use Rattle.net_world.specs.Code.{CodeShape}
-use Rattle.net_world.specs.Hosts.{HostsShape}
+use Rattle.host_decl.specs.Hosts.{HostsShape}
 use Rattle.net_world.specs.Flying.{pair_place}
 use Rattle.net_world.specs.HostTable.{HostState, turned}
 use Rattle.net_world.specs.World.{World, run, world_at_start, moved, has_halted}

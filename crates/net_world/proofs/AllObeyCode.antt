@@ -12,7 +12,7 @@ use Rattle.jif_tree.specs.SourceRun.{main_body}
 use Rattle.jif_tree.specs.Validity.{NamesFields}
 use Rattle.net_world.specs.declared.host_code.Op.TheVariants.{Back}
 use Rattle.net_world.specs.Code.{CodeShape, FieldShape, part_of, instruction}
-use Rattle.net_world.specs.Hosts.{HostShape, HostsShape}
+use Rattle.host_decl.specs.Hosts.{HostShape, HostsShape, names_of}
 use Rattle.net_world.specs.FirstCode.{MayHold, IsPlaced, instruction_of, head_of, root_part}
 use Rattle.net_world.specs.AllObey.{IsSet}
 use Rattle.net_world.proofs.AllObeyLists.{get-from_All, get_has, get_within, length-zip, zip_at, get-map_push, get-map_end}
@@ -21,12 +21,15 @@ module _ {program : Program} {file : HostsShape} {code : CodeShape} {store : Lis
   pub host_count : length code.hosts ≡ length file.hosts
   host_count = ap length set.code_is.hosts ∙ length-map file.hosts (λ (host : HostShape). host.name)
 
+  name_count : length code.hosts ≡ length (names_of file.hosts)
+  name_count = ap length set.code_is.hosts
+
   pub few_hosts : length code.hosts ≤ 16
-  few_hosts = let count = host_count in let few = set.hosts_are.few in omega arith
+  few_hosts = let count = name_count in let few = set.hosts_are.few in omega arith
 
   pub root_within : code.root.0 < length code.hosts
   root_within =
-      let count = host_count in
+      let count = name_count in
       let some = set.hosts_are.some in
       let root = ap (λ (host : HostId). host.0) set.code_is.root in
       omega arith

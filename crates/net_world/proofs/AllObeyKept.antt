@@ -14,7 +14,7 @@ use Rattle.jif_tree.specs.SourceRun.{main_body, prefix}
 use Rattle.net_world.specs.declared.host_code.Message.{Message}
 use Rattle.net_world.specs.declared.host_code.Message.TheVariants.{Set, Ack}
 use Rattle.net_world.specs.Code.{CodeShape, FieldShape}
-use Rattle.net_world.specs.Hosts.{HostsShape}
+use Rattle.host_decl.specs.Hosts.{HostsShape}
 use Rattle.net_world.specs.Flying.{Flight, pair_place}
 use Rattle.net_world.specs.HostTable.{HostState, advanced, next_request, taken, turned, waits_for}
 use Rattle.net_world.specs.World.{World, moved, without_message}

@@ -9,7 +9,7 @@ use Rattle.js_base.specs.declared.ids.HostId.{HostId}
 use Rattle.jif_tree.specs.declared.program.Program.{Program}
 use Rattle.jif_tree.specs.Store.{row_of}
 use Rattle.net_world.specs.Code.{CodeShape, FieldShape}
-use Rattle.net_world.specs.Hosts.{HostsShape}
+use Rattle.host_decl.specs.Hosts.{HostsShape}
 use Rattle.net_world.specs.Flying.{Flight}
 use Rattle.net_world.specs.HostTable.{HostState, host_at_start, own_rows}
 use Rattle.net_world.specs.World.{numbers_below, world_at_start, host_row}

@@ -7,14 +7,14 @@ use Rattle.jif_tree.specs.SourceRun.{prefix, HasLength}
 use Rattle.jif_tree.specs.Validity.{IsValid}
 use Rattle.net_world.specs.declared.event_text.Event.{Event}
 use Rattle.net_world.specs.Code.{CodeShape, FieldShape}
-use Rattle.net_world.specs.Hosts.{HostsShape, AreHosts}
+use Rattle.host_decl.specs.Hosts.{HostsShape, AreHostNames, names_of}
 use Rattle.net_world.specs.FirstCode.{IsCodeOf}
 use Rattle.net_world.specs.World.{World, run, world_at_start, field_row, has_halted}
 
 -- the code is that of the program on these hosts, and the store has a row for each field
 pub record IsSet (program : Program) (file : HostsShape) (code : CodeShape) (store : List (List ℤ)) : Type 0 where
   pub valid : IsValid program
-  pub hosts_are : AreHosts file.hosts
+  pub hosts_are : AreHostNames (names_of file.hosts)
   pub code_is : IsCodeOf program file code
   pub rows : length store ≡ length program.fields.items
 

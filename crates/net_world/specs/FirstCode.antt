@@ -1,10 +1,10 @@
 -- The code of a program whose `main` assigns numbers to fields: all statements are on the first host, which is the
 -- root, and each field is on the first host that may hold it.
-use Rattle.std.specs.Prelude.{◌≡◌, ℕ, ◌-◌, ◌<◌, List, [], ◌∷◌, ◌++◌, length, map, All, replicate, Option, Some, None, IsSomeAnd, slice_get, string_bytes}
-use Rattle.std.specs.List.{AllZip}
+use Rattle.std.specs.Prelude.{◌≡◌, ℕ, ◌-◌, ◌<◌, List, [], ◌∷◌, ◌++◌, length, map, take, All, replicate, Option, Some, None, IsSomeAnd, slice_get, string_bytes}
+use Rattle.std.specs.List.{AllZip, AllByRecursion}
 use Rattle.js_base.specs.declared.ids.StmtId.{StmtId}
 use Rattle.label_lattice.specs.declared.label.Label.{Label}
-use Rattle.label_lattice.specs.Label.{ConfFlows}
+use Rattle.label_lattice.specs.Label.{ConfFlows, IntegFlows}
 use Rattle.jif_tree.specs.declared.program.Program.{Program}
 use Rattle.jif_tree.specs.declared.program.Field.{Field}
 use Rattle.jif_tree.specs.declared.program.Method.{Method}
@@ -17,12 +17,12 @@ use Rattle.net_world.specs.declared.host_code.Instr.{Instr}
 use Rattle.net_world.specs.declared.host_code.Op.{Op}
 use Rattle.net_world.specs.declared.host_code.Op.TheVariants.{Put, Back}
 use Rattle.net_world.specs.Code.{CodeShape, FieldShape}
-use Rattle.net_world.specs.Hosts.{HostShape, HostsShape}
+use Rattle.host_decl.specs.Hosts.{HostShape, HostsShape}
 
--- A host may hold a field where what the field's label forbids, the host's label forbids too. No field is read, and
--- none asks for integrity.
+-- A host may hold a field where what the field's label forbids, the host's label forbids too, and who trusts the field
+-- trusts the host.
 abbrev pub MayHold : Label → HostShape → Type 0
-MayHold label host = ConfFlows label host.label
+MayHold label host = ConfFlows label host.label × IntegFlows host.label label
 
 -- the first host that may hold a field of this label
 pub record IsFirstHolder (hosts : List HostShape) (label : Label) (n : ℕ) : Type 0 where
@@ -32,6 +32,15 @@ pub record IsFirstHolder (hosts : List HostShape) (label : Label) (n : ℕ) : Ty
 -- no host may hold a field of this label
 abbrev pub HasNoHolder : List HostShape → Field → Type 0
 HasNoHolder hosts field = All (λ host. ¬ MayHold field.label host) hosts
+
+-- the first field that no host may hold has this name
+pub record IsFirstUnheld (hosts : List HostShape) (fields : List Field) (name : List ℕ) : Type 0 where
+  pub field : Field
+  pub place : ℕ
+  pub here : slice_get fields place ≡ Some field
+  pub named : string_bytes field.name ≡ name
+  pub unheld : HasNoHolder hosts field
+  pub before : AllByRecursion (λ other. ¬ HasNoHolder hosts other) (take place fields)
 
 -- the code's field for a field of the program
 pub record IsPlaced (hosts : List HostShape) (field : Field) (placed : FieldShape) : Type 0 where

@@ -5,6 +5,5 @@ pub mod Events
 pub mod FirstCode
 pub mod Flying
 pub mod HostTable
-pub mod Hosts
 pub mod MessageText
 pub mod World

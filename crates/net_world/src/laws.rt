@@ -4,7 +4,7 @@ ghost use Rattle.std.specs.Prelude.{◌≡◌, ℕ, ℤ, true, List, All, Ok};
 ghost use Rattle.jif_tree.specs.declared.program.Program.{Program};
 ghost use Rattle.net_world.specs.declared.event_text.Event.{Event};
 ghost use Rattle.net_world.specs.Code.{CodeShape};
-ghost use Rattle.net_world.specs.Hosts.{HostsShape};
+ghost use Rattle.host_decl.specs.Hosts.{HostsShape};
 ghost use Rattle.net_world.specs.World.{World, run, world_at_start, has_halted};
 ghost use Rattle.net_world.specs.AllObey.{IsSet, Follows, IsIdle};
 

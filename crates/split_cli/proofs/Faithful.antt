@@ -6,19 +6,18 @@ use Rattle.std.proofs.lemmas.List.{length-map, take_all}
 use Rattle.js_base.specs.Sink.{Takes}
 use Rattle.js_base.specs.declared.status.Status.{Status}
 use Rattle.js_base.specs.declared.status.Status.TheVariants.{Done, NoMemory}
+use Rattle.host_decl.specs.Hosts.{HostsShape}
 use Rattle.jif_tree.specs.declared.program.Program.{Program}
 use Rattle.jif_tree.specs.Store.{starting_values}
 use Rattle.net_world.specs.declared.event_text.Event.{Event}
 use Rattle.net_world.specs.Code.{CodeShape}
 use Rattle.net_world.specs.Events.{script_of}
-use Rattle.net_world.specs.Hosts.{HostsShape}
 use Rattle.net_world.specs.World.{World, Refusal, not_there, host_busy, run, world_at_start, has_halted}
 use Rattle.net_world.specs.AllObey.{IsSet, Follows, IsIdle, IsAfter}
-use Rattle.split_cli.specs.Resolution.{unrelated}
 use Rattle.split_cli.specs.Replay.{Verdict, Refuse, Print, IsReplay, Told, AreAccepted, DueForBytes, no_program, no_hosts, bad_name, no_holder, long_script, script, DueForFiles, Due, no_words, replay, due_after, due_for_script, event_refused, no_such_file}
 use Rattle.split_cli.specs.Answers.{SinkChange, FilesChange, Puts, IsAnswered, IsOwed, AnswersTo}
 use Rattle.split_cli.specs.Faithful.{IsReplayed, IsFaithful, PutsFaithfully}
-use Rattle.split_cli.proofs.HostRows.{are_hosts}
+use Rattle.split_cli.proofs.HostNames.{names_read}
 use Rattle.split_cli.proofs.ValidPrograms.{valid_program}
 
 -- a refusal is no success, and a report is that of a replay
@@ -48,18 +47,18 @@ script_says program hosts events file code tree accepted short (Ok read) was = r
 bytes_say : (file program hosts events : List ℕ) (verdict : Verdict) → DueForBytes file program hosts events verdict → Says program hosts events verdict
 unfolding Says
 bytes_say file program hosts events _ (no_program not) = λ same. cc
-bytes_say file program hosts events _ (no_hosts fields assignments short spells not) = λ same. cc
-bytes_say file program hosts events _ (bad_name forms bad) = λ same. cc
-bytes_say file program hosts events _ (no_holder forms tree is none) = λ same. cc
+bytes_say file program hosts events _ (no_hosts fields assignments why text refused) = λ same. cc
+bytes_say file program hosts events _ (bad_name said bad) = λ same. cc
+bytes_say file program hosts events _ (no_holder said tree name is unheld) = λ same. cc
 bytes_say file program hosts events _ (long_script code tree accepted long) = λ same. cc
 bytes_say file program hosts events _ (script code tree accepted short) = script_says program hosts events file code tree accepted short (script_of code.hosts events) refl
 
 -- what the premises of the laws ask of an accepted program
 is_set : (program hosts : List ℕ) (code : CodeShape) (tree : Program) (accepted : AreAccepted program hosts code tree) →
-    IsSet tree (record { principals = unrelated accepted.forms.principals; hosts = accepted.forms.host_rows }) code (starting_values tree)
+    IsSet tree accepted.said.file code (starting_values tree)
 is_set program hosts code tree accepted = record {
   valid = valid_program _ _ _ tree accepted.tree_is;
-  hosts_are = are_hosts hosts accepted.forms.principals (unrelated accepted.forms.principals) accepted.forms.host_forms accepted.forms.host_rows accepted.forms.hosts_spelled accepted.forms.rows;
+  hosts_are = names_read hosts accepted.said.file accepted.said.hosts_text;
   code_is = accepted.code_is;
   rows = rw length-map;
 }

@@ -1,7 +1,7 @@
 -- What holds of the first code of a program.
 use Rattle.std.proofs.Common.{◌≡◌, ℕ, zero, suc, ◌+◌, ◌-◌, ◌^◌, ◌<◌, List, [], ◌∷◌, ◌++◌, length, get_or, take, map, refl, ap, sym, ◌∙◌, subst, arith}
-use Rattle.std.specs.Prelude.{All, IsSomeAnd, replicate, slice_get, unwrap_or}
-use Rattle.std.specs.List.{AllZip}
+use Rattle.std.specs.Prelude.{All, IsSomeAnd, Some, replicate, slice_get, string_bytes, unwrap_or}
+use Rattle.std.specs.List.{AllByRecursion, AllZip}
 use Rattle.std.proofs.lemmas.List.{length-append, length-map, length-replicate, take_more}
 use Rattle.std.proofs.lemmas.List.Elements.{All-nil, All-cons}
 use Rattle.js_base.specs.declared.ids.HostId.{HostId}
@@ -10,8 +10,8 @@ use Rattle.jif_tree.specs.declared.program.Field.{Field}
 use Rattle.jif_tree.specs.SourceRun.{main_body}
 use Rattle.net_world.specs.declared.host_code.Instr.{Instr}
 use Rattle.net_world.specs.Code.{CodeShape, FieldShape, IsSound}
-use Rattle.net_world.specs.FirstCode.{IsCodeOf, IsPlaced, root_part}
-use Rattle.net_world.specs.Hosts.{AreHosts, HostShape, HostsShape}
+use Rattle.net_world.specs.FirstCode.{HasNoHolder, IsCodeOf, IsFirstUnheld, IsPlaced, MayHold, root_part}
+use Rattle.host_decl.specs.Hosts.{AreHostNames, HostShape, HostsShape, names_of}
 
 AllZip_push : {A B : Type 0} (R : A → B → Type 0) (xs : List A) (ys : List B) (x : A) (y : B) → AllZip R xs ys → R x y → AllZip R (xs ++ x ∷ []) (ys ++ y ∷ [])
 AllZip_push R [] [] x y all last = (last, tt)
@@ -38,6 +38,35 @@ placed_on_hosts hosts (f ∷ fields) [] all = absurd all
 placed_on_hosts hosts (f ∷ fields) (p ∷ placed) all =
     All-cons (λ field. field.host.0 < length hosts) p placed (is_there _ hosts p.host.0 all.0.host.may) (placed_on_hosts hosts fields placed all.1)
 
+none_may : (P : HostShape → Type 0) (hosts : List HostShape) (n : ℕ) → IsSomeAnd (slice_get hosts n) P → All (λ host. ¬ P host) hosts → ⊥
+none_may P [] n some none = some
+none_may P (host ∷ hosts) zero some none = none 0 host (omega arith) some
+none_may P (host ∷ hosts) (suc n) some none = none_may P hosts n some (λ k d lt. none (suc k) d (omega arith))
+
+-- of fields that are placed there is none that no host may hold
+all_held : (hosts : List HostShape) (fields : List Field) (placed : List FieldShape) → AllZip (IsPlaced hosts) fields placed → AllByRecursion (λ field. ¬ HasNoHolder hosts field) fields
+all_held hosts [] [] all = tt
+all_held hosts [] (p ∷ placed) all = absurd all
+all_held hosts (f ∷ fields) [] all = absurd all
+all_held hosts (f ∷ fields) (p ∷ placed) all =
+    (λ none. none_may (MayHold f.label) hosts p.host.0 all.0.host.may none, all_held hosts fields placed all.1)
+
+get_at : {X : Type 0} (xs : List X) (i : ℕ) (x : X) → i < length xs → x ≡ get_or xs i x → slice_get xs i ≡ Some x
+get_at [] i x lt is = absurd (omega arith)
+get_at (y ∷ xs) zero x lt is = ap Some (sym is)
+get_at (y ∷ xs) (suc i) x lt is = get_at xs i x (omega arith) is
+
+pub first_unheld : (hosts : List HostShape) (fields : List Field) (placed : List FieldShape) (i : ℕ) (field : Field) (name : List ℕ) → i < length fields → field ≡ get_or fields i field → string_bytes field.name ≡ name →
+    HasNoHolder hosts field → AllZip (IsPlaced hosts) (take i fields) placed → IsFirstUnheld hosts fields name
+first_unheld hosts fields placed i field name lt is named none all = record {
+  field = field;
+  place = i;
+  here = get_at fields i field lt is;
+  named = named;
+  unheld = none;
+  before = all_held hosts (take i fields) placed all;
+}
+
 empty_part : (bound n host : ℕ) → 0 < bound → length (unwrap_or (slice_get (replicate {A = List Instr} n []) host) []) < bound
 empty_part bound zero host lt = lt
 empty_part bound (suc n) zero lt = lt
@@ -51,9 +80,10 @@ length-root_part : (program : Program) → length (root_part program) ≡ length
 length-root_part program = simp (length-append, length-map)
 
 -- the code of a program on the hosts of a host file is a code
-pub code_sound : (program : Program) (file : HostsShape) (code : CodeShape) → AreHosts file.hosts → length (main_body program) + 1 < 2 ^ 32 → IsCodeOf program file code → IsSound code
+pub code_sound : (program : Program) (file : HostsShape) (code : CodeShape) → AreHostNames (names_of file.hosts) → length (main_body program) + 1 < 2 ^ 32 → IsCodeOf program file code → IsSound code
 code_sound program file code are fits is =
     let count : length code.hosts ≡ length file.hosts = ap length is.hosts ∙ length-map file.hosts (λ host. host.name) in
+    let names : length code.hosts ≡ length (names_of file.hosts) = ap length is.hosts in
     let some = are.some in
     let few = are.few in
     let parts : length code.parts ≡ suc (length file.hosts - 1) = ap length is.parts ∙ ap suc (length-replicate (length file.hosts - 1) []) in

@@ -11,7 +11,7 @@ use Rattle.std.proofs.lemmas.Str.Parse.{digit_at}
 use Rattle.js_base.specs.Name.{IsName}
 use Rattle.split_cli.specs.ProgramForm.{FieldForm, AssignmentForm, DeclaresField, AssignsNumber}
 use Rattle.split_cli.specs.Text.{policy_text}
-use Rattle.split_cli.proofs.Names.{name_lacks}
+use Rattle.js_base.proofs.NameTexts.{name_lacks}
 
 -- of a text that is written out
 pub written_lacks : (text : List ℕ) (byte : ℕ) → list_all (λ b. not (eqb b byte)) text ≡ true → ¬ Contains text byte

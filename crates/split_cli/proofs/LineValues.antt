@@ -5,7 +5,7 @@ use Rattle.std.specs.List.{AllZip}
 use Rattle.std.proofs.lemmas.List.{append_assoc, flat_map_more}
 use Rattle.split_cli.specs.Text.{lines_text}
 use Rattle.split_cli.specs.LineValues.{BeginsWith, BeginsWithNone}
-use Rattle.split_cli.proofs.Cuts.{same_cut}
+use Rattle.js_base.proofs.Cuts.{same_cut}
 
 AllZip_push : {V : Type 0} (Spells : List ℕ → V → Type 0) (lines : List (List ℕ)) (values : List V) (line : List ℕ) (value : V) → AllZip Spells lines values → Spells line value → AllZip Spells (lines ++ line ∷ []) (values ++ value ∷ [])
 AllZip_push Spells [] [] line value all last = (last, tt)

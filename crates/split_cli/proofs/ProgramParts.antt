@@ -8,7 +8,7 @@ use Rattle.std.proofs.lemmas.List.Concat.{flat_map-append}
 use Rattle.split_cli.specs.ProgramForm.{FieldForm, AssignmentForm, DeclaresField, AssignsNumber, SpellsProgram}
 use Rattle.split_cli.specs.Text.{lines_text}
 use Rattle.split_cli.specs.LineValues.{BeginsWith, BeginsWithNone}
-use Rattle.split_cli.proofs.Cuts.{same_cut}
+use Rattle.js_base.proofs.Cuts.{same_cut}
 use Rattle.split_cli.proofs.FormLines.{declares_one_line, assigns_one_line, written_lacks}
 use Rattle.split_cli.proofs.LineValues.{same_rest}
 

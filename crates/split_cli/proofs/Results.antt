@@ -8,3 +8,8 @@ pub mapped_ok : {T E D : Type 0} (F : E → D → Type 0) (r : Result T E) (s : 
 mapped_ok F (Ok x) s P Q weaker holds is = rw is (weaker x holds)
 mapped_ok F (Err e) (Ok x) P Q weaker holds is = absurd is
 mapped_ok F (Err e) (Err d) P Q weaker holds is = tt
+
+-- both of what hold of the value
+pub both_ok : {T E : Type 0} (r : Result T E) (P Q : T → Type 0) → IfOk r P → IfOk r Q → IfOk r (λ x. P x × Q x)
+both_ok (Ok x) P Q first second = (first, second)
+both_ok (Err e) P Q first second = tt

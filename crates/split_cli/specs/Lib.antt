@@ -1,7 +1,5 @@
 pub mod Answers
 pub mod Faithful
-pub mod HostsForm
-pub mod HostsParts
 pub mod LineValues
 pub mod Loads
 pub mod ProgramForm

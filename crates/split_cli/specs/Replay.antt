@@ -1,22 +1,25 @@
 -- What `jifsplit` owes for its words and for what the files hold: a refusal with its status and its line, or a report.
 -- A word and a file are lists of bytes.
-use Rattle.std.specs.Prelude.{◌≡◌, ℕ, ◌<◌, ◌≤◌, ◌⊎◌, List, [], ◌∷◌, ◌++◌, length, Any, Option, Some, None, IfSome, Result, Ok, Err, codes}
-use Rattle.std.specs.List.{AllZip}
+use Rattle.std.specs.Prelude.{◌≡◌, ◌≢◌, ℕ, ◌<◌, ◌≤◌, ◌⊎◌, List, [], ◌∷◌, ◌++◌, length, Option, Some, None, IfSome, Result, Ok, Err, codes, string_bytes}
 use Rattle.std.specs.Fmt.{decimal}
 use Rattle.js_base.specs.Counts.{Rose}
 use Rattle.js_base.specs.declared.status.Status.{Status}
 use Rattle.js_base.specs.declared.status.Status.TheVariants.{Usage, SourceRefused, InputRefused, FileFault}
+use Rattle.principals.specs.declared.principals.PrincipalError.{PrincipalError}
+use Rattle.principals.specs.declared.principals.PrincipalError.TheVariants as principal_error
+use Rattle.host_decl.specs.declared.error.HostsError.{HostsError}
+use Rattle.host_decl.specs.declared.error.HostsError.TheVariants as hosts_error
+use Rattle.host_decl.specs.Hosts.{HostsShape}
+use Rattle.host_decl.specs.Reading.{ReadsHosts, RefusesHosts}
 use Rattle.jif_tree.specs.declared.program.Program.{Program}
 use Rattle.jif_tree.specs.Store.{starting_values}
 use Rattle.net_world.specs.declared.event_text.Event.{Event}
 use Rattle.net_world.specs.Code.{CodeShape}
-use Rattle.net_world.specs.Hosts.{HostShape}
-use Rattle.net_world.specs.FirstCode.{HasNoHolder, IsCodeOf}
+use Rattle.net_world.specs.FirstCode.{IsFirstUnheld, IsCodeOf}
 use Rattle.net_world.specs.Events.{script_of}
 use Rattle.net_world.specs.World.{World, Refusal, not_there, host_busy, run, world_at_start}
 use Rattle.split_cli.specs.ProgramForm.{FieldForm, AssignmentForm, SpellsProgram}
-use Rattle.split_cli.specs.HostsForm.{HostForm, SpellsHosts}
-use Rattle.split_cli.specs.Resolution.{unrelated, IsProgramOf, HasBadName, IsHostOf}
+use Rattle.split_cli.specs.Resolution.{IsProgramOf, HasBadName}
 use Rattle.split_cli.specs.Report.{report}
 
 -- a refusal with its status and its line, or a report to be put out
@@ -42,8 +45,31 @@ file_fault file = Refuse FileFault (error_line (codes "file fault: " ++ file))
 abbrev pub program_not_built : Verdict
 program_not_built = Refuse SourceRefused (error_line (codes "program: not built yet"))
 
-abbrev pub hosts_not_built : Verdict
-hosts_not_built = Refuse InputRefused (error_line (codes "hosts: not built yet"))
+-- why principals are refused
+abbrev pub why_no_principals : PrincipalError → List ℕ
+why_no_principals principal_error.OutOfMemory = codes "no memory"
+why_no_principals principal_error.TooMany = codes "too many principals"
+why_no_principals (principal_error.Twice name) = codes "principal " ++ (string_bytes name ++ codes " twice")
+why_no_principals (principal_error.Unknown name) = codes "unknown principal " ++ string_bytes name
+
+-- why a host file is refused
+abbrev pub why_no_hosts : HostsError → List ℕ
+why_no_hosts hosts_error.OutOfMemory = codes "no memory"
+why_no_hosts hosts_error.NotToml = codes "not TOML"
+why_no_hosts (hosts_error.BadKey name) = codes "bad key " ++ string_bytes name
+why_no_hosts (hosts_error.BadLabel number name) = codes "bad label of host " ++ string_bytes name
+why_no_hosts (hosts_error.Principals why) = why_no_principals why
+why_no_hosts hosts_error.TooManyHosts = codes "too many hosts"
+why_no_hosts (hosts_error.HostTwice name) = codes "host " ++ (string_bytes name ++ codes " twice")
+why_no_hosts hosts_error.NoHost = codes "no host"
+why_no_hosts (hosts_error.BadLink number) = codes "bad link " ++ decimal number
+why_no_hosts hosts_error.TooLong = codes "too long"
+
+abbrev pub hosts_refused : HostsError → Verdict
+hosts_refused why = Refuse InputRefused (error_line (codes "hosts: " ++ why_no_hosts why))
+
+abbrev pub no_host_for_field : List ℕ → Verdict
+no_host_for_field name = Refuse SourceRefused (error_line (codes "no host may hold field " ++ name))
 
 abbrev pub too_long : List ℕ → Verdict
 too_long file = Refuse InputRefused (error_line (file ++ codes ": too long"))
@@ -66,29 +92,29 @@ abbrev pub IsNoProgram : List ℕ → Type 0
 IsNoProgram bytes =
     (1048576 < length bytes) ⊎ ((fields : List FieldForm) (assignments : List AssignmentForm) → ¬ SpellsProgram bytes fields assignments)
 
--- no host file of the first form, or too long
-abbrev pub IsNoHosts : List ℕ → Type 0
-IsNoHosts bytes =
-    (65536 < length bytes) ⊎ ((principals : List (List ℕ)) (hosts : List HostForm) → ¬ SpellsHosts bytes principals hosts)
+-- the bytes are a program of the first form, of these fields and assignments
+pub record IsProgramText (bytes : List ℕ) (fields : List FieldForm) (assignments : List AssignmentForm) : Type 0 where
+  pub short : length bytes ≤ 1048576
+  pub spelled : SpellsProgram bytes fields assignments
 
--- the two files have their forms
-pub record HaveForms (program hosts : List ℕ) : Type 0 where
+-- the bytes of a host file are refused, and not for want of memory
+pub record AreNoHosts (bytes : List ℕ) (why : HostsError) : Type 0 where
+  pub refuses : RefusesHosts bytes why
+  pub no_want : why ≢ hosts_error.OutOfMemory
+
+-- the two files say fields and assignments, and hosts
+pub record AreRead (program hosts : List ℕ) : Type 0 where
   pub fields : List FieldForm
   pub assignments : List AssignmentForm
-  pub principals : List (List ℕ)
-  pub host_forms : List HostForm
-  pub host_rows : List HostShape
-  pub program_short : length program ≤ 1048576
-  pub hosts_short : length hosts ≤ 65536
-  pub program_spelled : SpellsProgram program fields assignments
-  pub hosts_spelled : SpellsHosts hosts principals host_forms
-  pub rows : AllZip (IsHostOf (unrelated principals)) host_forms host_rows
+  pub file : HostsShape
+  pub program_text : IsProgramText program fields assignments
+  pub hosts_text : ReadsHosts hosts file
 
 -- The two files are accepted, and give this code, in which the fields start so.
 pub record AreAccepted (program hosts : List ℕ) (code : CodeShape) (tree : Program) : Type 0 where
-  pub forms : HaveForms program hosts
-  pub tree_is : IsProgramOf (unrelated forms.principals) forms.fields forms.assignments tree
-  pub code_is : IsCodeOf tree (record { principals = unrelated forms.principals; hosts = forms.host_rows }) code
+  pub said : AreRead program hosts
+  pub tree_is : IsProgramOf said.file.principals said.fields said.assignments tree
+  pub code_is : IsCodeOf tree said.file code
 
 -- what is due for the script of events of a code
 abbrev pub due_after : List ℕ → CodeShape → Result World (ℕ × Refusal) → Verdict
@@ -102,9 +128,10 @@ due_for_script file code w (Ok script) = due_after file code (run code w script)
 -- what is due for what the three files hold, where the third has this name
 pub data DueForBytes (file program hosts events : List ℕ) : Verdict → Type 0 where
   no_program : IsNoProgram program → DueForBytes file program hosts events program_not_built
-  no_hosts : (fields : List FieldForm) (assignments : List AssignmentForm) → length program ≤ 1048576 → SpellsProgram program fields assignments → IsNoHosts hosts → DueForBytes file program hosts events hosts_not_built
-  bad_name : (forms : HaveForms program hosts) → HasBadName (unrelated forms.principals) forms.fields forms.assignments → DueForBytes file program hosts events program_not_built
-  no_holder : (forms : HaveForms program hosts) (tree : Program) → IsProgramOf (unrelated forms.principals) forms.fields forms.assignments tree → Any (HasNoHolder forms.host_rows) tree.fields.items → DueForBytes file program hosts events program_not_built
+  no_hosts : (fields : List FieldForm) (assignments : List AssignmentForm) (why : HostsError) → IsProgramText program fields assignments → AreNoHosts hosts why → DueForBytes file program hosts events (hosts_refused why)
+  bad_name : (said : AreRead program hosts) → HasBadName said.file.principals said.fields said.assignments → DueForBytes file program hosts events program_not_built
+  no_holder : (said : AreRead program hosts) (tree : Program) (name : List ℕ) → IsProgramOf said.file.principals said.fields said.assignments tree → IsFirstUnheld said.file.hosts tree.fields.items name →
+      DueForBytes file program hosts events (no_host_for_field name)
   long_script : (code : CodeShape) (tree : Program) → AreAccepted program hosts code tree → 16777216 < length events → DueForBytes file program hosts events (too_long file)
   script : (code : CodeShape) (tree : Program) → AreAccepted program hosts code tree → length events ≤ 16777216 →
       DueForBytes file program hosts events (due_for_script file code (world_at_start code (starting_values tree)) (script_of code.hosts events))

@@ -1,4 +1,4 @@
--- What the lines of a program and of a host file stand for, once their names are known.
+-- What the lines of a program stand for, once their names are known.
 use Rattle.std.specs.Prelude.{◌≡◌, ℕ, ◌+◌, ◌⊎◌, pos, false, List, [], ◌∷◌, length, map, Any, Contains, Option, Some, None, slice_get, string_bytes, codes, ⊤}
 use Rattle.std.specs.List.{AllZip, IsDistinct}
 use Rattle.std.specs.Str.{bytes_eq}
@@ -13,13 +13,7 @@ use Rattle.jif_tree.specs.declared.program.Method.{Method}
 use Rattle.jif_tree.specs.declared.program.Stmt.{Stmt}
 use Rattle.jif_tree.specs.declared.program.StmtKind.TheVariants.{SetField}
 use Rattle.jif_tree.specs.declared.program.Expr.TheVariants.{Number}
-use Rattle.net_world.specs.Hosts.{HostShape}
 use Rattle.split_cli.specs.ProgramForm.{FieldForm, AssignmentForm}
-use Rattle.split_cli.specs.HostsForm.{HostForm}
-
--- principals of these names, of whom each acts for itself alone
-abbrev pub unrelated : List (List ℕ) → Declared
-unrelated names = record { names = names; pairs = [] }
 
 -- the label forbids what the one policy of this owner forbids, or nothing
 abbrev pub ForbidsByOwner : Declared → Label → Option (List ℕ) → Type 0
@@ -88,8 +82,3 @@ HasBadName principals fields assignments =
     (¬ IsDistinct bytes_eq (names_of fields))
     ⊎ (Any (λ field. IsUndeclared principals field.owner) fields
     ⊎ Any (λ assignment. ¬ Contains (names_of fields) assignment.field) assignments)
-
--- a host with the label of its owner
-pub record IsHostOf (principals : Declared) (form : HostForm) (host : HostShape) : Type 0 where
-  pub name : host.name ≡ form.name
-  pub label : HasOwner principals host.label form.owner

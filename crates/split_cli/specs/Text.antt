@@ -1,4 +1,4 @@
--- Texts that the first forms of the two files share. A text is the list of its bytes.
+-- Texts of the first form of a program. A text is the list of its bytes.
 use Rattle.std.specs.Prelude.{ℕ, List, [], ◌∷◌, ◌++◌, Option, Some, None, codes}
 use Rattle.std.specs.List.{flat_map}
 
@@ -10,7 +10,3 @@ lines_text lines = flat_map (λ line. line ++ 10 ∷ []) lines
 abbrev pub policy_text : Option (List ℕ) → List ℕ
 policy_text None = []
 policy_text (Some owner) = owner ++ codes ":"
-
--- in double quotes
-abbrev pub quoted : List ℕ → List ℕ
-quoted text = 34 ∷ text ++ 34 ∷ []

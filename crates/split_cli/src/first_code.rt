@@ -1,34 +1,54 @@
-ghost use Rattle.std.specs.Prelude.{◌≡◌, ◌+◌, ◌^◌, ◌<◌, ◌≤◌, [], ◌∷◌, ◌++◌, Any, IfOk, IfSome, IfNone, length, map, replicate};
+ghost use Rattle.std.specs.Prelude.{◌≡◌, ◌+◌, ◌^◌, ◌<◌, ◌≤◌, [], ◌∷◌, ◌++◌, IfOk, MatchResult, length, map, replicate};
 ghost use Rattle.std.specs.String.{string_bytes};
 ghost use Rattle.jif_tree.specs.SourceRun.{main_body};
-ghost use Rattle.net_world.specs.FirstCode.{HasNoHolder, IsCodeOf, instruction_of, root_part};
+ghost use Rattle.net_world.specs.FirstCode.{IsCodeOf, instruction_of, root_part};
+ghost use Rattle.split_cli.specs.Shown.{HaveNoCode};
 
 mod placement;
 #[cfg(test)]
 pub mod tests;
 
+use host_decl::{HostRow, Hosts};
 use jif_tree::{Expr, Program, Stmt, StmtKind};
 use js_base::{HostId, OutOfMemory, StmtId};
 use net_world::host_code::{Code, Instr, Op, Part};
-use net_world::host_decl::{HostRow, Hosts};
 use placement::placed_fields;
 use std::alloc::Global;
+use thiserror::Error;
 
-/// The code of a program on these hosts, or `None` where no host may hold one of its fields. `main` has fewer than
-/// 2^32 - 1 statements, so that its places are numbers of 32 bits.
-pub fn code_of(alloc: Global, program: &Program, hosts: &Hosts) -> Result<Option<Code>, OutOfMemory>
+/// Why there is no code of a program.
+#[derive(Debug, Drop, Error)]
+pub enum CodeError {
+    #[error("out of memory")]
+    OutOfMemory,
+    /// The name of the first field that no host may hold.
+    #[error("no host may hold field {0}")]
+    NoHostForField(String),
+}
+
+impl From<OutOfMemory> for CodeError {
+    ghost use Rattle.std.specs.Prelude.{◌≡◌};
+    ghost use Rattle.split_cli.specs.declared.first_code.CodeError.TheVariants as error;
+
+    ghost from_gives = { λ _ e. e ≡ error.OutOfMemory };
+
+    fn from(_error: OutOfMemory) -> CodeError {
+        CodeError::OutOfMemory
+    }
+}
+
+/// The code of a program on these hosts. `main` has fewer than 2^32 - 1 statements, so that its places are numbers of
+/// 32 bits.
+pub fn code_of(alloc: Global, program: &Program, hosts: &Hosts) -> Result<Code, CodeError>
     requires { length (main_body program.now) + 1 < 2 ^ 32 }
-    ensures found { IfOk result (λ found. IfSome found (λ code. IsCodeOf program.now hosts.now code)) }
-    ensures none { IfOk result (λ found. IfNone found (Any (HasNoHolder hosts.now.hosts) program.now.fields.items)) }
+    ensures { MatchResult result (IsCodeOf program.now hosts.now) (HaveNoCode hosts.now.hosts program.now.fields.items) }
 {
     let rows = hosts.hosts();
-    let Some(fields) = placed_fields(alloc, &program.fields, rows)? else {
-        return Ok(None);
-    };
+    let fields = placed_fields(alloc, &program.fields, rows)?;
     let names = host_names(alloc, rows)?;
     let root = main_part(alloc, program)?;
     let parts = all_parts(alloc, root, rows.len() - 1)?;
-    Ok(Some(Code::new(names, fields, parts, HostId(0))))
+    Ok(Code::new(names, fields, parts, HostId(0)))
 }
 
 /// The hosts' names in order.
@@ -37,7 +57,7 @@ fn host_names(alloc: Global, hosts: &[HostRow]) -> Result<Vec<String>, OutOfMemo
 {
     let mut names = Vec::new(alloc);
     for host in hosts {
-        let name = host.name.clone().map_err(|_| OutOfMemory)?;
+        let name = String::from_str(alloc, host.name()).map_err(|_| OutOfMemory)?;
         names.push(name).map_err(|_| OutOfMemory)?;
     }
     Ok(names)

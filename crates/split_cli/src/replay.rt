@@ -1,21 +1,20 @@
 // What is owed for what the three files hold.
 
-ghost use Rattle.std.specs.Prelude.{◌≡◌, ◌≤◌, ◌<◌, ◌^◌, ℕ, List, All, length, map, string_bytes, option_copied, IfOk, IfSome, IfNone, IsSomeAnd};
+ghost use Rattle.std.specs.Prelude.{◌≡◌, ◌≤◌, ◌<◌, ◌^◌, ℕ, List, All, length, option_copied, IfOk, IfSome, IfNone, IsSomeAnd, MatchResult};
+ghost use Rattle.host_decl.specs.Reading.{ReadsHosts, RefusesHosts};
 ghost use Rattle.split_cli.specs.ProgramForm.{FieldForm, AssignmentForm, SpellsProgram};
-ghost use Rattle.split_cli.specs.HostsForm.{HostForm, SpellsHosts};
-ghost use Rattle.split_cli.specs.Replay.{DueForBytes, due_for_script};
-ghost use Rattle.split_cli.specs.Shown.{shown, IsLoaded, IsBuiltOf, IsNotBuilt};
+ghost use Rattle.split_cli.specs.Replay.{IsProgramText, DueForBytes, due_for_script};
+ghost use Rattle.split_cli.specs.Shown.{shown, IsLoaded};
 ghost use Rattle.jif_tree.specs.Store.{starting_values};
 ghost use Rattle.net_world.specs.World.{world_at_start};
 ghost use Rattle.net_world.specs.Events.{script_of};
 
-use crate::first_code::code_of;
-use crate::hosts_form::{HostsDraft, read_hosts};
+use crate::first_code::{CodeError, code_of};
 use crate::program_form::{ProgramDraft, read_program};
 use crate::report::report_text;
 use crate::resolve::resolve;
-use crate::resolve_hosts::resolve_hosts;
 use crate::verdict::Verdict;
+use host_decl::{Hosts, HostsError, read_hosts};
 use jif_tree::{Program, Store};
 use js_base::OutOfMemory;
 use net_world::event_text::{EventsError, read_events};
@@ -48,15 +47,9 @@ pub fn verdict_for(
     let Some(program) = program_draft(alloc, program)? else {
         return Verdict::program_not_built(alloc);
     };
-    let Some(hosts) = hosts_draft(alloc, hosts)? else {
-        return Verdict::hosts_not_built(alloc);
-    };
-    let Some(accepted) = build(alloc, program, hosts)? else {
-        return Verdict::program_not_built(alloc);
-    };
-    match events {
-        Some(events) => replayed(alloc, name, &accepted, events),
-        None => Verdict::too_long(alloc, name),
+    match loaded_hosts(alloc, hosts) {
+        Ok(hosts) => verdict_on(alloc, name, program, &hosts, events),
+        Err(why) => Verdict::hosts_refused(alloc, &why),
     }
 }
 
@@ -73,43 +66,47 @@ fn program_draft(alloc: Global, program: Option<&[u8]>) -> Result<Option<Program
     }
 }
 
-/// The host file that was loaded, by the first form, or `None` where it is too long or has none.
-fn hosts_draft(alloc: Global, hosts: Option<&[u8]>) -> Result<Option<HostsDraft>, OutOfMemory>
-    ensures found { IfOk result (λ found. IfSome found (λ draft. IsSomeAnd (option_copied hosts.entry) (λ bytes.
-        SpellsHosts bytes (map string_bytes draft.principals.items) draft.hosts.items))) }
-    ensures none { IfOk result (λ found. IfNone found (IfSome (option_copied hosts.entry) (λ bytes.
-        (principals : List (List ℕ)) (hosts : List HostForm) → ¬ SpellsHosts bytes principals hosts))) }
+/// The hosts of the host file that was loaded, where `None` is one that is too long.
+fn loaded_hosts(alloc: Global, hosts: Option<&[u8]>) -> Result<Hosts, HostsError>
+    ensures { (h : List ℕ) → IsLoaded 65536 h (option_copied hosts.entry) → MatchResult result (ReadsHosts h) (RefusesHosts h) }
 {
     match hosts {
         Some(bytes) => read_hosts(alloc, bytes),
-        None => Ok(None),
+        None => Err(HostsError::TooLong),
     }
 }
 
-/// The tree and the code that the lines of the two files stand for, or `None` where a name is bad or a field has no
-/// host.
-fn build(
+/// What is owed for a program of the first form on these hosts, where `None` is a script that is too long and `name` is
+/// that of the script.
+fn verdict_on(
     alloc: Global,
+    name: &str,
     program: ProgramDraft,
-    hosts: HostsDraft,
-) -> Result<Option<Accepted>, OutOfMemory>
+    hosts: &Hosts,
+    events: Option<&[u8]>,
+) -> Result<Verdict, OutOfMemory>
     requires fields { length program.fields.items < 2 ^ 31 }
     requires assignments { length program.assignments.items < 2 ^ 31 }
     requires values { All (λ a. a.value ≤ 9223372036854775807) program.assignments.items }
-    requires hosts { (bytes : List ℕ) × SpellsHosts bytes (map string_bytes hosts.principals.items) hosts.hosts.items }
-    ensures found { IfOk result (λ found. IfSome found (λ it.
-        IsBuiltOf program.fields.items program.assignments.items (map string_bytes hosts.principals.items) hosts.hosts.items it.tree it.code)) }
-    ensures none { IfOk result (λ found. IfNone found (
-        IsNotBuilt program.fields.items program.assignments.items (map string_bytes hosts.principals.items) hosts.hosts.items)) }
+    requires events { IfSome (option_copied events) (λ bytes. length bytes ≤ 16777216) }
+    ensures { IfOk result (λ verdict. (p h e : List ℕ) →
+        IsProgramText p program.fields.items program.assignments.items → ReadsHosts h hosts.now → IsLoaded 16777216 e (option_copied events.entry) →
+        DueForBytes name.now p h e (shown verdict)) }
 {
-    let hosts = resolve_hosts(alloc, hosts)?;
     let Some(tree) = resolve(alloc, program, hosts.principals())? else {
-        return Ok(None);
+        return Verdict::program_not_built(alloc);
     };
-    let Some(code) = code_of(alloc, &tree, &hosts)? else {
-        return Ok(None);
+    let code = match code_of(alloc, &tree, hosts) {
+        Ok(code) => code,
+        Err(CodeError::NoHostForField(field)) => {
+            return Verdict::no_host_for_field(alloc, field.as_str());
+        }
+        Err(CodeError::OutOfMemory) => return Err(OutOfMemory),
     };
-    Ok(Some(Accepted { tree, code }))
+    match events {
+        Some(events) => replayed(alloc, name, &Accepted { tree, code }, events),
+        None => Verdict::too_long(alloc, name),
+    }
 }
 
 /// What is owed for a script of events of an accepted program, where `None` is a script that is too long.

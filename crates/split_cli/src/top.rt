@@ -23,8 +23,8 @@ use std::alloc::Global;
 /// It answers `Done` where the report of a replay was put on `out`. Any other answer is a refusal or a fault:
 /// - `Usage`: the words are none that it knows.
 /// - `SourceRefused`: the program has not the first form or is too long, or a name in it is bad, or no host may hold a field.
-/// - `InputRefused`: a file is absent, the host file has not its form or is too long, or the script of events is too long, or a
-///   line of it has no form or asks for what cannot happen.
+/// - `InputRefused`: a file is absent, the host file is refused, or the script of events is too long, or a line of it has no
+///   form or asks for what cannot happen.
 /// - `FileFault`: a file could not be read.
 /// - `OutFault`: what was due could not all be put out.
 /// - `NoMemory`: memory ran out.

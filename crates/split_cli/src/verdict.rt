@@ -1,5 +1,11 @@
+ghost use Rattle.std.specs.Prelude.{◌≡◌, ◌≢◌, IfOk};
+ghost use Rattle.std.specs.String.{string_bytes};
+ghost use Rattle.split_cli.specs.Replay as replay;
+
+use host_decl::HostsError;
 use js_base::{OutOfMemory, Status};
-use std::alloc::Global;
+use principals::PrincipalError;
+use std::alloc::{AllocError, Global};
 
 /// What is owed for the words and the files: a refusal with its status and its line on the error output, or a report on
 /// the output.
@@ -10,8 +16,6 @@ pub enum Verdict {
 }
 
 impl Verdict {
-    ghost use Rattle.std.specs.Prelude.{◌≡◌, IfOk};
-    ghost use Rattle.split_cli.specs.Replay as replay;
     ghost use Rattle.split_cli.specs.Shown.{shown};
     ghost use Rattle.net_world.specs.World.{not_there, host_busy};
 
@@ -65,18 +69,38 @@ impl Verdict {
         }
     }
 
-    /// The program is none of the first form, or its names or hosts are wrong.
+    /// The program is none of the first form, or one of its names is wrong.
     pub fn program_not_built(alloc: Global) -> Result<Verdict, OutOfMemory>
         ensures { IfOk result (λ verdict. shown verdict ≡ replay.program_not_built) }
     {
         Verdict::refusal(alloc, Status::SourceRefused, "program: not built yet")
     }
 
-    /// The host file is none of the first form.
-    pub fn hosts_not_built(alloc: Global) -> Result<Verdict, OutOfMemory>
-        ensures { IfOk result (λ verdict. shown verdict ≡ replay.hosts_not_built) }
+    /// The host file is refused.
+    ///
+    /// # Errors
+    /// Always where memory ran out already.
+    pub fn hosts_refused(alloc: Global, why: &HostsError) -> Result<Verdict, OutOfMemory>
+        ensures refused { IfOk result (λ verdict. shown verdict ≡ replay.hosts_refused why.now) }
+        ensures not_memory { IfOk result (λ verdict. why.now ≢ HostsError.OutOfMemory) }
     {
-        Verdict::refusal(alloc, Status::InputRefused, "hosts: not built yet")
+        let Ok(cause) = why_no_hosts(alloc, why) else {
+            return Err(OutOfMemory);
+        };
+        match format!(in alloc; "hosts: {cause}") {
+            Ok(text) => Verdict::refusal(alloc, Status::InputRefused, text.as_str()),
+            Err(_) => Err(OutOfMemory),
+        }
+    }
+
+    /// No host may hold a field of the program.
+    pub fn no_host_for_field(alloc: Global, field: &str) -> Result<Verdict, OutOfMemory>
+        ensures { IfOk result (λ verdict. shown verdict ≡ replay.no_host_for_field field.now) }
+    {
+        match format!(in alloc; "no host may hold field {field}") {
+            Ok(text) => Verdict::refusal(alloc, Status::SourceRefused, text.as_str()),
+            Err(_) => Err(OutOfMemory),
+        }
     }
 
     /// A script has too many bytes.
@@ -108,6 +132,37 @@ impl Verdict {
         ensures { IfOk result (λ verdict. shown verdict ≡ replay.event_refused file.now line host_busy) }
     {
         Verdict::at_line(alloc, file, line, "host busy")
+    }
+}
+
+/// Why a host file is refused.
+fn why_no_hosts(alloc: Global, why: &HostsError) -> Result<String, AllocError>
+    ensures text { IfOk result (λ text. string_bytes text ≡ replay.why_no_hosts why.now) }
+    ensures not_memory { IfOk result (λ text. why.now ≢ HostsError.OutOfMemory) }
+{
+    match why {
+        HostsError::OutOfMemory => Err(AllocError),
+        HostsError::NotToml => String::from_str(alloc, "not TOML"),
+        HostsError::BadKey(name) => format!(in alloc; "bad key {name}"),
+        HostsError::BadLabel(_, name) => format!(in alloc; "bad label of host {name}"),
+        HostsError::Principals(why) => why_no_principals(alloc, why),
+        HostsError::TooManyHosts => String::from_str(alloc, "too many hosts"),
+        HostsError::HostTwice(name) => format!(in alloc; "host {name} twice"),
+        HostsError::NoHost => String::from_str(alloc, "no host"),
+        HostsError::BadLink(number) => format!(in alloc; "bad link {number}"),
+        HostsError::TooLong => String::from_str(alloc, "too long"),
+    }
+}
+
+/// Why the principals of a host file are refused.
+fn why_no_principals(alloc: Global, why: &PrincipalError) -> Result<String, AllocError>
+    ensures { IfOk result (λ text. string_bytes text ≡ replay.why_no_principals why.now) }
+{
+    match why {
+        PrincipalError::OutOfMemory => Err(AllocError),
+        PrincipalError::TooMany => String::from_str(alloc, "too many principals"),
+        PrincipalError::Twice(name) => format!(in alloc; "principal {name} twice"),
+        PrincipalError::Unknown(name) => format!(in alloc; "unknown principal {name}"),
     }
 }
 

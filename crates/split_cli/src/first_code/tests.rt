@@ -1,65 +1,32 @@
-ghost use Rattle.std.specs.Prelude.{◌≡◌, ◌<◌, IfOk, length};
+ghost use Rattle.std.specs.Prelude.{◌<◌, IfOk, length};
 ghost use Rattle.jif_tree.specs.SourceRun.{main_body};
-ghost use Rattle.net_world.specs.Hosts.{AreHosts};
 
 use super::code_of;
+use host_decl::{Hosts, read_hosts};
 use jif_tree::{Expr, Field, Method, Program, Stmt, StmtKind};
-use js_base::{FieldId, HostId, MethodId, PrincipalId, StmtId};
+use js_base::{FieldId, HostId, MethodId, StmtId};
 use label_lattice::Label;
 use net_world::host_code::{Code, Instr, Op};
-use net_world::host_decl::{HostRow, Hosts};
-use principals::Principals;
 use std::test::Fail;
+
+/// The host A, which is open.
+const ONE_HOST: &str = "principals = ['Bob']\n[[host]]\nname = 'A'\nlabel = '{}'\n";
+
+/// The hosts A, which is open, and B, which is Bob's.
+const TWO_HOSTS: &str =
+    "principals = ['Bob']\n[[host]]\nname = 'A'\nlabel = '{}'\n[[host]]\nname = 'B'\nlabel = '{Bob:}'\n";
+
+/// The hosts of a file that declares Bob alone.
+fn hosts_of(rt: &HostRuntime, text: &str) -> Result<Hosts, Fail> {
+    Ok(read_hosts(rt.alloc(), text.as_bytes())?)
+}
 
 /// The label of what Bob alone may read.
 fn bobs_label(rt: &HostRuntime) -> Result<Label, Fail> {
-    let bob = String::from_str(rt.alloc(), "Bob")?;
-    let names = vec![in rt.alloc(); bob]?;
-    let principals = Principals::new(rt.alloc(), &names, &[])?;
-    Ok(Label::empty().with_policy(&principals, PrincipalId(0), &[]))
-}
-
-/// These hosts, in a file that declares no principal.
-fn hosts_of(rt: &HostRuntime, rows: Vec<HostRow>) -> Result<Hosts, Fail>
-    requires { AreHosts rows.items }
-{
-    let nobody = Principals::new(rt.alloc(), &[], &[])?;
-    Ok(Hosts::new(nobody, rows))
-}
-
-/// A host of this name, which may see nothing that is kept from anyone.
-fn open_host(rt: &HostRuntime, name: &str) -> Result<HostRow, Fail>
-    ensures { IfOk result (λ host. host.name ≡ name.now) }
-{
-    let name = String::from_str(rt.alloc(), name)?;
-    Ok(HostRow {
-        name,
-        label: Label::empty(),
-    })
-}
-
-/// A host of this name, which may see what Bob may.
-fn bobs_host(rt: &HostRuntime, name: &str) -> Result<HostRow, Fail>
-    ensures { IfOk result (λ host. host.name ≡ name.now) }
-{
-    let name = String::from_str(rt.alloc(), name)?;
-    let label = bobs_label(rt)?;
-    Ok(HostRow { name, label })
-}
-
-/// The hosts A, which is open, and B, which is Bob's.
-fn two_hosts(rt: &HostRuntime) -> Result<Hosts, Fail> {
-    let first = open_host(rt, "A")?;
-    let second = bobs_host(rt, "B")?;
-    let rows = vec![in rt.alloc(); first, second]?;
-    hosts_of(rt, rows)
-}
-
-/// The host A alone.
-fn one_host(rt: &HostRuntime) -> Result<Hosts, Fail> {
-    let first = open_host(rt, "A")?;
-    let rows = vec![in rt.alloc(); first]?;
-    hosts_of(rt, rows)
+    let hosts = hosts_of(rt, ONE_HOST)?;
+    let principals = hosts.principals();
+    let bob = principals.find("Bob").ok_or("not declared")?;
+    Ok(Label::empty().with_policy(principals, bob, &[]))
 }
 
 /// A plain field that starts with 0.
@@ -108,8 +75,8 @@ fn two_fields(rt: &HostRuntime) -> Result<Program, Fail>
 /// That program, and its code on those hosts.
 pub fn two_host_code(rt: &HostRuntime) -> Result<(Program, Code), Fail> {
     let program = two_fields(rt)?;
-    let code = code_of(rt.alloc(), &program, &two_hosts(rt)?)?;
-    Ok((program, code.ok_or("refused")?))
+    let code = code_of(rt.alloc(), &program, &hosts_of(rt, TWO_HOSTS)?)?;
+    Ok((program, code))
 }
 
 #[test]
@@ -145,7 +112,11 @@ fn places_fields_and_statements(rt: HostRuntime) -> Result<(), Fail> {
 #[test]
 fn refuses_a_field_that_no_host_may_hold(rt: HostRuntime) -> Result<(), Fail> {
     let program = two_fields(&rt)?;
-    let code = code_of(rt.alloc(), &program, &one_host(&rt)?)?;
-    assert!(rt; code.is_none());
+    let hosts = hosts_of(&rt, ONE_HOST)?;
+    let why = match code_of(rt.alloc(), &program, &hosts) {
+        Ok(_) => String::from_str(rt.alloc(), "accepted")?,
+        Err(error) => format!(in rt.alloc(); "{error}")?,
+    };
+    assert_eq!(rt; why.as_str(), "no host may hold field b");
     Ok(())
 }

@@ -5,8 +5,8 @@ use super::AssignmentDraft;
 use super::line_values::LineValue;
 use super::number::number;
 use crate::lines::{split_once, strip_circumfix};
-use crate::name::{is_name, name_text};
 use js_base::OutOfMemory;
+use js_base::names::{is_name, name_text};
 use std::alloc::Global;
 
 /// The field that a line assigns to, and the number that it assigns.

@@ -7,8 +7,8 @@ ghost use Rattle.split_cli.specs.Text.{policy_text};
 use super::FieldDraft;
 use super::line_values::LineValue;
 use crate::lines::{split_once, strip_circumfix};
-use crate::name::{is_name, name_text};
 use js_base::OutOfMemory;
+use js_base::names::{is_name, name_text};
 use std::alloc::Global;
 
 /// The owner of the one policy that stands between the braces of a label, where one stands there.

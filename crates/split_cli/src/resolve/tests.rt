@@ -1,18 +1,14 @@
 use super::resolve;
 use crate::program_form::read_program;
+use host_decl::read_hosts;
 use jif_tree::{Expr, Program, Stmt, StmtKind};
 use js_base::{FieldId, StmtId};
 use label_lattice::Label;
-use principals::Principals;
 use std::alloc::Global;
 use std::test::Fail;
 
-fn alice_and_bob(alloc: Global) -> Result<Principals, Fail> {
-    let alice = String::from_str(alloc, "Alice")?;
-    let bob = String::from_str(alloc, "Bob")?;
-    let names = vec![in alloc; alice, bob]?;
-    Ok(Principals::new(alloc, &names, &[])?)
-}
+/// A host file that declares Alice and Bob.
+const HOSTS: &str = "principals = ['Alice', 'Bob']\n[[host]]\nname = 'A'\nlabel = '{}'\n";
 
 /// What a text resolves to, which spells a program of fewer than 1,000,000 fields and assignments.
 fn resolved(alloc: Global, text: &str) -> Result<Option<Program>, Fail> {
@@ -20,8 +16,8 @@ fn resolved(alloc: Global, text: &str) -> Result<Option<Program>, Fail> {
     if draft.fields.len() >= 1_000_000 || draft.assignments.len() >= 1_000_000 {
         return Ok(None);
     }
-    let principals = alice_and_bob(alloc)?;
-    Ok(resolve(alloc, draft, &principals)?)
+    let hosts = read_hosts(alloc, HOSTS.as_bytes())?;
+    Ok(resolve(alloc, draft, hosts.principals())?)
 }
 
 /// The field that a statement assigns to, and the number.

@@ -88,12 +88,16 @@ fn refuses_by_the_first_cause(rt: HostRuntime) -> Result<(), Fail> {
     let usage =
         "jifsplit: usage: check P H / split P H OUT / run P H START N / replay P H EVENTS / drive P H START N / compare P H EVENTS1 EVENTS2 / make N\n";
     let no_program = "jifsplit: program: not built yet\n";
-    let no_hosts = "jifsplit: hosts: not built yet\n";
+    let not_toml = "jifsplit: hosts: not TOML\n";
     let unknown = "int{} a;\nvoid main{}() {\n  c = 1;\n}\n";
     let unknown_owner = "int{Carol:} a;\nvoid main{}() {\n}\n";
     let twice = "int{} a;\nint{} a;\nvoid main{}() {\n}\n";
     let bob_alone =
         "principals = [\"Alice\", \"Bob\"]\n[[host]]\nname = \"B\"\nlabel = \"{Bob:}\"\n";
+    let alice_alone =
+        "principals = [\"Alice\", \"Bob\"]\n[[host]]\nname = \"A\"\nlabel = \"{Alice:}\"\n";
+    let trusted = "principals = [\"Alice\"]\n[[host]]\nname = \"P\"\nlabel = \"{?:Alice}\"\n";
+    let alices = "int{Alice:} f;\nvoid main{}() {\n}\n";
     let program = Some(PROGRAM);
     let hosts = Some(HOSTS);
     let bad = Some("?");
@@ -129,8 +133,8 @@ fn refuses_by_the_first_cause(rt: HostRuntime) -> Result<(), Fail> {
             "jifsplit: E: no such file\n",
         ),
         ("replay P H E", [bad, bad, bad], source, no_program),
-        ("replay P H E", [program, bad, bad], input, no_hosts),
-        ("replay P H E", [Some(unknown), bad, bad], input, no_hosts),
+        ("replay P H E", [program, bad, bad], input, not_toml),
+        ("replay P H E", [Some(unknown), bad, bad], input, not_toml),
         (
             "replay P H E",
             [Some(unknown), hosts, bad],
@@ -153,7 +157,19 @@ fn refuses_by_the_first_cause(rt: HostRuntime) -> Result<(), Fail> {
             "replay P H E",
             [program, Some(bob_alone), bad],
             source,
-            no_program,
+            "jifsplit: no host may hold field a\n",
+        ),
+        (
+            "replay P H E",
+            [program, Some(alice_alone), bad],
+            source,
+            "jifsplit: no host may hold field b\n",
+        ),
+        (
+            "replay P H E",
+            [Some(alices), Some(trusted), Some("")],
+            source,
+            "jifsplit: no host may hold field f\n",
         ),
         (
             "replay P H E",
@@ -256,12 +272,12 @@ fn takes_files_up_to_their_limits(rt: HostRuntime) -> Result<(), Fail> {
     let alloc = rt.alloc();
     let report = "halted no\nfield a = 7\nhost A: running 1, waiting 0, stack 1, ignored 0\n";
     let no_program = "jifsplit: program: not built yet\n";
-    let no_hosts = "jifsplit: hosts: not built yet\n";
+    let long_hosts = "jifsplit: hosts: too long\n";
     // Around the fillers stand 36 bytes of the program and 51 of the host file.
     let cases = [
         (1_048_540, 65_485, Status::Done, report, ""),
         (1_048_541, 65_485, Status::SourceRefused, "", no_program),
-        (1_048_540, 65_486, Status::InputRefused, "", no_hosts),
+        (1_048_540, 65_486, Status::InputRefused, "", long_hosts),
     ];
     let field = "int{} a;\nvoid main{}() {\n  a = ";
     let host = "\"]\n[[host]]\nname = \"A\"\nlabel = \"{}\"\n";
@@ -277,6 +293,53 @@ fn takes_files_up_to_their_limits(rt: HostRuntime) -> Result<(), Fail> {
         assert!(rt;
             ended.is(status, out, err),
             "at {digits} digits and {letters} letters"
+        );
+    }
+    Ok(())
+}
+
+#[test]
+fn refuses_host_files(rt: HostRuntime) -> Result<(), Fail> {
+    let alloc = rt.alloc();
+    let none = "principals = []\n";
+    let host = "[[host]]\nname = 'A'\nlabel = '{}'\n";
+    let link = "[[link]]\nfrom = 'A'\nto = 'A'\ncost = 1\n";
+    // What stands before the fillers, a filler, how many there are, what stands after them, and why the file is refused.
+    let cases = [
+        ("", "\n", 65_537, "", "too long"),
+        ("principals = [", "", 0, "", "not TOML"),
+        (host, "", 0, "", "bad key principals"),
+        ("principals = [", "'A',", 64, "]\n", "too many principals"),
+        ("principals = [", "'A',", 63, "]\n", "principal A twice"),
+        (
+            none,
+            "acts_for = [['A', 'B']]",
+            1,
+            "",
+            "unknown principal A",
+        ),
+        (none, "", 0, "", "no host"),
+        (none, host, 17, "", "too many hosts"),
+        (none, host, 2, link, "host A twice"),
+        (
+            none,
+            host,
+            1,
+            "[[host]]\nname = 'B'\nlabel = '{Q:}'\n",
+            "bad label of host B",
+        ),
+        (none, host, 1, link, "bad link 0"),
+        (HOSTS, host, 1, "", "host A twice"),
+        (HOSTS, link, 1, "", "bad link 0"),
+    ];
+    for (before, filler, count, after, why) in cases {
+        let hosts = filled(alloc, before, filler, count, after)?;
+        let held = [Some(PROGRAM), Some(hosts.as_str()), Some("")];
+        let line = format!(in alloc; "jifsplit: hosts: {why}\n")?;
+        let ended = run(alloc, "replay P H E", held, [None, None, None])?;
+        assert!(rt;
+            ended.is(Status::InputRefused, "", line.as_str()),
+            "at {why}"
         );
     }
     Ok(())

@@ -1,14 +1,17 @@
-use Rattle.std.proofs.Common.{sym, ◌∷◌, [], ◌++◌, ◌≡◌, arith}
+use Rattle.std.proofs.Common.{◌≡◌, ◌∷◌, [], ◌++◌, sym, arith}
+use Rattle.std.specs.String.{string_bytes}
+use Rattle.net_world.specs.Code.{FieldShape}
 use Rattle.net_world.specs.FirstCode.{IsPlaced}
-use Rattle.split_cli.proofs.FirstCode.{AllZip_more}
+use Rattle.split_cli.proofs.FirstCode.{AllZip_more, first_unheld}
 use Rattle.split_cli.proofs.first_code.placement.placed_fields.Goals as goal
 
-pub returns-in_default-clause-none : goal.returns-in_default-clause-none
-returns-in_default-clause-none c =
-    (c.loop-field.field-index, c.field-item.result, omega arith, sym c.field-item.is, rw c.in_default.is at c.in_ok-place.ensures.none)
+pub returns-in_default : goal.returns-in_default
+returns-in_default c =
+    first_unheld c.args.hosts.now c.args.fields.now c.loop-field.placed.items c.loop-field.field-index c.field-item.result _ (omega arith) c.field-item.is (sym c.in_ok-name.ensures) (rw c.in_default.is at c.first_holder.ensures.none) c.loop-field.invariant
 
 pub loop-field-preserved : goal.loop-field-preserved
 loop-field-preserved c =
-    let placed = rw c.in-Some.is at c.in_ok-place.ensures.found in
-    let pushed : c.push.new.self.items ≡ c.loop-field.placed.items ++ c.in-Some.place ∷ [] = grind (arith, c.push.ensures.items, c.in_ok-map_err.ensures.variant) in
-    rw pushed (AllZip_more (IsPlaced c.args.hosts.now) c.args.fields.now c.loop-field.placed.items _ _ c.in-Some.place (omega arith) c.field-item.is c.loop-field.invariant placed)
+    let placed : FieldShape = record { name = string_bytes c.in_ok-name.name; host = c.in-Some.host } in
+    let is : IsPlaced c.args.hosts.now c.field-item.result placed = record { name = c.in_ok-name.ensures; host = rw c.in-Some.is at c.first_holder.ensures.found } in
+    let pushed : c.push.new.self.items ≡ c.loop-field.placed.items ++ placed ∷ [] = grind (arith, c.push.ensures.items, c.in_ok-map_err.ensures.variant) in
+    rw pushed (AllZip_more (IsPlaced c.args.hosts.now) c.args.fields.now c.loop-field.placed.items c.loop-field.field-index c.field-item.result placed (omega arith) c.field-item.is c.loop-field.invariant is)

@@ -5,8 +5,8 @@ use Rattle.std.proofs.lemmas.Bool.{both_ways}
 use Rattle.std.proofs.lemmas.List.{append-nil, append_assoc, append_cancel_right}
 use Rattle.js_base.specs.Name.{is_name}
 use Rattle.split_cli.specs.ProgramForm.{AssignmentForm, AssignsNumber}
-use Rattle.split_cli.proofs.Cuts.{no_cut, same_cut}
-use Rattle.split_cli.proofs.Names.{name_lacks}
+use Rattle.js_base.proofs.Cuts.{no_cut, same_cut}
+use Rattle.js_base.proofs.NameTexts.{name_lacks}
 use Rattle.split_cli.proofs.program_form.assignment_line.assignment_parts.Goals as goal
 
 assigned_inside : (line inside : List ℕ) (assignment : AssignmentForm) → line ≡ codes "  " ++ (inside ++ codes ";") → (assigns : AssignsNumber line assignment) → inside ≡ assignment.field ++ 32 ∷ (61 ∷ 32 ∷ assigns.digits)

@@ -6,8 +6,8 @@ use Rattle.std.proofs.lemmas.List.Elements.{Contains-push_cases}
 use Rattle.js_base.specs.Name.{IsName, is_name}
 use Rattle.split_cli.specs.ProgramForm.{FieldForm, DeclaresField}
 use Rattle.split_cli.specs.Text.{policy_text}
-use Rattle.split_cli.proofs.Cuts.{no_cut, same_cut}
-use Rattle.split_cli.proofs.Names.{name_lacks}
+use Rattle.js_base.proofs.Cuts.{no_cut, same_cut}
+use Rattle.js_base.proofs.NameTexts.{name_lacks}
 use Rattle.split_cli.proofs.program_form.field_line.field_parts.Goals as goal
 
 -- no policy holds a `}`

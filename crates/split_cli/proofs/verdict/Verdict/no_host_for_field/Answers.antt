@@ -1,0 +1,9 @@
+use Rattle.std.proofs.Common.{ℕ, List, ap, ◌∙◌}
+use Rattle.std.proofs.lemmas.Result.{IfOk-weaker}
+use Rattle.js_base.specs.declared.status.Status.TheVariants.{SourceRefused}
+use Rattle.split_cli.specs.Replay.{Refuse, error_line}
+use Rattle.split_cli.proofs.verdict.Verdict.no_host_for_field.Goals as goal
+
+pub returns-in-Ok : goal.returns-in-Ok
+returns-in-Ok c =
+    IfOk-weaker c.refusal.result _ _ (λ verdict is. is ∙ ap (λ (text : List ℕ). Refuse SourceRefused (error_line text)) (c.as_str.ensures.value ∙ c.in-Ok.ensures.ok)) c.refusal.ensures
