@@ -70,6 +70,35 @@ fn reads_a_file(rt: HostRuntime) -> Result<(), Fail> {
     Ok(())
 }
 
+/// A file of so many principals and hosts, all of one name.
+fn alike(alloc: Global, principals: u32, hosts: u32) -> Result<String, AllocError> {
+    let mut text = String::from_str(alloc, "principals = [")?;
+    for _ in 0..principals {
+        text.push_str("'P', ")?;
+    }
+    text.push_str("]\n")?;
+    for _ in 0..hosts {
+        text.push_str("[[host]]\nname = 'h'\nlabel = '{}'\n")?;
+    }
+    Ok(text)
+}
+
+#[test]
+fn counts_before_it_compares_names(rt: HostRuntime) -> Result<(), Fail> {
+    let files = [
+        (64, 17, "too many principals"),
+        (63, 17, "principal P twice"),
+        (1, 17, "too many hosts"),
+        (1, 16, "host h twice"),
+    ];
+    for (principals, hosts, expected) in files {
+        let text = alike(rt.alloc(), principals, hosts)?;
+        let found = outcome(rt.alloc(), text.as_bytes())?;
+        assert_eq!(rt; found.as_str(), expected);
+    }
+    Ok(())
+}
+
 #[test]
 fn counts_principals_and_hosts(rt: HostRuntime) -> Result<(), Fail> {
     let files = [
@@ -126,7 +155,8 @@ fn refuses_keys_of_the_file(rt: HostRuntime) -> Result<(), Fail> {
             "bad key host",
         ),
         ("principals = []\n[link]\nfrom = 'A'", "bad key link"),
-        ("principals = [", "not TOML"),
+        ("zebra = 1\nprincipals = [", "not TOML"),
+        ("principals = ['P', 'P']\nzebra = 1", "bad key zebra"),
         ("principals = []\nprincipals = ['int']", "not TOML"),
         (
             "principals = ['P', 'P']\nacts_for = [['P', 'Q']]",
@@ -227,6 +257,8 @@ fn refuses_bytes(rt: HostRuntime) -> Result<(), Fail> {
     assert_eq!(rt; longest.as_str(), "bad key principals");
     let longer = outcome(rt.alloc(), &blank)?;
     assert_eq!(rt; longer.as_str(), "too long");
+    let neither = outcome(rt.alloc(), &vec![in rt.alloc(); b'='; 65_537]?)?;
+    assert_eq!(rt; neither.as_str(), "too long");
     let no_text = outcome(rt.alloc(), b"# \xff")?;
     assert_eq!(rt; no_text.as_str(), "not TOML");
     Ok(())
