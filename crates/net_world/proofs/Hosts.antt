@@ -1,11 +1,12 @@
 -- The hosts of a world and their numbers.
-use Rattle.std.proofs.Common.{◌≡◌, ◌≢◌, ℕ, zero, suc, ◌+◌, ◌<◌, ◌^◌, List, [], ◌∷◌, ◌++◌, length, get_or, map, refl, ap, sym, subst, ◌∙◌, add-one, arith, Option, inl, inr, length-append, length-set}
+use Rattle.std.proofs.Common.{◌≡◌, ℕ, zero, suc, ◌+◌, ◌<◌, ◌^◌, List, [], ◌∷◌, ◌++◌, length, get_or, map, refl, ap, sym, subst, ◌∙◌, add-one, arith, Option, inl, inr, length-append, length-set}
 use Rattle.std.specs.Prelude.{slice_set, slice_get, IsSomeAnd, IfSome, Bool, ◌||◌}
 use Rattle.std.specs.List.{list_any}
 use Rattle.std.proofs.Math.Seq.{map-set_same}
 use Rattle.std.proofs.lemmas.List.{map-set, get_or-map}
 use Rattle.std.proofs.lemmas.Grind.{common_steps}
 use Rattle.js_base.specs.declared.ids.HostId.{HostId}
+use Rattle.net_world.proofs.AllObeyLists.{get-set_other}
 use Rattle.net_world.specs.declared.host_code.Message.{Message}
 use Rattle.net_world.specs.HostTable.{HostModel, HostState, Outcome, IsStopped}
 use Rattle.net_world.specs.World.{numbers_below, states_of, AreNumbered}
@@ -55,17 +56,10 @@ AreNumbered_set hosts i host d numbered same =
       numbered = map-set_same (λ (h : HostModel). h.me.0) hosts i host d (ap (λ (me : HostId). me.0) same) ∙ numbered.numbered ∙ ap numbers_below (sym count);
     }
 
-slice_get-set_other : (hosts : List HostModel) (i j : ℕ) (host : HostModel) → j ≢ i → slice_get (slice_set hosts i host) j ≡ slice_get hosts j
-slice_get-set_other [] i j host other = refl
-slice_get-set_other (h ∷ hosts) zero zero host other = absurd (other refl)
-slice_get-set_other (h ∷ hosts) zero (suc j) host other = refl
-slice_get-set_other (h ∷ hosts) (suc i) zero host other = refl
-slice_get-set_other (h ∷ hosts) (suc i) (suc j) host other = slice_get-set_other hosts i j host (λ e. other (ap suc e))
-
 pub ChangesOnly_set : (hosts : List HostModel) (i : ℕ) (host : HostModel) → ChangesOnly i hosts (slice_set hosts i host)
 ChangesOnly_set hosts i host = record {
   count = length-set hosts i host;
-  others = λ j other. slice_get-set_other hosts i j host other;
+  others = λ j other. get-set_other hosts i j host other;
 }
 
 -- what holds of the host at a place
