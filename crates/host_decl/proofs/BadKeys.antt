@@ -20,7 +20,7 @@ use Rattle.host_decl.specs.declared.schema.TableKind.{TableKind}
 use Rattle.host_decl.specs.declared.schema.TableKind.TheVariants.{File, Host, Link}
 use Rattle.host_decl.specs.Schema.{is_unfit, is_bad, required_keys, HoldsUnfit, IsMissing, IsBadKey, IsSound, IsSoundAs, IsLeast, IsNotAfter, IsFirstBadKey, IsSoundFile, file_tables, items_at, tables_of, table_in, of_kind, with_first}
 use Rattle.host_decl.proofs.Items.{chosen_drop}
-use Rattle.host_decl.proofs.Least.{IsAscending, IsIn, find_least, find_none, any_from_in, in_from_any, not_after_trans}
+use Rattle.host_decl.proofs.Least.{equal_texts, IsAscending, IsIn, find_least, find_none, any_from_in, in_from_any, not_after_trans}
 
 -- ---- the keys of the entries
 
@@ -37,16 +37,12 @@ unfolding IsStrictlySortedBy
 ascending [] sorted = tt
 ascending (entry ∷ entries) sorted = (all_below entry.0 entries sorted.0, ascending entries sorted.1)
 
-equal_bytes : (first second : List ℕ) → slice_cmp nat_cmp first second ≡ Equal → first ≡ second
-equal_bytes first second equal =
-    (bytes_eq-Decides first second).0 (sym (is_eq-slice_cmp first second) ∙ ap is_eq equal)
-
 held_at : (order : Ordering) (key : List ℕ) (entry : Entry) (entries : List Entry) (value : Data) → slice_cmp nat_cmp key (string_bytes entry.0) ≡ order
     → (get_member key (members_view entries) ≡ Some value → IsIn (key_bytes entries) key)
     → match_ordering order (get_member key (members_view entries)) (Some (view entry.1)) (get_member key (members_view entries)) ≡ Some value
     → IsIn (key_bytes (entry ∷ entries)) key
 held_at Less key entry entries value is later held = inr (later held)
-held_at Equal key entry entries value is later held = inl (sym (equal_bytes key (string_bytes entry.0) is))
+held_at Equal key entry entries value is later held = inl (sym (equal_texts key (string_bytes entry.0) is))
 held_at Greater key entry entries value is later held = inr (later held)
 
 -- a key that is held is one of the entries

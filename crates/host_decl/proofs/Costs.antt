@@ -9,9 +9,9 @@ use Rattle.std.proofs.lemmas.Slice.Eq.{bytes_eq-Decides}
 use Rattle.std.specs.List.{AllByRecursion, IsDistinct}
 use Rattle.std.specs.Str.{bytes_eq}
 use Rattle.js_base.proofs.Texts.{bytes_eq_laws}
-use Rattle.host_decl.specs.declared.form.LinkForm.{LinkForm}
-use Rattle.host_decl.specs.Form.{LinkText}
-use Rattle.host_decl.specs.FormView.{link_text}
+use Rattle.host_decl.specs.declared.draft.LinkDraft.{LinkDraft}
+use Rattle.host_decl.specs.Draft.{LinkDraftShape}
+use Rattle.host_decl.specs.DraftView.{link_draft}
 use Rattle.host_decl.specs.Hosts.{AreCosts, cost_at}
 use Rattle.host_decl.specs.Meaning.{is_cost, link_cost, cost_between, cost_table}
 
@@ -41,7 +41,7 @@ cost_is_small cost small =
     let high : nat_le cost 1000 ≡ true = parts.1 in
     (at_most 1 cost low, at_most cost 1000 high)
 
-link_is_small : (links : List LinkForm) (from to : List ℕ) (cost : ℕ) → AllByRecursion (λ link. IsTrue (is_cost link.cost)) links → pos cost ≡ link_cost (map link_text links) from to → (1 ≤ cost) × (cost ≤ 1000)
+link_is_small : (links : List LinkDraft) (from to : List ℕ) (cost : ℕ) → AllByRecursion (λ link. IsTrue (is_cost link.cost)) links → pos cost ≡ link_cost (map link_draft links) from to → (1 ≤ cost) × (cost ≤ 1000)
 link_is_small [] from to cost all is = let same : cost ≡ 1 = cc in (omega arith, omega arith)
 link_is_small (link ∷ links) from to cost all is =
     elim (cases_Bool (bytes_eq (string_bytes link.from) from && bytes_eq (string_bytes link.to) to)) [
@@ -52,7 +52,7 @@ link_is_small (link ∷ links) from to cost all is =
     ]
 
 -- the cost in a row and a column
-cell : (names : List (List ℕ)) (links : List LinkText) (costs : List (List ℕ)) → map (map pos) costs ≡ cost_table names links → (from to : ℕ) → from < length names → to < length names
+cell : (names : List (List ℕ)) (links : List LinkDraftShape) (costs : List (List ℕ)) → map (map pos) costs ≡ cost_table names links → (from to : ℕ) → from < length names → to < length names
     → pos (cost_at costs from to) ≡ cost_between links (get_or names from []) (get_or names to [])
 cell names links costs is from to from_within to_within =
     let row = get_or costs from [] in
@@ -62,7 +62,7 @@ cell names links costs is from to from_within to_within =
     ∙ ap (λ cells. get_or cells to (pos 0)) (get_or-map (λ name. map (cost_between links name) names) names from [] [] from_within)
     ∙ get_or-map (cost_between links (get_or names from [])) names to [] (pos 0) to_within
 
-row_length : (names : List (List ℕ)) (links : List LinkText) (costs : List (List ℕ)) → map (map pos) costs ≡ cost_table names links → (place : ℕ) (d : List ℕ) → place < length names → length (get_or costs place d) ≡ length names
+row_length : (names : List (List ℕ)) (links : List LinkDraftShape) (costs : List (List ℕ)) → map (map pos) costs ≡ cost_table names links → (place : ℕ) (d : List ℕ) → place < length names → length (get_or costs place d) ≡ length names
 row_length names links costs is place d within =
     sym (length-map (get_or costs place d) pos)
     ∙ ap length (sym (get_or_map_same (map pos) costs place d))
@@ -70,7 +70,7 @@ row_length names links costs is place d within =
     ∙ ap length (get_or-map (λ name. map (cost_between links name) names) names place [] (map pos d) within)
     ∙ length-map names _
 
-own_is_nothing : (names : List (List ℕ)) (links : List LinkText) (name : List ℕ) → cost_between links name name ≡ pos 0
+own_is_nothing : (names : List (List ℕ)) (links : List LinkDraftShape) (name : List ℕ) → cost_between links name name ≡ pos 0
 own_is_nothing names links name = rw ((bytes_eq-Decides name name).1 refl) refl
 
 names_apart : (names : List (List ℕ)) (from to : ℕ) → IsDistinct bytes_eq names → from ≢ to → from < length names → to < length names → bytes_eq (get_or names from []) (get_or names to []) ≡ false
@@ -80,19 +80,19 @@ names_apart names from to distinct apart from_within to_within =
       | inr after ↦ bytes_eq_laws.symm (get_or names from []) (get_or names to []) ∙ apart_from_distinct bytes_eq names to from [] distinct after from_within
     ]
 
-pub table_of_costs : (names : List (List ℕ)) (links : List LinkForm) (costs : List (List ℕ)) → IsDistinct bytes_eq names → AllByRecursion (λ link. IsTrue (is_cost link.cost)) links
-    → map (map pos) costs ≡ cost_table names (map link_text links) → AreCosts (length names) costs
+pub table_of_costs : (names : List (List ℕ)) (links : List LinkDraft) (costs : List (List ℕ)) → IsDistinct bytes_eq names → AllByRecursion (λ link. IsTrue (is_cost link.cost)) links
+    → map (map pos) costs ≡ cost_table names (map link_draft links) → AreCosts (length names) costs
 table_of_costs names links costs distinct small is =
     let long : length costs ≡ length names = sym (length-map costs (map pos)) ∙ ap length is ∙ length-map names _ in
     record {
       rows = long;
-      columns = λ place d within. row_length names (map link_text links) costs is place d (omega arith);
+      columns = λ place d within. row_length names (map link_draft links) costs is place d (omega arith);
       own = λ host within.
-          let same : pos (cost_at costs host host) ≡ pos 0 = cell names (map link_text links) costs is host host within within ∙ own_is_nothing names (map link_text links) (get_or names host []) in cc;
+          let same : pos (cost_at costs host host) ≡ pos 0 = cell names (map link_draft links) costs is host host within within ∙ own_is_nothing names (map link_draft links) (get_or names host []) in cc;
       others = λ from to from_within to_within apart.
           let other = names_apart names from to distinct apart from_within to_within in
-          let between : cost_between (map link_text links) (get_or names from []) (get_or names to []) ≡ link_cost (map link_text links) (get_or names from []) (get_or names to []) = rw other refl in
-          link_is_small links (get_or names from []) (get_or names to []) (cost_at costs from to) small (cell names (map link_text links) costs is from to from_within to_within ∙ between);
+          let between : cost_between (map link_draft links) (get_or names from []) (get_or names to []) ≡ link_cost (map link_draft links) (get_or names from []) (get_or names to []) = rw other refl in
+          link_is_small links (get_or names from []) (get_or names to []) (cost_at costs from to) small (cell names (map link_draft links) costs is from to from_within to_within ∙ between);
     }
 
 -- the costs of all rows, row by row

@@ -8,9 +8,9 @@ use Rattle.js_base.specs.Name.{IsName, is_name}
 use Rattle.toml.specs.Data.{Data, Items, no_items, item, Members, get_member, as_str, as_array}
 use Rattle.host_decl.specs.declared.schema.TableKind.TheVariants.{File, Host}
 use Rattle.host_decl.specs.Schema.{IsSound, IsSoundFile, tables_of, is_bad, all_items, is_text_of, items_in, items_at, chosen, with_first}
-use Rattle.host_decl.specs.declared.form.HostsForm.{HostsForm}
-use Rattle.host_decl.specs.Form.{texts_of, or_empty, host_of, file_of}
-use Rattle.host_decl.specs.FormView.{file_text}
+use Rattle.host_decl.specs.declared.draft.HostsDraft.{HostsDraft}
+use Rattle.host_decl.specs.Draft.{texts_of, or_empty, host_of, draft_of}
+use Rattle.host_decl.specs.DraftView.{hosts_draft}
 use Rattle.host_decl.specs.Meaning.{host_names}
 use Rattle.host_decl.proofs.BadKeys.{sound_hosts}
 use Rattle.host_decl.proofs.Lists.{all_of}
@@ -41,9 +41,13 @@ at_the_key (Some value) sound = in_array (as_array value) (true_from_not _ sound
 each : (names : List (String Global)) → All IsName (map string_bytes names) → All (λ name. IsName (string_bytes name)) names
 each names all place d within = subst IsName (get_or-map string_bytes names place d (string_bytes d) within) (all place (string_bytes d) (rw length-map within))
 
+pub principal_names : (file : Members) → IsSound File file → All IsName (texts_of (items_at (codes "principals") file))
+principal_names file sound =
+    all_of IsName _ (at_the_key (get_member (codes "principals") file) (sound (codes "principals")))
+
 pub names_are_names : (file : Members) (names : List (String Global)) → IsSound File file → map string_bytes names ≡ texts_of (items_at (codes "principals") file) → All (λ name. IsName (string_bytes name)) names
 names_are_names file names sound are =
-    each names (all_of IsName _ (subst (AllByRecursion IsName) (sym are) (at_the_key (get_member (codes "principals") file) (sound (codes "principals")))))
+    each names (subst (All IsName) (sym are) (principal_names file sound))
 
 -- ---- hosts
 
@@ -59,6 +63,6 @@ host_names_of : (tables : List Members) → AllByRecursion (IsSound Host) tables
 host_names_of [] sound = tt
 host_names_of (table ∷ tables) sound = (at_the_name (get_member (codes "name") table) (sound.0 (codes "name")), host_names_of tables sound.1)
 
-pub host_names_are_names : (file : Members) (form : HostsForm) → IsSoundFile file → file_text form ≡ file_of file → All IsName (map (λ host. string_bytes host.name) form.hosts.items)
-host_names_are_names file form sound are =
-    all_of IsName _ (subst (AllByRecursion IsName) (sym (written_names form.hosts.items ∙ ap host_names are)) (host_names_of (tables_of (items_at (codes "host") file)) (sound_hosts file sound)))
+pub host_names_are_names : (file : Members) (draft : HostsDraft) → IsSoundFile file → hosts_draft draft ≡ draft_of file → All IsName (map (λ host. string_bytes host.name) draft.hosts.items)
+host_names_are_names file draft sound are =
+    all_of IsName _ (subst (AllByRecursion IsName) (sym (written_names draft.hosts.items ∙ ap host_names are)) (host_names_of (tables_of (items_at (codes "host") file)) (sound_hosts file sound)))

@@ -6,7 +6,7 @@ use Rattle.toml.specs.View.{view, items_view}
 use Rattle.toml.specs.declared.value.Value.{Value}
 use Rattle.toml.proofs.Views.{items_view-drop}
 use Rattle.host_decl.specs.Schema.{all_items, chosen, with_first, are_two_texts}
-use Rattle.host_decl.specs.Form.{pair_of}
+use Rattle.host_decl.specs.Draft.{pair_of}
 
 -- a test of each item is a test of each value
 pub all_items_view : (test : Data → Bool) (values : List Value) → all_items test (items_view values) ≡ list_all (λ value. test (view value)) values

@@ -4,7 +4,7 @@ use Rattle.std.proofs.lemmas.Bool.Decides.{nat_tests}
 use Rattle.std.proofs.lemmas.List.{drop_more, take_more_set}
 use Rattle.std.specs.Char.{digit_value}
 use Rattle.host_decl.specs.Schema.{is_key}
-use Rattle.host_decl.specs.Form.{hex_bytes}
+use Rattle.host_decl.specs.Draft.{hex_bytes}
 
 pub key_length : (text : List ℕ) → IsTrue (is_key text) → length text ≡ 64
 key_length text is = grind (arith, nat_tests)

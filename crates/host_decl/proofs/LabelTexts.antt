@@ -12,7 +12,7 @@ use Rattle.host_decl.specs.LabelText.{IsLabelText}
 abbrev pub OneReading : Type 0
 OneReading = (text : List ℕ) (first second : Reading) → ReadsAs text first → ReadsAs text second → first ≡ second
 
-same_tokens : (first second : List Token) → tokens first ≡ tokens second → first ≡ second
+pub same_tokens : (first second : List Token) → tokens first ≡ tokens second → first ≡ second
 same_tokens first second same = cc
 
 pub no_label : OneReading → (principals : Declared) (text : List ℕ) (list : List Token) → ReadsAs text (tokens list) → ((label : Label) → ¬ IsLabelOf principals list label) → (label : Label) → ¬ IsLabelText principals text label

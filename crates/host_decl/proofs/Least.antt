@@ -105,7 +105,7 @@ in_from_any (next ∷ rest) text any =
 
 -- ---- the order of texts
 
-equal_texts : (first second : List ℕ) → slice_cmp nat_cmp first second ≡ Equal → first ≡ second
+pub equal_texts : (first second : List ℕ) → slice_cmp nat_cmp first second ≡ Equal → first ≡ second
 equal_texts first second equal =
     (bytes_eq-Decides first second).0 (sym (is_eq-slice_cmp first second) ∙ ap is_eq equal)
 
@@ -124,6 +124,16 @@ after_order first second third Greater is before then after = before is
 
 pub not_after_trans : (first second third : List ℕ) → IsNotAfter first second → IsNotAfter second third → IsNotAfter first third
 not_after_trans first second third before then = λ after. after_order first second third (slice_cmp nat_cmp first second) refl before then after
+
+in_order : (first second : List ℕ) (order : Ordering) → slice_cmp nat_cmp first second ≡ order
+    → IsNotAfter first second → IsNotAfter second first → first ≡ second
+in_order first second Less is one two = absurd (two (nat_list_cmp_total.antisymm second first ∙ ap ordering_reverse is))
+in_order first second Equal is one two = equal_texts first second is
+in_order first second Greater is one two = absurd (one is)
+
+-- texts of which neither comes after the other
+pub not_after_both : (first second : List ℕ) → IsNotAfter first second → IsNotAfter second first → first ≡ second
+not_after_both first second one two = in_order first second (slice_cmp nat_cmp first second) refl one two
 
 reversed : (order : Ordering) → order ≢ Less → ordering_reverse order ≢ Greater
 reversed Less not_less = λ same. not_less refl

@@ -10,3 +10,7 @@ pub mod Meanings
 pub mod DeclaredNames
 pub mod LabelTexts
 pub mod Lists
+pub mod FirstOnes
+pub mod Declared
+pub mod OneMeaning
+pub mod OneRefusal

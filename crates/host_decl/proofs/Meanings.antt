@@ -6,26 +6,26 @@ use Rattle.principals.specs.ActsFor.{Declared}
 use Rattle.principals.specs.Declaring.{AreDeclaredAs}
 use Rattle.host_decl.specs.declared.error.HostsError.{HostsError}
 use Rattle.host_decl.specs.declared.error.HostsError.TheVariants.{BadLink}
-use Rattle.host_decl.specs.declared.form.HostForm.{HostForm}
-use Rattle.host_decl.specs.Form.{FileText}
-use Rattle.host_decl.specs.FormView.{host_text}
+use Rattle.host_decl.specs.declared.draft.HostDraft.{HostDraft}
+use Rattle.host_decl.specs.Draft.{HostsDraftShape}
+use Rattle.host_decl.specs.DraftView.{host_draft}
 use Rattle.host_decl.specs.Hosts.{HostShape, names_of, AreHostNames}
 use Rattle.host_decl.specs.Meaning.{IsHostOf, NamesFail, LabelsFail, AreSoundLinks, IsFirstBadLink, IsMeaningOf, RefusesFile, cost_table, host_names}
 use Rattle.host_decl.proofs.Costs.{rows_of_costs}
 use Rattle.host_decl.proofs.HostRows.{all_have_labels, same_names}
 
 -- the names of hosts as they are written
-pub written_names : (hosts : List HostForm) → map (λ host. string_bytes host.name) hosts ≡ map (λ text. text.name) (map host_text hosts)
+pub written_names : (hosts : List HostDraft) → map (λ host. string_bytes host.name) hosts ≡ map (λ text. text.name) (map host_draft hosts)
 written_names [] = refl
 written_names (host ∷ hosts) = ap (λ names. string_bytes host.name ∷ names) (written_names hosts)
 
-pub names_fail : (file : FileText) (principals : Declared) (names : List (List ℕ)) (refusal : HostsError) → AreDeclaredAs file.names file.pairs principals → names ≡ host_names file → NamesFail names refusal → RefusesFile file refusal
+pub names_fail : (file : HostsDraftShape) (principals : Declared) (names : List (List ℕ)) (refusal : HostsError) → AreDeclaredAs file.names file.pairs principals → names ≡ host_names file → NamesFail names refusal → RefusesFile file refusal
 names_fail file principals names refusal declared are fail = inr (principals, declared, inl (subst (λ texts. NamesFail texts refusal) are fail))
 
-pub labels_fail : (file : FileText) (principals : Declared) (names : List (List ℕ)) (refusal : HostsError) → AreDeclaredAs file.names file.pairs principals → names ≡ host_names file → AreHostNames names → LabelsFail principals file.hosts refusal → RefusesFile file refusal
+pub labels_fail : (file : HostsDraftShape) (principals : Declared) (names : List (List ℕ)) (refusal : HostsError) → AreDeclaredAs file.names file.pairs principals → names ≡ host_names file → AreHostNames names → LabelsFail principals file.hosts refusal → RefusesFile file refusal
 labels_fail file principals names refusal declared are sound fail = inr (principals, declared, inr (subst AreHostNames are sound, inl fail))
 
-pub link_fails : (file : FileText) (principals : Declared) (names : List (List ℕ)) (rows : List HostShape) (number : ℕ) → AreDeclaredAs file.names file.pairs principals → names ≡ host_names file → AreHostNames names
+pub link_fails : (file : HostsDraftShape) (principals : Declared) (names : List (List ℕ)) (rows : List HostShape) (number : ℕ) → AreDeclaredAs file.names file.pairs principals → names ≡ host_names file → AreHostNames names
     → AllZip (IsHostOf principals) file.hosts rows → IsFirstBadLink (names_of rows) file.links number → RefusesFile file (BadLink number)
 link_fails file principals names rows number declared are sound hosts bad =
     inr (
@@ -37,10 +37,10 @@ link_fails file principals names rows number declared are sound hosts bad =
       ),
     )
 
-pub names_of_rows : (file : FileText) (principals : Declared) (names : List (List ℕ)) (rows : List HostShape) → names ≡ host_names file → AreHostNames names → AllZip (IsHostOf principals) file.hosts rows → AreHostNames (names_of rows)
+pub names_of_rows : (file : HostsDraftShape) (principals : Declared) (names : List (List ℕ)) (rows : List HostShape) → names ≡ host_names file → AreHostNames names → AllZip (IsHostOf principals) file.hosts rows → AreHostNames (names_of rows)
 names_of_rows file principals names rows are sound hosts = subst AreHostNames (are ∙ sym (same_names principals file.hosts rows hosts)) sound
 
-pub means : (file : FileText) (principals : Declared) (names : List (List ℕ)) (rows : List HostShape) (costs : List (Vec ℕ Global)) → AreDeclaredAs file.names file.pairs principals → names ≡ host_names file → AreHostNames names
+pub means : (file : HostsDraftShape) (principals : Declared) (names : List (List ℕ)) (rows : List HostShape) (costs : List (Vec ℕ Global)) → AreDeclaredAs file.names file.pairs principals → names ≡ host_names file → AreHostNames names
     → AllZip (IsHostOf principals) file.hosts rows → AreSoundLinks (names_of rows) file.links → map (λ row. map pos row.items) costs ≡ cost_table (names_of rows) file.links
     → IsMeaningOf file (record { principals = principals; hosts = rows; costs = map (λ row. row.items) costs })
 means file principals names rows costs declared are sound hosts links table =

@@ -12,48 +12,48 @@ use Rattle.std.specs.Cmp.{IsEquivalence}
 use Rattle.std.specs.List.{AllByRecursion, list_any, IsDistinct, take-map}
 use Rattle.std.specs.Str.{bytes_eq}
 use Rattle.js_base.proofs.Texts.{bytes_eq_laws}
-use Rattle.host_decl.specs.declared.form.LinkForm.{LinkForm}
-use Rattle.host_decl.specs.Form.{LinkText}
-use Rattle.host_decl.specs.FormView.{link_text}
+use Rattle.host_decl.specs.declared.draft.LinkDraft.{LinkDraft}
+use Rattle.host_decl.specs.Draft.{LinkDraftShape}
+use Rattle.host_decl.specs.DraftView.{link_draft}
 use Rattle.host_decl.specs.Meaning.{is_sound_link, has_sound_ends, have_same_ends, is_cost, AreSoundUpTo, AreSoundLinks, IsFirstBadLink}
 use Rattle.host_decl.proofs.Texts.{any_of_map}
 
 -- ---- one link after the other
 
 -- the link at a place, as it is written
-link_here : (links : List LinkForm) (place : ℕ) (link : LinkForm) → place < length links → link ≡ get_or links place link
-    → slice_get (map link_text links) place ≡ Some (link_text link)
+link_here : (links : List LinkDraft) (place : ℕ) (link : LinkDraft) → place < length links → link ≡ get_or links place link
+    → slice_get (map link_draft links) place ≡ Some (link_draft link)
 link_here links place link within is =
-    let inside : place < length (map link_text links) = rw length-map within in
-    slice_get-get_or (map link_text links) place (link_text link) inside ∙ ap Some (get_or-map link_text links place link (link_text link) within ∙ ap link_text (sym is))
+    let inside : place < length (map link_draft links) = rw length-map within in
+    slice_get-get_or (map link_draft links) place (link_draft link) inside ∙ ap Some (get_or-map link_draft links place link (link_draft link) within ∙ ap link_draft (sym is))
 
 -- a test of the link after those before it
-test_here : (names : List (List ℕ)) (links : List LinkForm) (place : ℕ) (link : LinkForm) (test : Bool)
-    → test ≡ is_sound_link names (map link_text (take place links)) (link_text link) → is_sound_link names (take place (map link_text links)) (link_text link) ≡ test
-test_here names links place link test is = ap (λ earlier. is_sound_link names earlier (link_text link)) (take-map link_text place links) ∙ sym is
+test_here : (names : List (List ℕ)) (links : List LinkDraft) (place : ℕ) (link : LinkDraft) (test : Bool)
+    → test ≡ is_sound_link names (map link_draft (take place links)) (link_draft link) → is_sound_link names (take place (map link_draft links)) (link_draft link) ≡ test
+test_here names links place link test is = ap (λ earlier. is_sound_link names earlier (link_draft link)) (take-map link_draft place links) ∙ sym is
 
-same_link : (links : List LinkText) (place : ℕ) (first second : LinkText) → slice_get links place ≡ Some first → slice_get links place ≡ Some second → first ≡ second
+same_link : (links : List LinkDraftShape) (place : ℕ) (first second : LinkDraftShape) → slice_get links place ≡ Some first → slice_get links place ≡ Some second → first ≡ second
 same_link links place first second one two = let both : Some first ≡ Some second = sym one ∙ two in cc
 
-pub sound_more : (names : List (List ℕ)) (links : List LinkForm) (place : ℕ) (link : LinkForm) → place < length links → link ≡ get_or links place link
-    → true ≡ is_sound_link names (map link_text (take place links)) (link_text link) → AreSoundUpTo names (map link_text links) place → AreSoundUpTo names (map link_text links) (place + 1)
+pub sound_more : (names : List (List ℕ)) (links : List LinkDraft) (place : ℕ) (link : LinkDraft) → place < length links → link ≡ get_or links place link
+    → true ≡ is_sound_link names (map link_draft (take place links)) (link_draft link) → AreSoundUpTo names (map link_draft links) place → AreSoundUpTo names (map link_draft links) (place + 1)
 sound_more names links place link within is sound before =
-    below_more (λ at. (other : LinkText) → slice_get (map link_text links) at ≡ Some other → is_sound_link names (take at (map link_text links)) other ≡ true) place before
+    below_more (λ at. (other : LinkDraftShape) → slice_get (map link_draft links) at ≡ Some other → is_sound_link names (take at (map link_draft links)) other ≡ true) place before
     (λ other here.
-    let same : link_text link ≡ other = same_link (map link_text links) place (link_text link) other (link_here links place link within is) here in
-    subst (λ at. is_sound_link names (take place (map link_text links)) at ≡ true) same (test_here names links place link true sound))
+    let same : link_draft link ≡ other = same_link (map link_draft links) place (link_draft link) other (link_here links place link within is) here in
+    subst (λ at. is_sound_link names (take place (map link_draft links)) at ≡ true) same (test_here names links place link true sound))
 
-pub bad_link : (names : List (List ℕ)) (links : List LinkForm) (place : ℕ) (link : LinkForm) → place < length links → link ≡ get_or links place link
-    → false ≡ is_sound_link names (map link_text (take place links)) (link_text link) → AreSoundUpTo names (map link_text links) place → IsFirstBadLink names (map link_text links) place
+pub bad_link : (names : List (List ℕ)) (links : List LinkDraft) (place : ℕ) (link : LinkDraft) → place < length links → link ≡ get_or links place link
+    → false ≡ is_sound_link names (map link_draft (take place links)) (link_draft link) → AreSoundUpTo names (map link_draft links) place → IsFirstBadLink names (map link_draft links) place
 bad_link names links place link within is unsound before =
     record {
-      link = link_text link;
+      link = link_draft link;
       here = link_here links place link within is;
       bad = test_here names links place link false unsound;
       before = before;
     }
 
-pub all_links : (names : List (List ℕ)) (links : List LinkForm) (place : ℕ) → length links ≤ place → AreSoundUpTo names (map link_text links) place → AreSoundLinks names (map link_text links)
+pub all_links : (names : List (List ℕ)) (links : List LinkDraft) (place : ℕ) → length links ≤ place → AreSoundUpTo names (map link_draft links) place → AreSoundLinks names (map link_draft links)
 all_links names links place over sound = λ at below. sound at (let here : at < length links = rw length-map at below in omega arith)
 
 -- ---- few hosts have few links
@@ -61,7 +61,7 @@ all_links names links place over sound = λ at below. sound at (let here : at < 
 abbrev Ends : Type 0
 Ends = List ℕ × List ℕ
 
-abbrev ends : LinkText → Ends
+abbrev ends : LinkDraftShape → Ends
 ends link = (link.from, link.to)
 
 abbrev same_ends : Ends → Ends → Bool
@@ -126,7 +126,7 @@ among_pairings from to (name ∷ rest) second known also =
     ]
 
 -- what a sound link is
-record Sound (names : List (List ℕ)) (earlier : List LinkText) (link : LinkText) : Type 0 where
+record Sound (names : List (List ℕ)) (earlier : List LinkDraftShape) (link : LinkDraftShape) : Type 0 where
   from : list_any (bytes_eq link.from) names ≡ true
   to : list_any (bytes_eq link.to) names ≡ true
   cost : is_cost link.cost ≡ true
@@ -136,7 +136,7 @@ not_true : (b : Bool) → not b ≡ true → b ≡ false
 not_true true is = sym is
 not_true false is = refl
 
-sound_is : (names : List (List ℕ)) (earlier : List LinkText) (link : LinkText) → is_sound_link names earlier link ≡ true → Sound names earlier link
+sound_is : (names : List (List ℕ)) (earlier : List LinkDraftShape) (link : LinkDraftShape) → is_sound_link names earlier link ≡ true → Sound names earlier link
 sound_is names earlier link sound =
     let outer = and_parts (has_sound_ends names link && is_cost link.cost) (not (list_any (have_same_ends link) earlier)) sound in
     let inner = and_parts (has_sound_ends names link) (is_cost link.cost) outer.0 in
@@ -144,12 +144,12 @@ sound_is names earlier link sound =
     let both = and_parts (not (bytes_eq link.from link.to)) (list_any (bytes_eq link.from) names) known.0 in
     record { from = both.1; to = known.1; cost = inner.1; new = not_true _ outer.1 }
 
-link_at : (names : List (List ℕ)) (links : List LinkText) (count place : ℕ) (d : LinkText) → AreSoundUpTo names links count → place < count → place < length links
+link_at : (names : List (List ℕ)) (links : List LinkDraftShape) (count place : ℕ) (d : LinkDraftShape) → AreSoundUpTo names links count → place < count → place < length links
     → Sound names (take place links) (get_or links place d)
 link_at names links count place d sound below within =
     sound_is names (take place links) (get_or links place d) (sound place below (get_or links place d) (slice_get-get_or links place d within))
 
-distinct_ends : (names : List (List ℕ)) (links : List LinkText) (count : ℕ) (d : LinkText) → AreSoundUpTo names links count → count ≤ length links → IsDistinct same_ends (map ends (take count links))
+distinct_ends : (names : List (List ℕ)) (links : List LinkDraftShape) (count : ℕ) (d : LinkDraftShape) → AreSoundUpTo names links count → count ≤ length links → IsDistinct same_ends (map ends (take count links))
 unfolding IsDistinct
 distinct_ends names links zero d sound within = tt
 distinct_ends names links (suc count) d sound within =
@@ -161,14 +161,14 @@ distinct_ends names links (suc count) d sound within =
     subst P cut (IsDistinct-push same_ends_laws (map ends (take count links)) (ends link)
     (distinct_ends names links count d (λ place below. sound place (omega arith)) (omega arith)) new)
 
-ends_are_known : (names : List (List ℕ)) (links : List LinkText) (count : ℕ) → AreSoundUpTo names links count → count ≤ length links → (q : Ends)
+ends_are_known : (names : List (List ℕ)) (links : List LinkDraftShape) (count : ℕ) → AreSoundUpTo names links count → count ≤ length links → (q : Ends)
     → list_any (same_ends q) (map ends (take count links)) ≡ true → list_any (same_ends q) (pairings names names) ≡ true
 ends_are_known names links count sound within q among =
     let found = Any-from_list_any (same_ends q) (map ends (take count links)) among in
     let place = found.0 in
     let below : place < count = (let inside : place < length (map ends (take count links)) = found.2 in
     let long : length (map ends (take count links)) ≡ count = length-map _ _ ∙ length-take-le count links within in omega arith) in
-    let d : LinkText = record { from = []; to = []; cost = pos 0 } in
+    let d : LinkDraftShape = record { from = []; to = []; cost = pos 0 } in
     let inside : place < length (take count links) = rw (length-take-le count links within) below in
     let is = link_at names links count place d sound below (omega arith) in
     let same : found.1 ≡ ends (get_or links place d) =
@@ -177,16 +177,16 @@ ends_are_known names links count sound within q among =
     rw q_is (among_pairings (get_or links place d).from (get_or links place d).to names names is.from is.to)
 
 -- so many links can be sound
-pub few_links : (names : List (List ℕ)) (links : List LinkText) (count : ℕ) → AreSoundUpTo names links count → count ≤ length links → count ≤ length names * length names
+pub few_links : (names : List (List ℕ)) (links : List LinkDraftShape) (count : ℕ) → AreSoundUpTo names links count → count ≤ length links → count ≤ length names * length names
 few_links names links count sound within =
-    let d : LinkText = record { from = []; to = []; cost = pos 0 } in
+    let d : LinkDraftShape = record { from = []; to = []; cost = pos 0 } in
     let most = length-le_from_is_member same_ends_laws (map ends (take count links)) (pairings names names)
     (distinct_ends names links count d sound within) (ends_are_known names links count sound within) in
     let long : length (map ends (take count links)) ≡ count = length-map _ _ ∙ length-take-le count links within in
     rw (← length_pairings names names) (rw long at most)
 
 -- what holds of the link at each place
-all_of_links : (links : List LinkForm) → ((place : ℕ) (link : LinkForm) → place < length links → link ≡ get_or links place link → is_cost link.cost ≡ true) → AllByRecursion (λ link. IsTrue (is_cost link.cost)) links
+all_of_links : (links : List LinkDraft) → ((place : ℕ) (link : LinkDraft) → place < length links → link ≡ get_or links place link → is_cost link.cost ≡ true) → AllByRecursion (λ link. IsTrue (is_cost link.cost)) links
 all_of_links [] each = tt
 all_of_links (link ∷ links) each = (
   each zero link (omega arith) refl,
@@ -194,7 +194,7 @@ all_of_links (link ∷ links) each = (
 )
 
 -- costs of sound links
-pub sound_costs : (names : List (List ℕ)) (links : List LinkForm) → AreSoundLinks names (map link_text links) → AllByRecursion (λ link. IsTrue (is_cost link.cost)) links
+pub sound_costs : (names : List (List ℕ)) (links : List LinkDraft) → AreSoundLinks names (map link_draft links) → AllByRecursion (λ link. IsTrue (is_cost link.cost)) links
 sound_costs names links sound = all_of_links links (λ place link within is.
-    let inside : place < length (map link_text links) = rw length-map within in
-    (sound_is names (take place (map link_text links)) (link_text link) (sound place inside (link_text link) (link_here links place link within is))).cost)
+    let inside : place < length (map link_draft links) = rw length-map within in
+    (sound_is names (take place (map link_draft links)) (link_draft link) (sound place inside (link_draft link) (link_here links place link within is))).cost)

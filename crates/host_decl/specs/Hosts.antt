@@ -3,7 +3,9 @@ use Rattle.std.specs.Prelude.{◌≡◌, ◌≢◌, ℕ, ◌<◌, ◌≤◌, Lis
 use Rattle.std.specs.List.{IsDistinct}
 use Rattle.std.specs.Str.{bytes_eq}
 use Rattle.js_base.specs.Name.{IsName}
-use Rattle.principals.specs.ActsFor.{Declared}
+use Rattle.js_base.specs.declared.limits.TheConstants.{HOSTS, LINK_COST}
+use Rattle.principals.specs.ActsFor.{Declared, IsDeclared}
+use Rattle.host_decl.specs.declared.key.TheConstants.{KEY_BYTES}
 use Rattle.label_lattice.specs.declared.label.Label.{Label}
 
 -- a host: its name, the most that it may see and who trusts it, the 32 bytes of its key, and the path of its socket
@@ -25,23 +27,25 @@ names_of hosts = map (λ host. host.name) hosts
 -- the names of hosts that stand together
 pub record AreHostNames (names : List (List ℕ)) : Type 0 where
   pub some : 0 < length names
-  pub few : length names ≤ 16
+  pub few : length names ≤ HOSTS
   pub distinct : IsDistinct bytes_eq names
 
 -- the cost of the link from the first host to the second
 abbrev pub cost_at : List (List ℕ) → ℕ → ℕ → ℕ
 cost_at costs from to = slice_index (slice_index_or costs from []) to
 
--- a table of costs for so many hosts: nothing from a host to itself, and else 1 to 1,000
+-- a table of costs for so many hosts: nothing from a host to itself, otherwise 1 to 1,000
 pub record AreCosts (count : ℕ) (costs : List (List ℕ)) : Type 0 where
   pub rows : length costs ≡ count
   pub columns : All (λ row. length row ≡ count) costs
   pub own : (host : ℕ) → host < count → cost_at costs host host ≡ 0
-  pub others : (from to : ℕ) → from < count → to < count → from ≢ to → (1 ≤ cost_at costs from to) × (cost_at costs from to ≤ 1000)
+  pub others : (from to : ℕ) → from < count → to < count → from ≢ to →
+      (1 ≤ cost_at costs from to) × (cost_at costs from to ≤ LINK_COST)
 
 -- what the hosts of every host file keep
-pub record AreHosts (hosts : List HostShape) (costs : List (List ℕ)) : Type 0 where
-  pub names : AreHostNames (names_of hosts)
-  pub named : All IsName (names_of hosts)
-  pub keys : All (λ host. length host.key ≡ 32) hosts
-  pub table : AreCosts (length hosts) costs
+pub record AreHosts (hosts : HostsShape) : Type 0 where
+  pub declared : IsDeclared hosts.principals
+  pub names : AreHostNames (names_of hosts.hosts)
+  pub named : All IsName (names_of hosts.hosts)
+  pub keys : All (λ host. length host.key ≡ KEY_BYTES) hosts.hosts
+  pub table : AreCosts (length hosts.hosts) hosts.costs

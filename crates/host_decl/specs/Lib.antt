@@ -1,7 +1,8 @@
 pub mod Schema
-pub mod Form
-pub mod FormView
+pub mod Draft
+pub mod DraftView
 pub mod Hosts
 pub mod LabelText
 pub mod Meaning
 pub mod Reading
+pub mod Refusal

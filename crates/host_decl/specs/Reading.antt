@@ -1,23 +1,24 @@
 -- What becomes of the bytes of a host file.
 use Rattle.std.specs.Prelude.{◌≡◌, ◌⊎◌, ℕ, ◌<◌, ◌≤◌, List, length, Some, IsUtf8, string_bytes, ⊤}
+use Rattle.js_base.specs.declared.limits.TheConstants.{HOSTS_BYTES}
 use Rattle.toml.specs.Data.{Members}
 use Rattle.toml.specs.Parse.{parse_document}
 use Rattle.host_decl.specs.declared.error.HostsError.{HostsError}
 use Rattle.host_decl.specs.declared.error.HostsError.TheVariants as error
 use Rattle.host_decl.specs.Schema.{IsFirstBadKey, IsSoundFile, file_tables}
-use Rattle.host_decl.specs.Form.{file_of}
+use Rattle.host_decl.specs.Draft.{draft_of}
 use Rattle.host_decl.specs.Hosts.{HostsShape}
 use Rattle.host_decl.specs.Meaning.{IsMeaningOf, RefusesFile}
 
 -- the bytes are few enough, and are the text of a TOML document with these members
 pub record IsDocument (bytes : List ℕ) (file : Members) : Type 0 where
-  pub few : length bytes ≤ 65536
+  pub few : length bytes ≤ HOSTS_BYTES
   pub text : IsUtf8 bytes
   pub reads : parse_document bytes ≡ Some file
 
 -- the bytes say these hosts
 abbrev pub ReadsHosts : List ℕ → HostsShape → Type 0
-ReadsHosts bytes hosts = (file : Members) × IsDocument bytes file × IsSoundFile file × IsMeaningOf (file_of file) hosts
+ReadsHosts bytes hosts = (file : Members) × IsDocument bytes file × IsSoundFile file × IsMeaningOf (draft_of file) hosts
 
 -- the bytes are no document
 abbrev pub DocumentFails : List ℕ → HostsError → Type 0
@@ -33,6 +34,7 @@ KeysFail file _ = ⊥
 -- meaning. Memory may run out at any time.
 abbrev pub RefusesHosts : List ℕ → HostsError → Type 0
 RefusesHosts bytes refusal =
-    ((refusal ≡ error.TooLong) × (65536 < length bytes))
-    ⊎ ((length bytes ≤ 65536) × DocumentFails bytes refusal)
-    ⊎ ((file : Members) × IsDocument bytes file × (KeysFail file refusal ⊎ (IsSoundFile file × RefusesFile (file_of file) refusal)))
+    ((refusal ≡ error.TooLong) × (HOSTS_BYTES < length bytes))
+    ⊎ (((length bytes ≤ HOSTS_BYTES) × DocumentFails bytes refusal)
+    ⊎ ((file : Members) × IsDocument bytes file
+    × (KeysFail file refusal ⊎ (IsSoundFile file × RefusesFile (draft_of file) refusal))))

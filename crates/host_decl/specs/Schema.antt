@@ -1,6 +1,6 @@
 -- Which keys the tables of a host file may have, which they must have, and the form of the value at each key. A text is
 -- the list of its bytes, and a TOML document is read as its members.
-use Rattle.std.specs.Prelude.{◌≡◌, ◌≢◌, ◌⊎◌, ℕ, Bool, true, false, not, ◌&&◌, ◌==◌, if◌then◌else◌, List, [], ◌∷◌, ◌++◌, map, length, IsTrue, Option, Some, None, is_some, codes}
+use Rattle.std.specs.Prelude.{◌≡◌, ◌≢◌, ◌⊎◌, ℕ, Bool, true, false, not, ◌&&◌, ◌==◌, ◌*◌, if◌then◌else◌, List, [], ◌∷◌, ◌++◌, map, length, IsTrue, Option, Some, None, is_some, codes}
 use Rattle.std.specs.Option.{option_map_or}
 use Rattle.std.specs.List.{AllByRecursion, list_all, list_any}
 use Rattle.std.specs.Char.{is_ascii_hexdigit}
@@ -10,6 +10,7 @@ use Rattle.std.specs.Cmp.Lexicographic.{slice_cmp}
 use Rattle.std.specs.declared.cmp.Ordering.TheVariants.{Greater}
 use Rattle.toml.specs.Data.{Data, Items, no_items, item, Members, get_member, as_str, as_integer, as_array, as_table}
 use Rattle.js_base.specs.Name.{is_name}
+use Rattle.host_decl.specs.declared.key.TheConstants.{KEY_BYTES}
 use Rattle.host_decl.specs.declared.schema.Form.{Form}
 use Rattle.host_decl.specs.declared.schema.Form.TheVariants.{Name, Text, Key, Whole, Names, Pairs, Tables}
 use Rattle.host_decl.specs.declared.schema.TableKind.{TableKind}
@@ -17,9 +18,9 @@ use Rattle.host_decl.specs.declared.schema.TableKind.TheVariants.{File, Host, Li
 
 -- ---- the forms of values
 
--- 64 hexadecimal digits, of either case
+-- hexadecimal digits of either case, two for each byte of a key
 abbrev pub is_key : List ℕ → Bool
-is_key text = (length text == 64) && list_all is_ascii_hexdigit text
+is_key text = (length text == 2 * KEY_BYTES) && list_all is_ascii_hexdigit text
 
 abbrev pub is_text : Data → Bool
 is_text value = is_some (as_str value)

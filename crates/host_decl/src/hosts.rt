@@ -1,6 +1,7 @@
 ghost use Rattle.std.specs.Prelude.{◌≡◌, ◌<◌, length, map};
 ghost use Rattle.host_decl.specs.Hosts.{AreHosts, cost_at};
 
+use crate::key::KEY_BYTES;
 use js_base::HostId;
 use label_lattice::Label;
 use principals::Principals;
@@ -11,7 +12,7 @@ use std::marker::Model;
 pub struct HostRow {
     name: String,
     label: Label,
-    key: [u8; 32],
+    key: [u8; KEY_BYTES],
     path: String,
 }
 
@@ -19,19 +20,20 @@ impl Model for HostRow {
     ghost use Rattle.std.specs.Prelude.{◌≡◌, length};
     ghost use Rattle.std.specs.String.{string_bytes};
     ghost use Rattle.host_decl.specs.Hosts.{HostShape};
+    ghost use Rattle.host_decl.specs.declared.key.TheConstants.{KEY_BYTES};
 
     ghost Value = { HostShape };
 
     ghost view = { λ h. record { name = string_bytes h.name; label = h.label; key = h.key; path = string_bytes h.path } };
 
-    ghost invariant = { λ h. length h.key ≡ 32 };
+    ghost invariant = { λ h. length h.key ≡ KEY_BYTES };
 }
 
 impl HostRow {
     ghost use Rattle.std.specs.String.{string_bytes};
 
     /// A host of these parts.
-    pub(crate) fn new(name: String, label: Label, key: [u8; 32], path: String) -> HostRow
+    pub(crate) fn new(name: String, label: Label, key: [u8; KEY_BYTES], path: String) -> HostRow
         ensures { result ≡ record { name = string_bytes name; label = label; key = key; path = string_bytes path } }
     {
         HostRow {
@@ -57,7 +59,7 @@ impl HostRow {
     }
 
     /// The key of its tokens: the one that is written, or the SHA-256 digest of its name.
-    pub fn key(&self) -> &[u8; 32]
+    pub fn key(&self) -> &[u8; KEY_BYTES]
         ensures { result.now ≡ self.now.key }
     {
         &self.key
@@ -86,16 +88,20 @@ impl Model for Hosts {
 
     ghost Value = { HostsShape };
 
-    ghost view = { λ h. record { principals = h.principals; hosts = h.hosts.items; costs = map (λ row. row.items) h.costs.items } };
+    ghost view = { λ h.
+        record { principals = h.principals; hosts = h.hosts.items; costs = map (λ row. row.items) h.costs.items } };
 
-    ghost invariant = { λ h. AreHosts h.hosts.items (map (λ row. row.items) h.costs.items) };
+    ghost invariant = { λ h. AreHosts
+        (record { principals = h.principals; hosts = h.hosts.items; costs = map (λ row. row.items) h.costs.items }) };
 }
 
 impl Hosts {
     /// These principals, hosts and costs.
     pub(crate) fn new(principals: Principals, hosts: Vec<HostRow>, costs: Vec<Vec<u32>>) -> Hosts
-        requires { AreHosts hosts.items (map (λ row. row.items) costs.items) }
-        ensures { result ≡ record { principals = principals; hosts = hosts.items; costs = map (λ row. row.items) costs.items } }
+        requires { AreHosts
+            (record { principals = principals; hosts = hosts.items; costs = map (λ row. row.items) costs.items }) }
+        ensures { result ≡
+            record { principals = principals; hosts = hosts.items; costs = map (λ row. row.items) costs.items } }
     {
         Hosts {
             principals,
@@ -106,7 +112,8 @@ impl Hosts {
 
     /// The declared principals.
     pub fn principals(&self) -> &Principals
-        ensures { result.now ≡ self.now.principals }
+        ensures principals { result.now ≡ self.now.principals }
+        ensures sound { AreHosts self.now }
     {
         &self.principals
     }
@@ -114,7 +121,7 @@ impl Hosts {
     /// The hosts in order. The number of a host is its place.
     pub fn hosts(&self) -> &[HostRow]
         ensures hosts { result.now ≡ self.now.hosts }
-        ensures sound { AreHosts self.now.hosts self.now.costs }
+        ensures sound { AreHosts self.now }
     {
         &self.hosts
     }
@@ -124,7 +131,7 @@ impl Hosts {
         requires from { from.0 < length self.now.hosts }
         requires to { to.0 < length self.now.hosts }
         ensures cost { result ≡ cost_at self.now.costs from.0 to.0 }
-        ensures sound { AreHosts self.now.hosts self.now.costs }
+        ensures sound { AreHosts self.now }
     {
         self.costs[from.0 as usize][to.0 as usize]
     }

@@ -2,24 +2,27 @@ ghost use Rattle.std.specs.Prelude.{◌≡◌, ◌+◌, ◌*◌, ◌<◌, ◌^�
 ghost use Rattle.std.specs.Char.{is_ascii_hexdigit, digit_value};
 ghost use Rattle.sha2.specs.Sha256.{sha256};
 ghost use Rattle.host_decl.specs.Schema.{is_key};
-ghost use Rattle.host_decl.specs.Form.{hex_bytes};
+ghost use Rattle.host_decl.specs.Draft.{hex_bytes};
 
 use sha2::{Digest, Sha256};
 
+/// The bytes of a key. Two digits write a byte.
+pub const KEY_BYTES: usize = 32;
+
 /// The key of a host for which none is written: the digest of its name.
-pub fn default_key(name: &str) -> [u8; 32]
+pub fn default_key(name: &str) -> [u8; KEY_BYTES]
     ensures { result ≡ sha256 name.now }
 {
     Sha256::digest(name.as_bytes())
 }
 
-/// The bytes that 64 hexadecimal digits write, two digits a byte.
-pub fn key_of_digits(digits: &[u8]) -> [u8; 32]
+/// The bytes that the hexadecimal digits of a key write.
+pub fn key_of_digits(digits: &[u8]) -> [u8; KEY_BYTES]
     requires { IsTrue (is_key digits.now) }
     ensures { result ≡ hex_bytes digits.now }
 {
-    let mut key = [0; 32];
-    for place in 0..32 {
+    let mut key = [0; KEY_BYTES];
+    for place in 0..KEY_BYTES {
         key[place] = byte_of(digits[2 * place], digits[2 * place + 1]);
     }
     key

@@ -1,15 +1,16 @@
 //! The host file: which principals there are, which hosts with their labels, keys and paths, and what links cost.
 //!
-//! The file is TOML. `schema` says which keys it may have, `file_form` reads what it says as texts and numbers, and `resolve`
+//! The file is TOML. `schema` says which keys it may have, `file_draft` reads what it says as texts and numbers, and `resolve`
 //! finds its meaning, with `rows` for the hosts and `links` for the links.
 #![tactic(auto)]
 
+mod draft;
 mod error;
-mod file_form;
-mod form;
+mod file_draft;
 mod hosts;
 mod key;
 mod label_text;
+mod laws;
 mod links;
 mod read;
 mod resolve;
@@ -20,4 +21,5 @@ mod tests;
 
 pub use error::HostsError;
 pub use hosts::{HostRow, Hosts};
+pub use laws::host_file_laws;
 pub use read::read_hosts;

@@ -3,21 +3,22 @@ ghost use Rattle.std.specs.Prelude.{◌≡◌, ◌≤◌, length, map, pos, IfOk
 ghost use Rattle.std.specs.List.{AllByRecursion, list_any};
 ghost use Rattle.std.specs.Str.{bytes_eq};
 ghost use Rattle.std.specs.String.{string_bytes};
-ghost use Rattle.host_decl.specs.FormView.{link_text};
+ghost use Rattle.js_base.specs.declared.limits.TheConstants.{HOSTS};
+ghost use Rattle.host_decl.specs.DraftView.{link_draft};
 ghost use Rattle.host_decl.specs.Hosts.{names_of};
 ghost use Rattle.host_decl.specs.Meaning.{is_sound_link, has_sound_ends, have_same_ends, is_cost, AreSoundLinks, IsFirstBadLink, link_cost, cost_between, cost_table};
 
-use crate::form::LinkForm;
+use crate::draft::LinkDraft;
 use crate::hosts::HostRow;
 use js_base::OutOfMemory;
 use js_base::limits::LINK_COST;
 use std::alloc::Global;
 
 /// The number of the first link that is not sound. As there are few hosts, it is small.
-pub fn first_bad_link(hosts: &[HostRow], links: &[LinkForm]) -> Option<u32>
-    requires { length hosts.now ≤ 16 }
-    ensures none { IfNone result (AreSoundLinks (names_of hosts.now) (map link_text links.now)) }
-    ensures some { IfSome result (IsFirstBadLink (names_of hosts.now) (map link_text links.now)) }
+pub fn first_bad_link(hosts: &[HostRow], links: &[LinkDraft]) -> Option<u32>
+    requires { length hosts.now ≤ HOSTS }
+    ensures none { IfNone result (AreSoundLinks (names_of hosts.now) (map link_draft links.now)) }
+    ensures some { IfSome result (IsFirstBadLink (names_of hosts.now) (map link_draft links.now)) }
 {
     for number in 0..links.len() {
         if !is_sound(hosts, &links[..number], &links[number]) {
@@ -29,16 +30,16 @@ pub fn first_bad_link(hosts: &[HostRow], links: &[LinkForm]) -> Option<u32>
 
 /// Whether the link leads from a known host to another one, costs 1 to 1,000, and has other ends than the earlier links.
 #[tactic(auto, using(crate::proofs::Texts::any_of_map))]
-fn is_sound(hosts: &[HostRow], earlier: &[LinkForm], link: &LinkForm) -> bool
-    ensures { result ≡ is_sound_link (names_of hosts.now) (map link_text earlier.now) (link_text link.now) }
+fn is_sound(hosts: &[HostRow], earlier: &[LinkDraft], link: &LinkDraft) -> bool
+    ensures { result ≡ is_sound_link (names_of hosts.now) (map link_draft earlier.now) (link_draft link.now) }
 {
     has_sound_ends(hosts, link) && is_cost(link.cost) && !is_given(earlier, link)
 }
 
 /// Whether the link leads from a known host to another one.
 #[tactic(auto, using(crate::proofs::Texts::any_of_map))]
-fn has_sound_ends(hosts: &[HostRow], link: &LinkForm) -> bool
-    ensures { result ≡ has_sound_ends (names_of hosts.now) (link_text link.now) }
+fn has_sound_ends(hosts: &[HostRow], link: &LinkDraft) -> bool
+    ensures { result ≡ has_sound_ends (names_of hosts.now) (link_draft link.now) }
 {
     let (from, to) = (link.from.as_str(), link.to.as_str());
     from != to && is_known(hosts, from) && is_known(hosts, to)
@@ -59,14 +60,14 @@ fn is_cost(cost: i64) -> bool
 }
 
 /// Whether one of the links has the ends of this one.
-fn is_given(links: &[LinkForm], link: &LinkForm) -> bool
-    ensures { result ≡ list_any (λ other. have_same_ends (link_text link.now) (link_text other)) links.now }
+fn is_given(links: &[LinkDraft], link: &LinkDraft) -> bool
+    ensures { result ≡ list_any (λ other. have_same_ends (link_draft link.now) (link_draft other)) links.now }
 {
     links.iter().any(|other| is_between(link, other.from.as_str(), other.to.as_str()))
 }
 
 /// Whether the link leads from the first host to the second.
-fn is_between(link: &LinkForm, from: &str, to: &str) -> bool
+fn is_between(link: &LinkDraft, from: &str, to: &str) -> bool
     ensures { result ≡ (bytes_eq (string_bytes link.now.from) from.now && bytes_eq (string_bytes link.now.to) to.now) }
 {
     link.from.as_str() == from && link.to.as_str() == to
@@ -76,11 +77,11 @@ fn is_between(link: &LinkForm, from: &str, to: &str) -> bool
 pub fn costs_of(
     alloc: Global,
     hosts: &[HostRow],
-    links: &[LinkForm],
+    links: &[LinkDraft],
 ) -> Result<Vec<Vec<u32>>, OutOfMemory>
     requires { AllByRecursion (λ link. IsTrue (is_cost link.cost)) links.now }
     ensures { IfOk result (λ costs.
-        map (λ row. map pos row.items) costs.items ≡ cost_table (names_of hosts.now) (map link_text links.now)) }
+        map (λ row. map pos row.items) costs.items ≡ cost_table (names_of hosts.now) (map link_draft links.now)) }
 {
     let mut costs = Vec::new(alloc);
     for host in hosts {
@@ -96,12 +97,12 @@ pub fn costs_of(
 fn costs_from(
     alloc: Global,
     hosts: &[HostRow],
-    links: &[LinkForm],
+    links: &[LinkDraft],
     from: &str,
 ) -> Result<Vec<u32>, OutOfMemory>
     requires { AllByRecursion (λ link. IsTrue (is_cost link.cost)) links.now }
     ensures { IfOk result (λ row.
-        map pos row.items ≡ map (cost_between (map link_text links.now) from.now) (names_of hosts.now)) }
+        map pos row.items ≡ map (cost_between (map link_draft links.now) from.now) (names_of hosts.now)) }
 {
     let mut row = Vec::new(alloc);
     for host in hosts {
@@ -113,9 +114,9 @@ fn costs_from(
 }
 
 /// The cost from one host to another, or to itself.
-fn cost_between(links: &[LinkForm], from: &str, to: &str) -> u32
+fn cost_between(links: &[LinkDraft], from: &str, to: &str) -> u32
     requires { AllByRecursion (λ link. IsTrue (is_cost link.cost)) links.now }
-    ensures { pos result ≡ cost_between (map link_text links.now) from.now to.now }
+    ensures { pos result ≡ cost_between (map link_draft links.now) from.now to.now }
 {
     if from == to {
         0
@@ -125,9 +126,9 @@ fn cost_between(links: &[LinkForm], from: &str, to: &str) -> u32
 }
 
 /// What the link between two hosts costs, and 1 where there is none.
-fn link_cost(links: &[LinkForm], from: &str, to: &str) -> u32
+fn link_cost(links: &[LinkDraft], from: &str, to: &str) -> u32
     requires { AllByRecursion (λ link. IsTrue (is_cost link.cost)) links.now }
-    ensures { pos result ≡ link_cost (map link_text links.now) from.now to.now }
+    ensures { pos result ≡ link_cost (map link_draft links.now) from.now to.now }
 {
     for link in links {
         if is_between(link, from, to) {

@@ -3,7 +3,7 @@ ghost use Rattle.toml.specs.View.{table_view};
 ghost use Rattle.host_decl.specs.Reading.{IsDocument, ReadsHosts, RefusesHosts, DocumentFails};
 
 use crate::error::HostsError;
-use crate::file_form::read_form;
+use crate::file_draft::file_draft;
 use crate::hosts::Hosts;
 use crate::resolve::resolve;
 use crate::schema::bad_key;
@@ -28,13 +28,13 @@ pub fn read_hosts(alloc: Global, bytes: &[u8]) -> Result<Hosts, HostsError>
             Err(_) => Err(HostsError::OutOfMemory),
         };
     }
-    let form = read_form(alloc, &file)?;
-    resolve(alloc, form)
+    let draft = file_draft(alloc, &file)?;
+    resolve(alloc, draft)
 }
 
 /// The TOML document in the bytes.
 fn document(alloc: Global, bytes: &[u8]) -> Result<Table, HostsError>
-    requires { length bytes.now ≤ 65536 }
+    requires { length bytes.now ≤ HOSTS_BYTES }
     ensures { MatchResult result (λ file. IsDocument bytes.now (table_view file)) (DocumentFails bytes.now) }
 {
     match toml::table_from_slice(alloc, bytes) {

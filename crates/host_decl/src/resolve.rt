@@ -3,11 +3,11 @@ ghost use Rattle.std.specs.Prelude.{All, MatchResult, map};
 ghost use Rattle.std.specs.String.{string_bytes};
 ghost use Rattle.js_base.specs.Name.{IsName};
 ghost use Rattle.principals.specs.Declaring.{AreDeclaredAs, written_pairs};
-ghost use Rattle.host_decl.specs.FormView.{file_text};
+ghost use Rattle.host_decl.specs.DraftView.{hosts_draft};
 ghost use Rattle.host_decl.specs.Meaning.{IsMeaningOf, RefusesFile, PrincipalsFail};
 
 use crate::error::HostsError;
-use crate::form::HostsForm;
+use crate::draft::HostsDraft;
 use crate::hosts::Hosts;
 use crate::links::{costs_of, first_bad_link};
 use crate::rows::{rows_of, test_names};
@@ -15,17 +15,17 @@ use principals::{PrincipalError, Principals};
 use std::alloc::Global;
 
 /// The hosts that a file means.
-pub fn resolve(alloc: Global, form: HostsForm) -> Result<Hosts, HostsError>
-    requires names { All (λ name. IsName (string_bytes name)) form.names.items }
-    requires hosts { All IsName (map (λ host. string_bytes host.name) form.hosts.items) }
-    ensures { MatchResult result (IsMeaningOf (file_text form)) (RefusesFile (file_text form)) }
+pub fn resolve(alloc: Global, draft: HostsDraft) -> Result<Hosts, HostsError>
+    requires names { All (λ name. IsName (string_bytes name)) draft.names.items }
+    requires hosts { All IsName (map (λ host. string_bytes host.name) draft.hosts.items) }
+    ensures { MatchResult result (IsMeaningOf (hosts_draft draft)) (RefusesFile (hosts_draft draft)) }
 {
-    let HostsForm {
+    let HostsDraft {
         names,
         pairs,
         hosts,
         links,
-    } = form;
+    } = draft;
     let principals = declared(alloc, &names, &pairs)?;
     test_names(alloc, &hosts)?;
     let rows = rows_of(alloc, &principals, hosts)?;

@@ -3,12 +3,12 @@ ghost use Rattle.std.specs.Prelude.{◌≡◌, ◌<◌, ◌≤◌, length, map, 
 ghost use Rattle.std.specs.List.{AllZip, IsDistinct, list_any};
 ghost use Rattle.std.specs.Str.{bytes_eq};
 ghost use Rattle.std.specs.String.{string_bytes};
-ghost use Rattle.host_decl.specs.FormView.{host_text};
+ghost use Rattle.host_decl.specs.DraftView.{host_draft};
 ghost use Rattle.host_decl.specs.Hosts.{AreHostNames};
 ghost use Rattle.host_decl.specs.Meaning.{IsHostOf, HasLabel, NamesFail, LabelsFail};
 
 use crate::error::HostsError;
-use crate::form::HostForm;
+use crate::draft::HostDraft;
 use crate::hosts::HostRow;
 use crate::label_text::label_of_text;
 use js_base::limits::HOSTS;
@@ -17,7 +17,7 @@ use principals::Principals;
 use std::alloc::Global;
 
 /// Refuses no hosts, more than 16, and hosts of one name.
-pub fn test_names(alloc: Global, hosts: &[HostForm]) -> Result<(), HostsError>
+pub fn test_names(alloc: Global, hosts: &[HostDraft]) -> Result<(), HostsError>
     ensures ok { OnOk result (AreHostNames (map (λ host. string_bytes host.name) hosts.now)) }
     ensures err { IfErr result (NamesFail (map (λ host. string_bytes host.name) hosts.now)) }
 {
@@ -37,7 +37,7 @@ pub fn test_names(alloc: Global, hosts: &[HostForm]) -> Result<(), HostsError>
 }
 
 /// The place of the first host whose name repeats an earlier one.
-fn first_repeated(hosts: &[HostForm]) -> Option<usize>
+fn first_repeated(hosts: &[HostDraft]) -> Option<usize>
     ensures within { IfSome result (λ place. place < length hosts.now) }
     ensures repeated { IfSome result (λ place. (name : List ℕ) →
         slice_get (map (λ host. string_bytes host.name) hosts.now) place ≡ Some name →
@@ -54,7 +54,7 @@ fn first_repeated(hosts: &[HostForm]) -> Option<usize>
 }
 
 /// Whether one of the hosts has the name.
-fn is_named(hosts: &[HostForm], name: &str) -> bool
+fn is_named(hosts: &[HostDraft], name: &str) -> bool
     ensures { result ≡ list_any (λ host. bytes_eq name.now (string_bytes host.name)) hosts.now }
 {
     hosts.iter().any(|host| name == host.name.as_str())
@@ -64,12 +64,12 @@ fn is_named(hosts: &[HostForm], name: &str) -> bool
 pub fn rows_of(
     alloc: Global,
     principals: &Principals,
-    hosts: Vec<HostForm>,
+    hosts: Vec<HostDraft>,
 ) -> Result<Vec<HostRow>, HostsError>
-    requires { length hosts.items ≤ 16 }
+    requires { length hosts.items ≤ HOSTS }
     ensures { MatchResult result
-        (λ rows. AllZip (IsHostOf principals.now) (map host_text hosts.items) rows.items)
-        (LabelsFail principals.now (map host_text hosts.items)) }
+        (λ rows. AllZip (IsHostOf principals.now) (map host_draft hosts.items) rows.items)
+        (LabelsFail principals.now (map host_draft hosts.items)) }
 {
     let mut rows = Vec::new(alloc);
     for host in hosts {
@@ -88,13 +88,13 @@ pub fn rows_of(
 fn row_of(
     alloc: Global,
     principals: &Principals,
-    host: HostForm,
+    host: HostDraft,
 ) -> Result<Result<HostRow, String>, OutOfMemory>
     ensures { IfOk result (λ row. MatchResult row
-        (IsHostOf principals.now (host_text host))
-        (λ name. (¬ HasLabel principals.now (host_text host)) × (string_bytes host.name ≡ string_bytes name))) }
+        (IsHostOf principals.now (host_draft host))
+        (λ name. (¬ HasLabel principals.now (host_draft host)) × (string_bytes host.name ≡ string_bytes name))) }
 {
-    let HostForm {
+    let HostDraft {
         name,
         label,
         key,

@@ -9,6 +9,7 @@ ghost use Rattle.toml.specs.View.{view, items_view, table_view};
 ghost use Rattle.host_decl.specs.Schema.{is_key, is_text, is_text_of, all_items, is_array_of, are_two_texts, is_pair, is_table, has_form, form_at, required_keys, is_unfit, HoldsUnfit, IsMissing, IsBadKey, IsSound, IsLeast, IsFirstBadKey, IsSoundFile, items_in, items_at, tables_of, table_in, of_kind, file_tables};
 ghost use Rattle.js_base.specs.Name.{is_name};
 
+use crate::key::KEY_BYTES;
 use js_base::names::is_name;
 use toml::{Table, Value};
 
@@ -30,7 +31,7 @@ pub enum Form {
     Name,
     /// A text.
     Text,
-    /// A text of 64 hexadecimal digits.
+    /// The hexadecimal digits of a key.
     Key,
     /// A whole number.
     Whole,
@@ -229,11 +230,11 @@ fn is_key_text(value: &Value) -> bool
     }
 }
 
-/// Whether the text is 64 hexadecimal digits.
+/// Whether the text is hexadecimal digits, two for each byte of a key.
 fn is_key(text: &[u8]) -> bool
     ensures { result ≡ is_key text.now }
 {
-    text.len() == 64 && are_hexadecimal(text)
+    text.len() == 2 * KEY_BYTES && are_hexadecimal(text)
 }
 
 fn are_hexadecimal(text: &[u8]) -> bool

@@ -1,5 +1,5 @@
 use Rattle.std.proofs.Common.{◌≡◌, ◌*◌, ◌++◌, length, take, drop}
-use Rattle.host_decl.specs.Form.{hex_bytes}
+use Rattle.host_decl.specs.Draft.{hex_bytes}
 use Rattle.host_decl.proofs.key.key_of_digits.Given as goal
 
 abbrev pub invariant-loop-place : goal.invariant-loop-place

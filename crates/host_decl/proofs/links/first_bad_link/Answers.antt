@@ -1,7 +1,7 @@
 use Rattle.std.proofs.Common.{◌*◌, ◌≤◌, ◌<◌, ◌^◌, ℕ, length, map, arith}
 use Rattle.std.proofs.Math.Nat.{mul-le-mul}
 use Rattle.std.proofs.lemmas.List.{length-map}
-use Rattle.host_decl.specs.FormView.{link_text}
+use Rattle.host_decl.specs.DraftView.{link_draft}
 use Rattle.host_decl.specs.Hosts.{names_of}
 use Rattle.host_decl.proofs.SoundLinks.{sound_more, bad_link, all_links, few_links}
 use Rattle.host_decl.proofs.links.first_bad_link.Goals as goal
@@ -14,8 +14,8 @@ few_is_small count hosts few most =
 pub overflow_cast-result : goal.overflow_cast-result
 overflow_cast-result c =
     let names = names_of c.args.hosts.now in
-    let inside : c.loop-number.number ≤ length (map link_text c.args.links.now) = rw length-map (omega arith) in
-    let most = few_links names (map link_text c.args.links.now) c.loop-number.number c.loop-number.invariant inside in
+    let inside : c.loop-number.number ≤ length (map link_draft c.args.links.now) = rw length-map (omega arith) in
+    let most = few_links names (map link_draft c.args.links.now) c.loop-number.number c.loop-number.invariant inside in
     let small = few_is_small c.loop-number.number (length names) (rw length-map c.requires) most in
     omega arith
 

@@ -4,7 +4,7 @@ use Rattle.toml.specs.View.{table_view}
 use Rattle.host_decl.specs.declared.schema.TableKind.TheVariants.{Host}
 use Rattle.host_decl.specs.Schema.{IsSound, tables_of}
 use Rattle.host_decl.proofs.BadKeys.{sound_hosts}
-use Rattle.host_decl.proofs.file_form.read_form.Goals as goal
+use Rattle.host_decl.proofs.file_draft.file_draft.Goals as goal
 
 pub hosts_of-requires : goal.hosts_of-requires
 hosts_of-requires c =

@@ -7,23 +7,23 @@ use Rattle.toml.specs.Data.{Items, no_items, item, Members, get_member, as_str, 
 use Rattle.host_decl.specs.Schema.{items_at, tables_of, chosen}
 
 -- a host: its name, the text of its label, the 32 bytes of its key, and the path of its socket
-pub record HostText : Type 0 where
+pub record HostDraftShape : Type 0 where
   pub name : List ℕ
   pub label : List ℕ
   pub key : List ℕ
   pub path : List ℕ
 
 -- a link: the names of its hosts and its cost
-pub record LinkText : Type 0 where
+pub record LinkDraftShape : Type 0 where
   pub from : List ℕ
   pub to : List ℕ
   pub cost : ℤ
 
-pub record FileText : Type 0 where
+pub record HostsDraftShape : Type 0 where
   pub names : List (List ℕ)
   pub pairs : List (List ℕ × List ℕ)
-  pub hosts : List HostText
-  pub links : List LinkText
+  pub hosts : List HostDraftShape
+  pub links : List LinkDraftShape
 
 -- the bytes that hexadecimal digits write, two digits a byte, the high one first
 abbrev pub hex_bytes : List ℕ → List ℕ
@@ -63,7 +63,7 @@ abbrev pub path_of : List ℕ → Option (List ℕ) → List ℕ
 path_of name (Some path) = path
 path_of name None = name ++ codes ".sock"
 
-abbrev pub host_of : Members → HostText
+abbrev pub host_of : Members → HostDraftShape
 host_of members =
     let name = or_empty (text_at (codes "name") members) in
     record {
@@ -77,7 +77,7 @@ host_of members =
 abbrev pub whole_at : List ℕ → Members → ℤ
 whole_at key members = option_map_or (λ number. number) (option_and_then as_integer (get_member key members)) (pos 0)
 
-abbrev pub link_of : Members → LinkText
+abbrev pub link_of : Members → LinkDraftShape
 link_of members =
     record {
       from = or_empty (text_at (codes "from") members);
@@ -85,8 +85,8 @@ link_of members =
       cost = whole_at (codes "cost") members;
     }
 
-abbrev pub file_of : Members → FileText
-file_of members =
+abbrev pub draft_of : Members → HostsDraftShape
+draft_of members =
     record {
       names = texts_of (items_at (codes "principals") members);
       pairs = pairs_of (items_at (codes "acts_for") members);

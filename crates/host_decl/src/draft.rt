@@ -1,23 +1,26 @@
 //! What a host file says, as texts and numbers: names are not yet looked up, and labels are not yet read.
 
 ghost use Rattle.std.specs.Prelude.{◌≡◌, length};
+ghost use Rattle.host_decl.specs.declared.key.TheConstants.{KEY_BYTES};
+
+use crate::key::KEY_BYTES;
 
 /// A host, as a host file writes it.
 #[derive(Debug, Drop)]
-pub struct HostForm {
+pub struct HostDraft {
     pub name: String,
     /// The text of its label.
     pub label: String,
     /// Its key, or the default one.
-    pub key: [u8; 32],
+    pub key: [u8; KEY_BYTES],
     /// The path of its socket, or the default one.
     pub path: String,
-    ghost whole_key: { length key ≡ 32 },
+    ghost whole_key: { length key ≡ KEY_BYTES },
 }
 
 /// A link, as a host file writes it: the names of its hosts, and any cost.
 #[derive(Debug, Drop)]
-pub struct LinkForm {
+pub struct LinkDraft {
     pub from: String,
     pub to: String,
     pub cost: i64,
@@ -25,9 +28,9 @@ pub struct LinkForm {
 
 /// A host file: the names of principals, who of them acts for whom, the hosts and the links.
 #[derive(Debug, Drop)]
-pub struct HostsForm {
+pub struct HostsDraft {
     pub names: Vec<String>,
     pub pairs: Vec<(String, String)>,
-    pub hosts: Vec<HostForm>,
-    pub links: Vec<LinkForm>,
+    pub hosts: Vec<HostDraft>,
+    pub links: Vec<LinkDraft>,
 }

@@ -7,26 +7,26 @@ ghost use Rattle.toml.specs.View.{view, items_view, table_view};
 ghost use Rattle.principals.specs.Declaring.{written_pair, written_pairs};
 ghost use Rattle.host_decl.specs.declared.schema.TableKind.TheVariants.{Host};
 ghost use Rattle.host_decl.specs.Schema.{IsSound, IsSoundFile, items_at, tables_of};
-ghost use Rattle.host_decl.specs.Form.{texts_of, pairs_of, pair_of, host_of, link_of, file_of, key_of, path_of, text_at, or_empty, whole_at};
-ghost use Rattle.host_decl.specs.FormView.{file_text, host_text, link_text};
+ghost use Rattle.host_decl.specs.Draft.{texts_of, pairs_of, pair_of, host_of, link_of, draft_of, key_of, path_of, text_at, or_empty, whole_at};
+ghost use Rattle.host_decl.specs.DraftView.{hosts_draft, host_draft, link_draft};
 
-use crate::form::{HostForm, HostsForm, LinkForm};
-use crate::key::{default_key, key_of_digits};
+use crate::draft::{HostDraft, HostsDraft, LinkDraft};
+use crate::key::{KEY_BYTES, default_key, key_of_digits};
 use crate::schema::{items_at, value_at};
 use js_base::OutOfMemory;
 use std::alloc::Global;
 use toml::{Table, Value};
 
 /// What a sound file says.
-pub fn read_form(alloc: Global, file: &Table) -> Result<HostsForm, OutOfMemory>
+pub fn file_draft(alloc: Global, file: &Table) -> Result<HostsDraft, OutOfMemory>
     requires { IsSoundFile (table_view file.now) }
-    ensures { IfOk result (λ form. file_text form ≡ file_of (table_view file.now)) }
+    ensures { IfOk result (λ draft. hosts_draft draft ≡ draft_of (table_view file.now)) }
 {
     let names = texts_of(alloc, items_at(file, "principals"))?;
     let pairs = pairs_of(alloc, items_at(file, "acts_for"))?;
     let hosts = hosts_of(alloc, items_at(file, "host"))?;
     let links = links_of(alloc, items_at(file, "link"))?;
-    Ok(HostsForm {
+    Ok(HostsDraft {
         names,
         pairs,
         hosts,
@@ -78,9 +78,9 @@ fn owned_pair(alloc: Global, first: &str, second: &str) -> Result<(String, Strin
 }
 
 /// The hosts among the items.
-fn hosts_of(alloc: Global, items: &[Value]) -> Result<Vec<HostForm>, OutOfMemory>
+fn hosts_of(alloc: Global, items: &[Value]) -> Result<Vec<HostDraft>, OutOfMemory>
     requires { AllByRecursion (IsSound Host) (tables_of (items_view items.now)) }
-    ensures { IfOk result (λ hosts. map host_text hosts.items ≡ map host_of (tables_of (items_view items.now))) }
+    ensures { IfOk result (λ hosts. map host_draft hosts.items ≡ map host_of (tables_of (items_view items.now))) }
 {
     let mut hosts = Vec::new(alloc);
     for item in items {
@@ -92,16 +92,16 @@ fn hosts_of(alloc: Global, items: &[Value]) -> Result<Vec<HostForm>, OutOfMemory
 }
 
 /// The host that a sound table says.
-fn host_of(alloc: Global, table: &Table) -> Result<HostForm, OutOfMemory>
+fn host_of(alloc: Global, table: &Table) -> Result<HostDraft, OutOfMemory>
     requires { IsSound Host (table_view table.now) }
-    ensures { IfOk result (λ host. host_text host ≡ host_of (table_view table.now)) }
+    ensures { IfOk result (λ host. host_draft host ≡ host_of (table_view table.now)) }
 {
     let name = text_or_empty(table, "name");
     let key = key_at(table, name);
     let path = path_at(alloc, table, name)?;
     let label = owned(alloc, text_or_empty(table, "label"))?;
     let name = owned(alloc, name)?;
-    Ok(HostForm {
+    Ok(HostDraft {
         name,
         label,
         key,
@@ -110,7 +110,7 @@ fn host_of(alloc: Global, table: &Table) -> Result<HostForm, OutOfMemory>
 }
 
 /// The key that a sound table writes, or the default key of the name.
-fn key_at(table: &Table, name: &str) -> [u8; 32]
+fn key_at(table: &Table, name: &str) -> [u8; KEY_BYTES]
     requires { IsSound Host (table_view table.now) }
     ensures { result ≡ key_of name.now (text_at (codes "key") (table_view table.now)) }
 {
@@ -132,8 +132,8 @@ fn path_at(alloc: Global, table: &Table, name: &str) -> Result<String, OutOfMemo
 }
 
 /// The links among the items.
-fn links_of(alloc: Global, items: &[Value]) -> Result<Vec<LinkForm>, OutOfMemory>
-    ensures { IfOk result (λ links. map link_text links.items ≡ map link_of (tables_of (items_view items.now))) }
+fn links_of(alloc: Global, items: &[Value]) -> Result<Vec<LinkDraft>, OutOfMemory>
+    ensures { IfOk result (λ links. map link_draft links.items ≡ map link_of (tables_of (items_view items.now))) }
 {
     let mut links = Vec::new(alloc);
     for item in items {
@@ -145,13 +145,13 @@ fn links_of(alloc: Global, items: &[Value]) -> Result<Vec<LinkForm>, OutOfMemory
 }
 
 /// The link that a table says.
-fn link_of(alloc: Global, table: &Table) -> Result<LinkForm, OutOfMemory>
-    ensures { IfOk result (λ link. link_text link ≡ link_of (table_view table.now)) }
+fn link_of(alloc: Global, table: &Table) -> Result<LinkDraft, OutOfMemory>
+    ensures { IfOk result (λ link. link_draft link ≡ link_of (table_view table.now)) }
 {
     let from = owned(alloc, text_or_empty(table, "from"))?;
     let to = owned(alloc, text_or_empty(table, "to"))?;
     let cost = whole_at(table, "cost");
-    Ok(LinkForm { from, to, cost })
+    Ok(LinkDraft { from, to, cost })
 }
 
 /// The text at a key.

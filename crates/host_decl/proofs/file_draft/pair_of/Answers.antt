@@ -1,10 +1,10 @@
 use Rattle.std.proofs.Common.{◌≡◌, [], sym, ◌∙◌}
 use Rattle.std.proofs.lemmas.Result.{IfOk-weaker}
 use Rattle.toml.specs.View.{items_view}
-use Rattle.host_decl.specs.Form.{pair_of}
+use Rattle.host_decl.specs.Draft.{pair_of}
 use Rattle.principals.specs.Declaring.{written_pair}
 use Rattle.host_decl.proofs.Items.{no_pair}
-use Rattle.host_decl.proofs.file_form.pair_of.Goals as goal
+use Rattle.host_decl.proofs.file_draft.pair_of.Goals as goal
 
 pub returns-in_default : goal.returns-in_default
 returns-in_default c =

@@ -1,9 +1,0 @@
-use Rattle.std.proofs.Common.{◌≡◌, ◌++◌, drop, map}
-use Rattle.toml.specs.View.{items_view}
-use Rattle.host_decl.specs.Schema.{tables_of}
-use Rattle.host_decl.specs.Form.{link_of}
-use Rattle.host_decl.specs.FormView.{link_text}
-use Rattle.host_decl.proofs.file_form.links_of.Given as goal
-
-abbrev pub invariant-loop-item : goal.invariant-loop-item
-invariant-loop-item l = map link_text l.links.items ++ map link_of (tables_of (items_view (drop l.item-index l.items))) ≡ map link_of (tables_of (items_view l.items))

@@ -1,0 +1,42 @@
+-- Why a host file is refused, as contracts see it. A name is the list of its bytes.
+use Rattle.std.specs.Prelude.{ℕ, List, string_bytes}
+use Rattle.principals.specs.declared.principals.PrincipalError.{PrincipalError}
+use Rattle.principals.specs.declared.principals.PrincipalError.TheVariants as principal_error
+use Rattle.host_decl.specs.declared.error.HostsError.{HostsError}
+use Rattle.host_decl.specs.declared.error.HostsError.TheVariants as error
+
+pub data PrincipalRefusal : Type 0 where
+  no_memory : PrincipalRefusal
+  too_many : PrincipalRefusal
+  twice : List ℕ → PrincipalRefusal
+  unknown : List ℕ → PrincipalRefusal
+
+abbrev pub principal_shape : PrincipalError → PrincipalRefusal
+principal_shape principal_error.OutOfMemory = no_memory
+principal_shape principal_error.TooMany = too_many
+principal_shape (principal_error.Twice name) = twice (string_bytes name)
+principal_shape (principal_error.Unknown name) = unknown (string_bytes name)
+
+pub data HostsRefusal : Type 0 where
+  out_of_memory : HostsRefusal
+  not_toml : HostsRefusal
+  bad_key : List ℕ → HostsRefusal
+  bad_label : ℕ → List ℕ → HostsRefusal
+  bad_principals : PrincipalRefusal → HostsRefusal
+  too_many_hosts : HostsRefusal
+  host_twice : List ℕ → HostsRefusal
+  no_host : HostsRefusal
+  bad_link : ℕ → HostsRefusal
+  too_long : HostsRefusal
+
+abbrev pub refusal_shape : HostsError → HostsRefusal
+refusal_shape error.OutOfMemory = out_of_memory
+refusal_shape error.NotToml = not_toml
+refusal_shape (error.BadKey key) = bad_key (string_bytes key)
+refusal_shape (error.BadLabel host name) = bad_label host.0 (string_bytes name)
+refusal_shape (error.Principals refusal) = bad_principals (principal_shape refusal)
+refusal_shape error.TooManyHosts = too_many_hosts
+refusal_shape (error.HostTwice name) = host_twice (string_bytes name)
+refusal_shape error.NoHost = no_host
+refusal_shape (error.BadLink number) = bad_link number
+refusal_shape error.TooLong = too_long
