@@ -1,5 +1,7 @@
 -- Tables of costs.
-use Rattle.std.proofs.Common.{◌≡◌, ◌≢◌, ◌⊎◌, ℕ, pos, ◌<◌, ◌≤◌, true, false, ◌&&◌, List, [], ◌∷◌, length, get_or, map, Vec, Global, All, IsTrue, int_le, nat_le, nat_lt, string_bytes, refl, sym, ap, ◌∙◌, inl, inr, arith}
+use Rattle.std.proofs.Common.{◌≡◌, ◌≢◌, ◌⊎◌, ℕ, pos, ◌<◌, ◌≤◌, true, false, ◌&&◌, List, [], ◌∷◌, length, get_or, map}
+use Rattle.std.proofs.Common.{Vec, Global, All, IsTrue, int_le, nat_le, nat_lt, string_bytes, refl, sym, ap, ◌∙◌, inl}
+use Rattle.std.proofs.Common.{inr, arith}
 use Rattle.std.proofs.Math.ListN.{get_or-map as get_or_map_same}
 use Rattle.std.proofs.lemmas.Bool.{cases_Bool, and_parts}
 use Rattle.std.proofs.lemmas.Bool.Decides.{nat_tests}
@@ -23,10 +25,13 @@ lt_or_gt a b apart =
     ]
 
 -- each row is as long as the columns are many
-pub row_is_long : (costs : List (Vec ℕ Global)) (count place : ℕ) (row : Vec ℕ Global) → All (λ cells. length cells ≡ count) (map (λ cells. cells.items) costs)
+pub row_is_long : (costs : List (Vec ℕ Global)) (count place : ℕ) (row : Vec ℕ Global)
+    → All (λ cells. length cells ≡ count) (map (λ cells. cells.items) costs)
     → place < length costs → row ≡ get_or costs place row → length row.items ≡ count
 row_is_long costs count place row columns within is =
-    ap (λ cells. length cells.items) is ∙ ap length (sym (get_or-map (λ cells. cells.items) costs place row [] within)) ∙ columns place [] (rw length-map within)
+    ap (λ cells. length cells.items) is
+    ∙ ap length (sym (get_or-map (λ cells. cells.items) costs place row [] within))
+    ∙ columns place [] (rw length-map within)
 
 -- ---- what a table of costs is
 
@@ -41,7 +46,9 @@ cost_is_small cost small =
     let high : nat_le cost 1000 ≡ true = parts.1 in
     (at_most 1 cost low, at_most cost 1000 high)
 
-link_is_small : (links : List LinkDraft) (from to : List ℕ) (cost : ℕ) → AllByRecursion (λ link. IsTrue (is_cost link.cost)) links → pos cost ≡ link_cost (map link_draft links) from to → (1 ≤ cost) × (cost ≤ 1000)
+link_is_small : (links : List LinkDraft) (from to : List ℕ) (cost : ℕ)
+    → AllByRecursion (λ link. IsTrue (is_cost link.cost)) links → pos cost ≡ link_cost (map link_draft links) from to
+    → (1 ≤ cost) × (cost ≤ 1000)
 link_is_small [] from to cost all is = let same : cost ≡ 1 = cc in (omega arith, omega arith)
 link_is_small (link ∷ links) from to cost all is =
     elim (cases_Bool (bytes_eq (string_bytes link.from) from && bytes_eq (string_bytes link.to) to)) [
@@ -52,17 +59,21 @@ link_is_small (link ∷ links) from to cost all is =
     ]
 
 -- the cost in a row and a column
-cell : (names : List (List ℕ)) (links : List LinkDraftShape) (costs : List (List ℕ)) → map (map pos) costs ≡ cost_table names links → (from to : ℕ) → from < length names → to < length names
+cell : (names : List (List ℕ)) (links : List LinkDraftShape) (costs : List (List ℕ))
+    → map (map pos) costs ≡ cost_table names links → (from to : ℕ) → from < length names → to < length names
     → pos (cost_at costs from to) ≡ cost_between links (get_or names from []) (get_or names to [])
 cell names links costs is from to from_within to_within =
     let row = get_or costs from [] in
     sym (get_or_map_same pos row to 0)
     ∙ ap (λ cells. get_or cells to (pos 0)) (sym (get_or_map_same (map pos) costs from []))
     ∙ ap (λ table. get_or (get_or table from []) to (pos 0)) is
-    ∙ ap (λ cells. get_or cells to (pos 0)) (get_or-map (λ name. map (cost_between links name) names) names from [] [] from_within)
+    ∙ ap (λ cells. get_or cells to (pos 0))
+    (get_or-map (λ name. map (cost_between links name) names) names from [] [] from_within)
     ∙ get_or-map (cost_between links (get_or names from [])) names to [] (pos 0) to_within
 
-row_length : (names : List (List ℕ)) (links : List LinkDraftShape) (costs : List (List ℕ)) → map (map pos) costs ≡ cost_table names links → (place : ℕ) (d : List ℕ) → place < length names → length (get_or costs place d) ≡ length names
+row_length : (names : List (List ℕ)) (links : List LinkDraftShape) (costs : List (List ℕ))
+    → map (map pos) costs ≡ cost_table names links → (place : ℕ) (d : List ℕ) → place < length names
+    → length (get_or costs place d) ≡ length names
 row_length names links costs is place d within =
     sym (length-map (get_or costs place d) pos)
     ∙ ap length (sym (get_or_map_same (map pos) costs place d))
@@ -70,17 +81,21 @@ row_length names links costs is place d within =
     ∙ ap length (get_or-map (λ name. map (cost_between links name) names) names place [] (map pos d) within)
     ∙ length-map names _
 
-own_is_nothing : (names : List (List ℕ)) (links : List LinkDraftShape) (name : List ℕ) → cost_between links name name ≡ pos 0
+own_is_nothing : (names : List (List ℕ)) (links : List LinkDraftShape) (name : List ℕ)
+    → cost_between links name name ≡ pos 0
 own_is_nothing names links name = rw ((bytes_eq-Decides name name).1 refl) refl
 
-names_apart : (names : List (List ℕ)) (from to : ℕ) → IsDistinct bytes_eq names → from ≢ to → from < length names → to < length names → bytes_eq (get_or names from []) (get_or names to []) ≡ false
+names_apart : (names : List (List ℕ)) (from to : ℕ) → IsDistinct bytes_eq names → from ≢ to → from < length names
+    → to < length names → bytes_eq (get_or names from []) (get_or names to []) ≡ false
 names_apart names from to distinct apart from_within to_within =
     elim (lt_or_gt from to apart) [
       | inl before ↦ apart_from_distinct bytes_eq names from to [] distinct before to_within
-      | inr after ↦ bytes_eq_laws.symm (get_or names from []) (get_or names to []) ∙ apart_from_distinct bytes_eq names to from [] distinct after from_within
+      | inr after ↦ bytes_eq_laws.symm (get_or names from []) (get_or names to [])
+      ∙ apart_from_distinct bytes_eq names to from [] distinct after from_within
     ]
 
-pub table_of_costs : (names : List (List ℕ)) (links : List LinkDraft) (costs : List (List ℕ)) → IsDistinct bytes_eq names → AllByRecursion (λ link. IsTrue (is_cost link.cost)) links
+pub table_of_costs : (names : List (List ℕ)) (links : List LinkDraft) (costs : List (List ℕ))
+    → IsDistinct bytes_eq names → AllByRecursion (λ link. IsTrue (is_cost link.cost)) links
     → map (map pos) costs ≡ cost_table names (map link_draft links) → AreCosts (length names) costs
 table_of_costs names links costs distinct small is =
     let long : length costs ≡ length names = sym (length-map costs (map pos)) ∙ ap length is ∙ length-map names _ in
@@ -88,14 +103,19 @@ table_of_costs names links costs distinct small is =
       rows = long;
       columns = λ place d within. row_length names (map link_draft links) costs is place d (omega arith);
       own = λ host within.
-          let same : pos (cost_at costs host host) ≡ pos 0 = cell names (map link_draft links) costs is host host within within ∙ own_is_nothing names (map link_draft links) (get_or names host []) in cc;
+          let same : pos (cost_at costs host host) ≡ pos 0 =
+          cell names (map link_draft links) costs is host host within within
+          ∙ own_is_nothing names (map link_draft links) (get_or names host []) in cc;
       others = λ from to from_within to_within apart.
           let other = names_apart names from to distinct apart from_within to_within in
-          let between : cost_between (map link_draft links) (get_or names from []) (get_or names to []) ≡ link_cost (map link_draft links) (get_or names from []) (get_or names to []) = rw other refl in
-          link_is_small links (get_or names from []) (get_or names to []) (cost_at costs from to) small (cell names (map link_draft links) costs is from to from_within to_within ∙ between);
+          let between : cost_between (map link_draft links) (get_or names from []) (get_or names to []) ≡ link_cost
+          (map link_draft links) (get_or names from []) (get_or names to []) = rw other refl in
+          link_is_small links (get_or names from []) (get_or names to []) (cost_at costs from to) small
+          (cell names (map link_draft links) costs is from to from_within to_within ∙ between);
     }
 
 -- the costs of all rows, row by row
-pub rows_of_costs : (costs : List (Vec ℕ Global)) → map (map pos) (map (λ row. row.items) costs) ≡ map (λ row. map pos row.items) costs
+pub rows_of_costs : (costs : List (Vec ℕ Global))
+    → map (map pos) (map (λ row. row.items) costs) ≡ map (λ row. map pos row.items) costs
 rows_of_costs [] = refl
 rows_of_costs (row ∷ costs) = ap (λ rest. map pos row.items ∷ rest) (rows_of_costs costs)

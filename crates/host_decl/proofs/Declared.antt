@@ -11,20 +11,23 @@ use Rattle.host_decl.proofs.Lists.{all_of}
 abbrev IsWithin : ℕ → ℕ × ℕ → Type 0
 IsWithin count pair = (pair.0 < count) × (pair.1 < count)
 
-pairs_within : (names : List (List ℕ)) (pairs : List (List ℕ × List ℕ)) (ids : List (ℕ × ℕ)) → AllZip (IsPairOf names) pairs ids
+pairs_within : (names : List (List ℕ)) (pairs : List (List ℕ × List ℕ)) (ids : List (ℕ × ℕ))
+    → AllZip (IsPairOf names) pairs ids
     → AllByRecursion (IsWithin (length names)) ids
 pairs_within names [] [] all = tt
 pairs_within names [] (id ∷ ids) all = absurd all
 pairs_within names (pair ∷ pairs) [] all = absurd all
 pairs_within names (pair ∷ pairs) (id ∷ ids) all =
-    ((slice_get_within names id.0 pair.0 all.0.0, slice_get_within names id.1 pair.1 all.0.1), pairs_within names pairs ids all.1)
+    ((slice_get_within names id.0 pair.0 all.0.0, slice_get_within names id.1 pair.1 all.0.1), pairs_within names
+    pairs ids all.1)
 
 pub are_declared : (names : List (List ℕ)) (pairs : List (List ℕ × List ℕ)) (principals : Declared) → All IsName names
     → AreDeclaredAs names pairs principals → IsDeclared principals
 are_declared names pairs principals spelled declared =
-    let within = all_of (IsWithin (length names)) principals.pairs (pairs_within names pairs principals.pairs declared.pairs_are) in
+    let within = all_of (IsWithin (length names)) principals.pairs
+    (pairs_within names pairs principals.pairs declared.pairs_are) in
     record {
       spelled = subst (All IsName) (sym declared.names_are) spelled;
-      names = ?;
+      names = subst AreDeclarable (sym declared.names_are) declared.declarable;
       pairs = subst (λ held. All (IsWithin (length held)) principals.pairs) (sym declared.names_are) within;
     }

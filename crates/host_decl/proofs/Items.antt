@@ -1,5 +1,6 @@
 -- The items of an array, beside the values that the code goes over.
-use Rattle.std.proofs.Common.{◌≡◌, ℕ, ◌+◌, ◌<◌, ◌≤◌, Bool, false, ◌&&◌, List, [], ◌∷◌, length, get_or, drop, Option, refl, ap, arith}
+use Rattle.std.proofs.Common.{◌≡◌, ℕ, ◌+◌, ◌<◌, ◌≤◌, Bool, false, ◌&&◌, List, [], ◌∷◌, length, get_or, drop, Option}
+use Rattle.std.proofs.Common.{refl, ap, arith}
 use Rattle.std.specs.List.{list_all}
 use Rattle.toml.specs.Data.{Data}
 use Rattle.toml.specs.View.{view, items_view}
@@ -9,13 +10,16 @@ use Rattle.host_decl.specs.Schema.{all_items, chosen, with_first, are_two_texts}
 use Rattle.host_decl.specs.Draft.{pair_of}
 
 -- a test of each item is a test of each value
-pub all_items_view : (test : Data → Bool) (values : List Value) → all_items test (items_view values) ≡ list_all (λ value. test (view value)) values
+pub all_items_view : (test : Data → Bool) (values : List Value)
+    → all_items test (items_view values) ≡ list_all (λ value. test (view value)) values
 all_items_view test [] = refl
 all_items_view test (value ∷ values) = ap (λ rest. test (view value) && rest) (all_items_view test values)
 
 -- what is chosen of the values from a place on
-pub chosen_drop : {A : Type 0} (choose : Data → Option A) (values : List Value) (place : ℕ) (value : Value) → place < length values
-    → chosen choose (items_view (drop place values)) ≡ with_first (choose (view (get_or values place value))) (chosen choose (items_view (drop (place + 1) values)))
+pub chosen_drop : {A : Type 0} (choose : Data → Option A) (values : List Value) (place : ℕ) (value : Value)
+    → place < length values
+    → chosen choose (items_view (drop place values)) ≡ with_first (choose (view (get_or values place value)))
+    (chosen choose (items_view (drop (place + 1) values)))
 chosen_drop choose values place value within = ap (chosen choose) (items_view-drop values place value within)
 
 -- fewer than two items, or more than two, are not two texts

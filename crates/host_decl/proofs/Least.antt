@@ -1,5 +1,6 @@
 -- The first text of an ascending list that passes a test is the least that does.
-use Rattle.std.proofs.Common.{◌≡◌, ◌≢◌, ◌⊎◌, ℕ, Bool, true, false, List, [], ◌∷◌, Some, None, Ordering, Less, Equal, Greater, nat_cmp, is_eq, is_lt, sym, refl, ap, ◌∙◌, subst, inl, inr}
+use Rattle.std.proofs.Common.{◌≡◌, ◌≢◌, ◌⊎◌, ℕ, Bool, true, false, List, [], ◌∷◌, Some, None, Ordering, Less, Equal}
+use Rattle.std.proofs.Common.{Greater, nat_cmp, is_eq, is_lt, sym, refl, ap, ◌∙◌, subst, inl, inr}
 use Rattle.std.proofs.lemmas.Bool.{cases_Bool, false≢true}
 use Rattle.std.proofs.lemmas.Cmp.{nat_list_cmp_total}
 use Rattle.std.proofs.lemmas.Slice.Eq.{bytes_eq-Decides}
@@ -24,11 +25,15 @@ less_is_not_after : (first second : List ℕ) → slice_cmp nat_cmp first second
 less_is_not_after first second less = λ after. let clash : Less ≡ Greater = sym less ∙ after in cc
 
 pub is_not_after_itself : (text : List ℕ) → IsNotAfter text text
-is_not_after_itself text = λ after. let clash : Equal ≡ Greater = sym (tied_itself nat_list_cmp_total text) ∙ after in cc
+is_not_after_itself text = λ after. let clash : Equal ≡ Greater = sym (tied_itself nat_list_cmp_total text) ∙ after in
+    cc
 
-not_after_any : (first : List ℕ) (rest : List (List ℕ)) → AllByRecursion (λ next. slice_cmp nat_cmp first next ≡ Less) rest → (other : List ℕ) → IsIn rest other → IsNotAfter first other
+not_after_any : (first : List ℕ) (rest : List (List ℕ))
+    → AllByRecursion (λ next. slice_cmp nat_cmp first next ≡ Less) rest → (other : List ℕ) → IsIn rest other
+    → IsNotAfter first other
 not_after_any first [] all other there = absurd there
-not_after_any first (next ∷ rest) all other (inl same) = subst (IsNotAfter first) same (less_is_not_after first next all.0)
+not_after_any first (next ∷ rest) all other (inl same) =
+    subst (IsNotAfter first) same (less_is_not_after first next all.0)
 not_after_any first (next ∷ rest) all other (inr later) = not_after_any first rest all.1 other later
 
 -- what was found is in the list, passes the test, and comes after no other such text
@@ -37,7 +42,9 @@ pub record IsFound (test : List ℕ → Bool) (texts : List (List ℕ)) (text : 
   pub passes : test text ≡ true
   pub least : (other : List ℕ) → IsIn texts other → test other ≡ true → IsNotAfter text other
 
-found_first : (test : List ℕ → Bool) (next : List ℕ) (rest : List (List ℕ)) → AllByRecursion (λ other. slice_cmp nat_cmp next other ≡ Less) rest → test next ≡ true → IsFound test (next ∷ rest) next
+found_first : (test : List ℕ → Bool) (next : List ℕ) (rest : List (List ℕ))
+    → AllByRecursion (λ other. slice_cmp nat_cmp next other ≡ Less) rest → test next ≡ true
+    → IsFound test (next ∷ rest) next
 found_first test next rest all passes =
     record {
       here = inl refl;
@@ -48,7 +55,8 @@ found_first test next rest all passes =
       ];
     }
 
-found_later : (test : List ℕ → Bool) (next : List ℕ) (rest : List (List ℕ)) (text : List ℕ) → test next ≡ false → IsFound test rest text → IsFound test (next ∷ rest) text
+found_later : (test : List ℕ → Bool) (next : List ℕ) (rest : List (List ℕ)) (text : List ℕ) → test next ≡ false
+    → IsFound test rest text → IsFound test (next ∷ rest) text
 found_later test next rest text fails found =
     record {
       here = inr found.here;
@@ -59,7 +67,8 @@ found_later test next rest text fails found =
       ];
     }
 
-pub find_least : (test : List ℕ → Bool) (texts : List (List ℕ)) (text : List ℕ) → IsAscending texts → find test texts ≡ Some text → IsFound test texts text
+pub find_least : (test : List ℕ → Bool) (texts : List (List ℕ)) (text : List ℕ) → IsAscending texts
+    → find test texts ≡ Some text → IsFound test texts text
 unfolding IsStrictlySortedBy
 find_least test [] text sorted found = let clash : None ≡ Some text = found in cc
 find_least test (next ∷ rest) text sorted found =
@@ -72,7 +81,8 @@ find_least test (next ∷ rest) text sorted found =
           found_later test next rest text fails (find_least test rest text sorted.1 later)
     ]
 
-pub find_none : (test : List ℕ → Bool) (texts : List (List ℕ)) → find test texts ≡ None → (other : List ℕ) → IsIn texts other → test other ≡ true → ⊥
+pub find_none : (test : List ℕ → Bool) (texts : List (List ℕ)) → find test texts ≡ None → (other : List ℕ)
+    → IsIn texts other → test other ≡ true → ⊥
 find_none test [] none other there also = there
 find_none test (next ∷ rest) none other there also =
     elim (cases_Bool (test next)) [
@@ -109,21 +119,28 @@ pub equal_texts : (first second : List ℕ) → slice_cmp nat_cmp first second �
 equal_texts first second equal =
     (bytes_eq-Decides first second).0 (sym (is_eq-slice_cmp first second) ∙ ap is_eq equal)
 
-after_less : (first second third : List ℕ) (order : Ordering) → slice_cmp nat_cmp second third ≡ order → slice_cmp nat_cmp first second ≡ Less → IsNotAfter second third → slice_cmp nat_cmp first third ≡ Greater → ⊥
+after_less : (first second third : List ℕ) (order : Ordering) → slice_cmp nat_cmp second third ≡ order
+    → slice_cmp nat_cmp first second ≡ Less → IsNotAfter second third → slice_cmp nat_cmp first third ≡ Greater → ⊥
 after_less first second third Less is less not_after after =
     let clash : Less ≡ Greater = sym (nat_list_cmp_total.trans first second third less is) ∙ after in cc
 after_less first second third Equal is less not_after after =
-    let same : slice_cmp nat_cmp first second ≡ slice_cmp nat_cmp first third = ap (slice_cmp nat_cmp first) (equal_texts second third is) in
+    let same : slice_cmp nat_cmp first second ≡ slice_cmp nat_cmp first third =
+    ap (slice_cmp nat_cmp first) (equal_texts second third is) in
     let clash : Less ≡ Greater = sym less ∙ same ∙ after in cc
 after_less first second third Greater is less not_after after = not_after is
 
-after_order : (first second third : List ℕ) (order : Ordering) → slice_cmp nat_cmp first second ≡ order → IsNotAfter first second → IsNotAfter second third → slice_cmp nat_cmp first third ≡ Greater → ⊥
-after_order first second third Less is before then after = after_less first second third (slice_cmp nat_cmp second third) refl is then after
-after_order first second third Equal is before then after = then (sym (nat_list_cmp_total.congr first second third is) ∙ after)
+after_order : (first second third : List ℕ) (order : Ordering) → slice_cmp nat_cmp first second ≡ order
+    → IsNotAfter first second → IsNotAfter second third → slice_cmp nat_cmp first third ≡ Greater → ⊥
+after_order first second third Less is before then after =
+    after_less first second third (slice_cmp nat_cmp second third) refl is then after
+after_order first second third Equal is before then after =
+    then (sym (nat_list_cmp_total.congr first second third is) ∙ after)
 after_order first second third Greater is before then after = before is
 
-pub not_after_trans : (first second third : List ℕ) → IsNotAfter first second → IsNotAfter second third → IsNotAfter first third
-not_after_trans first second third before then = λ after. after_order first second third (slice_cmp nat_cmp first second) refl before then after
+pub not_after_trans : (first second third : List ℕ) → IsNotAfter first second → IsNotAfter second third
+    → IsNotAfter first third
+not_after_trans first second third before then =
+    λ after. after_order first second third (slice_cmp nat_cmp first second) refl before then after
 
 in_order : (first second : List ℕ) (order : Ordering) → slice_cmp nat_cmp first second ≡ order
     → IsNotAfter first second → IsNotAfter second first → first ≡ second
@@ -145,7 +162,8 @@ not_after_from_less first second less = less_is_not_after first second less
 
 pub not_after_from_not_less : (first second : List ℕ) → slice_cmp nat_cmp second first ≢ Less → IsNotAfter first second
 not_after_from_not_less first second not_less =
-    subst (λ order. order ≢ Greater) (sym (nat_list_cmp_total.antisymm first second)) (reversed (slice_cmp nat_cmp second first) not_less)
+    subst (λ order. order ≢ Greater) (sym (nat_list_cmp_total.antisymm first second))
+    (reversed (slice_cmp nat_cmp second first) not_less)
 
 -- from the answers of `<`
 less_from_test : (order : Ordering) → is_lt order ≡ true → order ≡ Less
@@ -154,8 +172,10 @@ less_from_test Equal test = absurd (false≢true test)
 less_from_test Greater test = absurd (false≢true test)
 
 pub before_from_test : (first second : List ℕ) → is_lt (slice_cmp nat_cmp first second) ≡ true → IsNotAfter first second
-before_from_test first second test = less_is_not_after first second (less_from_test (slice_cmp nat_cmp first second) test)
+before_from_test first second test =
+    less_is_not_after first second (less_from_test (slice_cmp nat_cmp first second) test)
 
-pub before_from_no_test : (first second : List ℕ) → is_lt (slice_cmp nat_cmp second first) ≡ false → IsNotAfter first second
+pub before_from_no_test : (first second : List ℕ) → is_lt (slice_cmp nat_cmp second first) ≡ false
+    → IsNotAfter first second
 before_from_no_test first second test =
     not_after_from_not_less first second (λ less. false≢true (sym test ∙ ap is_lt less))

@@ -2,7 +2,6 @@ pub mod Items
 pub mod Least
 pub mod BadKeys
 pub mod Keys
-pub mod Texts
 pub mod Costs
 pub mod SoundLinks
 pub mod HostRows
@@ -10,6 +9,7 @@ pub mod Meanings
 pub mod DeclaredNames
 pub mod LabelTexts
 pub mod Lists
+pub mod Repeats
 pub mod FirstOnes
 pub mod Declared
 pub mod OneMeaning

@@ -6,7 +6,7 @@ use Rattle.principals.specs.ActsFor.{Declared, IsDeclared}
 use Rattle.principals.specs.Declaring.{AreDeclaredAs}
 use Rattle.jif_lex.specs.declared.token.Token.{Token}
 use Rattle.label_lattice.specs.declared.label.Label.{Label}
-use Rattle.label_lattice.specs.Label.{IsLabel}
+use Rattle.label_lattice.specs.Over.{IsLabelOver}
 use Rattle.label_lattice.specs.Written.{IsLabelOf}
 use Rattle.toml.specs.Data.{Members}
 use Rattle.host_decl.specs.Draft.{HostDraftShape, HostsDraftShape, draft_of}
@@ -25,8 +25,9 @@ DeclaredOnce = (names : List (List ℕ)) (pairs : List (List ℕ × List ℕ)) (
     → AreDeclaredAs names pairs first → AreDeclaredAs names pairs second → first ≡ second
 
 abbrev pub WrittenOnce : Type 0
-WrittenOnce = (principals : Declared) (tokens : List Token) (first second : Label) → IsDeclared principals → IsLabel first
-    → IsLabel second → IsLabelOf principals tokens first → IsLabelOf principals tokens second → first ≡ second
+WrittenOnce = (principals : Declared) (tokens : List Token) (first second : Label) → IsDeclared principals
+    → IsLabelOver principals first → IsLabelOver principals second → IsLabelOf principals tokens first
+    → IsLabelOf principals tokens second → first ≡ second
 
 pub record AreOnce : Type 0 where
   pub declared : DeclaredOnce
@@ -43,8 +44,9 @@ label_once : AreOnce → (principals : Declared) (text : List ℕ) (first second
     → IsLabelText principals text first → IsLabelText principals text second → first ≡ second
 label_once laws principals text first second declared one two =
     let tokens : two.list ≡ one.list = same_tokens two.list one.list (laws.reading text _ _ two.reads one.reads) in
-    let means : IsLabelOf principals one.list second = subst (λ list. IsLabelOf principals list second) tokens two.means in
-    laws.written principals one.list first second declared ? ? one.means means
+    let means : IsLabelOf principals one.list second =
+    subst (λ list. IsLabelOf principals list second) tokens two.means in
+    laws.written principals one.list first second declared one.over two.over one.means means
 
 same_host : (name other : List ℕ) (label also : Label) (key second : List ℕ) (path last : List ℕ) → name ≡ other
     → label ≡ also → key ≡ second → path ≡ last
@@ -56,7 +58,8 @@ host_once : AreOnce → (principals : Declared) (text : HostDraftShape) (first s
     → IsHostOf principals text first → IsHostOf principals text second → first ≡ second
 host_once laws principals text first second declared one two =
     same_host first.name second.name first.label second.label first.key second.key first.path second.path
-    (one.name ∙ sym two.name) (label_once laws principals text.label first.label second.label declared one.label two.label)
+    (one.name ∙ sym two.name)
+    (label_once laws principals text.label first.label second.label declared one.label two.label)
     (one.key ∙ sym two.key) (one.path ∙ sym two.path)
 
 hosts_once : AreOnce → (principals : Declared) (texts : List HostDraftShape) (first second : List HostShape)
@@ -103,14 +106,16 @@ same_hosts principals other hosts others costs second one two three = cc
 meaning_once : AreOnce → (file : HostsDraftShape) (first second : HostsShape) → All IsName file.names
     → IsMeaningOf file first → IsMeaningOf file second → first ≡ second
 meaning_once laws file first second named one two =
-    let principals = laws.declared file.names file.pairs first.principals second.principals one.principals two.principals in
+    let principals = laws.declared file.names file.pairs first.principals second.principals one.principals
+    two.principals in
     let declared = are_declared file.names file.pairs first.principals named one.principals in
     let rows = subst (λ held. AllZip (IsHostOf held) file.hosts second.hosts) (sym principals) two.rows in
     same_hosts first.principals second.principals first.hosts second.hosts first.costs second.costs principals
     (hosts_once laws first.principals file.hosts first.hosts second.hosts declared one.rows rows)
     (table_once first.costs second.costs (one.costs ∙ sym two.costs))
 
-pub reads_once : AreOnce → (bytes : List ℕ) (first second : HostsShape) → ReadsHosts bytes first → ReadsHosts bytes second
+pub reads_once : AreOnce → (bytes : List ℕ) (first second : HostsShape) → ReadsHosts bytes first
+    → ReadsHosts bytes second
     → first ≡ second
 reads_once laws bytes first second one two =
     let file = document_once bytes two.0 one.0 two.1 one.1 in
@@ -120,4 +125,5 @@ reads_once laws bytes first second one two =
 -- the names of the hosts are those that are written
 pub names_read : (bytes : List ℕ) (hosts : HostsShape) → ReadsHosts bytes hosts → AreHostNames (names_of hosts.hosts)
 names_read bytes hosts reads =
-    subst AreHostNames (sym (same_names hosts.principals (draft_of reads.0).hosts hosts.hosts reads.3.rows)) reads.3.names
+    subst AreHostNames (sym (same_names hosts.principals (draft_of reads.0).hosts hosts.hosts reads.3.rows))
+    reads.3.names

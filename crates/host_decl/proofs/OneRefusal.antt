@@ -1,10 +1,12 @@
 -- A host file that is refused has one cause, and a file that has a meaning is refused only where memory ran out.
-use Rattle.std.proofs.Common.{◌≡◌, ◌≢◌, ◌⊎◌, ℕ, ◌<◌, ◌≤◌, List, [], ◌∷◌, length, string_bytes, inl, inr, refl, sym, subst, ap, ◌∙◌}
+use Rattle.std.proofs.Common.{◌≡◌, ◌≢◌, ◌⊎◌, ℕ, ◌<◌, ◌≤◌, List, [], ◌∷◌, length, string_bytes, inl, inr, refl, sym}
+use Rattle.std.proofs.Common.{subst, ap, ◌∙◌}
 use Rattle.std.proofs.Common.{arith}
 use Rattle.std.proofs.lemmas.Option.{slice_get_within}
 use Rattle.std.specs.List.{AllByRecursion}
 use Rattle.principals.specs.ActsFor.{Declared}
-use Rattle.principals.specs.Declaring.{AreDeclaredAs, IsFirstRepeated, Refuses}
+use Rattle.js_base.specs.Named.{IsFirstRepeated}
+use Rattle.principals.specs.Declaring.{AreDeclaredAs, Refuses}
 use Rattle.principals.specs.declared.principals.PrincipalError.{PrincipalError}
 use Rattle.principals.specs.declared.principals.PrincipalError.TheVariants as principal_error
 use Rattle.js_base.specs.declared.limits.TheConstants.{HOSTS_BYTES}
@@ -14,12 +16,13 @@ use Rattle.host_decl.specs.declared.error.HostsError.TheVariants as error
 use Rattle.host_decl.specs.Draft.{HostDraftShape, LinkDraftShape, HostsDraftShape, draft_of}
 use Rattle.host_decl.specs.Hosts.{HostsShape, AreHostNames}
 use Rattle.host_decl.specs.Meaning.{HasLabel, PrincipalsFail, NamesFail, LabelsFail, LinksFail, AreSoundLinks}
-use Rattle.host_decl.specs.Meaning.{IsMeaningOf, RefusesFile, host_names}
-use Rattle.host_decl.specs.Reading.{IsDocument, ReadsHosts, DocumentFails, KeysFail, RefusesHosts}
+use Rattle.host_decl.specs.Meaning.{HostsFail, IsMeaningOf, RefusesFile, host_names}
+use Rattle.host_decl.specs.Reading.{IsDocument, ReadsHosts, DocumentFails, KeysFail, MembersFail, RefusesHosts}
 use Rattle.host_decl.specs.Refusal.{principal_shape, HostsRefusal, refusal_shape, bad_key, bad_label, bad_principals}
 use Rattle.host_decl.specs.Refusal.{host_twice, bad_link}
 use Rattle.host_decl.specs.Schema.{IsSoundFile, file_tables}
-use Rattle.host_decl.proofs.FirstOnes.{distinct_or_repeated, repeated_once, without_label_once, all_labels_or_without}
+use Rattle.host_decl.proofs.Repeats.{distinct_or_repeated, repeated_once}
+use Rattle.host_decl.proofs.FirstOnes.{without_label_once, all_labels_or_without}
 use Rattle.host_decl.proofs.FirstOnes.{bad_link_once, sound_links_or_bad, bad_key_once, sound_keys_or_bad}
 use Rattle.host_decl.proofs.HostRows.{all_have_labels}
 use Rattle.host_decl.proofs.OneMeaning.{DeclaredOnce, document_once}
@@ -50,7 +53,8 @@ IsOne Fails = (first second : HostsError) → Fails first → Fails second → f
 abbrev pub Excludes : Type 0 → (HostsError → Type 0) → Type 0
 Excludes Holds Fails = (why : HostsError) → Fails why → Holds → why ≡ error.OutOfMemory
 
-stage : (Fails Later : HostsError → Type 0) (Holds : Type 0) → IsOne Fails → Excludes Holds Fails → (Holds → IsOne Later)
+stage : (Fails Later : HostsError → Type 0) (Holds : Type 0) → IsOne Fails → Excludes Holds Fails
+    → (Holds → IsOne Later)
     → IsOne (λ why. Fails why ⊎ (Holds × Later why))
 stage Fails Later Holds one excludes later first second either also ample too =
     elim either [
@@ -66,7 +70,8 @@ stage Fails Later Holds one excludes later first second either also ample too =
 
 -- ---- principals
 
-principals_once : AreRefusals → (names : List (List ℕ)) (pairs : List (List ℕ × List ℕ)) → IsOne (PrincipalsFail names pairs)
+principals_once : AreRefusals → (names : List (List ℕ)) (pairs : List (List ℕ × List ℕ))
+    → IsOne (PrincipalsFail names pairs)
 principals_once laws names pairs error.OutOfMemory second one two ample too = absurd (ample refl)
 principals_once laws names pairs first error.OutOfMemory one two ample too = absurd (too refl)
 principals_once laws names pairs (error.Principals first) (error.Principals second) one two ample too =
@@ -176,22 +181,16 @@ document_excludes bytes file why fails document = absurd fails
 
 -- ---- the file
 
--- the stages behind the principals
-abbrev HostsFail : Declared → HostsDraftShape → HostsError → Type 0
-HostsFail principals file why =
-    NamesFail (host_names file) why
-    ⊎ (AreHostNames (host_names file)
-    × (LabelsFail principals file.hosts why
-    ⊎ (AllByRecursion (HasLabel principals) file.hosts × LinksFail (host_names file) file.links why)))
-
 hosts_once : (principals : Declared) (file : HostsDraftShape) → IsOne (HostsFail principals file)
 hosts_once principals file =
     let names = host_names file in
     let labels = stage (LabelsFail principals file.hosts) (LinksFail names file.links)
-    (AllByRecursion (HasLabel principals) file.hosts) (labels_once principals file.hosts) (labels_exclude principals file.hosts)
+    (AllByRecursion (HasLabel principals) file.hosts) (labels_once principals file.hosts)
+    (labels_exclude principals file.hosts)
     (λ all. links_once names file.links) in
     stage (NamesFail names)
-    (λ why. LabelsFail principals file.hosts why ⊎ (AllByRecursion (HasLabel principals) file.hosts × LinksFail names file.links why))
+    (λ why. LabelsFail principals file.hosts why ⊎
+    (AllByRecursion (HasLabel principals) file.hosts × LinksFail names file.links why))
     (AreHostNames names) (names_once names) (names_exclude names) (λ sound. labels)
 
 file_once : AreRefusals → (file : HostsDraftShape) → IsOne (RefusesFile file)
@@ -211,10 +210,6 @@ file_once laws file first second either also ample too =
               hosts_once here.0 file first second here.2 fails ample too
         ]
     ]
-
--- the stages behind the document
-abbrev MembersFail : Members → HostsError → Type 0
-MembersFail file why = KeysFail file why ⊎ (IsSoundFile file × RefusesFile (draft_of file) why)
 
 members_once : AreRefusals → (file : Members) → IsOne (MembersFail file)
 members_once laws file =
@@ -260,14 +255,16 @@ refuses_once laws bytes first second (inr either) (inr also) ample too =
 
 names_of_meaning : (file : HostsDraftShape) (hosts : HostsShape) (principals : Declared) (why : HostsError)
     → hosts.principals ≡ principals → IsMeaningOf file hosts → HostsFail principals file why → why ≡ error.OutOfMemory
-names_of_meaning file hosts principals why same means (inl fails) = names_exclude (host_names file) why fails means.names
+names_of_meaning file hosts principals why same means (inl fails) =
+    names_exclude (host_names file) why fails means.names
 names_of_meaning file hosts principals why same means (inr (sound, inl fails)) =
     let all = all_have_labels hosts.principals file.hosts hosts.hosts means.rows in
     labels_exclude principals file.hosts why fails (subst (λ held. AllByRecursion (HasLabel held) file.hosts) same all)
 names_of_meaning file hosts principals why same means (inr (sound, inr (labels, fails))) =
     links_exclude (host_names file) file.links why fails means.links
 
-file_excludes : AreRefusals → (file : HostsDraftShape) (hosts : HostsShape) → Excludes (IsMeaningOf file hosts) (RefusesFile file)
+file_excludes : AreRefusals → (file : HostsDraftShape) (hosts : HostsShape)
+    → Excludes (IsMeaningOf file hosts) (RefusesFile file)
 file_excludes laws file hosts why (inl fails) means =
     principals_exclude laws file.names file.pairs hosts.principals why fails means.principals
 file_excludes laws file hosts why (inr fails) means =

@@ -8,7 +8,12 @@ use Rattle.host_decl.specs.Draft.{HostDraftShape, LinkDraftShape, HostsDraftShap
 
 abbrev pub host_draft : HostDraft → HostDraftShape
 host_draft host =
-    record { name = string_bytes host.name; label = string_bytes host.label; key = host.key; path = string_bytes host.path }
+    record {
+      name = string_bytes host.name;
+      label = string_bytes host.label;
+      key = host.key;
+      path = string_bytes host.path;
+    }
 
 abbrev pub link_draft : LinkDraft → LinkDraftShape
 link_draft link = record { from = string_bytes link.from; to = string_bytes link.to; cost = link.cost }

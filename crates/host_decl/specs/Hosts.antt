@@ -7,6 +7,7 @@ use Rattle.js_base.specs.declared.limits.TheConstants.{HOSTS, LINK_COST}
 use Rattle.principals.specs.ActsFor.{Declared, IsDeclared}
 use Rattle.host_decl.specs.declared.key.TheConstants.{KEY_BYTES}
 use Rattle.label_lattice.specs.declared.label.Label.{Label}
+use Rattle.label_lattice.specs.Over.{IsLabelOver}
 
 -- a host: its name, the most that it may see and who trusts it, the 32 bytes of its key, and the path of its socket
 pub record HostShape : Type 0 where
@@ -47,5 +48,6 @@ pub record AreHosts (hosts : HostsShape) : Type 0 where
   pub declared : IsDeclared hosts.principals
   pub names : AreHostNames (names_of hosts.hosts)
   pub named : All IsName (names_of hosts.hosts)
+  pub labels : All (λ host. IsLabelOver hosts.principals host.label) hosts.hosts
   pub keys : All (λ host. length host.key ≡ KEY_BYTES) hosts.hosts
   pub table : AreCosts (length hosts.hosts) hosts.costs

@@ -1,10 +1,12 @@
 -- What becomes of what a sound host file says.
-use Rattle.std.specs.Prelude.{◌≡◌, ◌≢◌, ◌⊎◌, ℕ, ℤ, pos, ◌<◌, ◌≤◌, Bool, true, false, not, ◌&&◌, int_le, if◌then◌else◌, List, [], ◌∷◌, map, take, length, Some, slice_get, string_bytes, ⊤}
+use Rattle.std.specs.Prelude.{◌≡◌, ◌≢◌, ◌⊎◌, ℕ, ℤ, pos, ◌<◌, ◌≤◌, Bool, true, false, not, ◌&&◌, int_le, if◌then◌else◌}
+use Rattle.std.specs.Prelude.{List, [], ◌∷◌, map, take, length, Some, slice_get, string_bytes, ⊤}
 use Rattle.std.specs.List.{AllByRecursion, AllZip, list_any}
 use Rattle.std.specs.Str.{bytes_eq}
+use Rattle.js_base.specs.Named.{IsFirstRepeated}
 use Rattle.js_base.specs.declared.limits.TheConstants.{HOSTS, LINK_COST}
 use Rattle.principals.specs.ActsFor.{Declared}
-use Rattle.principals.specs.Declaring.{AreDeclaredAs, IsFirstRepeated, Refuses}
+use Rattle.principals.specs.Declaring.{AreDeclaredAs, Refuses}
 use Rattle.principals.specs.declared.principals.PrincipalError.TheVariants as principal_error
 use Rattle.label_lattice.specs.declared.label.Label.{Label}
 use Rattle.host_decl.specs.declared.error.HostsError.{HostsError}
@@ -26,8 +28,9 @@ pub record IsHostOf (principals : Declared) (text : HostDraftShape) (host : Host
 abbrev pub HasLabel : Declared → HostDraftShape → Type 0
 HasLabel principals text = (label : Label) × IsLabelText principals text.label label
 
--- the first host whose text of a label is none, and its name
-pub record IsFirstWithoutLabel (principals : Declared) (hosts : List HostDraftShape) (place : ℕ) (name : List ℕ) : Type 0 where
+-- the first host whose text of a label is not a label, and its name
+pub record IsFirstWithoutLabel (principals : Declared) (hosts : List HostDraftShape) (place : ℕ) (name : List ℕ) :
+    Type 0 where
   pub host : HostDraftShape
   pub here : slice_get hosts place ≡ Some host
   pub named : host.name ≡ name
@@ -49,13 +52,15 @@ abbrev pub has_sound_ends : List (List ℕ) → LinkDraftShape → Bool
 has_sound_ends names link =
     (not (bytes_eq link.from link.to) && list_any (bytes_eq link.from) names) && list_any (bytes_eq link.to) names
 
--- besides, it costs 1 to 1,000, and no earlier link has its ends
+-- the same, and it costs 1 to 1,000, and no earlier link has its ends
 abbrev pub is_sound_link : List (List ℕ) → List LinkDraftShape → LinkDraftShape → Bool
-is_sound_link names earlier link = (has_sound_ends names link && is_cost link.cost) && not (list_any (have_same_ends link) earlier)
+is_sound_link names earlier link =
+    (has_sound_ends names link && is_cost link.cost) && not (list_any (have_same_ends link) earlier)
 
 -- each of the first so many links is sound, after those before it
 abbrev pub AreSoundUpTo : List (List ℕ) → List LinkDraftShape → ℕ → Type 0
-AreSoundUpTo names links count = (place : ℕ) → place < count → (link : LinkDraftShape) → slice_get links place ≡ Some link
+AreSoundUpTo names links count =
+    (place : ℕ) → place < count → (link : LinkDraftShape) → slice_get links place ≡ Some link
     → is_sound_link names (take place links) link ≡ true
 
 abbrev pub AreSoundLinks : List (List ℕ) → List LinkDraftShape → Type 0
@@ -71,7 +76,8 @@ pub record IsFirstBadLink (names : List (List ℕ)) (links : List LinkDraftShape
 -- what the link between these hosts costs, and 1 where there is none
 abbrev pub link_cost : List LinkDraftShape → List ℕ → List ℕ → ℤ
 link_cost [] from to = pos 1
-link_cost (link ∷ links) from to = if bytes_eq link.from from && bytes_eq link.to to then link.cost else link_cost links from to
+link_cost (link ∷ links) from to =
+    if bytes_eq link.from from && bytes_eq link.to to then link.cost else link_cost links from to
 
 -- the cost from one host to another, or to itself
 abbrev pub cost_between : List LinkDraftShape → List ℕ → List ℕ → ℤ
@@ -86,10 +92,11 @@ cost_table names links = map (λ from. map (cost_between links from) names) name
 -- the principals are refused
 abbrev pub PrincipalsFail : List (List ℕ) → List (List ℕ × List ℕ) → HostsError → Type 0
 PrincipalsFail names pairs error.OutOfMemory = ⊤
-PrincipalsFail names pairs (error.Principals refusal) = Refuses names pairs refusal × (refusal ≢ principal_error.OutOfMemory)
+PrincipalsFail names pairs (error.Principals refusal) =
+    Refuses names pairs refusal × (refusal ≢ principal_error.OutOfMemory)
 PrincipalsFail names pairs _ = ⊥
 
--- there is no host, else there are too many, else a name stands twice
+-- there is no host, otherwise there are too many, otherwise a name stands twice
 abbrev pub NamesFail : List (List ℕ) → HostsError → Type 0
 NamesFail names error.OutOfMemory = ⊤
 NamesFail names error.NoHost = names ≡ []
@@ -97,7 +104,7 @@ NamesFail names error.TooManyHosts = HOSTS < length names
 NamesFail names (error.HostTwice name) = (length names ≤ HOSTS) × IsFirstRepeated names (string_bytes name)
 NamesFail names _ = ⊥
 
--- a label is none
+-- a text is not a label
 abbrev pub LabelsFail : Declared → List HostDraftShape → HostsError → Type 0
 LabelsFail principals hosts error.OutOfMemory = ⊤
 LabelsFail principals hosts (error.BadLabel host name) = IsFirstWithoutLabel principals hosts host.0 (string_bytes name)
@@ -121,13 +128,17 @@ pub record IsMeaningOf (file : HostsDraftShape) (hosts : HostsShape) : Type 0 wh
   pub links : AreSoundLinks (host_names file) file.links
   pub costs : map (map pos) hosts.costs ≡ cost_table (host_names file) file.links
 
--- Why a file has no meaning: the principals are refused, else the names of the hosts, else a label, else a link is bad.
--- Memory may run out at any time.
+-- Why the hosts and links of a file have no meaning where its principals are declared: the names of the hosts are
+-- refused, otherwise a label is bad, otherwise a link.
+abbrev pub HostsFail : Declared → HostsDraftShape → HostsError → Type 0
+HostsFail principals file refusal =
+    NamesFail (host_names file) refusal
+    ⊎ (AreHostNames (host_names file)
+    × (LabelsFail principals file.hosts refusal
+    ⊎ (AllByRecursion (HasLabel principals) file.hosts × LinksFail (host_names file) file.links refusal)))
+
+-- Why a file has no meaning: its principals are refused, otherwise its hosts. Memory may run out at any time.
 abbrev pub RefusesFile : HostsDraftShape → HostsError → Type 0
 RefusesFile file refusal =
     PrincipalsFail file.names file.pairs refusal
-    ⊎ ((principals : Declared) × AreDeclaredAs file.names file.pairs principals
-    × (NamesFail (host_names file) refusal
-    ⊎ (AreHostNames (host_names file)
-    × (LabelsFail principals file.hosts refusal
-    ⊎ (AllByRecursion (HasLabel principals) file.hosts × LinksFail (host_names file) file.links refusal)))))
+    ⊎ ((principals : Declared) × AreDeclaredAs file.names file.pairs principals × HostsFail principals file refusal)

@@ -20,7 +20,7 @@ pub record IsDocument (bytes : List ℕ) (file : Members) : Type 0 where
 abbrev pub ReadsHosts : List ℕ → HostsShape → Type 0
 ReadsHosts bytes hosts = (file : Members) × IsDocument bytes file × IsSoundFile file × IsMeaningOf (draft_of file) hosts
 
--- the bytes are no document
+-- the bytes are not a document
 abbrev pub DocumentFails : List ℕ → HostsError → Type 0
 DocumentFails bytes error.OutOfMemory = ⊤
 DocumentFails bytes error.NotToml = (file : Members) → ¬ IsDocument bytes file
@@ -30,11 +30,14 @@ abbrev pub KeysFail : Members → HostsError → Type 0
 KeysFail file (error.BadKey key) = IsFirstBadKey (file_tables file) (string_bytes key)
 KeysFail file _ = ⊥
 
--- Why bytes say no hosts: there are too many, else they are no document, else a key is bad, else what the file says has no
--- meaning. Memory may run out at any time.
+-- a key is bad, otherwise what the file says has no meaning
+abbrev pub MembersFail : Members → HostsError → Type 0
+MembersFail file refusal = KeysFail file refusal ⊎ (IsSoundFile file × RefusesFile (draft_of file) refusal)
+
+-- Why bytes say no hosts: there are too many, otherwise they are not a document, otherwise the document is refused. Memory
+-- may run out at any time.
 abbrev pub RefusesHosts : List ℕ → HostsError → Type 0
 RefusesHosts bytes refusal =
     ((refusal ≡ error.TooLong) × (HOSTS_BYTES < length bytes))
     ⊎ (((length bytes ≤ HOSTS_BYTES) × DocumentFails bytes refusal)
-    ⊎ ((file : Members) × IsDocument bytes file
-    × (KeysFail file refusal ⊎ (IsSoundFile file × RefusesFile (draft_of file) refusal))))
+    ⊎ ((file : Members) × IsDocument bytes file × MembersFail file refusal))

@@ -4,6 +4,7 @@ ghost use Rattle.std.specs.Prelude.{◌≡◌, length};
 ghost use Rattle.host_decl.specs.declared.key.TheConstants.{KEY_BYTES};
 
 use crate::key::KEY_BYTES;
+use js_base::named::Named;
 
 /// A host, as a host file writes it.
 #[derive(Debug, Drop)]
@@ -16,6 +17,16 @@ pub struct HostDraft {
     /// The path of its socket, or the default one.
     pub path: String,
     ghost whole_key: { length key ≡ KEY_BYTES },
+}
+
+impl Named for HostDraft {
+    ghost use Rattle.std.specs.String.{string_bytes};
+
+    ghost called = { λ host. string_bytes host.name };
+
+    fn name(&self) -> &str {
+        self.name.as_str()
+    }
 }
 
 /// A link, as a host file writes it: the names of its hosts, and any cost.

@@ -1,24 +1,27 @@
+//! Why a host file was refused.
+
 use js_base::{HostId, OutOfMemory};
 use principals::PrincipalError;
+use std::alloc::AllocFailed;
 use thiserror::Error;
 
-/// Why a host file was refused. Of several causes the first in this order comes, but that memory may run out at any time:
-/// too long, not TOML, a bad key, the principals, no host, too many hosts, a host twice, a bad label, a bad link.
+/// Why a host file was refused. Of several causes the first in this order comes, except that memory may run out at any
+/// time: too long, not TOML, a bad key, the principals, no host, too many hosts, a host twice, a bad label, a bad link.
 #[derive(Debug, PartialEq, Eq, Drop, Error)]
 pub enum HostsError {
     #[error("out of memory")]
     OutOfMemory,
-    /// It is not UTF-8, or no TOML document.
+    /// It is not UTF-8, or not a TOML document.
     #[error("not TOML")]
     NotToml,
     /// The first key that is unknown, missing or of a wrong form: the file's own keys first, then those of the hosts in
     /// order, then those of the links in order, within each table by the bytes of the key.
     #[error("bad key {0}")]
     BadKey(String),
-    /// The first host whose text of a label is no label, or names a principal that is not declared, and its name.
+    /// The first host whose text of a label is not a label, or names a principal that is not declared, and its name.
     #[error("bad label of host {1}")]
     BadLabel(HostId, String),
-    /// The principals cannot be declared. Want of memory is `OutOfMemory`.
+    /// The principals cannot be declared. Where memory ran out it is `OutOfMemory`.
     #[error("{0}")]
     Principals(PrincipalError),
     /// There are more than 16 hosts.
@@ -45,6 +48,17 @@ impl From<OutOfMemory> for HostsError {
     ghost from_gives = { λ _ e. e ≡ error.OutOfMemory };
 
     fn from(_error: OutOfMemory) -> HostsError {
+        HostsError::OutOfMemory
+    }
+}
+
+impl<T: Drop> From<AllocFailed<T>> for HostsError {
+    ghost use Rattle.std.specs.Prelude.{◌≡◌};
+    ghost use Rattle.host_decl.specs.declared.error.HostsError.TheVariants as error;
+
+    ghost from_gives = { λ _ e. e ≡ error.OutOfMemory };
+
+    fn from(_error: AllocFailed<T>) -> HostsError {
         HostsError::OutOfMemory
     }
 }

@@ -1,4 +1,5 @@
-// From the tables of a sound file to what they say.
+//! From the tables of a sound file to what they say.
+
 ghost use Rattle.std.specs.Prelude.{◌≡◌, map, option_copied, IfOk, codes};
 ghost use Rattle.std.specs.List.{AllByRecursion};
 ghost use Rattle.std.specs.String.{string_bytes};
@@ -7,13 +8,15 @@ ghost use Rattle.toml.specs.View.{view, items_view, table_view};
 ghost use Rattle.principals.specs.Declaring.{written_pair, written_pairs};
 ghost use Rattle.host_decl.specs.declared.schema.TableKind.TheVariants.{Host};
 ghost use Rattle.host_decl.specs.Schema.{IsSound, IsSoundFile, items_at, tables_of};
-ghost use Rattle.host_decl.specs.Draft.{texts_of, pairs_of, pair_of, host_of, link_of, draft_of, key_of, path_of, text_at, or_empty, whole_at};
+ghost use Rattle.host_decl.specs.Draft.{texts_of, pairs_of, pair_of, host_of, link_of, draft_of, key_of, path_of};
+ghost use Rattle.host_decl.specs.Draft.{text_at, or_empty, whole_at};
 ghost use Rattle.host_decl.specs.DraftView.{hosts_draft, host_draft, link_draft};
 
 use crate::draft::{HostDraft, HostsDraft, LinkDraft};
 use crate::key::{KEY_BYTES, default_key, key_of_digits};
 use crate::schema::{items_at, value_at};
 use js_base::OutOfMemory;
+use js_base::text::owned_text;
 use std::alloc::Global;
 use toml::{Table, Value};
 
@@ -41,7 +44,7 @@ fn texts_of(alloc: Global, items: &[Value]) -> Result<Vec<String>, OutOfMemory>
     let mut texts = Vec::new(alloc);
     for item in items {
         if let Some(text) = item.as_str() {
-            texts.push(owned(alloc, text)?).map_err(|_| OutOfMemory)?;
+            texts.push(owned_text(alloc, text)?)?;
         }
     }
     Ok(texts)
@@ -54,7 +57,7 @@ fn pairs_of(alloc: Global, items: &[Value]) -> Result<Vec<(String, String)>, Out
     let mut pairs = Vec::new(alloc);
     for item in items {
         if let Some(pair) = item.as_array() {
-            pairs.push(pair_of(alloc, pair)?).map_err(|_| OutOfMemory)?;
+            pairs.push(pair_of(alloc, pair)?)?;
         }
     }
     Ok(pairs)
@@ -70,11 +73,11 @@ fn pair_of(alloc: Global, items: &[Value]) -> Result<(String, String), OutOfMemo
     }
 }
 
-/// Two texts of one's own.
+/// Owned copies of two texts.
 fn owned_pair(alloc: Global, first: &str, second: &str) -> Result<(String, String), OutOfMemory>
     ensures { IfOk result (λ pair. written_pair pair ≡ (first.now, second.now)) }
 {
-    Ok((owned(alloc, first)?, owned(alloc, second)?))
+    Ok((owned_text(alloc, first)?, owned_text(alloc, second)?))
 }
 
 /// The hosts among the items.
@@ -85,7 +88,7 @@ fn hosts_of(alloc: Global, items: &[Value]) -> Result<Vec<HostDraft>, OutOfMemor
     let mut hosts = Vec::new(alloc);
     for item in items {
         if let Some(table) = item.as_table() {
-            hosts.push(host_of(alloc, table)?).map_err(|_| OutOfMemory)?;
+            hosts.push(host_of(alloc, table)?)?;
         }
     }
     Ok(hosts)
@@ -99,8 +102,8 @@ fn host_of(alloc: Global, table: &Table) -> Result<HostDraft, OutOfMemory>
     let name = text_or_empty(table, "name");
     let key = key_at(table, name);
     let path = path_at(alloc, table, name)?;
-    let label = owned(alloc, text_or_empty(table, "label"))?;
-    let name = owned(alloc, name)?;
+    let label = owned_text(alloc, text_or_empty(table, "label"))?;
+    let name = owned_text(alloc, name)?;
     Ok(HostDraft {
         name,
         label,
@@ -120,15 +123,15 @@ fn key_at(table: &Table, name: &str) -> [u8; KEY_BYTES]
     }
 }
 
-/// The path that a table writes, or else the name and `.sock`.
+/// The path that a table writes. Where it writes none, the name and `.sock`.
 fn path_at(alloc: Global, table: &Table, name: &str) -> Result<String, OutOfMemory>
-    ensures { IfOk result (λ path. string_bytes path ≡ path_of name.now (text_at (codes "path") (table_view table.now))) }
+    ensures { IfOk result (λ path.
+        string_bytes path ≡ path_of name.now (text_at (codes "path") (table_view table.now))) }
 {
-    let path = match text_at(table, "path") {
-        Some(path) => String::from_str(alloc, path),
-        None => format!(in alloc; "{name}.sock"),
-    };
-    path.map_err(|_| OutOfMemory)
+    match text_at(table, "path") {
+        Some(path) => owned_text(alloc, path),
+        None => Ok(format!(in alloc; "{name}.sock")?),
+    }
 }
 
 /// The links among the items.
@@ -138,7 +141,7 @@ fn links_of(alloc: Global, items: &[Value]) -> Result<Vec<LinkDraft>, OutOfMemor
     let mut links = Vec::new(alloc);
     for item in items {
         if let Some(table) = item.as_table() {
-            links.push(link_of(alloc, table)?).map_err(|_| OutOfMemory)?;
+            links.push(link_of(alloc, table)?)?;
         }
     }
     Ok(links)
@@ -148,8 +151,8 @@ fn links_of(alloc: Global, items: &[Value]) -> Result<Vec<LinkDraft>, OutOfMemor
 fn link_of(alloc: Global, table: &Table) -> Result<LinkDraft, OutOfMemory>
     ensures { IfOk result (λ link. link_draft link ≡ link_of (table_view table.now)) }
 {
-    let from = owned(alloc, text_or_empty(table, "from"))?;
-    let to = owned(alloc, text_or_empty(table, "to"))?;
+    let from = owned_text(alloc, text_or_empty(table, "from"))?;
+    let to = owned_text(alloc, text_or_empty(table, "to"))?;
     let cost = whole_at(table, "cost");
     Ok(LinkDraft { from, to, cost })
 }
@@ -192,11 +195,4 @@ fn whole_at(table: &Table, key: &str) -> i64
         Some(value) => value.as_integer().unwrap_or(0),
         None => 0,
     }
-}
-
-/// A text of one's own.
-fn owned(alloc: Global, text: &str) -> Result<String, OutOfMemory>
-    ensures { IfOk result (λ copy. string_bytes copy ≡ text.now) }
-{
-    String::from_str(alloc, text).map_err(|_| OutOfMemory)
 }

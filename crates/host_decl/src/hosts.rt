@@ -1,3 +1,5 @@
+//! The principals, hosts and costs that a host file means.
+
 ghost use Rattle.std.specs.Prelude.{◌≡◌, ◌<◌, length, map};
 ghost use Rattle.host_decl.specs.Hosts.{AreHosts, cost_at};
 
@@ -24,7 +26,8 @@ impl Model for HostRow {
 
     ghost Value = { HostShape };
 
-    ghost view = { λ h. record { name = string_bytes h.name; label = h.label; key = h.key; path = string_bytes h.path } };
+    ghost view = { λ h.
+        record { name = string_bytes h.name; label = h.label; key = h.key; path = string_bytes h.path } };
 
     ghost invariant = { λ h. length h.key ≡ KEY_BYTES };
 }

@@ -1,3 +1,5 @@
+//! The label that a text is.
+
 ghost use Rattle.std.specs.Prelude.{IfOk, IfSome, IfNone};
 ghost use Rattle.label_lattice.specs.declared.label.Label.{Label};
 ghost use Rattle.host_decl.specs.LabelText.{IsLabelText};
@@ -8,8 +10,8 @@ use label_lattice::{Label, read_label};
 use principals::Principals;
 use std::alloc::Global;
 
-/// The label that a text is, written with names of these principals. `None` where it is no label, or where a name in it
-/// is not declared.
+/// The label that a text is, written with names of these principals. `None` where it is not a label, or where a name in
+/// it is not declared.
 pub fn label_of_text(
     alloc: Global,
     text: &str,

@@ -27,7 +27,8 @@ pub fn host_file_laws()
         RefusesHosts bytes why → why ≡ OutOfMemory }
 
     // The hosts that it means have names that may stand together.
-    ensures names { (bytes : List ℕ) (hosts : HostsShape) → ReadsHosts bytes hosts → AreHostNames (names_of hosts.hosts) }
+    ensures names { (bytes : List ℕ) (hosts : HostsShape) → ReadsHosts bytes hosts →
+        AreHostNames (names_of hosts.hosts) }
 {
     lex_laws();
     label_laws();

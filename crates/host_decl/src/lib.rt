@@ -1,7 +1,7 @@
 //! The host file: which principals there are, which hosts with their labels, keys and paths, and what links cost.
 //!
-//! The file is TOML. `schema` says which keys it may have, `file_draft` reads what it says as texts and numbers, and `resolve`
-//! finds its meaning, with `rows` for the hosts and `links` for the links.
+//! The file is TOML. `schema` says which keys it may have, `file_draft` reads what it says as texts and numbers, and
+//! `resolve` finds its meaning, with `rows` for the hosts and `links` for the links.
 #![tactic(auto)]
 
 mod draft;
@@ -16,8 +16,6 @@ mod read;
 mod resolve;
 mod rows;
 mod schema;
-#[cfg(test)]
-mod tests;
 
 pub use error::HostsError;
 pub use hosts::{HostRow, Hosts};

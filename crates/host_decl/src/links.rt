@@ -1,4 +1,5 @@
-// The links of a file: which are sound, and what they cost.
+//! The links of a file: which are sound, and what they cost.
+
 ghost use Rattle.std.specs.Prelude.{◌≡◌, ◌≤◌, length, map, pos, IfOk, IfSome, IfNone, IsTrue, ◌&&◌};
 ghost use Rattle.std.specs.List.{AllByRecursion, list_any};
 ghost use Rattle.std.specs.Str.{bytes_eq};
@@ -6,7 +7,8 @@ ghost use Rattle.std.specs.String.{string_bytes};
 ghost use Rattle.js_base.specs.declared.limits.TheConstants.{HOSTS};
 ghost use Rattle.host_decl.specs.DraftView.{link_draft};
 ghost use Rattle.host_decl.specs.Hosts.{names_of};
-ghost use Rattle.host_decl.specs.Meaning.{is_sound_link, has_sound_ends, have_same_ends, is_cost, AreSoundLinks, IsFirstBadLink, link_cost, cost_between, cost_table};
+ghost use Rattle.host_decl.specs.Meaning.{is_sound_link, has_sound_ends, have_same_ends, is_cost, AreSoundLinks};
+ghost use Rattle.host_decl.specs.Meaning.{IsFirstBadLink, link_cost, cost_between, cost_table};
 
 use crate::draft::LinkDraft;
 use crate::hosts::HostRow;
@@ -28,8 +30,9 @@ pub fn first_bad_link(hosts: &[HostRow], links: &[LinkDraft]) -> Option<u32>
     None
 }
 
-/// Whether the link leads from a known host to another one, costs 1 to 1,000, and has other ends than the earlier links.
-#[tactic(auto, using(crate::proofs::Texts::any_of_map))]
+/// Whether the link leads from a known host to another one, costs 1 to 1,000, and has other ends than the earlier
+/// links.
+#[tactic(auto, using(crate::proofs::Lists::any_of_map))]
 fn is_sound(hosts: &[HostRow], earlier: &[LinkDraft], link: &LinkDraft) -> bool
     ensures { result ≡ is_sound_link (names_of hosts.now) (map link_draft earlier.now) (link_draft link.now) }
 {
@@ -37,7 +40,7 @@ fn is_sound(hosts: &[HostRow], earlier: &[LinkDraft], link: &LinkDraft) -> bool
 }
 
 /// Whether the link leads from a known host to another one.
-#[tactic(auto, using(crate::proofs::Texts::any_of_map))]
+#[tactic(auto, using(crate::proofs::Lists::any_of_map))]
 fn has_sound_ends(hosts: &[HostRow], link: &LinkDraft) -> bool
     ensures { result ≡ has_sound_ends (names_of hosts.now) (link_draft link.now) }
 {
@@ -86,9 +89,7 @@ pub fn costs_of(
     let mut costs = Vec::new(alloc);
     for host in hosts {
         let row = costs_from(alloc, hosts, links, host.name())?;
-        if costs.push(row).is_err() {
-            return Err(OutOfMemory);
-        }
+        costs.push(row)?;
     }
     Ok(costs)
 }
@@ -106,9 +107,7 @@ fn costs_from(
 {
     let mut row = Vec::new(alloc);
     for host in hosts {
-        if row.push(cost_between(links, from, host.name())).is_err() {
-            return Err(OutOfMemory);
-        }
+        row.push(cost_between(links, from, host.name()))?;
     }
     Ok(row)
 }

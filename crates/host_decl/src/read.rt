@@ -1,3 +1,5 @@
+//! From the bytes of a host file to its hosts, or to why it is refused.
+
 ghost use Rattle.std.specs.Prelude.{◌≤◌, length, MatchResult, IfOk, IfErr};
 ghost use Rattle.toml.specs.View.{table_view};
 ghost use Rattle.host_decl.specs.Reading.{IsDocument, ReadsHosts, RefusesHosts, DocumentFails};
@@ -8,6 +10,7 @@ use crate::hosts::Hosts;
 use crate::resolve::resolve;
 use crate::schema::bad_key;
 use js_base::limits::HOSTS_BYTES;
+use js_base::text::owned_text;
 use std::alloc::Global;
 use toml::Table;
 
@@ -23,10 +26,7 @@ pub fn read_hosts(alloc: Global, bytes: &[u8]) -> Result<Hosts, HostsError>
     }
     let file = document(alloc, bytes)?;
     if let Some(key) = bad_key(&file) {
-        return match String::from_str(alloc, key) {
-            Ok(key) => Err(HostsError::BadKey(key)),
-            Err(_) => Err(HostsError::OutOfMemory),
-        };
+        return Err(HostsError::BadKey(owned_text(alloc, key)?));
     }
     let draft = file_draft(alloc, &file)?;
     resolve(alloc, draft)

@@ -1,4 +1,5 @@
-// From what a file says to its hosts.
+//! From what a file says to its hosts.
+
 ghost use Rattle.std.specs.Prelude.{All, MatchResult, map};
 ghost use Rattle.std.specs.String.{string_bytes};
 ghost use Rattle.js_base.specs.Name.{IsName};

@@ -1,7 +1,7 @@
-// The hosts of a file: their names, and what each says.
-ghost use Rattle.std.specs.Prelude.{◌≡◌, ◌<◌, ◌≤◌, length, map, take, slice_get, Some, Contains, MatchResult, IfOk, IfSome, IfNone, IfErr, OnOk, ℕ, List};
-ghost use Rattle.std.specs.List.{AllZip, IsDistinct, list_any};
-ghost use Rattle.std.specs.Str.{bytes_eq};
+//! The hosts of a file: their names, and what each says.
+
+ghost use Rattle.std.specs.Prelude.{◌≡◌, ◌≤◌, length, map, MatchResult, IfOk, IfErr, OnOk};
+ghost use Rattle.std.specs.List.{AllZip};
 ghost use Rattle.std.specs.String.{string_bytes};
 ghost use Rattle.host_decl.specs.DraftView.{host_draft};
 ghost use Rattle.host_decl.specs.Hosts.{AreHostNames};
@@ -12,11 +12,13 @@ use crate::draft::HostDraft;
 use crate::hosts::HostRow;
 use crate::label_text::label_of_text;
 use js_base::limits::HOSTS;
+use js_base::named::first_repeated;
+use js_base::text::owned_text;
 use js_base::{HostId, OutOfMemory};
 use principals::Principals;
 use std::alloc::Global;
 
-/// Refuses no hosts, more than 16, and hosts of one name.
+/// Refuses a file without hosts, with more than 16, or with two of one name.
 pub fn test_names(alloc: Global, hosts: &[HostDraft]) -> Result<(), HostsError>
     ensures ok { OnOk result (AreHostNames (map (λ host. string_bytes host.name) hosts.now)) }
     ensures err { IfErr result (NamesFail (map (λ host. string_bytes host.name) hosts.now)) }
@@ -28,36 +30,9 @@ pub fn test_names(alloc: Global, hosts: &[HostDraft]) -> Result<(), HostsError>
         return Err(HostsError::TooManyHosts);
     }
     if let Some(place) = first_repeated(hosts) {
-        let Ok(name) = String::from_str(alloc, hosts[place].name.as_str()) else {
-            return Err(HostsError::OutOfMemory);
-        };
-        return Err(HostsError::HostTwice(name));
+        return Err(HostsError::HostTwice(owned_text(alloc, hosts[place].name.as_str())?));
     }
     Ok(())
-}
-
-/// The place of the first host whose name repeats an earlier one.
-fn first_repeated(hosts: &[HostDraft]) -> Option<usize>
-    ensures within { IfSome result (λ place. place < length hosts.now) }
-    ensures repeated { IfSome result (λ place. (name : List ℕ) →
-        slice_get (map (λ host. string_bytes host.name) hosts.now) place ≡ Some name →
-        Contains (take place (map (λ host. string_bytes host.name) hosts.now)) name) }
-    ensures none_before { IfSome result (λ place. IsDistinct bytes_eq (take place (map (λ host. string_bytes host.name) hosts.now))) }
-    ensures none { IfNone result (IsDistinct bytes_eq (map (λ host. string_bytes host.name) hosts.now)) }
-{
-    for place in 0..hosts.len() {
-        if is_named(&hosts[..place], hosts[place].name.as_str()) {
-            return Some(place);
-        }
-    }
-    None
-}
-
-/// Whether one of the hosts has the name.
-fn is_named(hosts: &[HostDraft], name: &str) -> bool
-    ensures { result ≡ list_any (λ host. bytes_eq name.now (string_bytes host.name)) hosts.now }
-{
-    hosts.iter().any(|host| name == host.name.as_str())
 }
 
 /// The hosts with their labels.
@@ -77,14 +52,12 @@ pub fn rows_of(
             Ok(row) => row,
             Err(name) => return Err(HostsError::BadLabel(HostId(rows.len() as u8), name)),
         };
-        if rows.push(row).is_err() {
-            return Err(HostsError::OutOfMemory);
-        }
+        rows.push(row)?;
     }
     Ok(rows)
 }
 
-/// The host with its label, or its name where the text is none.
+/// The host with its label, or its name where the text is not a label.
 fn row_of(
     alloc: Global,
     principals: &Principals,

@@ -8,4 +8,5 @@ use Rattle.host_decl.proofs.file_draft.file_draft.Goals as goal
 
 pub hosts_of-requires : goal.hosts_of-requires
 hosts_of-requires c =
-    subst (λ items. AllByRecursion (IsSound Host) (tables_of items)) (sym c.items_at-3.ensures) (sound_hosts (table_view c.args.file.now) c.requires)
+    subst (λ items. AllByRecursion (IsSound Host) (tables_of items)) (sym c.items_at-3.ensures)
+    (sound_hosts (table_view c.args.file.now) c.requires)

@@ -9,5 +9,6 @@ use Rattle.host_decl.proofs.file_draft.hosts_of.Given as goal
 
 abbrev pub invariant-loop-item : goal.invariant-loop-item
 invariant-loop-item l =
-    (map host_draft l.hosts.items ++ map host_of (tables_of (items_view (drop l.item-index l.items))) ≡ map host_of (tables_of (items_view l.items)))
+    (map host_draft l.hosts.items ++ map host_of (tables_of (items_view (drop l.item-index l.items))) ≡ map host_of
+    (tables_of (items_view l.items)))
     × AllByRecursion (IsSound Host) (tables_of (items_view (drop l.item-index l.items)))

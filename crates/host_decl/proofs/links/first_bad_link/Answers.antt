@@ -21,13 +21,16 @@ overflow_cast-result c =
 
 pub returns-then-not-is_sound-clause-some : goal.returns-then-not-is_sound-clause-some
 returns-then-not-is_sound-clause-some c =
-    bad_link (names_of c.args.hosts.now) c.args.links.now c.loop-number.number c.index-links-number.result (omega arith) c.index-links-number.is
+    bad_link (names_of c.args.hosts.now) c.args.links.now c.loop-number.number c.index-links-number.result
+    (omega arith) c.index-links-number.is
     c.if-not-is_sound.ensures c.loop-number.invariant
 
 pub loop-number-preserved : goal.loop-number-preserved
 loop-number-preserved c =
-    sound_more (names_of c.args.hosts.now) c.args.links.now c.loop-number.number c.index-links-number.result (omega arith) c.index-links-number.is
+    sound_more (names_of c.args.hosts.now) c.args.links.now c.loop-number.number c.index-links-number.result
+    (omega arith) c.index-links-number.is
     c.if-not-is_sound.ensures c.loop-number.invariant
 
 pub returns-clause-none : goal.returns-clause-none
-returns-clause-none c = all_links (names_of c.args.hosts.now) c.args.links.now c.loop-number.number (omega arith) c.loop-number.invariant
+returns-clause-none c =
+    all_links (names_of c.args.hosts.now) c.args.links.now c.loop-number.number (omega arith) c.loop-number.invariant

@@ -6,4 +6,6 @@ use Rattle.host_decl.proofs.BadKeys.{holds_nothing}
 use Rattle.host_decl.proofs.schema.missing_key.Given as goal
 
 abbrev pub invariant-loop-key : goal.invariant-loop-key
-invariant-loop-key l = find (holds_nothing (table_view l.table)) (map (λ key. key.now) (drop l.key-index l.key-items)) ≡ find (holds_nothing (table_view l.table)) (required_keys l.fn.kind)
+invariant-loop-key l =
+    find (holds_nothing (table_view l.table)) (map (λ key. key.now) (drop l.key-index l.key-items)) ≡ find
+    (holds_nothing (table_view l.table)) (required_keys l.fn.kind)
