@@ -1,8 +1,9 @@
 -- Laws of joins, meets and orders of labels.
-use Rattle.std.proofs.Common.{ℕ, ◌≡◌, ◌<◌, ◌≤◌, ◌↔◌, ◌⊎◌, ◌∙◌, sym, ap, inl, inr, min, max, List, length, get_or, arith}
+use Rattle.std.proofs.Common.{ℕ, ◌≡◌, ◌<◌, ◌≤◌, ◌+◌, ◌↔◌, ◌⊎◌, ◌∙◌, sym, ap, refl, subst, inl, inr, min, max, bit_and, bit_or, List, length, get_or, set, arith}
 use Rattle.std.specs.Int.{bit_at}
 use Rattle.std.proofs.lemmas.Bool.{cases_lt}
-use Rattle.std.proofs.lemmas.Nat.Bits.{same_from_bits_below}
+use Rattle.std.proofs.lemmas.List.{get_or-set_same, get_or-set_other, length-set}
+use Rattle.std.proofs.lemmas.Nat.Bits.{same_from_bits, same_from_bits_below, bit_at_and, bit_at_or}
 use Rattle.std.proofs.lemmas.Grind.{same_number_lists}
 use Rattle.principals.specs.ActsFor.{Declared}
 use Rattle.label_lattice.specs.declared.label.Label.{Label}
@@ -22,7 +23,7 @@ same_bit a b a_in b_in there back = elim (cases_lt a 1) [
 ]
 
 -- or 1 wherever the other is
-same_set_bit : (a b : ℕ) → a < 2 → b < 2 → (a ≡ 1 → b ≡ 1) → (b ≡ 1 → a ≡ 1) → a ≡ b
+pub same_set_bit : (a b : ℕ) → a < 2 → b < 2 → (a ≡ 1 → b ≡ 1) → (b ≡ 1 → a ≡ 1) → a ≡ b
 same_set_bit a b a_in b_in there back = elim (cases_lt a 1) [
   | inl less ↦ elim (cases_lt b 1) [
     | inl also ↦ omega arith
@@ -82,12 +83,45 @@ bottom_flows principals bottom label is declared = (
 
 -- ---- the rows of a join
 
--- the rows below a place forbid what either forbids, and those from there on are the old ones
+-- the rows below a place have the bits that are set in both, and those from there on are the old ones
 pub record JoinedBelow (old other rows : List ℕ) (place : ℕ) : Type 0 where
-  pub before : (q : ℕ) → q < place → (k : ℕ) → bit_at (get_or rows q 0) k ≡ min (bit_at (get_or old q 0) k) (bit_at (get_or other q 0) k)
+  pub long : length rows ≡ length old
+  pub before : (q : ℕ) → q < place → get_or rows q 0 ≡ bit_and (get_or old q 0) (get_or other q 0)
   pub after : (q : ℕ) → place ≤ q → get_or rows q 0 ≡ get_or old q 0
 
-least_bit : (a b m : ℕ) → a < 2 → b < 2 → m ≡ min a b → (m ≡ 0) ↔ ((a ≡ 0) ⊎ (b ≡ 0))
+pub joined_none : (old other : List ℕ) → JoinedBelow old other old 0
+joined_none old other = record { long = refl; before = λ q below. absurd (omega arith); after = λ q _. refl }
+
+pub common_word : (first second common : ℕ) → ((k : ℕ) → bit_at common k ≡ min (bit_at first k) (bit_at second k)) → common ≡ bit_and first second
+common_word first second common bits = same_from_bits common (bit_and first second) (λ k. bits k ∙ sym (bit_at_and first second k))
+
+pub either_word : (first second either : ℕ) → ((k : ℕ) → bit_at either k ≡ max (bit_at first k) (bit_at second k)) → either ≡ bit_or first second
+either_word first second either bits = same_from_bits either (bit_or first second) (λ k. bits k ∙ sym (bit_at_or first second k))
+
+pub joined_more : (old other rows : List ℕ) (place next : ℕ) → place < length old → ((k : ℕ) → bit_at next k ≡ min (bit_at (get_or rows place 0) k) (bit_at (get_or other place 0) k)) → JoinedBelow old other rows place → JoinedBelow old other (set rows place next) (place + 1)
+joined_more old other rows place next within bits so_far = record {
+  long = length-set rows place next ∙ so_far.long;
+  before = before;
+  after = λ q above. get_or-set_other rows place q next 0 (λ same. omega (arith, above, same)) ∙ so_far.after q (omega arith);
+}
+  where
+    here : get_or (set rows place next) place 0 ≡ bit_and (get_or old place 0) (get_or other place 0)
+    here =
+        get_or-set_same rows place next 0 (omega (arith, within, so_far.long)) ∙ common_word (get_or rows place 0) (get_or other place 0) next bits
+        ∙ ap (λ row. bit_and row (get_or other place 0)) (so_far.after place (omega arith))
+
+    before : (q : ℕ) → q < place + 1 → get_or (set rows place next) q 0 ≡ bit_and (get_or old q 0) (get_or other q 0)
+    before q below = elim (cases_lt q place) [
+      | inl less ↦ get_or-set_other rows place q next 0 (λ same. omega (arith, less, same)) ∙ so_far.before q less
+      | inr more ↦
+          let at : place ≡ q = omega arith in
+          let P : ℕ → Type 0 = λ n. get_or (set rows place next) n 0 ≡ bit_and (get_or old n 0) (get_or other n 0) in
+          subst P at here
+    ]
+
+-- ---- bits of words
+
+pub least_bit : (a b m : ℕ) → a < 2 → b < 2 → m ≡ min a b → (m ≡ 0) ↔ ((a ≡ 0) ⊎ (b ≡ 0))
 least_bit a b m a_in b_in is = (there, back)
   where
     there : m ≡ 0 → (a ≡ 0) ⊎ (b ≡ 0)
@@ -100,7 +134,7 @@ least_bit a b m a_in b_in is = (there, back)
     back (inl clear) = omega (arith, is, clear)
     back (inr clear) = omega (arith, is, clear)
 
-both_bits : (a b m : ℕ) → a < 2 → b < 2 → m ≡ min a b → (m ≡ 1) ↔ ((a ≡ 1) × (b ≡ 1))
+pub both_bits : (a b m : ℕ) → a < 2 → b < 2 → m ≡ min a b → (m ≡ 1) ↔ ((a ≡ 1) × (b ≡ 1))
 both_bits a b m a_in b_in is = (λ set. (omega (arith, is, set), omega (arith, is, set)), λ both. omega (arith, is, both.0, both.1))
 
 pub either_bit : (a b m : ℕ) → a < 2 → b < 2 → m ≡ max a b → (m ≡ 1) ↔ ((a ≡ 1) ⊎ (b ≡ 1))
@@ -115,17 +149,3 @@ either_bit a b m a_in b_in is = (there, back)
     back : (a ≡ 1) ⊎ (b ≡ 1) → m ≡ 1
     back (inl set) = omega (arith, is, set)
     back (inr set) = omega (arith, is, set)
-
-pub is_join : (first second join : Label) (place : ℕ) → 63 ≤ place → JoinedBelow first.rows second.rows join.rows place → ((k : ℕ) → bit_at join.trust k ≡ min (bit_at first.trust k) (bit_at second.trust k)) → IsJoin first second join
-is_join first second join place all joined trust = record {
-  forbids = λ owner reader owner_in reader_in.
-      least_bit (bit_at (get_or first.rows owner 0) reader) (bit_at (get_or second.rows owner 0) reader) _ (omega arith) (omega arith) (joined.before owner (omega (arith, owner_in, all)) reader);
-  trusts = λ p within. both_bits (bit_at first.trust p) (bit_at second.trust p) _ (omega arith) (omega arith) (trust p);
-}
-
-pub is_meet : (first second meet : Label) → meet.rows ≡ first.rows → ((k : ℕ) → bit_at meet.trust k ≡ max (bit_at first.trust k) (bit_at second.trust k)) → IsIntegrityMeet first second meet
-is_meet first second meet same trust = record {
-  forbids = λ owner reader owner_in reader_in.
-      (λ clear. ap (λ rows. bit_at (get_or rows owner 0) reader) (sym same) ∙ clear, λ clear. ap (λ rows. bit_at (get_or rows owner 0) reader) same ∙ clear);
-  trusts = λ p within. either_bit (bit_at first.trust p) (bit_at second.trust p) _ (omega arith) (omega arith) (trust p);
-}

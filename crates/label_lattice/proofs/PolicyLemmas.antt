@@ -1,9 +1,10 @@
 -- What a policy forbids, as words and rows of bits come to say it.
-use Rattle.std.proofs.Common.{ℕ, ◌≡◌, ◌≢◌, ◌<◌, ◌≤◌, ◌+◌, ◌↔◌, ◌⊎◌, ◌∙◌, sym, ap, refl, subst, inl, inr, List, [], All, get_or, set, min, ◌-◌, length, arith}
+use Rattle.std.proofs.Common.{ℕ, ◌≡◌, ◌≢◌, ◌<◌, ◌≤◌, ◌+◌, ◌↔◌, ◌⊎◌, ◌∙◌, sym, ap, refl, subst, inl, inr, List, [], All, get_or, set, min, ◌-◌, ◌^◌, length, arith}
 use Rattle.std.specs.Int.{bit_at}
 use Rattle.std.proofs.lemmas.Bool.{cases_lt}
 use Rattle.js_base.specs.declared.ids.PrincipalId.{PrincipalId}
 use Rattle.std.proofs.lemmas.List.{get_or_default, get_or-set_same, get_or-set_other, length-set}
+use Rattle.std.proofs.lemmas.List.Elements.{All-set}
 use Rattle.principals.specs.ActsFor.{Declared, IsDeclared, ActsFor, IsReader, outsider}
 use Rattle.label_lattice.specs.declared.label.Label.{Label}
 use Rattle.label_lattice.specs.Label.{Forbids, ConfFlows, ForbidsNothing, KeepsOut, PolicyForbids, IsPolicy, AddsPolicy}
@@ -125,6 +126,7 @@ RowAdds old new principals owner readers q = (reader : ℕ) → reader < 64 → 
 -- the rows below a place have the policy, and those from there on are the old ones
 pub record RowsBelow (old rows : List ℕ) (principals : Declared) (owner : PrincipalId) (readers : List PrincipalId) (place : ℕ) : Type 0 where
   pub long : length rows ≡ 63
+  pub words : All (λ row. row < 2 ^ 64) old → All (λ row. row < 2 ^ 64) rows
   pub before : (q : ℕ) → q < place → RowAdds (get_or old q 0) (get_or rows q 0) principals owner readers q
   pub after : (q : ℕ) → place ≤ q → get_or rows q 0 ≡ get_or old q 0
 
@@ -169,9 +171,10 @@ pub row_stays : (principals : Declared) (owner : PrincipalId) (readers : List Pr
 row_stays principals owner readers q row other reader within =
     (λ clear. inl clear, λ either. elim either [ inl clear ↦ clear | inr forbids ↦ absurd (other forbids.0) ])
 
-pub rows_more : (old rows : List ℕ) (principals : Declared) (owner : PrincipalId) (readers : List PrincipalId) (place next : ℕ) → place < 63 → RowAdds (get_or rows place 0) next principals owner readers place → RowsBelow old rows principals owner readers place → RowsBelow old (set rows place next) principals owner readers (place + 1)
-rows_more old rows principals owner readers place next within adds so_far = record {
+pub rows_more : (old rows : List ℕ) (principals : Declared) (owner : PrincipalId) (readers : List PrincipalId) (place next : ℕ) → place < 63 → next < 2 ^ 64 → RowAdds (get_or rows place 0) next principals owner readers place → RowsBelow old rows principals owner readers place → RowsBelow old (set rows place next) principals owner readers (place + 1)
+rows_more old rows principals owner readers place next within fits adds so_far = record {
   long = length-set rows place next ∙ so_far.long;
+  words = λ old_words. All-set (λ row. row < 2 ^ 64) rows place next fits (so_far.words old_words);
   before = before;
   after = λ q above. get_or-set_other rows place q next 0 (λ same. omega (arith, above, same)) ∙ so_far.after q (omega arith);
 }
@@ -195,6 +198,7 @@ rows_more old rows principals owner readers place next within adds so_far = reco
 pub rows_stay : (old rows : List ℕ) (principals : Declared) (owner : PrincipalId) (readers : List PrincipalId) (place : ℕ) → ¬ ActsFor principals owner.0 place → RowsBelow old rows principals owner readers place → RowsBelow old rows principals owner readers (place + 1)
 rows_stay old rows principals owner readers place other so_far = record {
   long = so_far.long;
+  words = so_far.words;
   before = before;
   after = λ q above. so_far.after q (omega arith);
 }

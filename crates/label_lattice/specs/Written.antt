@@ -9,7 +9,9 @@ use Rattle.jif_lex.specs.declared.token.TokenKind.TheVariants.{Name, Symbol}
 use Rattle.jif_lex.specs.declared.token.Symbol as symbols
 use Rattle.jif_lex.specs.declared.token.Symbol.TheVariants.{LeftBrace, RightBrace, Colon, Comma, Semicolon, Question}
 use Rattle.principals.specs.ActsFor.{Declared, ActsFor}
+use Rattle.js_base.specs.declared.limits.TheConstants.{PRINCIPALS}
 use Rattle.label_lattice.specs.declared.label.Label.{Label}
+use Rattle.label_lattice.specs.declared.label.TheConstants.{READERS}
 use Rattle.label_lattice.specs.Label.{Forbids, Trusts, PolicyForbids}
 
 -- ---- tokens
@@ -85,9 +87,9 @@ PartTrusts principals principal (trust_of known_members) = Any (λ member. ActsF
 
 -- the label forbids what some part forbids, and is trusted by whom some part has as trusting
 pub record IsMadeOf (principals : Declared) (parts : List KnownPart) (label : Label) : Type 0 where
-  pub forbids : (owner reader : ℕ) → owner < 63 → reader < 64 →
+  pub forbids : (owner reader : ℕ) → owner < PRINCIPALS → reader < READERS →
       (Forbids label owner reader ↔ Any (PartForbids principals owner reader) parts)
-  pub trusts : (principal : ℕ) → principal < 64 → (Trusts label principal ↔ Any (PartTrusts principals principal) parts)
+  pub trusts : (principal : ℕ) → principal < READERS → (Trusts label principal ↔ Any (PartTrusts principals principal) parts)
 
 -- the tokens are the parts of this label, written with names of these principals
 pub record IsPartsOf (principals : Declared) (inside : List TokenKind) (label : Label) : Type 0 where

@@ -2,6 +2,7 @@
 ghost use Rattle.std.specs.Prelude.{IfOk, IfSome, IfNone};
 ghost use Rattle.label_lattice.specs.declared.label.Label.{Label};
 ghost use Rattle.label_lattice.specs.Written.{IsLabelOf, IsPartsOf, kinds};
+ghost use Rattle.label_lattice.specs.Over.{IsLabelOver};
 ghost use Rattle.label_lattice.specs.Reading.{AddsPart, IsNoPart};
 
 mod names;
@@ -25,6 +26,7 @@ pub fn read_label(
     principals: &Principals,
 ) -> Result<Option<Label>, OutOfMemory>
     ensures found { IfOk result (λ read. IfSome read (IsLabelOf principals.now tokens.now)) }
+    ensures over { IfOk result (λ read. IfSome read (IsLabelOver principals.now)) }
     ensures none { IfOk result (λ read. IfNone read ((label : Label) → ¬ IsLabelOf principals.now tokens.now label)) }
 {
     match between_braces(tokens) {
@@ -40,6 +42,7 @@ fn label_of_parts(
     principals: &Principals,
 ) -> Result<Option<Label>, OutOfMemory>
     ensures found { IfOk result (λ read. IfSome read (IsPartsOf principals.now (kinds inside.now))) }
+    ensures over { IfOk result (λ read. IfSome read (IsLabelOver principals.now)) }
     ensures none { IfOk result (λ read. IfNone read ((label : Label) → ¬ IsPartsOf principals.now (kinds inside.now) label)) }
 {
     let mut label = Label::empty();
@@ -66,6 +69,8 @@ fn with_part(
     principals: &Principals,
 ) -> Result<Option<Label>, OutOfMemory>
     ensures found { IfOk result (λ read. IfSome read (AddsPart principals.now (kinds part.now) label)) }
+    ensures over { IfOk result (λ read. IfSome read (λ more.
+        IsLabelOver principals.now label → IsLabelOver principals.now more)) }
     ensures none { IfOk result (λ read. IfNone read (IsNoPart principals.now (kinds part.now))) }
 {
     let Some((head, names)) = after_colon(part) else {
