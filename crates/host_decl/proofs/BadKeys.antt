@@ -23,7 +23,7 @@ use Rattle.host_decl.specs.declared.schema.TableKind.TheVariants.{File, Host, Li
 use Rattle.host_decl.specs.Schema.{is_unfit, is_bad, required_keys, HoldsUnfit, IsMissing, IsBadKey, IsSound, IsSoundAs}
 use Rattle.host_decl.specs.Schema.{IsLeast, IsNotAfter, IsFirstBadKey, IsSoundFile, file_tables, items_at, tables_of}
 use Rattle.host_decl.specs.Schema.{table_in, of_kind, with_first}
-use Rattle.host_decl.proofs.Items.{chosen_drop}
+use Rattle.host_decl.proofs.Items.{selection_drop}
 use Rattle.host_decl.proofs.Least.{equal_texts, IsAscending, IsIn, find_least, find_none, any_from_in, in_from_any}
 use Rattle.host_decl.proofs.Least.{not_after_trans}
 
@@ -268,9 +268,11 @@ sound_both (next ∷ first) rest one two = (one.0, sound_both first rest one.1 t
 pub file_is_sound : (members : Members) → IsSound File members
     → AllByRecursion (IsSound Host) (tables_of (items_at (codes "host") members))
     → AllByRecursion (IsSound Link) (tables_of (items_at (codes "link") members)) → IsSoundFile members
-file_is_sound members file hosts links =
-    (file, sound_both _ _ (all_sound Host (tables_of (items_at (codes "host") members)) hosts)
-    (all_sound Link (tables_of (items_at (codes "link") members)) links))
+file_is_sound members file hosts links = (
+  file,
+  sound_both _ _ (all_sound Host (tables_of (items_at (codes "host") members)) hosts)
+      (all_sound Link (tables_of (items_at (codes "link") members)) links),
+)
 
 pub file_key_is_first : (file : Members) (key : List ℕ) → IsLeast (IsBadKey File file) key
     → IsFirstBadKey (file_tables file) key
@@ -281,8 +283,11 @@ pub host_key_is_first : (file : Members) (hosts : Items) (key : List ℕ) → ho
     → IsSound File file
     → IsFirstBadKey (of_kind Host (tables_of hosts)) key → IsFirstBadKey (file_tables file) key
 host_key_is_first file hosts key is sound bad =
-    inr (sound, bad_then (of_kind Host (tables_of (items_at (codes "host") file))) _ key
-    (subst (λ items. IsFirstBadKey (of_kind Host (tables_of items)) key) is bad))
+    inr (
+      sound,
+      bad_then (of_kind Host (tables_of (items_at (codes "host") file))) _ key
+          (subst (λ items. IsFirstBadKey (of_kind Host (tables_of items)) key) is bad),
+    )
 
 pub link_key_is_first : (file : Members) (hosts links : Items) (key : List ℕ) → hosts ≡ items_at (codes "host") file
     → links ≡ items_at (codes "link") file
@@ -335,7 +340,7 @@ tables_drop : (values : List Value) (place : ℕ) (value : Value) → place < le
     → tables_of (items_view (drop place values)) ≡ with_first (as_table (view value))
     (tables_of (items_view (drop (place + 1) values)))
 tables_drop values place value within is =
-    chosen_drop as_table values place value within
+    selection_drop as_table values place value within
     ∙ ap (λ here. with_first (as_table (view here)) (tables_of (items_view (drop (place + 1) values)))) (sym is)
 
 pub bad_here : (kind : TableKind) (values : List Value) (place : ℕ) (value : Value) (key : List ℕ)

@@ -91,7 +91,7 @@ names_apart names from to distinct apart from_within to_within =
     elim (lt_or_gt from to apart) [
       | inl before ↦ apart_from_distinct bytes_eq names from to [] distinct before to_within
       | inr after ↦ bytes_eq_laws.symm (get_or names from []) (get_or names to [])
-      ∙ apart_from_distinct bytes_eq names to from [] distinct after from_within
+          ∙ apart_from_distinct bytes_eq names to from [] distinct after from_within
     ]
 
 pub table_of_costs : (names : List (List ℕ)) (links : List LinkDraft) (costs : List (List ℕ))

@@ -17,9 +17,11 @@ pairs_within : (names : List (List ℕ)) (pairs : List (List ℕ × List ℕ)) (
 pairs_within names [] [] all = tt
 pairs_within names [] (id ∷ ids) all = absurd all
 pairs_within names (pair ∷ pairs) [] all = absurd all
-pairs_within names (pair ∷ pairs) (id ∷ ids) all =
-    ((slice_get_within names id.0 pair.0 all.0.0, slice_get_within names id.1 pair.1 all.0.1), pairs_within names
-    pairs ids all.1)
+pairs_within names (pair ∷ pairs) (id ∷ ids) all = (
+  (slice_get_within names id.0 pair.0 all.0.0, slice_get_within names id.1 pair.1 all.0.1),
+  pairs_within names
+      pairs ids all.1,
+)
 
 pub are_declared : (names : List (List ℕ)) (pairs : List (List ℕ × List ℕ)) (principals : Declared) → All IsName names
     → AreDeclaredAs names pairs principals → IsDeclared principals

@@ -9,7 +9,7 @@ use Rattle.js_base.specs.Name.{IsName, is_name}
 use Rattle.toml.specs.Data.{Data, Items, no_items, item, Members, get_member, as_str, as_array}
 use Rattle.host_decl.specs.declared.schema.TableKind.TheVariants.{File, Host}
 use Rattle.host_decl.specs.Schema.{IsSound, IsSoundFile, tables_of, is_bad, all_items, is_text_of, items_in, items_at}
-use Rattle.host_decl.specs.Schema.{chosen, with_first}
+use Rattle.host_decl.specs.Schema.{selection, with_first}
 use Rattle.host_decl.specs.declared.draft.HostsDraft.{HostsDraft}
 use Rattle.host_decl.specs.Draft.{texts_of, or_empty, host_of, draft_of}
 use Rattle.host_decl.specs.DraftView.{hosts_draft}
@@ -24,14 +24,14 @@ one_more None rest named all = absurd (false≢true named)
 one_more (Some text) rest named all = (named, all)
 
 named_items : (items : Items) → all_items (is_text_of is_name) items ≡ true
-    → AllByRecursion IsName (chosen as_str items)
+    → AllByRecursion IsName (selection as_str items)
 named_items no_items all = tt
 named_items (item value items) all =
     let parts = and_parts (is_text_of is_name value) (all_items (is_text_of is_name) items) all in
-    one_more (as_str value) (chosen as_str items) parts.0 (named_items items parts.1)
+    one_more (as_str value) (selection as_str items) parts.0 (named_items items parts.1)
 
 in_array : (found : Option Items) → option_map_or (all_items (is_text_of is_name)) found false ≡ true
-    → AllByRecursion IsName (chosen as_str (option_map_or (λ items. items) found no_items))
+    → AllByRecursion IsName (selection as_str (option_map_or (λ items. items) found no_items))
 in_array None all = absurd (false≢true all)
 in_array (Some items) all = named_items items all
 

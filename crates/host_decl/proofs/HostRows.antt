@@ -78,7 +78,7 @@ pub read_more : (principals : Declared) (hosts read left rest : List HostDraft) 
 read_more principals hosts read left rest rows host row next is so_far =
     record {
       are_rows = rw map-append
-      (zip_push (IsHostOf principals) (map host_draft read) rows (host_draft host) row so_far.are_rows is);
+          (zip_push (IsHostOf principals) (map host_draft read) rows (host_draft host) row so_far.are_rows is);
       are_all = append_assoc read (host ∷ []) rest ∙ ap (λ more. read ++ more) (sym next) ∙ so_far.are_all;
     }
 

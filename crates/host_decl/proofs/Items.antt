@@ -6,7 +6,7 @@ use Rattle.toml.specs.Data.{Data}
 use Rattle.toml.specs.View.{view, items_view}
 use Rattle.toml.specs.declared.value.Value.{Value}
 use Rattle.toml.proofs.Views.{items_view-drop}
-use Rattle.host_decl.specs.Schema.{all_items, chosen, with_first, are_two_texts}
+use Rattle.host_decl.specs.Schema.{all_items, selection, with_first, are_two_texts}
 use Rattle.host_decl.specs.Draft.{pair_of}
 
 -- a test of each item is a test of each value
@@ -15,12 +15,12 @@ pub all_items_view : (test : Data → Bool) (values : List Value)
 all_items_view test [] = refl
 all_items_view test (value ∷ values) = ap (λ rest. test (view value) && rest) (all_items_view test values)
 
--- what is chosen of the values from a place on
-pub chosen_drop : {A : Type 0} (choose : Data → Option A) (values : List Value) (place : ℕ) (value : Value)
+-- what is selected of the values from a place on
+pub selection_drop : {A : Type 0} (choose : Data → Option A) (values : List Value) (place : ℕ) (value : Value)
     → place < length values
-    → chosen choose (items_view (drop place values)) ≡ with_first (choose (view (get_or values place value)))
-    (chosen choose (items_view (drop (place + 1) values)))
-chosen_drop choose values place value within = ap (chosen choose) (items_view-drop values place value within)
+    → selection choose (items_view (drop place values)) ≡ with_first (choose (view (get_or values place value)))
+    (selection choose (items_view (drop (place + 1) values)))
+selection_drop choose values place value within = ap (selection choose) (items_view-drop values place value within)
 
 -- fewer than two items, or more than two, are not two texts
 pub too_few : (values : List Value) → length values < 2 → false ≡ are_two_texts (items_view values)

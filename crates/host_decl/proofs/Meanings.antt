@@ -44,8 +44,11 @@ link_fails file principals names rows number declared are sound hosts bad =
       declared,
       inr (
         subst AreHostNames are sound,
-        inr (all_have_labels principals file.hosts rows hosts, subst (λ texts. IsFirstBadLink texts file.links number)
-        (same_names principals file.hosts rows hosts) bad),
+        inr (
+          all_have_labels principals file.hosts rows hosts,
+          subst (λ texts. IsFirstBadLink texts file.links number)
+              (same_names principals file.hosts rows hosts) bad,
+        ),
       ),
     )
 

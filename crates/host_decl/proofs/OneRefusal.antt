@@ -59,13 +59,13 @@ stage : (Fails Later : HostsError → Type 0) (Holds : Type 0) → IsOne Fails �
 stage Fails Later Holds one excludes later first second either also ample too =
     elim either [
       | inl here ↦ elim also [
-          | inl there ↦ one first second here there ample too
-          | inr there ↦ absurd (ample (excludes first here there.0))
-        ]
+        | inl there ↦ one first second here there ample too
+        | inr there ↦ absurd (ample (excludes first here there.0))
+      ]
       | inr here ↦ elim also [
-          | inl there ↦ absurd (too (excludes second there here.0))
-          | inr there ↦ later here.0 first second here.1 there.1 ample too
-        ]
+        | inl there ↦ absurd (too (excludes second there here.0))
+        | inr there ↦ later here.0 first second here.1 there.1 ample too
+      ]
     ]
 
 -- ---- principals
@@ -197,18 +197,18 @@ file_once : AreRefusals → (file : HostsDraftShape) → IsOne (RefusesFile file
 file_once laws file first second either also ample too =
     elim either [
       | inl here ↦ elim also [
-          | inl there ↦ principals_once laws file.names file.pairs first second here there ample too
-          | inr there ↦
-              absurd (ample (principals_exclude laws file.names file.pairs there.0 first here there.1))
-        ]
+        | inl there ↦ principals_once laws file.names file.pairs first second here there ample too
+        | inr there ↦
+            absurd (ample (principals_exclude laws file.names file.pairs there.0 first here there.1))
+      ]
       | inr here ↦ elim also [
-          | inl there ↦
-              absurd (too (principals_exclude laws file.names file.pairs here.0 second there here.1))
-          | inr there ↦
-              let same = laws.declared file.names file.pairs there.0 here.0 there.1 here.1 in
-              let fails = subst (λ principals. HostsFail principals file second) same there.2 in
-              hosts_once here.0 file first second here.2 fails ample too
-        ]
+        | inl there ↦
+            absurd (too (principals_exclude laws file.names file.pairs here.0 second there here.1))
+        | inr there ↦
+            let same = laws.declared file.names file.pairs there.0 here.0 there.1 here.1 in
+            let fails = subst (λ principals. HostsFail principals file second) same there.2 in
+            hosts_once here.0 file first second here.2 fails ample too
+      ]
     ]
 
 members_once : AreRefusals → (file : Members) → IsOne (MembersFail file)
@@ -224,16 +224,16 @@ few_fail_once : AreRefusals → (bytes : List ℕ)
 few_fail_once laws bytes first second either also ample too =
     elim either [
       | inl here ↦ elim also [
-          | inl there ↦ document_fails_once bytes first second here.1 there.1 ample too
-          | inr there ↦ absurd (ample (document_excludes bytes there.0 first here.1 there.1))
-        ]
+        | inl there ↦ document_fails_once bytes first second here.1 there.1 ample too
+        | inr there ↦ absurd (ample (document_excludes bytes there.0 first here.1 there.1))
+      ]
       | inr here ↦ elim also [
-          | inl there ↦ absurd (too (document_excludes bytes here.0 second there.1 here.1))
-          | inr there ↦
-              let same = document_once bytes there.0 here.0 there.1 here.1 in
-              let fails = subst (λ file. MembersFail file second) same there.2 in
-              members_once laws here.0 first second here.2 fails ample too
-        ]
+        | inl there ↦ absurd (too (document_excludes bytes here.0 second there.1 here.1))
+        | inr there ↦
+            let same = document_once bytes there.0 here.0 there.1 here.1 in
+            let fails = subst (λ file. MembersFail file second) same there.2 in
+            members_once laws here.0 first second here.2 fails ample too
+      ]
     ]
 
 -- bytes that fail for another cause than their length are few

@@ -100,7 +100,7 @@ same_ends_laws : IsEquivalence same_ends
 same_ends_laws = record {
   refl = λ x. both_true _ _ (bytes_eq_laws.refl x.0) (bytes_eq_laws.refl x.1);
   symm = λ x y. ap (λ b. b && bytes_eq x.1 y.1) (bytes_eq_laws.symm x.0 y.0)
-    ∙ ap (λ b. bytes_eq y.0 x.0 && b) (bytes_eq_laws.symm x.1 y.1);
+      ∙ ap (λ b. bytes_eq y.0 x.0 && b) (bytes_eq_laws.symm x.1 y.1);
   congr = λ x y z is. ap (λ w. same_ends w z) (same_is x y is);
 }
 
@@ -127,7 +127,7 @@ any_append test (x ∷ xs) ys either =
     elim (cases_Bool (test x)) [
       | inl here ↦ rw here refl
       | inr not_here ↦ rw not_here
-      (any_append test xs ys (elim either [ inl first ↦ inl (rw not_here at first) | inr second ↦ inr second ]))
+          (any_append test xs ys (elim either [ inl first ↦ inl (rw not_here at first) | inr second ↦ inr second ]))
     ]
 
 with_each : (from to : List ℕ) (other : List ℕ) (names : List (List ℕ)) → bytes_eq from other ≡ true
@@ -145,9 +145,9 @@ among_pairings from to [] second known also = absurd (false≢true known)
 among_pairings from to (name ∷ rest) second known also =
     elim (cases_Bool (bytes_eq from name)) [
       | inl here ↦ any_append _ (each_with name second) (pairings rest second)
-      (inl (with_each from to name second here also))
+          (inl (with_each from to name second here also))
       | inr not_here ↦ any_append _ (each_with name second) (pairings rest second)
-      (inr (among_pairings from to rest second (rw not_here at known) also))
+          (inr (among_pairings from to rest second (rw not_here at known) also))
     ]
 
 -- what a sound link is
@@ -230,7 +230,7 @@ all_of_links [] each = tt
 all_of_links (link ∷ links) each = (
   each zero link (omega arith) refl,
   all_of_links links (λ place other within is. each (suc place) other
-    (let more : suc place < suc (length links) = omega arith in more) is),
+      (let more : suc place < suc (length links) = omega arith in more) is),
 )
 
 -- costs of sound links

@@ -4,7 +4,7 @@ use Rattle.std.specs.Option.{option_map_or, option_and_then}
 use Rattle.std.specs.Char.{digit_value}
 use Rattle.sha2.specs.Sha256.{sha256}
 use Rattle.toml.specs.Data.{Items, no_items, item, Members, get_member, as_str, as_integer, as_array}
-use Rattle.host_decl.specs.Schema.{items_at, tables_of, chosen}
+use Rattle.host_decl.specs.Schema.{items_at, tables_of, selection}
 
 -- a host: its name, the text of its label, the 32 bytes of its key, and the path of its socket
 pub record HostDraftShape : Type 0 where
@@ -41,7 +41,7 @@ or_empty text = option_map_or (λ bytes. bytes) text []
 
 -- the texts among the items
 abbrev pub texts_of : Items → List (List ℕ)
-texts_of items = chosen as_str items
+texts_of items = selection as_str items
 
 -- the first two items as texts
 abbrev pub pair_of : Items → List ℕ × List ℕ
@@ -51,7 +51,7 @@ pair_of no_items = ([], [])
 
 -- the pairs among the items
 abbrev pub pairs_of : Items → List (List ℕ × List ℕ)
-pairs_of items = map pair_of (chosen as_array items)
+pairs_of items = map pair_of (selection as_array items)
 
 -- The key of a host is what its digits write. Where none is written it is the SHA-256 digest of the name.
 abbrev pub key_of : List ℕ → Option (List ℕ) → List ℕ

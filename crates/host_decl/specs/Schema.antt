@@ -144,13 +144,13 @@ with_first None list = list
 with_first (Some first) list = first ∷ list
 
 -- what those items are of which this gives something, in order
-abbrev pub chosen : {A : Type 0} → (Data → Option A) → Items → List A
-chosen choose no_items = []
-chosen choose (item value items) = with_first (choose value) (chosen choose items)
+abbrev pub selection : {A : Type 0} → (Data → Option A) → Items → List A
+selection choose no_items = []
+selection choose (item value items) = with_first (choose value) (selection choose items)
 
 -- the tables among the items
 abbrev pub tables_of : Items → List Members
-tables_of items = chosen as_table items
+tables_of items = selection as_table items
 
 -- the value itself, where it is a table
 abbrev pub table_in : Data → List Members

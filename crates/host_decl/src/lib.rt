@@ -19,5 +19,6 @@ mod schema;
 
 pub use error::HostsError;
 pub use hosts::{HostRow, Hosts};
+pub use key::KEY_BYTES;
 pub use laws::host_file_laws;
 pub use read::read_hosts;

@@ -16,6 +16,9 @@ use js_base::OutOfMemory;
 use js_base::limits::LINK_COST;
 use std::alloc::Global;
 
+/// What a link costs that is not declared.
+const DEFAULT_COST: u32 = 1;
+
 /// The number of the first link that is not sound. As there are few hosts, it is small.
 pub fn first_bad_link(hosts: &[HostRow], links: &[LinkDraft]) -> Option<u32>
     requires { length hosts.now ≤ HOSTS }
@@ -134,5 +137,5 @@ fn link_cost(links: &[LinkDraft], from: &str, to: &str) -> u32
             return link.cost as u32;
         }
     }
-    1
+    DEFAULT_COST
 }

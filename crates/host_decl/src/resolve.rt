@@ -7,8 +7,8 @@ ghost use Rattle.principals.specs.Declaring.{AreDeclaredAs, written_pairs};
 ghost use Rattle.host_decl.specs.DraftView.{hosts_draft};
 ghost use Rattle.host_decl.specs.Meaning.{IsMeaningOf, RefusesFile, PrincipalsFail};
 
-use crate::error::HostsError;
 use crate::draft::HostsDraft;
+use crate::error::HostsError;
 use crate::hosts::Hosts;
 use crate::links::{costs_of, first_bad_link};
 use crate::rows::{rows_of, test_names};
@@ -27,7 +27,7 @@ pub fn resolve(alloc: Global, draft: HostsDraft) -> Result<Hosts, HostsError>
         hosts,
         links,
     } = draft;
-    let principals = declared(alloc, &names, &pairs)?;
+    let principals = declare(alloc, &names, &pairs)?;
     test_names(alloc, &hosts)?;
     let rows = rows_of(alloc, &principals, hosts)?;
     if let Some(number) = first_bad_link(&rows, &links) {
@@ -37,8 +37,8 @@ pub fn resolve(alloc: Global, draft: HostsDraft) -> Result<Hosts, HostsError>
     Ok(Hosts::new(principals, rows, costs))
 }
 
-/// The declared principals.
-fn declared(
+/// The principals of these names and pairs.
+fn declare(
     alloc: Global,
     names: &[String],
     pairs: &[(String, String)],

@@ -7,8 +7,8 @@ ghost use Rattle.host_decl.specs.DraftView.{host_draft};
 ghost use Rattle.host_decl.specs.Hosts.{AreHostNames};
 ghost use Rattle.host_decl.specs.Meaning.{IsHostOf, HasLabel, NamesFail, LabelsFail};
 
-use crate::error::HostsError;
 use crate::draft::HostDraft;
+use crate::error::HostsError;
 use crate::hosts::HostRow;
 use crate::label_text::label_of_text;
 use js_base::limits::HOSTS;

@@ -8,5 +8,5 @@ loop-place-preserved c =
     let long : length c.args.digits.now ≡ 64 = key_length c.args.digits.now c.requires in (
       simp length-set c.loop-place.invariant.0,
       byte_more c.args.digits.now c.loop-place.key c.loop-place.place c.byte_of.result (omega arith)
-      (omega arith) c.byte_of.ensures c.loop-place.invariant.1,
+          (omega arith) c.byte_of.ensures c.loop-place.invariant.1,
     )

@@ -94,13 +94,13 @@ new-requires c =
     rw (c.deref.ensures.value, c.deref-2.ensures.value) at c.in_ok-principals.ensures in
     record {
       declared = are_declared file.names file.pairs c.in_ok-principals.principals
-      (All-map IsName string_bytes c.args.draft.names.items c.requires.names) declared;
+          (All-map IsName string_bytes c.args.draft.names.items c.requires.names) declared;
       names = names;
       named = subst (All IsName) (named ∙ sym same) c.requires.hosts;
       labels = all_of (λ host. IsLabelOver c.in_ok-principals.principals host.label) c.in_ok-rows.rows.items
           (labels_over c.in_ok-principals.principals file.hosts c.in_ok-rows.rows.items c.in_ok-rows.ensures);
       keys = all_of (λ host. length host.key ≡ KEY_BYTES) c.in_ok-rows.rows.items
-      (whole_keys c.in_ok-principals.principals c.args.draft.hosts.items c.in_ok-rows.rows.items c.in_ok-rows.ensures);
+          (whole_keys c.in_ok-principals.principals c.args.draft.hosts.items c.in_ok-rows.rows.items c.in_ok-rows.ensures);
       table = rw length-map at costs;
     }
 

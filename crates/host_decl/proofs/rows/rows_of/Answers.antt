@@ -7,9 +7,9 @@ pub loop-host-init : goal.loop-host-init
 loop-host-init c =
     let whole : vec_len c.args.hosts ≡ length c.args.hosts.items = omega arith in (
       read_none c.args.principals.now c.args.hosts.items _ _ c.into_iter-host-iterator.ensures.into_iter_gives.0
-      c.new-rows.ensures.items,
+          c.new-rows.ensures.items,
       c.into_iter-host-iterator.ensures.into_iter_gives.1 ∙ whole
-      ∙ ap length (sym c.into_iter-host-iterator.ensures.into_iter_gives.0),
+          ∙ ap length (sym c.into_iter-host-iterator.ensures.into_iter_gives.0),
     )
 
 pub overflow_cast-result : goal.overflow_cast-result

@@ -10,9 +10,9 @@ returns-in-Some-clause-some c =
 pub loop-item-preserved : goal.loop-item-preserved
 loop-item-preserved c = (
   λ sound. c.loop-item.invariant.0
-    (sound_here c.args.kind c.args.items.now c.loop-item.item-index c.item-item.result c.loop-item-test.true
-    c.item-item.is c.in_default.ensures.none sound),
+      (sound_here c.args.kind c.args.items.now c.loop-item.item-index c.item-item.result c.loop-item-test.true
+      c.item-item.is c.in_default.ensures.none sound),
   λ key bad. c.loop-item.invariant.1 key
-    (bad_after c.args.kind c.args.items.now c.loop-item.item-index c.item-item.result key c.loop-item-test.true
-    c.item-item.is c.in_default.ensures.none bad),
+      (bad_after c.args.kind c.args.items.now c.loop-item.item-index c.item-item.result key c.loop-item-test.true
+      c.item-item.is c.in_default.ensures.none bad),
 )
