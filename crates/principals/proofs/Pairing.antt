@@ -7,6 +7,7 @@ use Rattle.std.proofs.lemmas.List.{map_more, map-append, length-map, get_or-map}
 use Rattle.std.proofs.Math.Seq.{drop-cons}
 use Rattle.std.proofs.lemmas.List.Elements.{All-map}
 use Rattle.js_base.specs.Name.{IsName}
+use Rattle.js_base.proofs.Lists.{zip_push}
 use Rattle.js_base.specs.declared.ids.PrincipalId.{PrincipalId}
 use Rattle.std.proofs.lemmas.Option.{slice_get_within, get_or_from_slice_get}
 use Rattle.principals.specs.Declaring.{IsNamed, IsPairOf, IsFirstUnknown, IsUnknownIn, mentioned, written_pair, written_pairs}
@@ -23,12 +24,6 @@ Written = String Global × String Global
 pub record PairedSoFar (names : List (String Global)) (pairs : List Written) (place : ℕ) (ids : List (PrincipalId × PrincipalId)) : Type 0 where
   pub known : AllZip (IsPairOf (map string_bytes names)) (map written_pair (take place pairs)) (map pair_of ids)
   pub first : (name : List ℕ) → IsFirstUnknown (map string_bytes names) (mentioned (map written_pair (drop place pairs))) name → IsFirstUnknown (map string_bytes names) (mentioned (map written_pair pairs)) name
-
-zip_push : (names : List (List ℕ)) (xs : List (List ℕ × List ℕ)) (ys : List (ℕ × ℕ)) (x : List ℕ × List ℕ) (y : ℕ × ℕ) → AllZip (IsPairOf names) xs ys → IsPairOf names x y → AllZip (IsPairOf names) (xs ++ x ∷ []) (ys ++ y ∷ [])
-zip_push names [] [] x y so_far is = (is, tt)
-zip_push names [] (z ∷ ys) x y so_far is = absurd so_far
-zip_push names (z ∷ xs) [] x y so_far is = absurd so_far
-zip_push names (z ∷ xs) (w ∷ ys) x y so_far is = (so_far.0, zip_push names xs ys x y so_far.1 is)
 
 pub named_is_held : (names : List (List ℕ)) (name : List ℕ) (place : ℕ) → IsNamed names name place → Contains names name
 named_is_held names name place is = (place, slice_get_within names place name is, get_or_from_slice_get names place name name is)
@@ -47,7 +42,7 @@ known_more names pairs place ids pair id within read is so_far =
     let Q : List (ℕ × ℕ) → Type 0 = λ ys. AllZip (IsPairOf names) (map written_pair (take place pairs) ++ written_pair pair ∷ []) ys in
     let last : written_pair pair ≡ written_pair (get_or pairs place pair) = ap written_pair read in
     subst P (ap (λ y. map written_pair (take place pairs) ++ y ∷ []) last ∙ sym (map_more written_pair pairs place pair within))
-    (subst Q (sym (map-append pair_of ids (id ∷ []))) (zip_push names _ _ _ _ so_far is))
+    (subst Q (sym (map-append pair_of ids (id ∷ []))) (zip_push (IsPairOf names) _ _ _ _ so_far is))
 
 -- the next pair is known
 pub paired_more : (names : List (String Global)) (pairs : List Written) (place : ℕ) (ids : List (PrincipalId × PrincipalId)) (pair : Written) (id : PrincipalId × PrincipalId) → place < length pairs → pair ≡ get_or pairs place pair → IsPairOf (map string_bytes names) (written_pair pair) (pair_of id) → PairedSoFar names pairs place ids → PairedSoFar names pairs (place + 1) (ids ++ id ∷ [])
