@@ -1,3 +1,4 @@
 pub mod Chains
+pub mod Declarations
 pub mod Pairing
 pub mod Rows

@@ -69,26 +69,6 @@ first_of_all names pairs place ids pair name within read so_far unknown =
     unknown_in_front (map string_bytes names) (mentioned (written_pair pair ∷ [])) (mentioned (map written_pair (drop (place + 1) pairs))) name unknown in
     so_far.first name (subst Q (sym (rest_mentions pairs place pair within read)) here)
 
-pub unknown_of_all : (names : List (String Global)) (pairs : List Written) (place : ℕ) (ids : List (PrincipalId × PrincipalId)) (pair : Written) (error : PrincipalError) → place < length pairs → pair ≡ get_or pairs place pair → PairedSoFar names pairs place ids → IsUnknownIn (map string_bytes names) (mentioned (written_pair pair ∷ [])) error → IsUnknownIn (map string_bytes names) (mentioned (written_pairs pairs)) error
-unknown_of_all names pairs place ids pair OutOfMemory within read so_far unknown = tt
-unknown_of_all names pairs place ids pair TooMany within read so_far unknown = unknown
-unknown_of_all names pairs place ids pair (Twice name) within read so_far unknown = unknown
-unknown_of_all names pairs place ids pair (Unknown name) within read so_far unknown =
-    first_of_all names pairs place ids pair (string_bytes name) within read so_far unknown
-
--- in a pair, the first name is unknown, or the second is and the first is known
-pub first_of_pair : (names : List (List ℕ)) (first second : List ℕ) (error : PrincipalError) → IsUnknownIn names (first ∷ []) error → IsUnknownIn names (first ∷ second ∷ []) error
-first_of_pair names first second OutOfMemory unknown = tt
-first_of_pair names first second TooMany unknown = unknown
-first_of_pair names first second (Twice name) unknown = unknown
-first_of_pair names first second (Unknown name) unknown = unknown_in_front names (first ∷ []) (second ∷ []) (string_bytes name) unknown
-
-pub second_of_pair : (names : List (List ℕ)) (first second : List ℕ) (place : ℕ) (error : PrincipalError) → IsNamed names first place → IsUnknownIn names (second ∷ []) error → IsUnknownIn names (first ∷ second ∷ []) error
-second_of_pair names first second place OutOfMemory known unknown = tt
-second_of_pair names first second place TooMany known unknown = unknown
-second_of_pair names first second place (Twice name) known unknown = unknown
-second_of_pair names first second place (Unknown name) known unknown = inr (named_is_held names first place known, unknown)
-
 -- ---- pairs are of declared principals
 
 named_within : (names : List (List ℕ)) (xs : List (List ℕ × List ℕ)) (ys : List (ℕ × ℕ)) → AllZip (IsPairOf names) xs ys → (k : ℕ) (d : ℕ × ℕ) → k < length ys → ((get_or ys k d).0 < length names) × ((get_or ys k d).1 < length names)

@@ -1,9 +1,9 @@
 //! Principals, and who acts for whom.
 
-ghost use Rattle.std.specs.Prelude.{◌≡◌, ℕ, ◌<◌, ◌≤◌, ◌↔◌, length, map, Some, IsTrue, IfSome, IfNone, All, Contains};
-ghost use Rattle.std.specs.Prelude.{slice_get, MatchResult, string_bytes, Bool};
+ghost use Rattle.std.specs.Prelude.{◌≡◌, ◌<◌, ◌↔◌, length, map, Some, IsTrue, IfSome, IfNone, All, Contains};
+ghost use Rattle.std.specs.Prelude.{slice_get, MatchResult, string_bytes};
 ghost use Rattle.js_base.specs.Name.{IsName};
-ghost use Rattle.principals.specs.ActsFor.{Declared, ActsFor, IsDeclared, IsPreorder, outsider};
+ghost use Rattle.principals.specs.ActsFor.{ActsFor, IsDeclared};
 ghost use Rattle.principals.specs.Declaring.{AreDeclaredAs, Refuses, written_pairs};
 
 use crate::closure::rows_of;
@@ -143,27 +143,3 @@ impl Principals {
         has_bit(self.rows[p.0 as usize], q.0)
     }
 }
-
-/// Laws of who acts for whom, for who reasons about it. The call does nothing.
-pub fn acts_for_laws()
-    // It is the smallest relation that leads from each to itself, goes on over another, and holds the declared pairs.
-    ensures reflexive { (principals : Declared) (p : ℕ) → ActsFor principals p p }
-    ensures transitive { (principals : Declared) (p q r : ℕ) → ActsFor principals p q → ActsFor principals q r →
-        ActsFor principals p r }
-    ensures declared { (principals : Declared) (p q : ℕ) → Contains principals.pairs (p, q) → ActsFor principals p q }
-    ensures smallest { (principals : Declared) (relation : ℕ → ℕ → Bool) → IsPreorder relation →
-        ((p q : ℕ) → Contains principals.pairs (p, q) → IsTrue (relation p q)) →
-        (p q : ℕ) → ActsFor principals p q → IsTrue (relation p q) }
-
-    // The outsider acts for itself alone, and only itself acts for it.
-    ensures of_outsider { (principals : Declared) (p : ℕ) → IsDeclared principals → ActsFor principals outsider p →
-        p ≡ outsider }
-    ensures for_outsider { (principals : Declared) (p : ℕ) → IsDeclared principals → ActsFor principals p outsider →
-        p ≡ outsider }
-
-    // Whom a declared principal acts for is declared, and so is who acts for one.
-    ensures of_declared { (principals : Declared) (p q : ℕ) → IsDeclared principals → p < length principals.names →
-        ActsFor principals p q → q < length principals.names }
-    ensures for_declared { (principals : Declared) (p q : ℕ) → IsDeclared principals → q < length principals.names →
-        ActsFor principals p q → p < length principals.names }
-{}
