@@ -1,28 +1,23 @@
 -- Tables of costs.
 use Rattle.std.proofs.Common.{◌≡◌, ◌≢◌, ◌⊎◌, ℕ, pos, ◌<◌, ◌≤◌, true, false, ◌&&◌, List, [], ◌∷◌, length, get_or, map}
-use Rattle.std.proofs.Common.{Vec, Global, All, IsTrue, int_le, nat_le, nat_lt, string_bytes, refl, sym, ap, ◌∙◌, inl}
+use Rattle.std.proofs.Common.{Vec, Global, All, IsTrue, int_le, nat_le, refl, sym, ap, ◌∙◌, inl}
 use Rattle.std.proofs.Common.{inr, arith}
 use Rattle.std.proofs.Math.ListN.{get_or-map as get_or_map_same}
-use Rattle.std.proofs.lemmas.Bool.{cases_Bool, and_parts}
+use Rattle.std.proofs.lemmas.Bool.{cases_Bool, cases_order, and_parts}
 use Rattle.std.proofs.lemmas.Bool.Decides.{nat_tests}
 use Rattle.std.proofs.lemmas.List.{get_or-map, length-map}
 use Rattle.std.proofs.lemmas.Map.Keys.{apart_from_distinct}
 use Rattle.std.proofs.lemmas.Slice.Eq.{bytes_eq-Decides}
 use Rattle.std.specs.List.{AllByRecursion, IsDistinct}
 use Rattle.std.specs.Str.{bytes_eq}
+use Rattle.js_base.specs.declared.limits.TheConstants.{LINK_COST}
 use Rattle.js_base.proofs.Texts.{bytes_eq_laws}
-use Rattle.host_decl.specs.declared.draft.LinkDraft.{LinkDraft}
 use Rattle.host_decl.specs.Draft.{LinkDraftShape}
-use Rattle.host_decl.specs.DraftView.{link_draft}
 use Rattle.host_decl.specs.Hosts.{AreCosts, cost_at}
 use Rattle.host_decl.specs.Meaning.{is_cost, link_cost, cost_between, cost_table}
 
 lt_or_gt : (a b : ℕ) → a ≢ b → (a < b) ⊎ (b < a)
-lt_or_gt a b apart =
-    elim (cases_Bool (nat_lt a b)) [
-      | inl less ↦ inl (grind (arith, nat_tests))
-      | inr not_less ↦ inr (grind (arith, nat_tests))
-    ]
+lt_or_gt a b apart = elim (cases_order a b) [ inl same ↦ absurd (apart same) | inr either ↦ either ]
 
 -- each row is as long as the columns are many
 pub row_is_long : (costs : List (Vec ℕ Global)) (count place : ℕ) (row : Vec ℕ Global)
@@ -39,19 +34,19 @@ at_most : (a b : ℕ) → nat_le a b ≡ true → a ≤ b
 at_most a b test = grind (arith, nat_tests)
 
 -- what a link between two hosts costs, where all links cost 1 to 1,000
-cost_is_small : (cost : ℕ) → is_cost (pos cost) ≡ true → (1 ≤ cost) × (cost ≤ 1000)
+cost_is_small : (cost : ℕ) → is_cost (pos cost) ≡ true → (1 ≤ cost) × (cost ≤ LINK_COST)
 cost_is_small cost small =
-    let parts = and_parts (int_le (pos 1) (pos cost)) (int_le (pos cost) (pos 1000)) small in
+    let parts = and_parts (int_le (pos 1) (pos cost)) (int_le (pos cost) (pos LINK_COST)) small in
     let low : nat_le 1 cost ≡ true = parts.0 in
-    let high : nat_le cost 1000 ≡ true = parts.1 in
-    (at_most 1 cost low, at_most cost 1000 high)
+    let high : nat_le cost LINK_COST ≡ true = parts.1 in
+    (at_most 1 cost low, at_most cost LINK_COST high)
 
-link_is_small : (links : List LinkDraft) (from to : List ℕ) (cost : ℕ)
-    → AllByRecursion (λ link. IsTrue (is_cost link.cost)) links → pos cost ≡ link_cost (map link_draft links) from to
-    → (1 ≤ cost) × (cost ≤ 1000)
+link_is_small : (links : List LinkDraftShape) (from to : List ℕ) (cost : ℕ)
+    → AllByRecursion (λ link. IsTrue (is_cost link.cost)) links → pos cost ≡ link_cost links from to
+    → (1 ≤ cost) × (cost ≤ LINK_COST)
 link_is_small [] from to cost all is = let same : cost ≡ 1 = cc in (omega arith, omega arith)
 link_is_small (link ∷ links) from to cost all is =
-    elim (cases_Bool (bytes_eq (string_bytes link.from) from && bytes_eq (string_bytes link.to) to)) [
+    elim (cases_Bool (bytes_eq link.from from && bytes_eq link.to to)) [
       | inl here ↦
           let own : pos cost ≡ link.cost = rw here at is in
           cost_is_small cost (ap is_cost own ∙ all.0)
@@ -94,24 +89,24 @@ names_apart names from to distinct apart from_within to_within =
           ∙ apart_from_distinct bytes_eq names to from [] distinct after from_within
     ]
 
-pub table_of_costs : (names : List (List ℕ)) (links : List LinkDraft) (costs : List (List ℕ))
+pub table_of_costs : (names : List (List ℕ)) (links : List LinkDraftShape) (costs : List (List ℕ))
     → IsDistinct bytes_eq names → AllByRecursion (λ link. IsTrue (is_cost link.cost)) links
-    → map (map pos) costs ≡ cost_table names (map link_draft links) → AreCosts (length names) costs
+    → map (map pos) costs ≡ cost_table names links → AreCosts (length names) costs
 table_of_costs names links costs distinct small is =
     let long : length costs ≡ length names = sym (length-map costs (map pos)) ∙ ap length is ∙ length-map names _ in
     record {
       rows = long;
-      columns = λ place d within. row_length names (map link_draft links) costs is place d (omega arith);
+      columns = λ place d within. row_length names links costs is place d (omega arith);
       own = λ host within.
           let same : pos (cost_at costs host host) ≡ pos 0 =
-          cell names (map link_draft links) costs is host host within within
-          ∙ own_is_nothing names (map link_draft links) (get_or names host []) in cc;
+          cell names links costs is host host within within
+          ∙ own_is_nothing names links (get_or names host []) in cc;
       others = λ from to from_within to_within apart.
           let other = names_apart names from to distinct apart from_within to_within in
-          let between : cost_between (map link_draft links) (get_or names from []) (get_or names to []) ≡ link_cost
-          (map link_draft links) (get_or names from []) (get_or names to []) = rw other refl in
+          let between : cost_between links (get_or names from []) (get_or names to []) ≡ link_cost
+          links (get_or names from []) (get_or names to []) = rw other refl in
           link_is_small links (get_or names from []) (get_or names to []) (cost_at costs from to) small
-          (cell names (map link_draft links) costs is from to from_within to_within ∙ between);
+          (cell names links costs is from to from_within to_within ∙ between);
     }
 
 -- the costs of all rows, row by row

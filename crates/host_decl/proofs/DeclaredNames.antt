@@ -35,7 +35,7 @@ in_array : (found : Option Items) → option_map_or (all_items (is_text_of is_na
 in_array None all = absurd (false≢true all)
 in_array (Some items) all = named_items items all
 
-true_from_not : (b : Bool) → (not b ≡ true → ⊥) → b ≡ true
+pub true_from_not : (b : Bool) → (not b ≡ true → ⊥) → b ≡ true
 true_from_not true sound = refl
 true_from_not false sound = absurd (sound refl)
 
@@ -71,7 +71,7 @@ at_the_name : (held : Option Data) → (is_bad Host (codes "name") held ≡ true
 at_the_name None sound = absurd (sound refl)
 at_the_name (Some value) sound = host_name (as_str value) (true_from_not _ sound)
 
-host_names_of : (tables : List Members) → AllByRecursion (IsSound Host) tables
+pub host_names_of : (tables : List Members) → AllByRecursion (IsSound Host) tables
     → AllByRecursion IsName (map (λ host. host.name) (map host_of tables))
 host_names_of [] sound = tt
 host_names_of (table ∷ tables) sound =

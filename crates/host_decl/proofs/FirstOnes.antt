@@ -1,7 +1,7 @@
 -- The first of its kind is one: the first host without a label, the first bad link, the first bad key.
 use Rattle.std.proofs.Common.{◌≡◌, ◌≢◌, ◌⊎◌, ℕ, zero, suc, ◌<◌, Bool, true, false, List, [], ◌∷◌, map, take, length}
 use Rattle.std.proofs.Common.{get_or, Some, None, slice_get, Contains, inl, inr, refl, sym, subst, ap, ◌∙◌, arith}
-use Rattle.std.proofs.lemmas.Bool.{false≢true}
+use Rattle.std.proofs.lemmas.Bool.{cases_order, false≢true}
 use Rattle.std.proofs.lemmas.Option.{slice_get_within}
 use Rattle.std.specs.List.{AllByRecursion}
 use Rattle.principals.specs.ActsFor.{Declared}
@@ -12,10 +12,23 @@ use Rattle.host_decl.specs.Meaning.{HasLabel, IsFirstWithoutLabel, AreSoundUpTo,
 use Rattle.host_decl.specs.Meaning.{is_sound_link}
 use Rattle.host_decl.specs.Schema.{IsBadKey, IsLeast, IsFirstBadKey, IsSoundAs}
 use Rattle.host_decl.proofs.Least.{not_after_both}
-use Rattle.host_decl.proofs.Repeats.{same_place, same_here}
+
+-- two places of which neither is before the other
+same_place : (first second : ℕ) → ¬ (first < second) → ¬ (second < first) → first ≡ second
+same_place first second not_before not_after =
+    elim (cases_order first second) [
+      | inl same ↦ same
+      | inr apart ↦ elim apart [ inl before ↦ absurd (not_before before) | inr after ↦ absurd (not_after after) ]
+    ]
+
+-- what stands at a place is one
+same_here : {A : Type 0} (xs : List A) (place other : ℕ) (x y : A) → place ≡ other → slice_get xs place ≡ Some x
+    → slice_get xs other ≡ Some y → x ≡ y
+same_here xs place other x y same one two =
+    let both : Some x ≡ Some y = sym one ∙ ap (slice_get xs) same ∙ two in cc
 
 -- what holds of all in front of a place
-pub of_front : {A : Type 0} (P : A → Type 0) (xs : List A) (count place : ℕ) (x : A) → AllByRecursion P (take count xs)
+of_front : {A : Type 0} (P : A → Type 0) (xs : List A) (count place : ℕ) (x : A) → AllByRecursion P (take count xs)
     → place < count → slice_get xs place ≡ Some x → P x
 of_front P [] count place x all below here = absurd (let within = slice_get_within [] place x here in omega arith)
 of_front P (y ∷ ys) zero place x all below here = absurd (omega arith)
@@ -23,7 +36,7 @@ of_front P (y ∷ ys) (suc count) zero x all below here =
     let both : Some y ≡ Some x = here in let same : y ≡ x = cc in subst P same all.0
 of_front P (y ∷ ys) (suc count) (suc place) x all below here = of_front P ys count place x all.1 (omega arith) here
 
-pub of_all : {A : Type 0} (P : A → Type 0) (xs : List A) (place : ℕ) (x : A) → AllByRecursion P xs
+of_all : {A : Type 0} (P : A → Type 0) (xs : List A) (place : ℕ) (x : A) → AllByRecursion P xs
     → slice_get xs place ≡ Some x → P x
 of_all P [] place x all here = absurd (let within = slice_get_within [] place x here in omega arith)
 of_all P (y ∷ ys) zero x all here =

@@ -16,17 +16,13 @@ use Rattle.host_decl.specs.Hosts.{HostShape, names_of}
 use Rattle.host_decl.specs.Meaning.{IsHostOf, HasLabel, IsFirstWithoutLabel}
 
 -- each host that was read has a label
-labels_of_rows : (principals : Declared) (texts : List HostDraftShape) (rows : List HostShape)
-    → AllZip (IsHostOf principals) texts rows → AllByRecursion (HasLabel principals) texts
-labels_of_rows principals [] [] all = tt
-labels_of_rows principals [] (row ∷ rows) all = absurd all
-labels_of_rows principals (text ∷ texts) [] all = absurd all
-labels_of_rows principals (text ∷ texts) (row ∷ rows) all =
-    ((row.label, all.0.label), labels_of_rows principals texts rows all.1)
-
 pub all_have_labels : (principals : Declared) (texts : List HostDraftShape) (rows : List HostShape)
     → AllZip (IsHostOf principals) texts rows → AllByRecursion (HasLabel principals) texts
-all_have_labels principals texts rows all = labels_of_rows principals texts rows all
+all_have_labels principals [] [] all = tt
+all_have_labels principals [] (row ∷ rows) all = absurd all
+all_have_labels principals (text ∷ texts) [] all = absurd all
+all_have_labels principals (text ∷ texts) (row ∷ rows) all =
+    ((row.label, all.0.label), all_have_labels principals texts rows all.1)
 
 -- the names are those that are written
 pub same_names : (principals : Declared) (texts : List HostDraftShape) (rows : List HostShape)
@@ -46,14 +42,21 @@ labels_over principals (text ∷ texts) [] all = absurd all
 labels_over principals (text ∷ texts) (row ∷ rows) all = (all.0.label.over, labels_over principals texts rows all.1)
 
 -- the keys are whole
-pub whole_keys : (principals : Declared) (hosts : List HostDraft) (rows : List HostShape)
-    → AllZip (IsHostOf principals) (map host_draft hosts) rows
+abbrev pub HaveWholeKeys : List HostDraftShape → Type 0
+HaveWholeKeys texts = AllByRecursion (λ text. length text.key ≡ KEY_BYTES) texts
+
+pub whole_keys : (principals : Declared) (texts : List HostDraftShape) (rows : List HostShape)
+    → AllZip (IsHostOf principals) texts rows → HaveWholeKeys texts
     → AllByRecursion (λ host. length host.key ≡ KEY_BYTES) rows
-whole_keys principals [] [] all = tt
-whole_keys principals [] (row ∷ rows) all = absurd all
-whole_keys principals (host ∷ hosts) [] all = absurd all
-whole_keys principals (host ∷ hosts) (row ∷ rows) all =
-    (ap length all.0.key ∙ host.whole_key, whole_keys principals hosts rows all.1)
+whole_keys principals [] [] all whole = tt
+whole_keys principals [] (row ∷ rows) all whole = absurd all
+whole_keys principals (text ∷ texts) [] all whole = absurd all
+whole_keys principals (text ∷ texts) (row ∷ rows) all whole =
+    (ap length all.0.key ∙ whole.0, whole_keys principals texts rows all.1 whole.1)
+
+pub keys_as_read : (hosts : List HostDraft) → HaveWholeKeys (map host_draft hosts)
+keys_as_read [] = tt
+keys_as_read (host ∷ hosts) = (host.whole_key, keys_as_read hosts)
 
 -- the hosts that were read, and those that are left
 pub record ReadSoFar (principals : Declared) (hosts read left : List HostDraft) (rows : List HostShape) : Type 0 where
@@ -117,5 +120,5 @@ first_without principals hosts read left rest rows host count name next counted 
       here = at_seam (map host_draft read) (host_draft host) (map host_draft rest);
       named = named;
       without = without;
-      before = rw take-append_seam (labels_of_rows principals (map host_draft read) rows so_far.are_rows);
+      before = rw take-append_seam (all_have_labels principals (map host_draft read) rows so_far.are_rows);
     }))

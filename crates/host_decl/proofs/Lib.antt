@@ -9,8 +9,9 @@ pub mod Meanings
 pub mod DeclaredNames
 pub mod LabelTexts
 pub mod Lists
-pub mod Repeats
 pub mod FirstOnes
 pub mod Declared
 pub mod OneMeaning
 pub mod OneRefusal
+pub mod WholeKeys
+pub mod SoundHosts

@@ -10,13 +10,12 @@ use Rattle.label_lattice.specs.Over.{IsLabelOver}
 use Rattle.label_lattice.specs.Written.{IsLabelOf}
 use Rattle.toml.specs.Data.{Members}
 use Rattle.host_decl.specs.Draft.{HostDraftShape, HostsDraftShape, draft_of}
-use Rattle.host_decl.specs.Hosts.{HostShape, HostsShape, AreHostNames, names_of}
+use Rattle.host_decl.specs.Hosts.{HostShape, HostsShape}
 use Rattle.host_decl.specs.LabelText.{IsLabelText}
 use Rattle.host_decl.specs.Meaning.{IsHostOf, IsMeaningOf, cost_table, host_names}
 use Rattle.host_decl.specs.Reading.{IsDocument, ReadsHosts}
 use Rattle.host_decl.proofs.Declared.{are_declared}
 use Rattle.host_decl.proofs.DeclaredNames.{principal_names}
-use Rattle.host_decl.proofs.HostRows.{same_names}
 use Rattle.host_decl.proofs.LabelTexts.{OneReading, same_tokens}
 
 -- what the laws of the crates below say
@@ -121,9 +120,3 @@ reads_once laws bytes first second one two =
     let file = document_once bytes two.0 one.0 two.1 one.1 in
     let means = subst (λ held. IsMeaningOf (draft_of held) second) file two.3 in
     meaning_once laws (draft_of one.0) first second (principal_names one.0 one.2.0) one.3 means
-
--- the names of the hosts are those that are written
-pub names_read : (bytes : List ℕ) (hosts : HostsShape) → ReadsHosts bytes hosts → AreHostNames (names_of hosts.hosts)
-names_read bytes hosts reads =
-    subst AreHostNames (sym (same_names hosts.principals (draft_of reads.0).hosts hosts.hosts reads.3.rows))
-    reads.3.names

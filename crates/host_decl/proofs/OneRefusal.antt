@@ -7,6 +7,7 @@ use Rattle.std.specs.List.{AllByRecursion}
 use Rattle.principals.specs.ActsFor.{Declared}
 use Rattle.js_base.specs.Named.{IsFirstRepeated}
 use Rattle.principals.specs.Declaring.{AreDeclaredAs, Refuses}
+use Rattle.principals.specs.Refusal as principals
 use Rattle.principals.specs.declared.principals.PrincipalError.{PrincipalError}
 use Rattle.principals.specs.declared.principals.PrincipalError.TheVariants as principal_error
 use Rattle.js_base.specs.declared.limits.TheConstants.{HOSTS_BYTES}
@@ -18,10 +19,10 @@ use Rattle.host_decl.specs.Hosts.{HostsShape, AreHostNames}
 use Rattle.host_decl.specs.Meaning.{HasLabel, PrincipalsFail, NamesFail, LabelsFail, LinksFail, AreSoundLinks}
 use Rattle.host_decl.specs.Meaning.{HostsFail, IsMeaningOf, RefusesFile, host_names}
 use Rattle.host_decl.specs.Reading.{IsDocument, ReadsHosts, DocumentFails, KeysFail, MembersFail, RefusesHosts}
-use Rattle.host_decl.specs.Refusal.{principal_shape, HostsRefusal, refusal_shape, bad_key, bad_label, bad_principals}
+use Rattle.host_decl.specs.Refusal.{HostsRefusal, refusal_shape, bad_key, bad_label, bad_principals}
 use Rattle.host_decl.specs.Refusal.{host_twice, bad_link}
 use Rattle.host_decl.specs.Schema.{IsSoundFile, file_tables}
-use Rattle.host_decl.proofs.Repeats.{distinct_or_repeated, repeated_once}
+use Rattle.js_base.proofs.Repeats.{none_repeated, one_repeated}
 use Rattle.host_decl.proofs.FirstOnes.{without_label_once, all_labels_or_without}
 use Rattle.host_decl.proofs.FirstOnes.{bad_link_once, sound_links_or_bad, bad_key_once, sound_keys_or_bad}
 use Rattle.host_decl.proofs.HostRows.{all_have_labels}
@@ -31,7 +32,7 @@ use Rattle.host_decl.proofs.OneMeaning.{DeclaredOnce, document_once}
 abbrev pub RefusedOnce : Type 0
 RefusedOnce = (names : List (List ℕ)) (pairs : List (List ℕ × List ℕ)) (first second : PrincipalError)
     → Refuses names pairs first → Refuses names pairs second → first ≢ principal_error.OutOfMemory
-    → second ≢ principal_error.OutOfMemory → principal_shape first ≡ principal_shape second
+    → second ≢ principal_error.OutOfMemory → principals.refusal_shape first ≡ principals.refusal_shape second
 
 abbrev pub NeverBoth : Type 0
 NeverBoth = (names : List (List ℕ)) (pairs : List (List ℕ × List ℕ)) (principals : Declared) (why : PrincipalError)
@@ -109,7 +110,7 @@ names_once names error.TooManyHosts second one two ample too = absurd two
 names_once names (error.HostTwice name) error.NoHost one two ample too = absurd (none_repeats names _ two one.1)
 names_once names (error.HostTwice name) error.TooManyHosts one two ample too = absurd (let few = one.0 in omega arith)
 names_once names (error.HostTwice name) (error.HostTwice other) one two ample too =
-    ap host_twice (repeated_once names (string_bytes name) (string_bytes other) one.1 two.1)
+    ap host_twice (one_repeated names (string_bytes name) (string_bytes other) one.1 two.1)
 names_once names (error.HostTwice name) second one two ample too = absurd two
 names_once names first second one two ample too = absurd one
 
@@ -118,7 +119,7 @@ names_exclude names error.OutOfMemory fails sound = refl
 names_exclude names error.NoHost fails sound = absurd (none_is_few names 0 fails sound.some)
 names_exclude names error.TooManyHosts fails sound = absurd (let few = sound.few in omega arith)
 names_exclude names (error.HostTwice name) fails sound =
-    absurd (distinct_or_repeated names (string_bytes name) sound.distinct fails.1)
+    absurd (none_repeated names (string_bytes name) sound.distinct fails.1)
 names_exclude names why fails sound = absurd fails
 
 -- ---- labels

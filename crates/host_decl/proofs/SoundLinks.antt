@@ -8,7 +8,7 @@ use Rattle.std.proofs.Math.Seq.{take-suc}
 use Rattle.std.proofs.lemmas.List.Folds.{Any-from_list_any}
 use Rattle.std.proofs.lemmas.Map.Keys.{IsDistinct-push}
 use Rattle.std.proofs.lemmas.Map.Made.{length-le_from_is_member}
-use Rattle.std.proofs.lemmas.Option.{slice_get-get_or}
+use Rattle.std.proofs.lemmas.Option.{slice_get-get_or, slice_get_within}
 use Rattle.std.proofs.lemmas.Slice.Eq.{bytes_eq-Decides}
 use Rattle.std.specs.Cmp.{IsEquivalence}
 use Rattle.std.specs.List.{AllByRecursion, list_any, IsDistinct, take-map}
@@ -223,20 +223,21 @@ few_links names links count sound within =
     rw (← length_pairings names names) (rw long at most)
 
 -- what holds of the link at each place
-all_of_links : (links : List LinkDraft)
-    → ((place : ℕ) (link : LinkDraft) → place < length links → link ≡ get_or links place link
-    → is_cost link.cost ≡ true) → AllByRecursion (λ link. IsTrue (is_cost link.cost)) links
+all_of_links : (links : List LinkDraftShape)
+    → ((place : ℕ) (link : LinkDraftShape) → slice_get links place ≡ Some link → is_cost link.cost ≡ true)
+    → AllByRecursion (λ link. IsTrue (is_cost link.cost)) links
 all_of_links [] each = tt
-all_of_links (link ∷ links) each = (
-  each zero link (omega arith) refl,
-  all_of_links links (λ place other within is. each (suc place) other
-      (let more : suc place < suc (length links) = omega arith in more) is),
-)
+all_of_links (link ∷ links) each =
+    (each zero link refl, all_of_links links (λ place other here. each (suc place) other here))
 
 -- costs of sound links
-pub sound_costs : (names : List (List ℕ)) (links : List LinkDraft) → AreSoundLinks names (map link_draft links)
+pub sound_costs : (names : List (List ℕ)) (links : List LinkDraftShape) → AreSoundLinks names links
     → AllByRecursion (λ link. IsTrue (is_cost link.cost)) links
-sound_costs names links sound = all_of_links links (λ place link within is.
-    let inside : place < length (map link_draft links) = rw length-map within in
-    (sound_is names (take place (map link_draft links)) (link_draft link)
-    (sound place inside (link_draft link) (link_here links place link within is))).cost)
+sound_costs names links sound = all_of_links links (λ place link here.
+    (sound_is names (take place links) link (sound place (slice_get_within links place link here) link here)).cost)
+
+pub costs_as_read : (links : List LinkDraft)
+    → AllByRecursion (λ link. IsTrue (is_cost link.cost)) (map link_draft links)
+    → AllByRecursion (λ link. IsTrue (is_cost link.cost)) links
+costs_as_read [] all = tt
+costs_as_read (link ∷ links) all = (all.0, costs_as_read links all.1)

@@ -8,8 +8,8 @@ use Rattle.label_lattice.specs.declared.label.Label.{Label}
 use Rattle.label_lattice.specs.Over.{IsLabelOver}
 use Rattle.label_lattice.specs.Written.{IsLabelOf}
 
--- The text has tokens that are this label, written with names of these principals, and it is a label over them. No text of
--- a host file is so long that it has too many bytes for tokens.
+-- The text has tokens that are this label, written with names of these principals, and the label is over them. No text
+-- of a host file is so long that it has too many bytes for tokens.
 pub record IsLabelText (principals : Declared) (text : List ℕ) (label : Label) : Type 0 where
   pub few : length text ≤ PROGRAM_BYTES
   pub list : List Token

@@ -34,8 +34,8 @@ KeysFail file _ = ⊥
 abbrev pub MembersFail : Members → HostsError → Type 0
 MembersFail file refusal = KeysFail file refusal ⊎ (IsSoundFile file × RefusesFile (draft_of file) refusal)
 
--- Why bytes say no hosts: there are too many, otherwise they are not a document, otherwise the document is refused. Memory
--- may run out at any time.
+-- Why bytes say no hosts: there are too many, otherwise they are not a document, otherwise the document is refused.
+-- Memory may run out at any time.
 abbrev pub RefusesHosts : List ℕ → HostsError → Type 0
 RefusesHosts bytes refusal =
     ((refusal ≡ error.TooLong) × (HOSTS_BYTES < length bytes))

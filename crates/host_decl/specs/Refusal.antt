@@ -1,21 +1,9 @@
--- Why a host file is refused, as contracts see it. A name is the list of its bytes.
+-- Why a host file is refused, with names as the lists of their bytes.
 use Rattle.std.specs.Prelude.{ℕ, List, string_bytes}
-use Rattle.principals.specs.declared.principals.PrincipalError.{PrincipalError}
-use Rattle.principals.specs.declared.principals.PrincipalError.TheVariants as principal_error
+use Rattle.principals.specs.Refusal.{PrincipalRefusal}
+use Rattle.principals.specs.Refusal as principals
 use Rattle.host_decl.specs.declared.error.HostsError.{HostsError}
 use Rattle.host_decl.specs.declared.error.HostsError.TheVariants as error
-
-pub data PrincipalRefusal : Type 0 where
-  no_memory : PrincipalRefusal
-  too_many : PrincipalRefusal
-  twice : List ℕ → PrincipalRefusal
-  unknown : List ℕ → PrincipalRefusal
-
-abbrev pub principal_shape : PrincipalError → PrincipalRefusal
-principal_shape principal_error.OutOfMemory = no_memory
-principal_shape principal_error.TooMany = too_many
-principal_shape (principal_error.Twice name) = twice (string_bytes name)
-principal_shape (principal_error.Unknown name) = unknown (string_bytes name)
 
 pub data HostsRefusal : Type 0 where
   out_of_memory : HostsRefusal
@@ -34,7 +22,7 @@ refusal_shape error.OutOfMemory = out_of_memory
 refusal_shape error.NotToml = not_toml
 refusal_shape (error.BadKey key) = bad_key (string_bytes key)
 refusal_shape (error.BadLabel host name) = bad_label host.0 (string_bytes name)
-refusal_shape (error.Principals refusal) = bad_principals (principal_shape refusal)
+refusal_shape (error.Principals refusal) = bad_principals (principals.refusal_shape refusal)
 refusal_shape error.TooManyHosts = too_many_hosts
 refusal_shape (error.HostTwice name) = host_twice (string_bytes name)
 refusal_shape error.NoHost = no_host

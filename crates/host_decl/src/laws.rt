@@ -3,13 +3,13 @@
 ghost use Rattle.std.specs.Prelude.{◌≡◌, ◌≢◌, ℕ, List};
 ghost use Rattle.host_decl.specs.declared.error.HostsError.{HostsError};
 ghost use Rattle.host_decl.specs.declared.error.HostsError.TheVariants.{OutOfMemory};
-ghost use Rattle.host_decl.specs.Hosts.{HostsShape, AreHostNames, names_of};
+ghost use Rattle.host_decl.specs.Hosts.{HostsShape, AreHosts};
 ghost use Rattle.host_decl.specs.Reading.{ReadsHosts, RefusesHosts};
 ghost use Rattle.host_decl.specs.Refusal.{refusal_shape};
 
 use jif_lex::lex_laws;
 use label_lattice::label_laws;
-use principals::acts_for_laws;
+use principals::principals_laws;
 
 /// Laws of host files, for who reasons about them. The call does nothing.
 pub fn host_file_laws()
@@ -26,11 +26,10 @@ pub fn host_file_laws()
     ensures never_both { (bytes : List ℕ) (hosts : HostsShape) (why : HostsError) → ReadsHosts bytes hosts →
         RefusesHosts bytes why → why ≡ OutOfMemory }
 
-    // The hosts that it means have names that may stand together.
-    ensures names { (bytes : List ℕ) (hosts : HostsShape) → ReadsHosts bytes hosts →
-        AreHostNames (names_of hosts.hosts) }
+    // What it means keeps what the hosts of every host file keep.
+    ensures sound { (bytes : List ℕ) (hosts : HostsShape) → ReadsHosts bytes hosts → AreHosts hosts }
 {
     lex_laws();
     label_laws();
-    acts_for_laws();
+    principals_laws();
 }

@@ -1,11 +1,12 @@
-use Rattle.host_decl.proofs.OneMeaning.{AreOnce, reads_once, names_read}
+use Rattle.host_decl.proofs.OneMeaning.{AreOnce, reads_once}
 use Rattle.host_decl.proofs.OneRefusal.{AreRefusals, refuses_once, never_refused}
+use Rattle.host_decl.proofs.SoundHosts.{hosts_read}
 use Rattle.host_decl.proofs.laws.host_file_laws.Goals as goal
 
 pub returns-clause-one_meaning : goal.returns-clause-one_meaning
 returns-clause-one_meaning c =
     let laws : AreOnce = record {
-      declared = ?;
+      declared = c.principals_laws.ensures.declared_once;
       reading = c.lex_laws.ensures;
       written = c.label_laws.ensures.written_once;
     } in
@@ -13,13 +14,21 @@ returns-clause-one_meaning c =
 
 pub returns-clause-one_refusal : goal.returns-clause-one_refusal
 returns-clause-one_refusal c =
-    let laws : AreRefusals = ? in
+    let laws : AreRefusals = record {
+      declared = c.principals_laws.ensures.declared_once;
+      once = c.principals_laws.ensures.one_refusal;
+      never_both = c.principals_laws.ensures.never_both;
+    } in
     refuses_once laws
 
 pub returns-clause-never_both : goal.returns-clause-never_both
 returns-clause-never_both c =
-    let laws : AreRefusals = ? in
+    let laws : AreRefusals = record {
+      declared = c.principals_laws.ensures.declared_once;
+      once = c.principals_laws.ensures.one_refusal;
+      never_both = c.principals_laws.ensures.never_both;
+    } in
     never_refused laws
 
-pub returns-clause-names : goal.returns-clause-names
-returns-clause-names c = names_read
+pub returns-clause-sound : goal.returns-clause-sound
+returns-clause-sound c = hosts_read

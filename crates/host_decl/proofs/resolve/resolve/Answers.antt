@@ -1,20 +1,16 @@
-use Rattle.std.proofs.Common.{◌≡◌, pos, map, length, All, string_bytes, sym, subst, ◌∙◌}
+use Rattle.std.proofs.Common.{◌≡◌, pos, map, All, string_bytes, sym, subst}
 use Rattle.std.proofs.lemmas.List.{length-map}
 use Rattle.std.proofs.lemmas.List.Elements.{All-map}
+use Rattle.js_base.specs.Name.{IsName}
 use Rattle.principals.specs.Declaring.{AreDeclaredAs}
-use Rattle.host_decl.specs.declared.key.TheConstants.{KEY_BYTES}
-use Rattle.label_lattice.specs.Over.{IsLabelOver}
 use Rattle.host_decl.specs.DraftView.{hosts_draft}
 use Rattle.host_decl.specs.Hosts.{AreHostNames, names_of}
 use Rattle.host_decl.specs.Meaning.{IsMeaningOf, RefusesFile, AreSoundLinks, IsFirstBadLink, cost_table}
-use Rattle.host_decl.proofs.Costs.{table_of_costs, rows_of_costs}
-use Rattle.js_base.specs.Name.{IsName}
-use Rattle.host_decl.proofs.Lists.{all_of}
-use Rattle.host_decl.proofs.Declared.{are_declared}
-use Rattle.host_decl.proofs.HostRows.{same_names, whole_keys, labels_over}
-use Rattle.host_decl.proofs.SoundLinks.{sound_costs}
+use Rattle.host_decl.proofs.HostRows.{keys_as_read}
 use Rattle.host_decl.proofs.Meanings.{written_names, names_fail, labels_fail, link_fails, names_of_rows, means}
 use Rattle.host_decl.proofs.Meanings.{passed_on}
+use Rattle.host_decl.proofs.SoundHosts.{IsSpelled, hosts_of_meaning}
+use Rattle.host_decl.proofs.SoundLinks.{costs_as_read, sound_costs}
 use Rattle.host_decl.proofs.resolve.resolve.Goals as goal
 
 pub returns-in_err-test_names : goal.returns-in_err-test_names
@@ -70,7 +66,8 @@ costs_of-requires c =
     let file = hosts_draft c.args.draft in
     let sound_links : AreSoundLinks (names_of c.in_ok-rows.rows.items) file.links =
     rw (c.deref-4.ensures.value, c.deref-5.ensures.value) at c.in_default.ensures.none in
-    rw c.deref-7.ensures.value (sound_costs (names_of c.in_ok-rows.rows.items) c.args.draft.links.items sound_links)
+    rw c.deref-7.ensures.value
+    (costs_as_read c.args.draft.links.items (sound_costs (names_of c.in_ok-rows.rows.items) file.links sound_links))
 
 pub new-requires : goal.new-requires
 new-requires c =
@@ -83,26 +80,16 @@ new-requires c =
     let table : map (λ row. map pos row.items) c.in_ok-costs.costs.items ≡ cost_table
     (names_of c.in_ok-rows.rows.items) file.links =
     rw (c.deref-6.ensures.value, c.deref-7.ensures.value) at c.in_ok-costs.ensures in
-    let names = names_of_rows file c.in_ok-principals.principals _ c.in_ok-rows.rows.items named sound
-    c.in_ok-rows.ensures in
-    let costs = table_of_costs (names_of c.in_ok-rows.rows.items) c.args.draft.links.items
-    (map (λ row. row.items) c.in_ok-costs.costs.items) names.distinct
-    (sound_costs (names_of c.in_ok-rows.rows.items) c.args.draft.links.items sound_links)
-    (rows_of_costs c.in_ok-costs.costs.items ∙ table) in
-    let same = same_names c.in_ok-principals.principals file.hosts c.in_ok-rows.rows.items c.in_ok-rows.ensures in
     let declared : AreDeclaredAs file.names file.pairs c.in_ok-principals.principals =
     rw (c.deref.ensures.value, c.deref-2.ensures.value) at c.in_ok-principals.ensures in
-    record {
-      declared = are_declared file.names file.pairs c.in_ok-principals.principals
-          (All-map IsName string_bytes c.args.draft.names.items c.requires.names) declared;
-      names = names;
-      named = subst (All IsName) (named ∙ sym same) c.requires.hosts;
-      labels = all_of (λ host. IsLabelOver c.in_ok-principals.principals host.label) c.in_ok-rows.rows.items
-          (labels_over c.in_ok-principals.principals file.hosts c.in_ok-rows.rows.items c.in_ok-rows.ensures);
-      keys = all_of (λ host. length host.key ≡ KEY_BYTES) c.in_ok-rows.rows.items
-          (whole_keys c.in_ok-principals.principals c.args.draft.hosts.items c.in_ok-rows.rows.items c.in_ok-rows.ensures);
-      table = rw length-map at costs;
-    }
+    let spelled : IsSpelled file = record {
+      principals = All-map IsName string_bytes c.args.draft.names.items c.requires.names;
+      hosts = subst (All IsName) named c.requires.hosts;
+      keys = keys_as_read c.args.draft.hosts.items;
+    } in
+    hosts_of_meaning file _ spelled
+    (means file c.in_ok-principals.principals _ c.in_ok-rows.rows.items c.in_ok-costs.costs.items declared named sound
+    c.in_ok-rows.ensures sound_links table)
 
 pub returns : goal.returns
 returns c =
