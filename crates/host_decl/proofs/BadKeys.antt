@@ -1,10 +1,8 @@
 -- Bad keys of a table, beside the entries that the code goes over.
 use Rattle.std.proofs.Common.{◌≡◌, ◌⊎◌, ℕ, Bool, true, false, List, [], ◌∷◌, ◌++◌, ◌+◌, ◌<◌, length, get_or, drop, map}
 use Rattle.std.proofs.Common.{Option, Some, None, is_none, option_map, Ordering, Less, Equal, Greater, String, Global}
-use Rattle.std.proofs.Common.{string_bytes, nat_cmp, is_eq, sym, subst, refl, ap, ◌∙◌, codes, inl, inr}
+use Rattle.std.proofs.Common.{string_bytes, nat_cmp, sym, subst, refl, ap, ◌∙◌, codes, inl, inr}
 use Rattle.std.proofs.lemmas.Bool.{false≢true}
-use Rattle.std.proofs.lemmas.Map.Text.{is_eq-slice_cmp}
-use Rattle.std.proofs.lemmas.Slice.Eq.{bytes_eq-Decides}
 use Rattle.std.specs.Cmp.Lexicographic.{slice_cmp}
 use Rattle.std.specs.List.{AllByRecursion, find, list_any}
 use Rattle.std.specs.List.Sorted.{IsStrictlySortedBy}

@@ -1,6 +1,6 @@
 -- The first of its kind is one: the first host without a label, the first bad link, the first bad key.
-use Rattle.std.proofs.Common.{◌≡◌, ◌≢◌, ◌⊎◌, ℕ, zero, suc, ◌<◌, Bool, true, false, List, [], ◌∷◌, map, take, length}
-use Rattle.std.proofs.Common.{get_or, Some, None, slice_get, Contains, inl, inr, refl, sym, subst, ap, ◌∙◌, arith}
+use Rattle.std.proofs.Common.{◌≡◌, ℕ, zero, suc, ◌<◌, List, [], ◌∷◌, take, length}
+use Rattle.std.proofs.Common.{Some, slice_get, inl, inr, sym, subst, ap, ◌∙◌, arith}
 use Rattle.std.proofs.lemmas.Bool.{cases_order, false≢true}
 use Rattle.std.proofs.lemmas.Option.{slice_get_within}
 use Rattle.std.specs.List.{AllByRecursion}
@@ -9,7 +9,6 @@ use Rattle.toml.specs.Data.{Members}
 use Rattle.host_decl.specs.declared.schema.TableKind.{TableKind}
 use Rattle.host_decl.specs.Draft.{HostDraftShape, LinkDraftShape}
 use Rattle.host_decl.specs.Meaning.{HasLabel, IsFirstWithoutLabel, AreSoundUpTo, AreSoundLinks, IsFirstBadLink}
-use Rattle.host_decl.specs.Meaning.{is_sound_link}
 use Rattle.host_decl.specs.Schema.{IsBadKey, IsLeast, IsFirstBadKey, IsSoundAs}
 use Rattle.host_decl.proofs.Least.{not_after_both}
 

@@ -12,7 +12,7 @@ use Rattle.toml.specs.Data.{Members}
 use Rattle.host_decl.specs.Draft.{HostDraftShape, HostsDraftShape, draft_of}
 use Rattle.host_decl.specs.Hosts.{HostShape, HostsShape}
 use Rattle.host_decl.specs.LabelText.{IsLabelText}
-use Rattle.host_decl.specs.Meaning.{IsHostOf, IsMeaningOf, cost_table, host_names}
+use Rattle.host_decl.specs.Meaning.{IsHostOf, IsMeaningOf}
 use Rattle.host_decl.specs.Reading.{IsDocument, ReadsHosts}
 use Rattle.host_decl.proofs.Declared.{are_declared}
 use Rattle.host_decl.proofs.DeclaredNames.{principal_names}

@@ -1,5 +1,5 @@
 -- A host file that is refused has one cause, and a file that has a meaning is refused only where memory ran out.
-use Rattle.std.proofs.Common.{◌≡◌, ◌≢◌, ◌⊎◌, ℕ, ◌<◌, ◌≤◌, List, [], ◌∷◌, length, string_bytes, inl, inr, refl, sym}
+use Rattle.std.proofs.Common.{◌≡◌, ◌≢◌, ◌⊎◌, ℕ, ◌<◌, ◌≤◌, List, [], length, string_bytes, inl, inr, refl, sym}
 use Rattle.std.proofs.Common.{subst, ap, ◌∙◌}
 use Rattle.std.proofs.Common.{arith}
 use Rattle.std.proofs.lemmas.Option.{slice_get_within}
@@ -19,7 +19,7 @@ use Rattle.host_decl.specs.Hosts.{HostsShape, AreHostNames}
 use Rattle.host_decl.specs.Meaning.{HasLabel, PrincipalsFail, NamesFail, LabelsFail, LinksFail, AreSoundLinks}
 use Rattle.host_decl.specs.Meaning.{HostsFail, IsMeaningOf, RefusesFile, host_names}
 use Rattle.host_decl.specs.Reading.{IsDocument, ReadsHosts, DocumentFails, KeysFail, MembersFail, RefusesHosts}
-use Rattle.host_decl.specs.Refusal.{HostsRefusal, refusal_shape, bad_key, bad_label, bad_principals}
+use Rattle.host_decl.specs.Refusal.{refusal_shape, bad_key, bad_principals}
 use Rattle.host_decl.specs.Refusal.{host_twice, bad_link}
 use Rattle.host_decl.specs.Schema.{IsSoundFile, file_tables}
 use Rattle.js_base.proofs.Repeats.{none_repeated, one_repeated}

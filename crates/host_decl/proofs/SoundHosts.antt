@@ -1,12 +1,11 @@
 -- What a file means keeps what all hosts keep.
-use Rattle.std.proofs.Common.{◌≡◌, ℕ, List, All, length, map, sym, subst, ap, ◌∙◌, codes}
+use Rattle.std.proofs.Common.{◌≡◌, ℕ, List, All, length, sym, subst, ap, ◌∙◌, codes}
 use Rattle.std.proofs.lemmas.List.{length-map}
-use Rattle.std.specs.List.{AllByRecursion}
 use Rattle.js_base.specs.Name.{IsName}
 use Rattle.label_lattice.specs.Over.{IsLabelOver}
 use Rattle.host_decl.specs.declared.key.TheConstants.{KEY_BYTES}
 use Rattle.host_decl.specs.Draft.{HostsDraftShape, draft_of}
-use Rattle.host_decl.specs.Hosts.{HostsShape, AreCosts, AreHostNames, AreHosts, names_of}
+use Rattle.host_decl.specs.Hosts.{HostsShape, AreCosts, AreHostNames, AreHosts}
 use Rattle.host_decl.specs.Meaning.{IsMeaningOf, host_names}
 use Rattle.host_decl.specs.Reading.{ReadsHosts}
 use Rattle.host_decl.specs.Schema.{tables_of, items_at}

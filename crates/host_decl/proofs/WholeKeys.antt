@@ -1,6 +1,6 @@
 -- The key of each host of a sound file is whole.
-use Rattle.std.proofs.Common.{◌≡◌, ℕ, zero, suc, ◌+◌, ◌*◌, true, false, List, [], ◌∷◌, length, map, Option, Some, None}
-use Rattle.std.proofs.Common.{IsTrue, codes, ap, arith}
+use Rattle.std.proofs.Common.{◌≡◌, ℕ, zero, suc, ◌*◌, true, false, List, [], ◌∷◌, length, map, Option, Some, None}
+use Rattle.std.proofs.Common.{codes, ap, arith}
 use Rattle.std.proofs.lemmas.Bool.{false≢true}
 use Rattle.std.specs.List.{AllByRecursion}
 use Rattle.std.specs.Option.{option_map_or, option_and_then}
@@ -32,6 +32,7 @@ at_the_key name (Some value) sound = of_found name (as_str value) (true_from_not
 
 pub keys_written : (tables : List Members) → AllByRecursion (IsSound Host) tables → HaveWholeKeys (map host_of tables)
 keys_written [] sound = tt
-keys_written (table ∷ tables) sound =
-    (at_the_key (or_empty (text_at (codes "name") table)) (get_member (codes "key") table) (sound.0 (codes "key")),
-    keys_written tables sound.1)
+keys_written (table ∷ tables) sound = (
+  at_the_key (or_empty (text_at (codes "name") table)) (get_member (codes "key") table) (sound.0 (codes "key")),
+  keys_written tables sound.1,
+)
