@@ -1,6 +1,6 @@
-//! Tests of files and sinks.
+//! Files and sinks.
 
-use crate::{
+use js_base::{
     CalmFiles, CalmSink, Files, LoadError, MemFiles, MemSink, PutError, RealFiles, RealSink,
     SaveError, Sink,
 };

@@ -1,4 +1,6 @@
-use crate::{LexError, Symbol, TokenKind, Word, lex};
+//! The tokens of texts.
+
+use jif_lex::{LexError, Symbol, TokenKind, Word, lex};
 use js_base::limits::PROGRAM_BYTES;
 use std::alloc::Global;
 use std::test::Fail;
