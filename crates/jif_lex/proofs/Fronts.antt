@@ -1,5 +1,5 @@
 -- What runs of bytes and symbols make of the front of a text.
-use Rattle.std.proofs.Common.{◌≡◌, ◌≢◌, ℤ, pos, ℕ, ◌<◌, ◌≤◌, ◌⊎◌, inl, inr, true, List, [], ◌∷◌, ◌++◌, length, take, drop, codes, refl, sym, ap, ◌∙◌, subst, arith}
+use Rattle.std.proofs.Common.{◌≡◌, ◌≢◌, ℤ, pos, ◌<ℤ◌, ◌≤ℤ◌, ℕ, ◌<◌, ◌≤◌, ◌⊎◌, inl, inr, true, List, [], ◌∷◌, ◌++◌, length, take, drop, codes, refl, sym, ap, ◌∙◌, subst, arith}
 use Rattle.std.specs.List.{list_all, prefix_len}
 use Rattle.std.specs.Char.{is_ascii_digit}
 use Rattle.std.specs.Str.Parse.{digits_value}
@@ -9,6 +9,7 @@ use Rattle.std.proofs.lemmas.Int.{ints, to_z-of_z}
 use mir.Syntax.{w64}
 use mir.Val.{to_z, of_z}
 use Rattle.js_base.specs.Name.{starts_name, continues_name}
+use Rattle.js_base.specs.declared.limits.TheConstants.{LARGEST_NUMBER}
 use Rattle.jif_lex.specs.declared.token.TokenKind.{TokenKind}
 use Rattle.jif_lex.specs.declared.token.TokenKind.TheVariants as token
 use Rattle.jif_lex.specs.declared.token.Symbol.{Symbol}
@@ -96,7 +97,7 @@ run_ends front (byte ∷ after) run begins =
     let never : byte ∷ [] ≡ [] = run.stops (byte ∷ []) after refl (and_from (is_ascii_digit byte) true begins refl) in cc
 
 pub bad_number_front : (text : List ℕ) (n : ℕ) → n ≡ prefix_len is_ascii_digit text → BeginsDigits text
-    → (9223372036854775807 < digits_value 10 (take n text)) ⊎ BeginsWord (drop n text) → BeginsBadNumber text
+    → (LARGEST_NUMBER <ℤ pos (digits_value 10 (take n text))) ⊎ BeginsWord (drop n text) → BeginsBadNumber text
 bad_number_front text n is begins bad = record {
   digits = take n text;
   after = drop n text;
@@ -184,5 +185,5 @@ open_comment_fails text opens no_skip = record {
 -- ---- values
 
 -- a number that fits 64 bits is kept as it is
-pub kept_value : (value : ℤ) (n : ℕ) → value ≡ pos n → n ≤ 9223372036854775807 → to_z w64 (of_z w64 value) ≡ pos n
+pub kept_value : (value : ℤ) (n : ℕ) → value ≡ pos n → value ≤ℤ LARGEST_NUMBER → to_z w64 (of_z w64 value) ≡ pos n
 kept_value value n is fits = grind (arith, ints, to_z-of_z)

@@ -1,9 +1,11 @@
 -- One piece only stands at the front of a text.
-use Rattle.std.proofs.Common.{◌≡◌, ℕ, ◌≤◌, ◌⊎◌, inl, inr, true, List, [], ◌∷◌, ◌++◌, codes, refl, sym, ap, ◌∙◌, subst, arith}
+use Rattle.std.proofs.Common.{◌≡◌, ℕ, ℤ, pos, ◌<ℤ◌, ◌≤ℤ◌, ◌≤◌, ◌⊎◌, inl, inr, true, List, [], ◌∷◌, ◌++◌, codes, refl, sym, ap, ◌∙◌, subst, arith}
 use Rattle.std.specs.Prelude.{Contains, IsTrue}
 use Rattle.std.specs.Char.{is_ascii_digit}
 use Rattle.std.specs.Str.Parse.{digits_value}
 use Rattle.js_base.specs.Name.{starts_name}
+use Rattle.js_base.specs.declared.limits.TheConstants.{LARGEST_NUMBER}
+use Rattle.std.proofs.lemmas.Int.{ints}
 use Rattle.std.proofs.lemmas.List.{append_assoc, append_cancel_left}
 use Rattle.std.specs.List.{list_all}
 use Rattle.std.proofs.lemmas.Bool.{and_parts}
@@ -11,7 +13,8 @@ use Rattle.std.proofs.lemmas.List.Folds.{list_all-append}
 use Rattle.jif_lex.specs.declared.token.TokenKind.{TokenKind}
 use Rattle.jif_lex.specs.declared.token.TokenKind.TheVariants as token
 use Rattle.jif_lex.specs.Tokens.{IsWordLike, AreDigits, IsSymbol, IsLexeme, IsKind, IsLongest, IsBlank, IsLineComment, IsBlockComment, OpensComment, FirstIs, Piece, skipped, lexeme, piece_text, IsPieceBefore, BeginsBadNumber}
-use Rattle.jif_lex.proofs.Lists.{same_front, Contains-middle}
+use Rattle.js_base.proofs.Lists.{Contains-middle}
+use Rattle.jif_lex.proofs.Lists.{same_front}
 use Rattle.jif_lex.proofs.Begins.{Class, nothing, letter, digit, blank, other, class_of, word_class, digits_class, symbol_class, symbol_text_class, word_text_class, blank_class, class_of_front}
 use Rattle.jif_lex.proofs.Meanings.{same_kind, clash, name_is_word}
 
@@ -198,11 +201,16 @@ lexeme_whole text after kind is there = elim is [
   ]
 ]
 
-number_fits : (text : List ℕ) (kind : TokenKind) → AreDigits text → IsKind text kind → digits_value 10 text ≤ 9223372036854775807
+number_fits : (text : List ℕ) (kind : TokenKind) → AreDigits text → IsKind text kind → pos (digits_value 10 text) ≤ℤ LARGEST_NUMBER
 number_fits text (token.Name n) digits is = absurd (clash text letter digit (word_class text (name_is_word text is.0)) (digits_class text digits) (λ e. cc))
-number_fits text (token.Number n) digits is = is.2
+number_fits text (token.Number n) digits is =
+    let P : ℤ → Type 0 = λ value. value ≤ℤ LARGEST_NUMBER in
+    subst P is.1 is.2
 number_fits text (token.Word n) digits is = absurd (clash text letter digit (ap class_of is ∙ word_text_class n) (digits_class text digits) (λ e. cc))
 number_fits text (token.Symbol n) digits is = absurd (clash text other digit (ap class_of is ∙ symbol_text_class n) (digits_class text digits) (λ e. cc))
+
+not_above : (n m : ℕ) → n ≡ m → pos n ≤ℤ LARGEST_NUMBER → ¬ (LARGEST_NUMBER <ℤ pos m)
+not_above n m same low high = grind (arith, ints)
 
 pub all_digits : (text : List ℕ) → AreDigits text → list_all is_ascii_digit text ≡ true
 all_digits [] is = absurd is
@@ -247,7 +255,7 @@ bad_number_no_piece text (lexeme a kind) after bad is piece =
     elim bad.bad [
       | inl large ↦ (
           let fits = number_fits a kind all piece.2 in
-          let same = ap (digits_value 10) cut.0 in omega arith)
+          absurd (not_above (digits_value 10 a) (digits_value 10 bad.digits) (ap (digits_value 10) cut.0) fits large))
       | inr letter_next ↦ piece.3 all (let P : List ℕ → Type 0 = FirstIs (λ byte. IsTrue (starts_name byte)) in subst P (sym cut.1) letter_next)
     ]
 

@@ -8,6 +8,7 @@ use Rattle.jif_lex.specs.declared.token.TokenKind.{TokenKind}
 use Rattle.jif_lex.specs.declared.lexer.LexError.{LexError}
 use Rattle.jif_lex.specs.declared.lexer.LexError.TheVariants.{OutOfMemory, BadByte, BadNumber, TooLong}
 use Rattle.jif_lex.specs.Tokens.{Piece, skipped, lexeme, piece_text, IsPieceBefore, CutsTo, tokens, ReadsAs, tokens_of, pieces_length, line_feeds}
+use Rattle.js_base.specs.declared.limits.TheConstants.{PROGRAM_BYTES}
 use Rattle.jif_lex.specs.Lexing.{LexFails, IsTaken, FailsAt, HasFront, IsSkipped, IsTokenFront}
 use Rattle.jif_lex.proofs.Pieces.{piece_some}
 use Rattle.jif_lex.proofs.Skips.{line_feeds_count}
@@ -154,7 +155,7 @@ read_all text rest list at line read none =
     let P : List ℕ → Type 0 = CutsTo text read.pieces in
     (read.pieces, subst P none read.cut, read.list_is)
 
-pub read_fails : (text rest : List ℕ) (list : List Token) (at line : ℕ) (error : LexError) → length text ≤ 1048576 → IsRead text rest list at line → FailsAt rest at error → LexFails text error
+pub read_fails : (text rest : List ℕ) (list : List Token) (at line : ℕ) (error : LexError) → length text ≤ PROGRAM_BYTES → IsRead text rest list at line → FailsAt rest at error → LexFails text error
 read_fails text rest list at line OutOfMemory short read fails = tt
 read_fails text rest list at line (BadByte place) short read fails = (short, (read.pieces, rest, read.cut, fails.1, fails.0 ∙ read.at_is))
 read_fails text rest list at line (BadNumber place) short read fails = (short, (read.pieces, rest, read.cut, fails.1, fails.0 ∙ read.at_is))

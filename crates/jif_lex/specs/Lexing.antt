@@ -2,6 +2,7 @@
 use Rattle.std.specs.Prelude.{◌≡◌, ℕ, ◌<◌, ◌≤◌, ◌⊎◌, List, [], ◌∷◌, ◌++◌, length, take, drop, IsTrue, codes, ⊤}
 use Rattle.std.specs.Char.{is_ascii_digit}
 use Rattle.js_base.specs.Name.{starts_name}
+use Rattle.js_base.specs.declared.limits.TheConstants.{PROGRAM_BYTES}
 use Rattle.jif_lex.specs.declared.token.Token.{Token}
 use Rattle.jif_lex.specs.declared.token.TokenKind.{TokenKind}
 use Rattle.jif_lex.specs.declared.token.Symbol as symbol
@@ -81,6 +82,6 @@ FailsAt text at TooLong = ⊥
 -- why a text has no tokens
 abbrev pub LexFails : List ℕ → LexError → Type 0
 LexFails text OutOfMemory = ⊤
-LexFails text (BadByte at) = (length text ≤ 1048576) × ReadsAs text (bad_byte at)
-LexFails text (BadNumber at) = (length text ≤ 1048576) × ReadsAs text (bad_number at)
-LexFails text TooLong = 1048576 < length text
+LexFails text (BadByte at) = (length text ≤ PROGRAM_BYTES) × ReadsAs text (bad_byte at)
+LexFails text (BadNumber at) = (length text ≤ PROGRAM_BYTES) × ReadsAs text (bad_number at)
+LexFails text TooLong = PROGRAM_BYTES < length text
