@@ -39,7 +39,9 @@ fn finds_items_by_name(rt: HostRuntime) -> Result<(), Fail> {
     let alloc = rt.alloc();
     let mut items = Vec::new(alloc);
     for name in ["a", "bb", "a", "bb"] {
-        items.push(Item { name: owned_text(alloc, name)? })?;
+        items.push(Item {
+            name: owned_text(alloc, name)?,
+        })?;
     }
     assert_eq!(rt; place_of(&items, "bb"), Some(1));
     assert_eq!(rt; place_of(&items, "b"), None);

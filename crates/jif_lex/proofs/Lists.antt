@@ -21,6 +21,10 @@ pub same_front : (a b x y : List ℕ) → a ++ x ≡ b ++ y
     → ((more : List ℕ) → b ≡ a ++ more → x ≡ more ++ y → more ≡ []) → (a ≡ b) × (x ≡ y)
 same_front a b x y same first second =
     elim (two_fronts a b x y same) [
-      | inl w ↦ (let none = first w.0 w.1 w.2 in (w.1 ∙ ap (λ (m : List ℕ). b ++ m) none ∙ append-nil b, sym (w.2 ∙ ap (λ (m : List ℕ). m ++ x) none)))
-      | inr w ↦ (let none = second w.0 w.1 w.2 in (sym (w.1 ∙ ap (λ (m : List ℕ). a ++ m) none ∙ append-nil a), w.2 ∙ ap (λ (m : List ℕ). m ++ y) none))
+      | inl w ↦ (let none =
+          first w.0 w.1 w.2 in
+          (w.1 ∙ ap (λ (m : List ℕ). b ++ m) none ∙ append-nil b, sym (w.2 ∙ ap (λ (m : List ℕ). m ++ x) none)))
+      | inr w ↦ (let none =
+          second w.0 w.1 w.2 in
+          (sym (w.1 ∙ ap (λ (m : List ℕ). a ++ m) none ∙ append-nil a), w.2 ∙ ap (λ (m : List ℕ). m ++ y) none))
     ]

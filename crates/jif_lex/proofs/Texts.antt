@@ -1,5 +1,6 @@
 -- Words as texts.
-use Rattle.std.proofs.Common.{◌≡◌, ◌≢◌, ℕ, ◌^◌, ◌<◌, Bool, true, false, ◌&&◌, not, List, [], ◌∷◌, length, Option, Result, Ok, Err, ℤ, pos, inl, inr, refl, arith, rules}
+use Rattle.std.proofs.Common.{◌≡◌, ◌≢◌, ℕ, ◌^◌, ◌<◌, Bool, true, false, ◌&&◌, not, List, [], ◌∷◌, length, Option}
+use Rattle.std.proofs.Common.{Result, Ok, Err, ℤ, pos, inl, inr, refl, arith, rules}
 use Rattle.std.specs.Prelude.{IfNone}
 use Rattle.std.specs.Result.{OkIff, result_ok}
 use Rattle.std.specs.List.{list_all, list_any}
@@ -15,7 +16,8 @@ use Rattle.std.proofs.lemmas.Bool.Decides.{nat_tests}
 use mir.Syntax.{w64}
 use Rattle.js_base.specs.Name.{IsName, starts_name, continues_name, keywords}
 use Rattle.jif_lex.specs.declared.token.Word.{Word}
-use Rattle.jif_lex.specs.declared.token.Word.TheVariants.{Int, Void, If, Else, While, Return, Where, Authority, Declassify, Endorse}
+use Rattle.jif_lex.specs.declared.token.Word.TheVariants.{Int, Void, If, Else, While, Return, Where, Authority}
+use Rattle.jif_lex.specs.declared.token.Word.TheVariants.{Declassify, Endorse}
 use Rattle.jif_lex.specs.Symbols.{word_text}
 use Rattle.jif_lex.specs.Tokens.{IsWordLike, AreDigits}
 use Rattle.jif_lex.proofs.Pieces.{all_digits}
@@ -26,10 +28,14 @@ name_from_word [] is none = absurd is
 name_from_word (byte ∷ bytes) is none =
     let text : List ℕ = byte ∷ bytes in
     let lacks : (word : Word) → bytes_eq text (word_text word) ≡ false =
-    λ word. false_from_ne_true (bytes_eq text (word_text word)) (λ e. none word ((bytes_eq-Decides text (word_text word)).0 e)) in
+    λ word. false_from_ne_true (bytes_eq text (word_text word))
+    (λ e. none word ((bytes_eq-Decides text (word_text word)).0 e)) in
     let no_keyword : list_any (bytes_eq text) keywords ≡ false =
-    or_from _ _ (lacks Int) (or_from _ _ (lacks Void) (or_from _ _ (lacks If) (or_from _ _ (lacks Else) (or_from _ _ (lacks While)
-    (or_from _ _ (lacks Return) (or_from _ _ (lacks Where) (or_from _ _ (lacks Authority) (or_from _ _ (lacks Declassify) (or_from _ _ (lacks Endorse) refl))))))))) in
+    or_from _ _ (lacks Int) (or_from _ _ (lacks Void)
+    (or_from _ _ (lacks If) (or_from _ _ (lacks Else) (or_from _ _ (lacks While)
+    (or_from _ _ (lacks Return)
+    (or_from _ _ (lacks Where)
+    (or_from _ _ (lacks Authority) (or_from _ _ (lacks Declassify) (or_from _ _ (lacks Endorse) refl))))))))) in
     and_from (starts_name byte && list_all continues_name bytes) (not (list_any (bytes_eq text) keywords))
     (and_from (starts_name byte) (list_all continues_name bytes) is.0 is.1)
     (not_from_false (list_any (bytes_eq text) keywords) no_keyword)

@@ -11,7 +11,8 @@ use Rattle.jif_lex.specs.declared.lexer.LexError.TheVariants.{OutOfMemory, BadBy
 use Rattle.jif_lex.specs.declared.lexer.Front.{Front}
 use Rattle.jif_lex.specs.declared.lexer.Front.TheVariants.{Skipped, Lexeme}
 use Rattle.jif_lex.specs.Symbols.{symbol_text}
-use Rattle.jif_lex.specs.Tokens.{line_feeds, IsPieceBefore, skipped, lexeme, IsLexeme, IsSymbol, FirstIs, BeginsBadNumber, BeginsBadByte, ReadsAs, bad_byte, bad_number}
+use Rattle.jif_lex.specs.Tokens.{line_feeds, IsPieceBefore, skipped, lexeme, IsLexeme, IsSymbol, FirstIs}
+use Rattle.jif_lex.specs.Tokens.{BeginsBadNumber, BeginsBadByte, ReadsAs, bad_byte, bad_number}
 
 -- the first bytes, so many, and the others are in the relation
 abbrev pub HasFront : List ℕ → ℕ → (List ℕ → List ℕ → Type 0) → Type 0

@@ -1,6 +1,7 @@
 -- Which tokens a text has. The text is cut into pieces: blanks and comments, which are skipped, and lexemes, which make
 -- the tokens. At each place stands the longest lexeme that there is. A text is the list of its bytes.
-use Rattle.std.specs.Prelude.{◌≡◌, ◌≢◌, ℕ, pos, ◌+◌, ◌≤ℤ◌, ◌<ℤ◌, ◌==◌, ◌⊎◌, List, [], ◌∷◌, ◌++◌, length, Contains, IsTrue, codes, if◌then◌else◌}
+use Rattle.std.specs.Prelude.{◌≡◌, ◌≢◌, ℕ, pos, ◌+◌, ◌≤ℤ◌, ◌<ℤ◌, ◌==◌, ◌⊎◌, List, [], ◌∷◌, ◌++◌, length, Contains}
+use Rattle.std.specs.Prelude.{IsTrue, codes, if◌then◌else◌}
 use Rattle.std.specs.List.{list_all}
 use Rattle.std.specs.Char.{is_ascii_digit}
 use Rattle.std.specs.Str.Parse.{digits_value}
@@ -108,7 +109,8 @@ line_feeds (byte ∷ bytes) = (if byte == LINE_FEED then 1 else 0) + line_feeds 
 abbrev pub tokens_of : ℕ → ℕ → List Piece → List Token
 tokens_of at line [] = []
 tokens_of at line (skipped text ∷ pieces) = tokens_of (at + length text) (line + line_feeds text) pieces
-tokens_of at line (lexeme text kind ∷ pieces) = (record { kind = kind; at = at; line = line }) ∷ tokens_of (at + length text) line pieces
+tokens_of at line (lexeme text kind ∷ pieces) =
+    (record { kind = kind; at = at; line = line }) ∷ tokens_of (at + length text) line pieces
 
 -- ---- the reading of a text
 
@@ -139,4 +141,5 @@ ReadsAs text (tokens list) = (pieces : List Piece) × CutsTo text pieces [] × (
 ReadsAs text (bad_byte at) =
     (pieces : List Piece) × (rest : List ℕ) × CutsTo text pieces rest × BeginsBadByte rest × (at ≡ pieces_length pieces)
 ReadsAs text (bad_number at) =
-    (pieces : List Piece) × (rest : List ℕ) × CutsTo text pieces rest × BeginsBadNumber rest × (at ≡ pieces_length pieces)
+    (pieces : List Piece) × (rest : List ℕ) × CutsTo text pieces rest × BeginsBadNumber rest
+    × (at ≡ pieces_length pieces)

@@ -14,5 +14,6 @@ pub fn lex_laws()
 
 /// The tokens of a text that is not too long are few, and each is small.
 pub fn token_laws()
-    ensures { (text : List ℕ) (list : List Token) → length text ≤ PROGRAM_BYTES → ReadsAs text (tokens list) → AreTokens list }
+    ensures { (text : List ℕ) (list : List Token) →
+        length text ≤ PROGRAM_BYTES → ReadsAs text (tokens list) → AreTokens list }
 {}

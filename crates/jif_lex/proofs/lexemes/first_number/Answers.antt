@@ -19,7 +19,9 @@ number-requires c = are_digits c.args.text.now c.digits_len-len.result c.digits_
 
 pub returns-in_err-number-clause-none : goal.returns-in_err-number-clause-none
 returns-in_err-number-clause-none c =
-    let bad = bad_number_front c.args.text.now c.digits_len-len.result c.digits_len-len.ensures.len c.requires.begins (inl c.in_err-number.ensures.none) in
+    let bad =
+    bad_number_front c.args.text.now c.digits_len-len.result c.digits_len-len.ensures.len c.requires.begins
+    (inl c.in_err-number.ensures.none) in
     rw c.from_residual.ensures bad
 
 pub returns-clause-some : goal.returns-clause-some
@@ -27,8 +29,10 @@ returns-clause-some c =
     let text = c.args.text.now in
     let len = c.digits_len-len.result in
     let value = c.in_ok-number.field-0 in
-    let some : (value ≡ pos (digits_value 10 (take len text))) × (value ≤ℤ LARGEST_NUMBER) = c.in_ok-number.ensures.some in
-    let is : to_z w64 (of_z w64 value) ≡ pos (digits_value 10 (take len text)) = kept_value value (digits_value 10 (take len text)) some.0 some.1 in
+    let some : (value ≡ pos (digits_value 10 (take len text))) × (value ≤ℤ LARGEST_NUMBER) =
+    c.in_ok-number.ensures.some in
+    let is : to_z w64 (of_z w64 value) ≡ pos (digits_value 10 (take len text)) =
+    kept_value value (digits_value 10 (take len text)) some.0 some.1 in
     let digits = are_digits text len c.digits_len-len.ensures.len c.requires.begins in
     number_front text len (Number (to_z w64 (of_z w64 value))) c.digits_len-len.ensures.len
     c.digits_len-len.ensures.within c.requires.begins c.requires.plain
