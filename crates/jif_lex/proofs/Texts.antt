@@ -1,26 +1,16 @@
 -- Words as texts.
-use Rattle.std.proofs.Common.{◌≡◌, ◌≢◌, ℕ, ◌^◌, ◌<◌, Bool, true, false, ◌&&◌, not, List, [], ◌∷◌, length, Option}
-use Rattle.std.proofs.Common.{Result, Ok, Err, ℤ, pos, inl, inr, refl, arith, rules}
-use Rattle.std.specs.Prelude.{IfNone}
-use Rattle.std.specs.Result.{OkIff, result_ok}
+use Rattle.std.proofs.Common.{◌≡◌, ◌≢◌, ℕ, false, ◌&&◌, not, List, [], ◌∷◌}
+use Rattle.std.proofs.Common.{refl}
 use Rattle.std.specs.List.{list_all, list_any}
-use Rattle.std.specs.Char.{is_ascii_digit}
-use Rattle.std.specs.Str.{IsAscii, IsUtf8, bytes_eq}
-use Rattle.std.specs.Str.Parse.{digits_value, ParsesSigned}
-use Rattle.std.proofs.lemmas.Str.{IsUtf8-from_ascii}
-use Rattle.std.proofs.lemmas.Str.Ascii.{IsAscii-nil, IsAscii-cons}
-use Rattle.std.proofs.lemmas.Str.Parse.{IsNumeralModel, numerals_by_value, parse_signed_digits}
+use Rattle.std.specs.Str.{bytes_eq}
 use Rattle.std.proofs.lemmas.Slice.Eq.{bytes_eq-Decides}
-use Rattle.std.proofs.lemmas.Bool.{and_parts, and_from, or_from, false_from_ne_true, not_from_false, cases_lt}
-use Rattle.std.proofs.lemmas.Bool.Decides.{nat_tests}
-use mir.Syntax.{w64}
+use Rattle.std.proofs.lemmas.Bool.{and_from, or_from, false_from_ne_true, not_from_false}
 use Rattle.js_base.specs.Name.{IsName, starts_name, continues_name, keywords}
 use Rattle.jif_lex.specs.declared.token.Word.{Word}
 use Rattle.jif_lex.specs.declared.token.Word.TheVariants.{Int, Void, If, Else, While, Return, Where, Authority}
 use Rattle.jif_lex.specs.declared.token.Word.TheVariants.{Declassify, Endorse}
 use Rattle.jif_lex.specs.Symbols.{word_text}
-use Rattle.jif_lex.specs.Tokens.{IsWordLike, AreDigits}
-use Rattle.jif_lex.proofs.Pieces.{all_digits}
+use Rattle.jif_lex.specs.Tokens.{IsWordLike}
 
 -- what is like a word and is no keyword is a name
 pub name_from_word : (text : List ℕ) → IsWordLike text → ((word : Word) → text ≢ word_text word) → IsName text

@@ -1,6 +1,6 @@
 -- Texts that stand at two places of a list.
 use Rattle.std.proofs.Common.{◌≡◌, ℕ, ◌<◌, ◌≤◌, ◌∙◌, sym, ap, subst, inl, inr, arith}
-use Rattle.std.proofs.Common.{List, [], length, get_or, take, Some, slice_get}
+use Rattle.std.proofs.Common.{List, length, get_or, take, Some, slice_get}
 use Rattle.std.specs.Prelude.{Contains}
 use Rattle.std.specs.List.{IsDistinct}
 use Rattle.std.specs.Str.{bytes_eq}

@@ -1,12 +1,12 @@
 -- Names and pairs are declared in one way, or refused for one cause.
-use Rattle.std.proofs.Common.{◌≡◌, ◌≢◌, ℕ, ◌∙◌, sym, ap, subst, refl, inl, inr, arith}
-use Rattle.std.proofs.Common.{List, [], ◌∷◌, length, slice_get, Some, Contains, string_bytes}
+use Rattle.std.proofs.Common.{◌≡◌, ◌≢◌, ℕ, ◌∙◌, sym, ap, refl, inl, inr, arith}
+use Rattle.std.proofs.Common.{List, [], ◌∷◌, string_bytes}
 use Rattle.std.specs.List.{AllZip, IsDistinct}
 use Rattle.std.specs.Str.{bytes_eq}
 use Rattle.js_base.proofs.Lists.{one_zipped}
 use Rattle.js_base.proofs.Repeats.{one_place, none_repeated, one_repeated}
 use Rattle.principals.specs.ActsFor.{Declared}
-use Rattle.principals.specs.Declaring.{IsNamed, IsPairOf, AreDeclaredAs, Refuses, IsFirstUnknown, mentioned_names}
+use Rattle.principals.specs.Declaring.{IsPairOf, AreDeclaredAs, Refuses, IsFirstUnknown, mentioned_names}
 use Rattle.principals.specs.declared.principals.PrincipalError.{PrincipalError}
 use Rattle.principals.specs.declared.principals.PrincipalError.TheVariants.{OutOfMemory, TooMany, Twice, Unknown}
 use Rattle.principals.specs.Refusal.{refusal_shape, unknown, twice}

@@ -11,10 +11,8 @@ use Rattle.js_base.specs.Name.{IsName}
 use Rattle.js_base.proofs.Lists.{zip_push}
 use Rattle.js_base.specs.declared.ids.PrincipalId.{PrincipalId}
 use Rattle.std.proofs.lemmas.Option.{slice_get_within, get_or_from_slice_get}
-use Rattle.principals.specs.Declaring.{IsNamed, IsPairOf, IsFirstUnknown, IsUnknownIn, mentioned_names, written_pair}
+use Rattle.principals.specs.Declaring.{IsNamed, IsPairOf, IsFirstUnknown, mentioned_names, written_pair}
 use Rattle.principals.specs.Declaring.{written_pairs}
-use Rattle.principals.specs.declared.principals.PrincipalError.{PrincipalError}
-use Rattle.principals.specs.declared.principals.PrincipalError.TheVariants.{OutOfMemory, TooMany, Twice, Unknown}
 use Rattle.principals.specs.Pairs.{pair_of, pairs_of}
 use Rattle.principals.specs.ActsFor.{IsDeclared}
 use Rattle.std.specs.Str.{bytes_eq}

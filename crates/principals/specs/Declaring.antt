@@ -1,8 +1,7 @@
 -- What becomes of the names and the pairs that are to be declared.
-use Rattle.std.specs.Prelude.{◌≡◌, ◌≤◌, ◌<◌, ◌⊎◌, ℕ, List, [], ◌∷◌, Contains, length, map, take, Some, slice_get}
+use Rattle.std.specs.Prelude.{◌≡◌, ◌≤◌, ◌<◌, ◌⊎◌, ℕ, List, [], ◌∷◌, Contains, length, map, Some, slice_get}
 use Rattle.std.specs.Prelude.{String, string_bytes, ⊤}
-use Rattle.std.specs.List.{AllZip, IsDistinct}
-use Rattle.std.specs.Str.{bytes_eq}
+use Rattle.std.specs.List.{AllZip}
 use Rattle.std.specs.declared.alloc.Global.{Global}
 use Rattle.js_base.specs.declared.limits.TheConstants.{PRINCIPALS}
 use Rattle.js_base.specs.Named.{IsFirstRepeated}
@@ -55,4 +54,5 @@ abbrev pub Refuses : List (List ℕ) → List (List ℕ × List ℕ) → Princip
 Refuses names pairs OutOfMemory = ⊤
 Refuses names pairs TooMany = PRINCIPALS < length names
 Refuses names pairs (Twice name) = (length names ≤ PRINCIPALS) × IsFirstRepeated names (string_bytes name)
-Refuses names pairs (Unknown name) = AreDeclarable names × IsFirstUnknown names (mentioned_names pairs) (string_bytes name)
+Refuses names pairs (Unknown name) =
+    AreDeclarable names × IsFirstUnknown names (mentioned_names pairs) (string_bytes name)
