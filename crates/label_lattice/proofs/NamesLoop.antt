@@ -1,8 +1,8 @@
 -- The names of a part, looked up one after another.
 use Rattle.std.proofs.Common.{ℕ, zero, suc, ◌≡◌, ◌≢◌, ◌<◌, subst, List, [], ◌∷◌, ◌++◌, length, Option, None, Some, All, arith}
 use Rattle.std.specs.Prelude.{Contains}
-use Rattle.std.specs.List.{AllZip}
 use Rattle.std.proofs.lemmas.List.Elements.{All-push}
+use Rattle.js_base.proofs.Lists.{zip_push, zip_at}
 use Rattle.js_base.specs.declared.ids.PrincipalId.{PrincipalId}
 use Rattle.jif_lex.specs.declared.token.TokenKind.{TokenKind}
 use Rattle.jif_lex.specs.declared.token.Symbol.TheVariants.{Comma}
@@ -33,20 +33,6 @@ names_at_start principals whole left is = record {
   within = λ k d below. absurd (omega arith);
   reads = left_at_start (symbol Comma) name_tokens whole left a_name is;
 }
-
--- the list of pairs, and one more
-pub zip_push : {X Y : Type 0} (R : X → Y → Type 0) (xs : List X) (ys : List Y) (x : X) (y : Y) → AllZip R xs ys → R x y → AllZip R (xs ++ x ∷ []) (ys ++ y ∷ [])
-zip_push R [] [] x y so_far is = (is, tt)
-zip_push R [] (w ∷ ys) x y so_far is = absurd so_far
-zip_push R (z ∷ xs) [] x y so_far is = absurd so_far
-zip_push R (z ∷ xs) (w ∷ ys) x y so_far is = (so_far.0, zip_push R xs ys x y so_far.1 is)
-
--- each of the first has one of the second
-pub zip_at : {X Y : Type 0} (R : X → Y → Type 0) (before : List X) (x : X) (after : List X) (ys : List Y) → AllZip R (before ++ x ∷ after) ys → (y : Y) × R x y
-zip_at R [] x after [] are = absurd are
-zip_at R [] x after (y ∷ ys) are = (y, are.0)
-zip_at R (z ∷ before) x after [] are = absurd are
-zip_at R (z ∷ before) x after (y ∷ ys) are = zip_at R before x after ys are.1
 
 pub names_more : (principals : Declared) (whole tokens front : List TokenKind) (after : Option (List TokenKind)) (known : List PrincipalId) (name : List ℕ) (p : PrincipalId) → CutsAt (symbol Comma) tokens front after → front ≡ name_tokens name → IsKnown principals name p → p.0 < length principals.names → NamesSoFar principals whole known (Some tokens) → NamesSoFar principals whole (known ++ p ∷ []) after
 names_more principals whole tokens front after known name p cut is known_as p_in so_far = record {

@@ -17,7 +17,7 @@ use Rattle.jif_lex.specs.declared.token.Symbol.TheVariants.{LeftBrace, RightBrac
 use Rattle.principals.specs.ActsFor.{Declared, IsDeclared}
 use Rattle.label_lattice.specs.declared.label.Label.{Label}
 use Rattle.label_lattice.specs.Label.{IsLabel, Flows}
-use Rattle.label_lattice.specs.Written.{symbol, joined, name_tokens, names_tokens, Part, policy, trust, part_tokens, parts_tokens, KnownPart, policy_of, trust_of, IsKnown, AreKnown, IsKnownPart, IsMadeOf, IsPartsOf, IsLabelOf}
+use Rattle.label_lattice.specs.Written.{symbol, with_separator, name_tokens, names_tokens, Part, policy, trust, part_tokens, parts_tokens, KnownPart, policy_of, trust_of, IsKnown, AreKnown, IsKnownPart, IsMadeOf, IsPartsOf, IsLabelOf}
 use Rattle.label_lattice.proofs.Joins.{joined_some}
 use Rattle.label_lattice.proofs.LatticeLemmas.{one_label}
 use Rattle.label_lattice.proofs.NamesLoop.{no_comma, a_name}
@@ -25,15 +25,15 @@ use Rattle.label_lattice.proofs.PartLemmas.{no_semicolon, a_part}
 
 -- ---- joined items
 
-same_items : {X : Type 0} (separator : TokenKind) (f : X → List TokenKind) (xs ys : List X) → ((x : X) → ¬ Contains (f x) separator) → ((x : X) → f x ≢ []) → joined separator (map f xs) ≡ joined separator (map f ys) → map f xs ≡ map f ys
+same_items : {X : Type 0} (separator : TokenKind) (f : X → List TokenKind) (xs ys : List X) → ((x : X) → ¬ Contains (f x) separator) → ((x : X) → f x ≢ []) → with_separator separator (map f xs) ≡ with_separator separator (map f ys) → map f xs ≡ map f ys
 same_items separator f [] [] lacks some is = refl
 same_items separator f [] (y ∷ ys) lacks some is = absurd (joined_some separator f y ys some (sym is))
 same_items separator f (x ∷ xs) [] lacks some is = absurd (joined_some separator f x xs some is)
 same_items separator f (x ∷ []) (y ∷ []) lacks some is = ap (λ t. t ∷ []) is
-same_items separator f (x ∷ []) (y ∷ z ∷ ys) lacks some is = absurd (no_cut separator (f x) (f y) (joined separator (map f (z ∷ ys))) (lacks x) is)
-same_items separator f (x ∷ w ∷ xs) (y ∷ []) lacks some is = absurd (no_cut separator (f y) (f x) (joined separator (map f (w ∷ xs))) (lacks y) (sym is))
+same_items separator f (x ∷ []) (y ∷ z ∷ ys) lacks some is = absurd (no_cut separator (f x) (f y) (with_separator separator (map f (z ∷ ys))) (lacks x) is)
+same_items separator f (x ∷ w ∷ xs) (y ∷ []) lacks some is = absurd (no_cut separator (f y) (f x) (with_separator separator (map f (w ∷ xs))) (lacks y) (sym is))
 same_items separator f (x ∷ w ∷ xs) (y ∷ z ∷ ys) lacks some is =
-    let both = same_cut separator (f x) (f y) (joined separator (map f (w ∷ xs))) (joined separator (map f (z ∷ ys))) (lacks x) (lacks y) is in
+    let both = same_cut separator (f x) (f y) (with_separator separator (map f (w ∷ xs))) (with_separator separator (map f (z ∷ ys))) (lacks x) (lacks y) is in
     ap (λ t. t ∷ map f (w ∷ xs)) both.0 ∙ ap (λ ts. f y ∷ ts) (same_items separator f (w ∷ xs) (z ∷ ys) lacks some both.1)
 
 same_mapped : {X Y : Type 0} (f : X → Y) → ((x y : X) → f x ≡ f y → x ≡ y) → (xs ys : List X) → map f xs ≡ map f ys → xs ≡ ys

@@ -1,12 +1,13 @@
 -- The parts of a label, added one after another.
-use Rattle.std.proofs.Common.{ℕ, zero, suc, ◌≡◌, ◌⊎◌, ◌↔◌, ◌∙◌, sym, refl, subst, inl, inr, List, [], ◌∷◌, ◌++◌, length, length-append, Option, None, Some, Result, Ok, Err, arith}
+use Rattle.std.proofs.Common.{ℕ, ◌≡◌, ◌⊎◌, ◌↔◌, ◌∙◌, sym, refl, subst, inl, inr, List, [], ◌∷◌, ◌++◌, Option, None, Some, Result, Ok, Err, arith}
 use Rattle.std.specs.Prelude.{Any, IfNone, IfOk, ⊤}
 use Rattle.std.specs.List.{AllZip}
-use Rattle.std.proofs.lemmas.List.{get_or_append_left, append_cancel_right}
-use Rattle.std.proofs.Math.Seq.{get_or-append_seam}
+use Rattle.std.proofs.lemmas.List.{append_cancel_right}
+use Rattle.std.proofs.lemmas.List.Quantifiers.{Any-push}
 use Rattle.jif_lex.specs.declared.token.TokenKind.{TokenKind}
 use Rattle.jif_lex.specs.declared.token.Symbol.TheVariants.{Semicolon, Question, LeftBrace, RightBrace}
 use Rattle.jif_lex.specs.declared.token.Token.{Token}
+use Rattle.js_base.proofs.Lists.{zip_push, zip_at}
 use Rattle.js_base.specs.declared.OutOfMemory.{OutOfMemory}
 use Rattle.principals.specs.ActsFor.{Declared}
 use Rattle.label_lattice.specs.declared.label.Label.{Label}
@@ -14,26 +15,8 @@ use Rattle.label_lattice.specs.Label.{Forbids, Trusts, ForbidsNothing, IsUntrust
 use Rattle.label_lattice.specs.Written.{symbol, Part, policy, trust, part_tokens, parts_tokens, TrustIsLast, KnownPart, IsKnownPart, PartForbids, PartTrusts, IsMadeOf, IsPartsOf, IsLabelOf, kinds}
 use Rattle.label_lattice.specs.Reading.{CutsAt, IsAllLeft, MayStand, Adds, AddsPart, IsNoPart}
 use Rattle.label_lattice.proofs.Joins.{IsLeft, LeftOf, Next, left_at_start, left_more, left_at_end, next_item}
-use Rattle.label_lattice.proofs.NamesLoop.{zip_push, zip_at}
+use Rattle.label_lattice.proofs.AnyLemmas.{any_old, any_cases}
 use Rattle.label_lattice.proofs.PartLemmas.{no_semicolon, a_part}
-
--- ---- one more in a list
-
-any_old : {X : Type 0} (P : X → Type 0) (xs : List X) (y : X) → Any P xs → Any P (xs ++ y ∷ [])
-any_old P xs y (k, x, within, read, holds) =
-    (k, x, omega (arith, within, length-append xs (y ∷ [])), get_or_append_left xs (y ∷ []) x k within ∙ read, holds)
-
-any_new : {X : Type 0} (P : X → Type 0) (xs : List X) (y : X) → P y → Any P (xs ++ y ∷ [])
-any_new P xs y holds = (length xs, y, omega (arith, length-append xs (y ∷ [])), get_or-append_seam xs y [] y, holds)
-
-any_cases : {X : Type 0} (P : X → Type 0) (xs : List X) (y : X) → Any P (xs ++ y ∷ []) → Any P xs ⊎ P y
-any_cases P [] y (zero, x, within, read, holds) = inr (subst P (sym read) holds)
-any_cases P [] y (suc k, x, within, read, holds) = absurd (omega (arith, within))
-any_cases P (z ∷ xs) y (zero, x, within, read, holds) = inl (zero, x, omega arith, read, holds)
-any_cases P (z ∷ xs) y (suc k, x, within, read, holds) = elim (any_cases P xs y (k, x, omega (arith, within), read, holds)) [
-  | inl (n, w, inside, is, also) ↦ inl (suc n, w, omega (arith, inside), is, also)
-  | inr here ↦ inr here
-]
 
 -- ---- what the parts so far make
 
@@ -47,7 +30,7 @@ either_more : (A B C : Type 0) {X : Type 0} (P : X → Type 0) (xs : List X) (y 
 either_more A B C P xs y old new = (there, back)
   where
     there : A → Any P (xs ++ y ∷ [])
-    there a = elim (new.0 a) [ inl b ↦ any_old P xs y (old.0 b) | inr holds ↦ any_new P xs y holds ]
+    there a = elim (new.0 a) [ inl b ↦ any_old P xs y (old.0 b) | inr holds ↦ Any-push P xs y holds ]
 
     back : Any P (xs ++ y ∷ []) → A
     back some = elim (any_cases P xs y some) [ inl before ↦ new.1 (inl (old.1 before)) | inr holds ↦ new.1 (inr holds) ]

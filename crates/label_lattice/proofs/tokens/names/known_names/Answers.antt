@@ -11,9 +11,10 @@ returns-in_default-known_name-clause-none c =
 
 pub loop-left-preserved : goal.loop-left-preserved
 loop-left-preserved c =
-    rw (c.push.ensures.items, c.is_err.ensures.negation, c.if-is_err.false)
-    (names_more c.args.principals.now (kinds c.args.tokens.now) (kinds c.in-Some.rest.now) (kinds c.cut_at.result.0.now) _ c.loop-left.known.items
-    c.in-Some-known_name.ensures.found.0 c.in-Some-known_name.principal c.cut_at.ensures c.in-Some-known_name.ensures.found.1 c.in-Some-known_name.ensures.found.2 c.in-Some-known_name.ensures.declared
+    rw c.in_ok-push.ensures.items
+    (names_more c.args.principals.now (kinds c.args.tokens.now) (kinds c.in-Some.rest.now) (kinds c.cut_at.result.0.now) _
+    c.loop-left.known.items c.in-Some-known_name.ensures.found.0 c.in-Some-known_name.principal c.cut_at.ensures
+    c.in-Some-known_name.ensures.found.1 c.in-Some-known_name.ensures.found.2 c.in-Some-known_name.ensures.declared
     (rw c.in-Some.is at c.loop-left.invariant))
 
 pub returns-clause-found : goal.returns-clause-found
