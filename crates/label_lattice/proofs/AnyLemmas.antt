@@ -11,7 +11,8 @@ pub any_cases : {X : Type 0} (P : X → Type 0) (xs : List X) (y : X) → Any P 
 any_cases P [] y (zero, x, within, read, holds) = inr (subst P (sym read) holds)
 any_cases P [] y (suc k, x, within, read, holds) = absurd (omega (arith, within))
 any_cases P (z ∷ xs) y (zero, x, within, read, holds) = inl (zero, x, omega arith, read, holds)
-any_cases P (z ∷ xs) y (suc k, x, within, read, holds) = elim (any_cases P xs y (k, x, omega (arith, within), read, holds)) [
-  | inl (n, w, inside, is, also) ↦ inl (suc n, w, omega (arith, inside), is, also)
-  | inr here ↦ inr here
-]
+any_cases P (z ∷ xs) y (suc k, x, within, read, holds) =
+    elim (any_cases P xs y (k, x, omega (arith, within), read, holds)) [
+      | inl (n, w, inside, is, also) ↦ inl (suc n, w, omega (arith, inside), is, also)
+      | inr here ↦ inr here
+    ]

@@ -1,5 +1,6 @@
 -- Who trusts a label, as words of bits come to say it.
-use Rattle.std.proofs.Common.{ℕ, ◌≡◌, ◌≢◌, ◌<◌, ◌≤◌, ◌+◌, ◌↔◌, ◌⊎◌, ◌∙◌, sym, refl, subst, inl, inr, max, List, [], ◌∷◌, ◌++◌, length, get_or, take, arith}
+use Rattle.std.proofs.Common.{ℕ, ◌≡◌, ◌≢◌, ◌<◌, ◌≤◌, ◌+◌, ◌↔◌, ◌⊎◌, ◌∙◌, sym, refl, subst, inl, inr, max, List, [], ◌∷◌}
+use Rattle.std.proofs.Common.{◌++◌, length, get_or, take, arith}
 use Rattle.std.specs.Prelude.{Any}
 use Rattle.std.specs.Int.{bit_at}
 use Rattle.std.proofs.lemmas.Bool.{cases_lt}
@@ -17,7 +18,8 @@ pub record BitsBelow (P : ℕ → Type 0) (word place : ℕ) : Type 0 where
   pub before : (k : ℕ) → k < place → ((bit_at word k ≡ 1) ↔ P k)
   pub after : (k : ℕ) → place ≤ k → bit_at word k ≡ 0
 
-pub bits_more : (P : ℕ → Type 0) (word next place : ℕ) → ((bit_at next place ≡ 1) ↔ P place) → ((k : ℕ) → k ≢ place → bit_at next k ≡ bit_at word k) → BitsBelow P word place → BitsBelow P next (place + 1)
+pub bits_more : (P : ℕ → Type 0) (word next place : ℕ) → ((bit_at next place ≡ 1) ↔ P place) →
+    ((k : ℕ) → k ≢ place → bit_at next k ≡ bit_at word k) → BitsBelow P word place → BitsBelow P next (place + 1)
 bits_more P word next place here others so_far = record {
   before = before;
   after = λ k above. others k (λ same. omega (arith, above, same)) ∙ so_far.after k (omega arith);
@@ -37,10 +39,14 @@ bits_more P word next place here others so_far = record {
 -- a place where the condition fails leaves the word as it is
 pub bits_stay : (P : ℕ → Type 0) (word place : ℕ) → ¬ P place → BitsBelow P word place → BitsBelow P word (place + 1)
 bits_stay P word place fails so_far =
-    bits_more P word word place (λ set. absurd (omega (arith, set, so_far.after place (omega arith))), λ holds. absurd (fails holds)) (λ k _. refl) so_far
+    bits_more P word word place (
+      λ set. absurd (omega (arith, set, so_far.after place (omega arith))),
+      λ holds. absurd (fails holds),
+    ) (λ k _. refl) so_far
 
 -- the condition holds at no place from there on
-pub bits_all : (P : ℕ → Type 0) (word place : ℕ) → ((k : ℕ) → place ≤ k → ¬ P k) → BitsBelow P word place → (k : ℕ) → (bit_at word k ≡ 1) ↔ P k
+pub bits_all : (P : ℕ → Type 0) (word place : ℕ) → ((k : ℕ) → place ≤ k → ¬ P k) → BitsBelow P word place → (k : ℕ) →
+    (bit_at word k ≡ 1) ↔ P k
 bits_all P word place fails below k = elim (cases_lt k place) [
   | inl less ↦ below.before k less
   | inr more ↦ (λ set. absurd (omega (arith, set, below.after k more)), λ holds. absurd (fails k more holds))
@@ -54,7 +60,8 @@ TrustGains principals by old new = (p : ℕ) → p < 64 →
     ((bit_at new p ≡ 1) ↔ ((bit_at old p ≡ 1) ⊎ Any (λ member. ActsFor principals member.0 p) by))
 
 pub no_gain : (principals : Declared) (word : ℕ) → TrustGains principals [] word word
-no_gain principals word p within = (λ set. inl set, λ either. elim either [ inl set ↦ set | inr some ↦ absurd (omega (arith, some.2)) ])
+no_gain principals word p within =
+    (λ set. inl set, λ either. elim either [ inl set ↦ set | inr some ↦ absurd (omega (arith, some.2)) ])
 
 gains_push : (principals : Declared) (before : List PrincipalId) (member : PrincipalId) (old word acted next : ℕ) →
     ((p : ℕ) → p < 64 → ((bit_at acted p ≡ 1) ↔ ActsFor principals member.0 p)) →
@@ -85,7 +92,8 @@ gains_push principals before member old word acted next acts bits so_far p p_in 
       | inr here ↦ either.1 (inr ((acts p p_in).1 here))
     ]
 
-pub gains_more : (principals : Declared) (by : List PrincipalId) (place : ℕ) (e : PrincipalId) (old word acted next : ℕ) →
+pub gains_more : (principals : Declared) (by : List PrincipalId) (place : ℕ) (e : PrincipalId)
+    (old word acted next : ℕ) →
     place < length by → ((p : ℕ) → p < 64 → ((bit_at acted p ≡ 1) ↔ ActsFor principals (get_or by place e).0 p)) →
     ((k : ℕ) → bit_at next k ≡ max (bit_at word k) (bit_at acted k)) →
     TrustGains principals (take place by) old word → TrustGains principals (take (place + 1) by) old next
@@ -94,7 +102,8 @@ gains_more principals by place e old word acted next within acts bits so_far =
     subst Q (sym (take_more by place e within))
     (gains_push principals (take place by) (get_or by place e) old word acted next acts bits so_far)
 
-pub gains_all : (principals : Declared) (by : List PrincipalId) (place old word : ℕ) → length by ≤ place → TrustGains principals (take place by) old word → TrustGains principals by old word
+pub gains_all : (principals : Declared) (by : List PrincipalId) (place old word : ℕ) → length by ≤ place →
+    TrustGains principals (take place by) old word → TrustGains principals by old word
 gains_all principals by place old word all gains =
     let Q : List PrincipalId → Type 0 = λ members. TrustGains principals members old word in
     subst Q (take_all place by all) gains

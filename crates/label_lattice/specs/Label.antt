@@ -81,7 +81,7 @@ IsPolicy label principals owner readers = (principal reader : ℕ) → principal
 abbrev pub AddsPolicy : Label → Label → Declared → PrincipalId → List PrincipalId → Type 0
 AddsPolicy old new principals owner readers = (principal reader : ℕ) → principal < PRINCIPALS → reader < READERS →
     (Forbids new principal reader ↔
-        (Forbids old principal reader ⊎ PolicyForbids principals owner readers principal reader))
+    (Forbids old principal reader ⊎ PolicyForbids principals owner readers principal reader))
 
 -- the new label is also trusted by each principal whom one of these acts for
 abbrev pub AddsTrust : Label → Label → Declared → List PrincipalId → Type 0
