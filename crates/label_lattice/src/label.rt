@@ -3,9 +3,6 @@
 ghost use Rattle.std.specs.Prelude.{◌≡◌, ℕ, ◌<◌, ◌↔◌, IsTrue, List, All, length};
 ghost use Rattle.label_lattice.specs.Label.{ConfFlows, IntegFlows};
 
-#[cfg(test)]
-mod tests;
-
 use crate::policy::{acted_for, forbidden_readers};
 use js_base::PrincipalId;
 use js_base::bits::{all_bits, bits_within, common_bits, with_bit, without_bits};

@@ -8,8 +8,6 @@ ghost use Rattle.label_lattice.specs.Reading.{AddsPart, IsNoPart};
 
 mod names;
 mod pieces;
-#[cfg(test)]
-mod tests;
 
 use crate::Label;
 use crate::tokens::names::known_names;
