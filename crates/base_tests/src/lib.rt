@@ -6,6 +6,8 @@ mod declared_principals;
 #[cfg(test)]
 mod files;
 #[cfg(test)]
+mod labels;
+#[cfg(test)]
 mod texts;
 #[cfg(test)]
 mod tokens;
