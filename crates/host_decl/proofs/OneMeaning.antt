@@ -1,5 +1,5 @@
 -- A host file has one meaning.
-use Rattle.std.proofs.Common.{◌≡◌, ℕ, pos, List, [], ◌∷◌, All, map, Some, refl, sym, subst, ap, ◌∙◌}
+use Rattle.std.proofs.Common.{◌≡◌, ℕ, pos, List, [], ◌∷◌, All, map, Some, refl, sym, subst, ◌∙◌}
 use Rattle.std.specs.List.{AllZip}
 use Rattle.js_base.specs.Name.{IsName}
 use Rattle.js_base.proofs.Lists.{one_zipped}
