@@ -1,6 +1,6 @@
 //! The lexeme that a text begins with, and its token.
 
-ghost use Rattle.std.specs.Prelude.{◌≡◌, ◌↔◌, IfSome, IfNone, IfOk, IsTrue, MatchResult};
+ghost use Rattle.std.specs.Prelude.{IfSome, IfNone, IfOk, MatchResult};
 ghost use Rattle.jif_lex.specs.Tokens.{OpensComment, BeginsBadNumber};
 ghost use Rattle.jif_lex.specs.Lexing.{HasFront, IsTokenFront, LexemeFails, BeginsWord, BeginsDigits};
 

@@ -1,6 +1,6 @@
 //! What is skipped: blanks and comments.
 
-ghost use Rattle.std.specs.Prelude.{◌≡◌, ◌≢◌, ◌==◌, ◌+◌, ◌≤◌, ◌++◌, ◌↔◌, ℕ, List, length, slice_range, codes, IfSome};
+ghost use Rattle.std.specs.Prelude.{◌≢◌, ◌+◌, ◌++◌, ◌↔◌, ℕ, List, codes, IfSome};
 ghost use Rattle.std.specs.Prelude.{IfNone, IsTrue};
 ghost use Rattle.jif_lex.specs.Tokens.{OpensComment};
 ghost use Rattle.jif_lex.specs.Lexing.{IsSkipped, HasFront, LacksFront, EndsFirst};

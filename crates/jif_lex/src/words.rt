@@ -1,9 +1,8 @@
 //! Names and keywords.
 
 ghost use Rattle.std.specs.Prelude.{◌≡◌, ◌≢◌, ◌≤◌, ◌↔◌, length, IfOk, IfSome, IfNone, IsTrue};
-ghost use Rattle.std.specs.List.{list_all, prefix_len};
-ghost use Rattle.std.specs.String.{string_bytes};
-ghost use Rattle.js_base.specs.Name.{IsName, starts_name, continues_name};
+ghost use Rattle.std.specs.List.{prefix_len};
+ghost use Rattle.js_base.specs.Name.{IsName, continues_name};
 ghost use Rattle.jif_lex.specs.declared.token.Word.{Word};
 ghost use Rattle.jif_lex.specs.Symbols.{word_text};
 ghost use Rattle.jif_lex.specs.Tokens.{IsWordLike, IsKind};

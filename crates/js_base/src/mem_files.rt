@@ -1,6 +1,6 @@
 //! Files in memory that fail at listed calls.
 
-ghost use Rattle.std.specs.Prelude.{◌≡◌, ◌≤◌, ◌⊎◌, ◌↔◌, [], Option, Some, IsTrue, IfOk, IfSome, OnOk, OnErr};
+ghost use Rattle.std.specs.Prelude.{◌≡◌, ◌≤◌, ◌⊎◌, ◌↔◌, [], Some, IsTrue, IfOk, OnOk, OnErr};
 ghost use Rattle.std.specs.Prelude.{MatchResult, IsErrOf, vec_len, option_copied};
 ghost use Rattle.js_base.specs.Counts.{counted, Rose};
 ghost use Rattle.js_base.specs.Files.{LoadFails, ChangesOnly};

@@ -1,7 +1,6 @@
 //! Sinks of the system.
 
-ghost use Rattle.std.specs.Prelude.{◌≡◌, ◌≤◌, None};
-ghost use Rattle.js_base.specs.Counts.{counted, Rose};
+ghost use Rattle.std.specs.Prelude.{◌≡◌, None};
 
 use crate::sink::{PutError, Sink};
 use std::alloc::Global;

@@ -1,8 +1,6 @@
 //! Who acts for whom, as a row of bits for each principal.
 
-ghost use Rattle.std.specs.Prelude.{◌≡◌, ℕ, ◌<◌, ◌↔◌, ◌⊎◌, List, [], ◌∷◌, ◌++◌, All, map, length, slice_index};
-ghost use Rattle.std.specs.Int.{bit_at};
-ghost use Rattle.principals.specs.ActsFor.{LeadsFrom};
+ghost use Rattle.std.specs.Prelude.{ℕ, ◌<◌, List, [], ◌∷◌, ◌++◌, All};
 ghost use Rattle.principals.specs.Closure.{AreRowsOf};
 ghost use Rattle.principals.specs.Pairs.{pair_of, pairs_of};
 
