@@ -1,10 +1,12 @@
 -- One host: its state, and what taking a message and running an instruction do to it.
-use Rattle.std.specs.Prelude.{ℕ, ◌+◌, ◌-◌, ◌^◌, ◌≤◌, ◌⊎◌, ℤ, pos, Bool, true, false, ◌==◌, ◌&&◌, if◌then◌else◌, IsTrue, List, [], ◌∷◌, ◌++◌, length, take, Option, Some, None, slice_get, slice_index, slice_set, remove, position, replicate}
+use Rattle.std.specs.Prelude.{ℕ, ◌+◌, ◌-◌, ◌^◌, ◌≤◌, ◌⊎◌, ℤ, pos, Bool, true, false, ◌==◌, ◌&&◌, if◌then◌else◌, IsTrue}
+use Rattle.std.specs.Prelude.{List, [], ◌∷◌, ◌++◌, length, take, Option, Some, None, slice_get, slice_index, slice_set}
+use Rattle.std.specs.Prelude.{remove, position, replicate}
 use Rattle.std.specs.Option.{option_map}
 use Rattle.js_base.specs.declared.ids.HostId.{HostId}
 use Rattle.js_base.specs.declared.ids.FieldId.{FieldId}
 use Rattle.js_base.specs.declared.ids.RequestId.{RequestId}
-use Rattle.jif_tree.specs.Store.{written, row_of}
+use Rattle.jif_tree.specs.Store.{store_after_write, row_of}
 use Rattle.net_world.specs.declared.host_code.Token.{Token}
 use Rattle.net_world.specs.declared.host_code.Message.{Message}
 use Rattle.net_world.specs.declared.host_code.Message.TheVariants.{Set, Ack}
@@ -32,8 +34,8 @@ pub record Outcome : Type 0 where
   pub state : HostState
   pub sent : Option (HostId × Message)
 
-abbrev pub quiet : HostState → Outcome
-quiet h = record { state = h; sent = None }
+abbrev pub without_message_sent : HostState → Outcome
+without_message_sent h = record { state = h; sent = None }
 
 abbrev pub with_one_ignored : HostState → HostState
 with_one_ignored h = record h { ignored = h.ignored + 1 }
@@ -46,42 +48,42 @@ awaits request from waiting =
     (waiting.request.at == request.at && waiting.request.count == request.count) && waiting.asked.0 == from.0
 
 -- the thread that waits at this place runs again
-abbrev pub resumed : HostState → Option ℕ → HostState
-resumed h None = with_one_ignored h
-resumed h (Some place) = record h { running = option_map (λ waiting. waiting.thread) (slice_get h.waiting place); waiting = remove h.waiting place }
+abbrev pub after_answer : HostState → Option ℕ → HostState
+after_answer h None = with_one_ignored h
+after_answer h (Some place) = record h { running = option_map (λ waiting. waiting.thread) (slice_get h.waiting place); waiting = remove h.waiting place }
 
 -- what host me does with a message from another host
-abbrev pub taken : CodeShape → HostId → HostState → HostId → Message → Outcome
-taken code me h from (Set request field index value) =
+abbrev pub after_taking : CodeShape → HostId → HostState → HostId → Message → Outcome
+after_taking code me h from (Set request field index value) =
     if is_on code field me.0
-    then record { state = record h { rows = written h.rows field.0 index value }; sent = Some (from, Ack request) }
-    else quiet (with_one_ignored h)
-taken code me h from (Ack request) = quiet (resumed h (position (awaits request from) h.waiting))
+    then record { state = record h { rows = store_after_write h.rows field.0 index value }; sent = Some (from, Ack request) }
+    else without_message_sent (with_one_ignored h)
+after_taking code me h from (Ack request) = without_message_sent (after_answer h (position (awaits request from) h.waiting))
 
 -- ONE TURN of the running thread
 
-abbrev pub advanced : Thread → Thread
-advanced thread = record thread { at = thread.at + 1 }
+abbrev pub thread_after : Thread → Thread
+thread_after thread = record thread { at = thread.at + 1 }
 
 -- the next request of the instruction at which the thread is
 abbrev pub next_request : HostState → Thread → RequestId
 next_request h thread = record { at = thread.at; count = slice_index h.asked thread.at }
 
 -- the thread waits for the answer to its request from a host, and goes on after the instruction that asked
-abbrev pub waits_for : HostState → Thread → HostId → HostState
-waits_for h thread asked =
+abbrev pub after_asking : HostState → Thread → HostId → HostState
+after_asking h thread asked =
     record h {
       running = None;
-      waiting = h.waiting ++ record { thread = advanced thread; request = next_request h thread; asked = asked } ∷ [];
+      waiting = h.waiting ++ record { thread = thread_after thread; request = next_request h thread; asked = asked } ∷ [];
       asked = slice_set h.asked thread.at (slice_index h.asked thread.at + 1);
     }
 
-abbrev pub put : HostId → HostState → Thread → FieldId → ℤ → Option FieldShape → Outcome
-put me h thread field value None = quiet h
-put me h thread field value (Some there) =
+abbrev pub after_put : HostId → HostState → Thread → FieldId → ℤ → Option FieldShape → Outcome
+after_put me h thread field value None = without_message_sent h
+after_put me h thread field value (Some there) =
     if there.host.0 == me.0
-    then quiet (record h { rows = written h.rows field.0 (pos 0) value; running = Some (advanced thread) })
-    else record { state = waits_for h thread there.host; sent = Some (there.host, Set (next_request h thread) field (pos 0) value) }
+    then without_message_sent (record h { rows = store_after_write h.rows field.0 (pos 0) value; running = Some (thread_after thread) })
+    else record { state = after_asking h thread there.host; sent = Some (there.host, Set (next_request h thread) field (pos 0) value) }
 
 abbrev pub same_token : Token → Token → Bool
 same_token a b =
@@ -92,30 +94,30 @@ abbrev pub top : List StackEntry → Option StackEntry
 top stack = slice_get stack (length stack - 1)
 
 -- The thread gives its token back to this host and ends. One that is not on top is ignored, as a message would be. A token that is on top takes its entry off, and the entry
--- is `halt`, since no other was put there.
-abbrev pub given_back : HostState → Thread → Option StackEntry → HostState
-given_back h thread None = record h { running = None; ignored = h.ignored + 1 }
-given_back h thread (Some entry) =
+-- is `halt`, since no other was after_put there.
+abbrev pub after_giving_back : HostState → Thread → Option StackEntry → HostState
+after_giving_back h thread None = record h { running = None; ignored = h.ignored + 1 }
+after_giving_back h thread (Some entry) =
     if same_token entry.token thread.token
     then record h { running = None; stack = take (length h.stack - 1) h.stack; halted = true }
     else record h { running = None; ignored = h.ignored + 1 }
 
-abbrev pub executed : CodeShape → HostId → HostState → Thread → Op → Outcome
-executed code me h thread (Put field value) = put me h thread field value (slice_get code.fields field.0)
-executed code me h thread Back = quiet (given_back h thread (top h.stack))
+abbrev pub after_operation : CodeShape → HostId → HostState → Thread → Op → Outcome
+after_operation code me h thread (Put field value) = after_put me h thread field value (slice_get code.fields field.0)
+after_operation code me h thread Back = without_message_sent (after_giving_back h thread (top h.stack))
 
 -- nothing happens where there is no instruction
-abbrev pub ran : CodeShape → HostId → HostState → Thread → Option Instr → Outcome
-ran code me h thread None = quiet h
-ran code me h thread (Some instruction) = executed code me h thread instruction.op
+abbrev pub after_running : CodeShape → HostId → HostState → Thread → Option Instr → Outcome
+after_running code me h thread None = without_message_sent h
+after_running code me h thread (Some instruction) = after_operation code me h thread instruction.op
 
-abbrev pub turned_by : CodeShape → HostId → HostState → Option Thread → Outcome
-turned_by code me h None = quiet h
-turned_by code me h (Some thread) = ran code me h thread (instruction code me.0 thread.at)
+abbrev pub after_turn_by : CodeShape → HostId → HostState → Option Thread → Outcome
+after_turn_by code me h None = without_message_sent h
+after_turn_by code me h (Some thread) = after_running code me h thread (instruction code me.0 thread.at)
 
 -- what host me does at a turn
-abbrev pub turned : CodeShape → HostId → HostState → Outcome
-turned code me h = turned_by code me h h.running
+abbrev pub after_turn : CodeShape → HostId → HostState → Outcome
+after_turn code me h = after_turn_by code me h h.running
 
 -- THE START
 

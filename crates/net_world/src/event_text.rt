@@ -1,6 +1,7 @@
 //! Scripts of events: what their lines mean.
 
-ghost use Rattle.std.specs.Prelude.{◌≡◌, ◌==◌, ◌<◌, ◌≤◌, ◌^◌, [], ◌∷◌, length, position, slice_get, codes, Ok, MatchResult, IfOk, IfSome, IfNone, IsTrue};
+ghost use Rattle.std.specs.Prelude.{◌≡◌, ◌==◌, ◌<◌, ◌≤◌, ◌^◌, [], ◌∷◌, length, position, slice_get, codes, Ok};
+ghost use Rattle.std.specs.Prelude.{MatchResult, IfOk, IfSome, IfNone, IsTrue};
 ghost use Rattle.std.specs.Char.{is_ascii_digit};
 ghost use Rattle.std.specs.List.{list_all, prefix_len, position_or_len};
 ghost use Rattle.std.specs.Str.{bytes_eq};
@@ -8,7 +9,8 @@ ghost use Rattle.std.specs.Str.Lines.{lines, strip_carriage_return};
 ghost use Rattle.std.specs.Str.Parse.{digits_value};
 ghost use Rattle.std.specs.String.{string_bytes};
 ghost use Rattle.net_world.specs.MessageText.{field_name, message_text, set_text, ack_text};
-ghost use Rattle.net_world.specs.Events.{script_of, EventsFail, is_blank, words, is_skipped, event_of, host_named, is_plain_number, number_of};
+ghost use Rattle.net_world.specs.Events.{script_of, EventsFail, is_blank, words, is_skipped, event_of, host_named};
+ghost use Rattle.net_world.specs.Events.{is_plain_number, number_of};
 
 use crate::host_code::{Code, Message};
 use js_base::limits::{HOSTS, SCRIPT_BYTES};
