@@ -32,9 +32,13 @@ value_of c call (Number n) = n
 -- what a statement of a call leaves, where these items were pending behind it
 abbrev pub after_statement : Configuration → ℕ → StmtKind → List Item → Configuration
 after_statement c call (SetField field value) behind =
-    record { store = store_after_write c.store field.0 (pos 0) (value_of c call value); calls = c.calls; pending = behind }
+    record {
+      store = store_after_write c.store field.0 (pos 0) (value_of c call value);
+      calls = c.calls;
+      pending = behind;
+    }
 
--- what the item at the front leaves. At the end nothing changes any more
+-- what the item at the front leaves; at the end nothing changes any more
 abbrev pub after_item : Configuration → List Item → Configuration
 after_item c [] = c
 after_item c (Run call statement ∷ behind) = after_statement c call statement.kind behind
@@ -44,9 +48,9 @@ abbrev pub step : Configuration → Configuration
 step c = after_item c c.pending
 
 -- the configuration after n steps
-abbrev pub after : ℕ → Configuration → Configuration
-after zero c = c
-after (suc n) c = step (after n c)
+abbrev pub after_steps : ℕ → Configuration → Configuration
+after_steps zero c = c
+after_steps (suc n) c = step (after_steps n c)
 
 -- the statements of `main`
 abbrev pub body_of : Option Method → List Stmt
@@ -59,11 +63,15 @@ main_body program = body_of (slice_get program.methods.items program.main.0)
 -- where the run from a store begins: `main` is called, and its body is to be done
 abbrev pub configuration_at_start : Program → List (List ℤ) → Configuration
 configuration_at_start program store =
-    record { store = store; calls = record { caller = 0; values = λ x. pos 0 } ∷ []; pending = map (Run 0) (main_body program) }
+    record {
+      store = store;
+      calls = record { caller = 0; values = λ x. pos 0 } ∷ [];
+      pending = map (Run 0) (main_body program);
+    }
 
 -- the run's prefix of n steps
 abbrev pub prefix : Program → List (List ℤ) → ℕ → Configuration
-prefix program store n = after n (configuration_at_start program store)
+prefix program store n = after_steps n (configuration_at_start program store)
 
 -- nothing is left to be done
 abbrev pub IsAtEnd : Configuration → Type 0

@@ -9,7 +9,7 @@ use Rattle.jif_tree.specs.declared.program.StmtKind.{StmtKind}
 use Rattle.jif_tree.specs.declared.program.StmtKind.TheVariants.{SetField}
 use Rattle.jif_tree.specs.declared.program.Expr.TheVariants.{Number}
 use Rattle.jif_tree.specs.Store.{store_after_write}
-use Rattle.jif_tree.specs.SourceRun.{Configuration, Item, Run, after_statement, after_item, after, main_body, configuration_at_start, prefix, HasLength}
+use Rattle.jif_tree.specs.SourceRun.{Configuration, Item, Run, after_statement, after_item, after_steps, main_body, configuration_at_start, prefix, HasLength}
 
 -- a statement is there, or all statements were done
 pub statement_cases : (body : List Stmt) (n : ℕ) → n ≤ length body → ((s : Stmt) × (slice_get body n ≡ Some s)) ⊎ (n ≡ length body)
@@ -38,11 +38,11 @@ stepped_pending : (c : Configuration) (body : List Stmt) → c.pending ≡ map (
 stepped_pending c [] pending = pending
 stepped_pending c (s ∷ body) pending = executed_pending c s.kind (map (Run 0) body)
 
-after_pending : (c : Configuration) (body : List Stmt) (n : ℕ) → c.pending ≡ map (Run 0) body → (after n c).pending ≡ map (Run 0) (drop n body)
+after_pending : (c : Configuration) (body : List Stmt) (n : ℕ) → c.pending ≡ map (Run 0) body → (after_steps n c).pending ≡ map (Run 0) (drop n body)
 after_pending c body zero pending = pending
 after_pending c body (suc n) pending =
     let before = after_pending c body n pending in
-    ap (λ items. (after_item (after n c) items).pending) before ∙ stepped_pending (after n c) (drop n body) before ∙ ap (map (Run 0)) (drop_one n body)
+    ap (λ items. (after_item (after_steps n c) items).pending) before ∙ stepped_pending (after_steps n c) (drop n body) before ∙ ap (map (Run 0)) (drop_one n body)
 
 -- what is still to be done after n steps
 pub pending_after : (program : Program) (store : List (List ℤ)) (n : ℕ) → (prefix program store n).pending ≡ map (Run 0) (drop n (main_body program))

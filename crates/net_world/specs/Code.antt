@@ -3,6 +3,7 @@ use Rattle.std.specs.Prelude.{◌≡◌, ℕ, ◌<◌, ◌≤◌, ◌^◌, Bool,
 use Rattle.std.specs.Prelude.{unwrap_or, slice_get}
 use Rattle.js_base.specs.declared.ids.HostId.{HostId}
 use Rattle.js_base.specs.declared.ids.FieldId.{FieldId}
+use Rattle.js_base.specs.declared.limits.TheConstants.{HOSTS}
 use Rattle.net_world.specs.declared.host_code.Instr.{Instr}
 
 -- a field and the host that holds it
@@ -22,7 +23,7 @@ part_of code host = unwrap_or (slice_get code.parts host) []
 
 -- what every code keeps
 pub record IsSound (code : CodeShape) : Type 0 where
-  pub few_hosts : length code.hosts ≤ 16
+  pub few_hosts : length code.hosts ≤ HOSTS
   pub a_part_each : length code.parts ≡ length code.hosts
   pub root : code.root.0 < length code.hosts
   pub fields_on_hosts : All (λ field. field.host.0 < length code.hosts) code.fields

@@ -8,6 +8,8 @@ use Rattle.net_world.specs.declared.host_code.Message.{Message}
 use Rattle.net_world.specs.declared.event_text.Event.{Event}
 use Rattle.net_world.specs.declared.event_text.Event.TheVariants.{Take, Turn}
 use Rattle.jif_tree.specs.Store.{row_of}
+use Rattle.js_base.specs.declared.limits.TheConstants.{HOSTS}
+use Rattle.net_world.specs.declared.flying.TheConstants.{PAIRS}
 use Rattle.net_world.specs.Code.{CodeShape, FieldShape}
 use Rattle.net_world.specs.Flying.{Flight, Queue, pair_place, flights_at, flights_of}
 use Rattle.net_world.specs.HostTable.{HostState, HostModel, IsStopped, Outcome, after_taking, after_turn, host_at_start}
@@ -18,8 +20,8 @@ pub record SentMessage : Type 0 where
   pub to : HostId
   pub message : Message
 
--- The state of all hosts. What is in flight from host i to host j, the oldest first, stands at place 16 * i + j. No
--- host misbehaves so far.
+-- The state of all hosts. What is in flight from host i to host j, the oldest first, stands at place `HOSTS * i + j`.
+-- No host misbehaves so far.
 pub record World : Type 0 where
   pub hosts : List HostState
   pub flying : List (List Flight)
@@ -52,14 +54,16 @@ after_posting w from (Some letter) =
 
 -- a host was moved on by one of its steps
 abbrev pub after_step : World → HostId → Outcome → World
-after_step w host outcome = after_posting (record w { hosts = slice_set w.hosts host.0 outcome.state }) host outcome.sent
+after_step w host outcome =
+    after_posting (record w { hosts = slice_set w.hosts host.0 outcome.state }) host outcome.sent
 
 -- a message is no longer in flight
 abbrev pub without_message : World → HostId → HostId → ℕ → World
 without_message w from to place =
     record w { flying = slice_set w.flying (pair_place from to) (remove (queue w from to) place) }
 
-abbrev pub world_after_taking : CodeShape → World → HostId → HostId → ℕ → Option HostState → Option Flight → Result World Refusal
+abbrev pub world_after_taking : CodeShape → World → HostId → HostId → ℕ → Option HostState → Option Flight
+    → Result World Refusal
 world_after_taking code w from to place None flight = Err not_there
 world_after_taking code w from to place (Some h) None = Err not_there
 world_after_taking code w from to place (Some h) (Some message) =
@@ -78,7 +82,8 @@ obeying_state w host = if misbehaves w host then None else slice_get w.hosts hos
 
 -- what an event leaves, or why there is no such event
 abbrev pub next : CodeShape → World → Event → Result World Refusal
-next code w (Take from to place) = world_after_taking code w from to place (obeying_state w to) (slice_get (queue w from to) place)
+next code w (Take from to place) =
+    world_after_taking code w from to place (obeying_state w to) (slice_get (queue w from to) place)
 next code w (Turn host) = world_after_turn code w host (obeying_state w host)
 
 -- what an event leaves, or the line of the script where it is refused
@@ -105,7 +110,7 @@ abbrev pub world_at_start : CodeShape → List (List ℤ) → World
 world_at_start code store =
     record {
       hosts = map (λ n. host_at_start code store (record { 0 = n })) (numbers_below (length code.hosts));
-      flying = replicate 256 [];
+      flying = replicate PAIRS [];
       sent = [];
       misbehaving = [];
     }
@@ -122,7 +127,7 @@ host_row (Some host) number = row_of host.rows number
 abbrev pub field_row : World → ℕ → FieldShape → List ℤ
 field_row w number field = host_row (slice_get w.hosts field.host.0) number
 
--- A WORLD IN THE PROGRAM
+-- ---- a world in the program
 
 pub record WorldModel : Type 0 where
   pub hosts : List HostModel
@@ -137,7 +142,7 @@ world_of w =
 
 -- what every world keeps of its hosts: there are at most 16, and each has its number
 pub record AreNumbered (hosts : List HostModel) : Type 0 where
-  pub few : length hosts ≤ 16
+  pub few : length hosts ≤ HOSTS
   pub numbered : map (λ host. host.me.0) hosts ≡ numbers_below (length hosts)
 
 -- the host whose step an event is

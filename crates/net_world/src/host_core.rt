@@ -84,6 +84,7 @@ pub struct Host {
 }
 
 impl Model for Host {
+    ghost use Rattle.net_world.specs.declared.host_core.TheConstants.{MOST_CALLS};
     ghost use Rattle.std.specs.Prelude.{◌≤◌, ◌^◌, All};
     ghost use Rattle.net_world.specs.HostTable.{HostState, HostModel};
 
@@ -91,12 +92,20 @@ impl Model for Host {
 
     ghost view = { λ h. record {
       me = h.me;
-      state = record { rows = h.rows.items; running = h.running; waiting = h.waiting.items; stack = h.stack.items; asked = h.asked.items; ignored = h.ignored; halted = h.halted };
+      state = record {
+        rows = h.rows.items;
+        running = h.running;
+        waiting = h.waiting.items;
+        stack = h.stack.items;
+        asked = h.asked.items;
+        ignored = h.ignored;
+        halted = h.halted;
+      };
       calls = h.calls;
       stopped = h.stopped;
     } };
 
-    ghost invariant = { λ h. All (λ n. n ≤ h.calls) h.asked.items × (h.ignored ≤ h.calls) × (h.calls ≤ 2 ^ 62) };
+    ghost invariant = { λ h. All (λ n. n ≤ h.calls) h.asked.items × (h.ignored ≤ h.calls) × (h.calls ≤ MOST_CALLS) };
 }
 
 impl Host {
@@ -185,7 +194,9 @@ impl Host {
         message: Message,
     ) -> Result<Sent, HostError>
         requires { self.old.state.running ≡ None }
-        ensures ok { IfOk result (λ sent. after_taking code.now self.old.me self.old.state from message ≡ record { state = self.new.state; sent = sent }) }
+        ensures ok { IfOk result (λ sent.
+            after_taking code.now self.old.me self.old.state from message
+            ≡ record { state = self.new.state; sent = sent }) }
         ensures stopped { IsErrOf result HostError.Stopped ↔ IsStopped self.old }
         ensures same { self.new.me ≡ self.old.me }
         ensures err { OnErr result (self.new.state ≡ self.old.state) }
@@ -222,7 +233,8 @@ impl Host {
     /// What the host does at a turn of its running thread.
     pub fn turn(&mut self, code: &Code) -> Result<Sent, HostError>
         requires { IsSome self.old.state.running }
-        ensures ok { IfOk result (λ sent. after_turn code.now self.old.me self.old.state ≡ record { state = self.new.state; sent = sent }) }
+        ensures ok { IfOk result (λ sent.
+            after_turn code.now self.old.me self.old.state ≡ record { state = self.new.state; sent = sent }) }
         ensures stopped { IsErrOf result HostError.Stopped ↔ IsStopped self.old }
         ensures same { self.new.me ≡ self.old.me }
         ensures err { OnErr result (self.new.state ≡ self.old.state) }
@@ -262,7 +274,9 @@ impl Host {
     ) -> Result<Sent, HostError>
         requires next { thread.at + 1 < 2 ^ 32 }
         requires asked { All (λ n. n < self.old.calls) self.old.state.asked }
-        ensures ok { IfOk result (λ sent. after_put self.old.me self.old.state thread field value (Some there.now) ≡ record { state = self.new.state; sent = sent }) }
+        ensures ok { IfOk result (λ sent.
+            after_put self.old.me self.old.state thread field value (Some there.now)
+            ≡ record { state = self.new.state; sent = sent }) }
         ensures to { IfOk result (λ sent. IfSome sent (λ letter. letter.0 ≡ there.now.host)) }
         ensures memory { result ≢ Err HostError.Stopped }
         ensures same { self.new.me ≡ self.old.me }
@@ -332,7 +346,8 @@ impl Host {
     /// The thread gives its token back and ends.
     fn give_back(&mut self, thread: Thread)
         requires { self.old.state.ignored < self.old.calls }
-        ensures { self.new ≡ record self.old { state = after_giving_back self.old.state thread (top self.old.state.stack) } }
+        ensures { self.new
+            ≡ record self.old { state = after_giving_back self.old.state thread (top self.old.state.stack) } }
     {
         self.running = None;
         match self.stack.last() {
@@ -372,7 +387,9 @@ impl Host {
     /// ignored.
     fn resume(&mut self, request: RequestId, from: HostId)
         requires { self.old.state.ignored < self.old.calls }
-        ensures { self.new ≡ record self.old { state = after_answer self.old.state (position (awaits request from) self.old.state.waiting) } }
+        ensures { self.new ≡ record self.old {
+          state = after_answer self.old.state (position (awaits request from) self.old.state.waiting);
+        } }
     {
         match awaited_place(&self.waiting, request, from) {
             Some(place) => {
@@ -466,7 +483,7 @@ fn awaited_place(waiting: &[Waiting], request: RequestId, from: HostId) -> Optio
 
 /// One more request was made by the instruction at this place.
 fn count_request(asked: &mut Vec<u64>, at: usize)
-    requires { All (λ n. n < 2 ^ 62) asked.old.items }
+    requires { All (λ n. n < MOST_CALLS) asked.old.items }
     ensures { asked.new.items ≡ slice_set asked.old.items at (slice_index asked.old.items at + 1) }
 {
     if let Some(count) = asked.get_mut(at) {

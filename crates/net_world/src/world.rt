@@ -14,6 +14,7 @@ use crate::flying::Flying;
 use crate::host_code::{Code, Message};
 use crate::host_core::{Host, HostError, Sent};
 use jif_tree::Store;
+use js_base::limits::HOSTS;
 use js_base::{HostId, OutOfMemory};
 use std::alloc::Global;
 use std::marker::Model;
@@ -69,8 +70,10 @@ impl World {
     pub fn apply(&mut self, code: &Code, event: &Event) -> Result<(), EventError>
         requires { length self.old.hosts ≡ length code.now.hosts }
         ensures ok { OnOk result (next code.now (world_of self.old) event.now ≡ Ok (world_of self.new)) }
-        ensures not_there { IsErrOf result EventError.NotThere ↔ (next code.now (world_of self.old) event.now ≡ Err not_there) }
-        ensures busy { IsErrOf result EventError.HostBusy ↔ (next code.now (world_of self.old) event.now ≡ Err host_busy) }
+        ensures not_there { IsErrOf result EventError.NotThere ↔
+            (next code.now (world_of self.old) event.now ≡ Err not_there) }
+        ensures busy { IsErrOf result EventError.HostBusy ↔
+            (next code.now (world_of self.old) event.now ≡ Err host_busy) }
         ensures stopped { IsErrOf result EventError.Stopped ↔ IsStuck code.now self.old event.now }
         ensures err { OnErr result (world_of self.new ≡ world_of self.old) }
         ensures hosts { length self.new.hosts ≡ length self.old.hosts }
@@ -81,7 +84,8 @@ impl World {
         // After an error no host changes, except that the event's may be stopped where memory ran out.
         ensures kept { IfErr result (λ error. error ≢ EventError.OutOfMemory → self.new.hosts ≡ self.old.hosts) }
         // No host but that of the event changes.
-        ensures others { (host : ℕ) → host ≢ (mover event.now).0 → slice_get self.new.hosts host ≡ slice_get self.old.hosts host }
+        ensures others { (host : ℕ) → host ≢ (mover event.now).0 →
+            slice_get self.new.hosts host ≡ slice_get self.old.hosts host }
     {
         match *event {
             Event::Take(from, to, place) => self.take(code, from, to, place),
@@ -190,7 +194,7 @@ impl World {
     /// How many hosts there are.
     pub fn host_count(&self) -> usize
         ensures count { result ≡ length self.now.hosts }
-        ensures few { result ≤ 16 }
+        ensures few { result ≤ HOSTS }
     {
         self.hosts.len()
     }
