@@ -5,6 +5,7 @@ use Rattle.std.specs.List.{AllByRecursion, AllZip}
 use Rattle.std.proofs.lemmas.List.{length-append, length-map, length-replicate, take_more}
 use Rattle.std.proofs.lemmas.List.Elements.{All-nil, All-cons}
 use Rattle.js_base.specs.declared.ids.HostId.{HostId}
+use Rattle.js_base.proofs.Lists.{zip_push}
 use Rattle.jif_tree.specs.declared.program.Program.{Program}
 use Rattle.jif_tree.specs.declared.program.Field.{Field}
 use Rattle.jif_tree.specs.SourceRun.{main_body}
@@ -13,18 +14,12 @@ use Rattle.net_world.specs.Code.{CodeShape, FieldShape, IsSound}
 use Rattle.net_world.specs.FirstCode.{HasNoHolder, IsCodeOf, IsFirstUnheld, IsPlaced, MayHold, root_part}
 use Rattle.host_decl.specs.Hosts.{AreHostNames, HostShape, HostsShape, names_of}
 
-AllZip_push : {A B : Type 0} (R : A → B → Type 0) (xs : List A) (ys : List B) (x : A) (y : B) → AllZip R xs ys → R x y → AllZip R (xs ++ x ∷ []) (ys ++ y ∷ [])
-AllZip_push R [] [] x y all last = (last, tt)
-AllZip_push R [] (b ∷ ys) x y all last = absurd all
-AllZip_push R (a ∷ xs) [] x y all last = absurd all
-AllZip_push R (a ∷ xs) (b ∷ ys) x y all last = (all.0, AllZip_push R xs ys x y all.1 last)
-
 -- one pair further
 pub AllZip_more : {A B : Type 0} (R : A → B → Type 0) (xs : List A) (ys : List B) (i : ℕ) (x : A) (y : B) → i < length xs → x ≡ get_or xs i x → AllZip R (take i xs) ys → R x y → AllZip R (take (i + 1) xs) (ys ++ y ∷ [])
 AllZip_more {A} R xs ys i x y lt is all last =
     let P : List A → Type 0 = λ front. AllZip R front (ys ++ y ∷ []) in
     let longer : take (i + 1) xs ≡ take i xs ++ x ∷ [] = take_more xs i x lt ∙ ap (λ z. take i xs ++ z ∷ []) (sym is) in
-    subst P (sym longer) (AllZip_push R (take i xs) ys x y all last)
+    subst P (sym longer) (zip_push R (take i xs) ys x y all last)
 
 is_there : {X : Type 0} (P : X → Type 0) (xs : List X) (n : ℕ) → IsSomeAnd (slice_get xs n) P → n < length xs
 is_there P [] n is = absurd is
@@ -38,7 +33,8 @@ placed_on_hosts hosts (f ∷ fields) [] all = absurd all
 placed_on_hosts hosts (f ∷ fields) (p ∷ placed) all =
     All-cons (λ field. field.host.0 < length hosts) p placed (is_there _ hosts p.host.0 all.0.host.may) (placed_on_hosts hosts fields placed all.1)
 
-none_may : (P : HostShape → Type 0) (hosts : List HostShape) (n : ℕ) → IsSomeAnd (slice_get hosts n) P → All (λ host. ¬ P host) hosts → ⊥
+-- where none may, none does
+pub none_may : (P : HostShape → Type 0) (hosts : List HostShape) (n : ℕ) → IsSomeAnd (slice_get hosts n) P → All (λ host. ¬ P host) hosts → ⊥
 none_may P [] n some none = some
 none_may P (host ∷ hosts) zero some none = none 0 host (omega arith) some
 none_may P (host ∷ hosts) (suc n) some none = none_may P hosts n some (λ k d lt. none (suc k) d (omega arith))

@@ -1,5 +1,5 @@
 -- No line of the first form of a program holds a line feed.
-use Rattle.std.proofs.Common.{◌≡◌, ℕ, true, not, eqb, Option, Some, None, List, [], ◌++◌, sym, subst, refl, arith, inl, inr}
+use Rattle.std.proofs.Common.{◌≡◌, ℕ, true, false, not, eqb, Option, Some, None, List, [], ◌++◌, sym, subst, refl, arith, inl, inr}
 use Rattle.std.specs.Prelude.{Contains, IfSome, codes}
 use Rattle.std.specs.List.{list_all}
 use Rattle.std.specs.Str.Parse.{AllDigits}
@@ -8,7 +8,7 @@ use Rattle.std.proofs.lemmas.List.{get_or_default}
 use Rattle.std.proofs.lemmas.List.Elements.{Contains-append_cases}
 use Rattle.std.proofs.lemmas.List.Folds.{list_all_at}
 use Rattle.std.proofs.lemmas.Str.Parse.{digit_at}
-use Rattle.js_base.specs.Name.{IsName}
+use Rattle.js_base.specs.Name.{IsName, continues_name}
 use Rattle.split_cli.specs.ProgramForm.{FieldForm, AssignmentForm, DeclaresField, AssignsNumber}
 use Rattle.split_cli.specs.Text.{policy_text}
 use Rattle.js_base.proofs.NameTexts.{name_lacks}
@@ -28,14 +28,16 @@ digits_lack digits all found =
     let same = get_or_default digits found.0 0 10 found.1 in
     omega (arith, found.2)
 
-policy_lacks_line_feed : (owner : Option (List ℕ)) → IfSome owner IsName → ¬ Contains (policy_text owner) 10
-policy_lacks_line_feed None is = written_lacks [] 10 refl
-policy_lacks_line_feed (Some owner) is = lacks_append owner (codes ":") 10 (name_lacks 10 owner refl is) (written_lacks (codes ":") 10 refl)
+-- no policy holds a byte that continues no name, but for its colon
+pub policy_lacks : (byte : ℕ) (owner : Option (List ℕ)) → continues_name byte ≡ false → list_all (λ b. not (eqb b byte)) (codes ":") ≡ true → IfSome owner IsName →
+    ¬ Contains (policy_text owner) byte
+policy_lacks byte None stops other is = written_lacks [] byte refl
+policy_lacks byte (Some owner) stops other is = lacks_append owner (codes ":") byte (name_lacks byte owner stops is) (written_lacks (codes ":") byte other)
 
 pub declares_one_line : (line : List ℕ) (field : FieldForm) → DeclaresField line field → ¬ Contains line 10
 declares_one_line line field declares =
     let P : List ℕ → Type 0 = λ text. ¬ Contains text 10 in
-    let opened = lacks_append (codes "int{") (policy_text field.owner) 10 (written_lacks (codes "int{") 10 refl) (policy_lacks_line_feed field.owner declares.owner) in
+    let opened = lacks_append (codes "int{") (policy_text field.owner) 10 (written_lacks (codes "int{") 10 refl) (policy_lacks 10 field.owner refl refl declares.owner) in
     let closed = lacks_append (codes "int{" ++ policy_text field.owner) (codes "} ") 10 opened (written_lacks (codes "} ") 10 refl) in
     let named = lacks_append (codes "int{" ++ policy_text field.owner ++ codes "} ") field.name 10 closed (name_lacks 10 field.name refl declares.name) in
     subst P (sym declares.text) (lacks_append (codes "int{" ++ policy_text field.owner ++ codes "} " ++ field.name) (codes ";") 10 named (written_lacks (codes ";") 10 refl))

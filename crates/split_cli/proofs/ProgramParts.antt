@@ -60,12 +60,12 @@ program_found bytes rest body end fields assignments declared head assigned clos
 other_first : (x y : ℕ) (xs ys : List ℕ) → eqb x y ≡ false → x ∷ xs ≡ y ∷ ys → ⊥
 other_first x y xs ys differ is = both_ways (eqb x y) differ (eq-eqb x y cc)
 
-head_declares_none : (body : List ℕ) → BeginsWithNone DeclaresField (codes "void main{}() {" ++ 10 ∷ body)
+pub head_declares_none : (body : List ℕ) → BeginsWithNone DeclaresField (codes "void main{}() {" ++ 10 ∷ body)
 head_declares_none body = λ line rest field is first declares.
     let same = (same_cut 10 (codes "void main{}() {") line body rest (written_lacks (codes "void main{}() {") 10 refl) first is).0 in
     other_first 118 105 _ _ refl (same ∙ declares.text)
 
-end_assigns_none : BeginsWithNone AssignsNumber (codes "}" ++ 10 ∷ [])
+pub end_assigns_none : BeginsWithNone AssignsNumber (codes "}" ++ 10 ∷ [])
 end_assigns_none = λ line rest assignment is first assigns.
     let same = (same_cut 10 (codes "}") line [] rest (written_lacks (codes "}") 10 refl) first is).0 in
     other_first 125 32 _ _ refl (same ∙ assigns.text)

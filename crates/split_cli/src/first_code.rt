@@ -2,18 +2,17 @@ ghost use Rattle.std.specs.Prelude.{◌≡◌, ◌+◌, ◌^◌, ◌<◌, ◌≤
 ghost use Rattle.std.specs.String.{string_bytes};
 ghost use Rattle.jif_tree.specs.SourceRun.{main_body};
 ghost use Rattle.net_world.specs.FirstCode.{IsCodeOf, instruction_of, root_part};
-ghost use Rattle.split_cli.specs.Shown.{HaveNoCode};
+ghost use Rattle.split_cli.specs.FirstCodes.{HaveNoCode};
 
 mod placement;
-#[cfg(test)]
-pub mod tests;
 
 use host_decl::{HostRow, Hosts};
 use jif_tree::{Expr, Program, Stmt, StmtKind};
 use js_base::{HostId, OutOfMemory, StmtId};
+use js_base::text::owned_text;
 use net_world::host_code::{Code, Instr, Op, Part};
 use placement::placed_fields;
-use std::alloc::Global;
+use std::alloc::{AllocFailed, Global};
 use thiserror::Error;
 
 /// Why there is no code of a program.
@@ -33,6 +32,17 @@ impl From<OutOfMemory> for CodeError {
     ghost from_gives = { λ _ e. e ≡ error.OutOfMemory };
 
     fn from(_error: OutOfMemory) -> CodeError {
+        CodeError::OutOfMemory
+    }
+}
+
+impl<T: Drop> From<AllocFailed<T>> for CodeError {
+    ghost use Rattle.std.specs.Prelude.{◌≡◌};
+    ghost use Rattle.split_cli.specs.declared.first_code.CodeError.TheVariants as error;
+
+    ghost from_gives = { λ _ e. e ≡ error.OutOfMemory };
+
+    fn from(_error: AllocFailed<T>) -> CodeError {
         CodeError::OutOfMemory
     }
 }
@@ -57,8 +67,7 @@ fn host_names(alloc: Global, hosts: &[HostRow]) -> Result<Vec<String>, OutOfMemo
 {
     let mut names = Vec::new(alloc);
     for host in hosts {
-        let name = String::from_str(alloc, host.name()).map_err(|_| OutOfMemory)?;
-        names.push(name).map_err(|_| OutOfMemory)?;
+        names.push(owned_text(alloc, host.name())?)?;
     }
     Ok(names)
 }
@@ -79,15 +88,13 @@ fn body_part(alloc: Global, body: &[Stmt], head: StmtId) -> Result<Part, OutOfMe
 {
     let mut instructions = Vec::new(alloc);
     for statement in body {
-        instructions
-            .push(instruction_of(statement))
-            .map_err(|_| OutOfMemory)?;
+        instructions.push(instruction_of(statement))?;
     }
     let back = Instr {
         statement: head,
         op: Op::Back,
     };
-    instructions.push(back).map_err(|_| OutOfMemory)?;
+    instructions.push(back)?;
     Ok(Part::new(instructions))
 }
 
@@ -108,10 +115,10 @@ fn all_parts(alloc: Global, root: Part, others: usize) -> Result<Vec<Part>, OutO
     ensures { IfOk result (λ parts. parts.items ≡ root ∷ replicate others []) }
 {
     let mut parts = Vec::new(alloc);
-    parts.push(root).map_err(|_| OutOfMemory)?;
+    parts.push(root)?;
     for _made in 0..others {
         let empty = Part::new(Vec::new(alloc));
-        parts.push(empty).map_err(|_| OutOfMemory)?;
+        parts.push(empty)?;
     }
     Ok(parts)
 }

@@ -5,8 +5,6 @@ mod assignment_line;
 mod field_line;
 mod line_values;
 mod number;
-#[cfg(test)]
-mod tests;
 
 use crate::lines::strip_circumfix;
 use js_base::OutOfMemory;

@@ -6,8 +6,6 @@ ghost use Rattle.split_cli.specs.Report.{halted_line, report};
 mod fields;
 mod flying;
 mod hosts;
-#[cfg(test)]
-mod tests;
 
 use fields::push_fields;
 use flying::push_flying;
@@ -41,5 +39,6 @@ fn push_halted(text: &mut String, world: &World) -> Result<(), OutOfMemory>
     } else {
         "halted no\n"
     };
-    text.push_str(line).map_err(|_| OutOfMemory)
+    text.push_str(line)?;
+    Ok(())
 }

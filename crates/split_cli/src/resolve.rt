@@ -5,8 +5,6 @@ ghost use Rattle.split_cli.specs.Resolution.{IsMainOf, IsProgramOf, HasBadName};
 mod fields;
 mod name_table;
 mod statements;
-#[cfg(test)]
-mod tests;
 
 use crate::program_form::{AssignmentDraft, ProgramDraft};
 use fields::{field_names, fields};
@@ -34,7 +32,7 @@ fn main_method(
     let Some(body) = statements(alloc, names, assignments)? else {
         return Ok(None);
     };
-    let name = String::from_str(alloc, "main").map_err(|_| OutOfMemory)?;
+    let name = String::from_str(alloc, "main")?;
     Ok(Some(Method {
         name,
         begin: Label::empty(),
@@ -69,7 +67,7 @@ pub fn resolve(
     let Some(fields) = fields(alloc, principals, draft.fields)? else {
         return Ok(None);
     };
-    let methods = vec![in alloc; method].map_err(|_| OutOfMemory)?;
+    let methods = vec![in alloc; method]?;
     Ok(Some(Program {
         fields,
         methods,

@@ -32,7 +32,7 @@ pub fn line_values<T: LineValue>(
         let Some(value) = T::read(alloc, line)? else {
             return Ok((values, rest));
         };
-        values.push(value).map_err(|_| OutOfMemory)?;
+        values.push(value)?;
         rest = after;
     }
 }

@@ -38,7 +38,8 @@ fn push_field(
     let name = &field.name;
     write!(text, "field {name} = ").map_err(|_| OutOfMemory)?;
     push_row(text, field_row(world, number, field))?;
-    text.push('\n').map_err(|_| OutOfMemory)
+    text.push('\n')?;
+    Ok(())
 }
 
 /// The elements of a field on its host.

@@ -58,7 +58,7 @@ pub fn fields(
         let Some(field) = field(principals, draft) else {
             return Ok(None);
         };
-        fields.push(field).map_err(|_| OutOfMemory)?;
+        fields.push(field)?;
     }
     Ok(Some(fields))
 }

@@ -43,8 +43,8 @@ impl NameTable {
         ensures names { IfOk result (λ added. self.new ≡ (if added then self.old ++ name.now ∷ [] else self.old)) }
         ensures unchanged { OnErr result (self.new ≡ self.old) }
     {
-        let name = String::from_str(alloc, name).map_err(|_| OutOfMemory)?;
-        self.names.insert(name).map_err(|_| OutOfMemory)
+        let name = String::from_str(alloc, name)?;
+        Ok(self.names.insert(name)?)
     }
 
     /// The place of a name.

@@ -46,7 +46,7 @@ pub fn statements(
         let Some(statement) = statement(names, number, draft) else {
             return Ok(None);
         };
-        statements.push(statement).map_err(|_| OutOfMemory)?;
+        statements.push(statement)?;
     }
     Ok(Some(statements))
 }

@@ -2,7 +2,7 @@ use Rattle.std.proofs.Common.{sym, subst, arith}
 use Rattle.std.specs.Prelude.{option_copied}
 use Rattle.std.proofs.lemmas.Result.{IfOk-weaker}
 use Rattle.split_cli.specs.Replay.{DueForBytes, no_hosts}
-use Rattle.split_cli.proofs.Owed.{no_program_due, program_text}
+use Rattle.split_cli.proofs.DueAfterReading.{no_program_due, program_text}
 use Rattle.split_cli.proofs.Results.{both_ok}
 use Rattle.split_cli.proofs.Sizes.{read_sizes}
 use Rattle.split_cli.proofs.replay.verdict_for.Goals as goal

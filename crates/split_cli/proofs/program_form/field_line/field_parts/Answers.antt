@@ -7,14 +7,8 @@ use Rattle.js_base.specs.Name.{IsName, is_name}
 use Rattle.split_cli.specs.ProgramForm.{FieldForm, DeclaresField}
 use Rattle.split_cli.specs.Text.{policy_text}
 use Rattle.js_base.proofs.Cuts.{no_cut, same_cut}
-use Rattle.js_base.proofs.NameTexts.{name_lacks}
+use Rattle.split_cli.proofs.FormLines.{policy_lacks}
 use Rattle.split_cli.proofs.program_form.field_line.field_parts.Goals as goal
-
--- no policy holds a `}`
-policy_lacks : (owner : Option (List ℕ)) → IfSome owner IsName → ¬ Contains (policy_text owner) 125
-policy_lacks None is found = absurd (omega (arith, found.1))
-policy_lacks (Some owner) is found =
-    elim (Contains-push_cases owner 58 125 found) [ inl in-owner ↦ name_lacks 125 owner refl is in-owner | inr same ↦ absurd (omega (arith, same)) ]
 
 declared_inside : (line inside : List ℕ) (field : FieldForm) → line ≡ codes "int{" ++ (inside ++ codes ";") → DeclaresField line field → inside ≡ policy_text field.owner ++ 125 ∷ (32 ∷ field.name)
 declared_inside line inside field cut declares =
@@ -23,7 +17,7 @@ declared_inside line inside field cut declares =
 
 declared_parts : (line inside policy rest : List ℕ) (field : FieldForm) → line ≡ codes "int{" ++ (inside ++ codes ";") → inside ≡ policy ++ 125 ∷ rest → ¬ Contains policy 125 → DeclaresField line field → (policy ≡ policy_text field.owner) × (rest ≡ 32 ∷ field.name)
 declared_parts line inside policy rest field cut inner_cut lacks declares =
-    same_cut 125 policy (policy_text field.owner) rest (32 ∷ field.name) lacks (policy_lacks field.owner declares.owner) (sym inner_cut ∙ declared_inside line inside field cut declares)
+    same_cut 125 policy (policy_text field.owner) rest (32 ∷ field.name) lacks (policy_lacks 125 field.owner refl refl declares.owner) (sym inner_cut ∙ declared_inside line inside field cut declares)
 
 pub returns-in_err-policy-clause-none : goal.returns-in_err-policy-clause-none
 returns-in_err-policy-clause-none c = rw c.from_residual-in_err-policy.ensures (λ field declares.
