@@ -9,15 +9,23 @@ fn replays_two_assignments(rt: HostRuntime) -> Result<(), Fail> {
     let cases = [
         (
             "turn A\nturn A\ntake A B 0\ntake B A 0\nturn A\n",
-            "halted yes\nfield a = 1\nfield b = 2\nhost A: running 0, waiting 0, stack 0, ignored 0\nhost B: running 0, waiting 0, stack 0, ignored 0\n",
+            "halted yes\nfield a = 1\nfield b = 2\n\
+            host A: running 0, waiting 0, stack 0, ignored 0\n\
+            host B: running 0, waiting 0, stack 0, ignored 0\n",
         ),
         (
             "turn A\nturn A\n",
-            "halted no\nfield a = 1\nfield b = 0\nhost A: running 0, waiting 1, stack 1, ignored 0\nhost B: running 0, waiting 0, stack 0, ignored 0\nflying A B 0: set 1.0 b 0 2\n",
+            "halted no\nfield a = 1\nfield b = 0\n\
+            host A: running 0, waiting 1, stack 1, ignored 0\n\
+            host B: running 0, waiting 0, stack 0, ignored 0\n\
+            flying A B 0: set 1.0 b 0 2\n",
         ),
         (
             "turn A\nturn A\ntake A B 0",
-            "halted no\nfield a = 1\nfield b = 2\nhost A: running 0, waiting 1, stack 1, ignored 0\nhost B: running 0, waiting 0, stack 0, ignored 0\nflying B A 0: ack 1.0\n",
+            "halted no\nfield a = 1\nfield b = 2\n\
+            host A: running 0, waiting 1, stack 1, ignored 0\n\
+            host B: running 0, waiting 0, stack 0, ignored 0\n\
+            flying B A 0: ack 1.0\n",
         ),
     ];
     for (events, report) in cases {
@@ -30,7 +38,8 @@ fn replays_two_assignments(rt: HostRuntime) -> Result<(), Fail> {
 
 #[test]
 fn refuses_by_the_first_cause(rt: HostRuntime) -> Result<(), Fail> {
-    let usage = "jifsplit: usage: check P H / split P H OUT / run P H START N / replay P H EVENTS / \
+    let usage =
+        "jifsplit: usage: check P H / split P H OUT / run P H START N / replay P H EVENTS / \
         drive P H START N / compare P H EVENTS1 EVENTS2 / make N\n";
     let no_program = "jifsplit: program: not built yet\n";
     let not_toml = "jifsplit: hosts: not TOML\n";
@@ -141,4 +150,3 @@ fn refuses_by_the_first_cause(rt: HostRuntime) -> Result<(), Fail> {
     }
     Ok(())
 }
-

@@ -5,8 +5,7 @@ use split_cli::jifsplit;
 use std::alloc::{AllocError, Global};
 
 /// Two fields of two owners, each assigned once.
-pub const PROGRAM: &str =
-    "int{Alice:} a;\nint{Bob:} b;\nvoid main{}() {\n  a = 1;\n  b = 2;\n}\n";
+pub const PROGRAM: &str = "int{Alice:} a;\nint{Bob:} b;\nvoid main{}() {\n  a = 1;\n  b = 2;\n}\n";
 
 /// A host for each of the owners.
 pub const HOSTS: &str =

@@ -10,7 +10,8 @@ fn refuses_host_files(rt: HostRuntime) -> Result<(), Fail> {
     let none = "principals = []\n";
     let host = "[[host]]\nname = 'A'\nlabel = '{}'\n";
     let link = "[[link]]\nfrom = 'A'\nto = 'A'\ncost = 1\n";
-    // What stands before the fillers, a filler, how many there are, what stands after them, and why the file is refused.
+    // What stands before the fillers, a filler, how many there are, what stands after them, and why the file is
+    // refused.
     let cases = [
         ("", "\n", 65_537, "", "too long"),
         ("principals = [", "", 0, "", "not TOML"),

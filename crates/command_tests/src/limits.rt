@@ -34,4 +34,3 @@ fn takes_files_up_to_their_limits(rt: HostRuntime) -> Result<(), Fail> {
     }
     Ok(())
 }
-

@@ -7,8 +7,9 @@ use std::test::Fail;
 #[test]
 fn answers_faults_of_the_outside(rt: HostRuntime) -> Result<(), Fail> {
     let held = [Some(PROGRAM), Some(HOSTS), Some("")];
-    let report =
-        "halted no\nfield a = 0\nfield b = 0\nhost A: running 1, waiting 0, stack 1, ignored 0\nhost B: running 0, waiting 0, stack 0, ignored 0\n";
+    let report = "halted no\nfield a = 0\nfield b = 0\n\
+        host A: running 1, waiting 0, stack 1, ignored 0\n\
+        host B: running 0, waiting 0, stack 0, ignored 0\n";
     let fault = Status::FileFault;
     let absent = "jifsplit: P: no such file\n";
     let cases = [
@@ -71,4 +72,3 @@ fn answers_faults_of_the_outside(rt: HostRuntime) -> Result<(), Fail> {
     }
     Ok(())
 }
-

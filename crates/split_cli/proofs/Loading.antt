@@ -10,7 +10,9 @@ has_value None P has = absurd has
 has_value (Some x) P has = (x, refl, has)
 
 -- a file that is too long has bytes, those that are held where the files tell
-pub long_file : (held : Option (List ℕ → Option (List ℕ))) (name : List ℕ) (most : ℕ) → IfSome held (λ holds. IsSomeAnd (holds name) (λ bytes. most < length bytes)) →
+pub long_file : (held : Option (List ℕ → Option (List ℕ))) (name : List ℕ) (most : ℕ) →
+    IfSome held (λ holds. IsSomeAnd (holds name) (λ bytes. most < length bytes)) →
     (bytes : List ℕ) × Told held name (Some bytes) × (most < length bytes)
 long_file None name most long = (replicate (most + 1) 0, tt, omega (arith, length-replicate {A = ℕ} (most + 1) 0))
-long_file (Some holds) name most long = let found = has_value (holds name) (λ bytes. most < length bytes) long in (found.0, found.1, found.2)
+long_file (Some holds) name most long = let found =
+    has_value (holds name) (λ bytes. most < length bytes) long in (found.0, found.1, found.2)

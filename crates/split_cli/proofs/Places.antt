@@ -1,5 +1,6 @@
 -- What holds of the elements at places of lists.
-use Rattle.std.proofs.Common.{◌≡◌, ℕ, zero, suc, ◌<◌, List, [], ◌∷◌, take, Some, slice_get, inl, inr, refl, subst, sym, ap, ◌∙◌, arith}
+use Rattle.std.proofs.Common.{◌≡◌, ℕ, zero, suc, ◌<◌, List, [], ◌∷◌, take, Some, slice_get, inl, inr, refl, subst, sym}
+use Rattle.std.proofs.Common.{ap, ◌∙◌, arith}
 use Rattle.std.proofs.lemmas.Bool.{cases_order, false≢true}
 use Rattle.std.proofs.lemmas.Map.Keys.{apart_from_distinct}
 use Rattle.std.proofs.lemmas.Option.{slice_get_within, get_or_from_slice_get}
@@ -20,13 +21,15 @@ pub same_here : {A : Type 0} (xs : List A) (place other : ℕ) (x y : A) → pla
 same_here xs place other x y same one two = let both : Some x ≡ Some y = sym one ∙ ap (slice_get xs) same ∙ two in cc
 
 -- what holds of all
-pub of_all : {A : Type 0} (P : A → Type 0) (xs : List A) (place : ℕ) (x : A) → AllByRecursion P xs → slice_get xs place ≡ Some x → P x
+pub of_all : {A : Type 0} (P : A → Type 0) (xs : List A) (place : ℕ) (x : A) → AllByRecursion P xs →
+    slice_get xs place ≡ Some x → P x
 of_all P [] place x all here = absurd (let within = slice_get_within [] place x here in omega arith)
 of_all P (y ∷ ys) zero x all here = let both : Some y ≡ Some x = here in let same : y ≡ x = cc in subst P same all.0
 of_all P (y ∷ ys) (suc place) x all here = of_all P ys place x all.1 here
 
 -- what holds of all in front of a place
-pub of_front : {A : Type 0} (P : A → Type 0) (xs : List A) (count place : ℕ) (x : A) → AllByRecursion P (take count xs) →
+pub of_front : {A : Type 0} (P : A → Type 0) (xs : List A) (count place : ℕ) (x : A) →
+    AllByRecursion P (take count xs) →
     place < count → slice_get xs place ≡ Some x → P x
 of_front P [] count place x all below here = absurd (let within = slice_get_within [] place x here in omega arith)
 of_front P (y ∷ ys) zero place x all below here = absurd (omega arith)
@@ -53,16 +56,23 @@ second_at R (z ∷ xs) (w ∷ ys) zero x all here =
     (w, refl, let P = λ (v : _). R v w in subst P (let same : z ≡ x = cc in same) all.0)
 second_at R (z ∷ xs) (w ∷ ys) (suc place) x all here = second_at R xs ys place x all.1 here
 
-not_before : (texts : List (List ℕ)) (first second : ℕ) (text : List ℕ) → IsDistinct bytes_eq texts → slice_get texts first ≡ Some text →
+not_before : (texts : List (List ℕ)) (first second : ℕ) (text : List ℕ) → IsDistinct bytes_eq texts →
+    slice_get texts first ≡ Some text →
     slice_get texts second ≡ Some text → ¬ (first < second)
 not_before texts first second text distinct one two = λ before.
     let within = slice_get_within texts second text two in
     let apart = apart_from_distinct bytes_eq texts first second text distinct before within in
-    false≢true (sym (rw (get_or_from_slice_get texts first text text one, get_or_from_slice_get texts second text text two) at apart)
-        ∙ bytes_eq_laws.refl text)
+    false≢true (sym (rw (
+      get_or_from_slice_get texts first text text one,
+      get_or_from_slice_get texts second text
+          text two,
+    ) at apart)
+    ∙ bytes_eq_laws.refl text)
 
 -- among distinct texts each has one place
-pub one_place : (texts : List (List ℕ)) (first second : ℕ) (text : List ℕ) → IsDistinct bytes_eq texts → slice_get texts first ≡ Some text →
+pub one_place : (texts : List (List ℕ)) (first second : ℕ) (text : List ℕ) → IsDistinct bytes_eq texts →
+    slice_get texts first ≡ Some text →
     slice_get texts second ≡ Some text → first ≡ second
 one_place texts first second text distinct one two =
-    same_place first second (not_before texts first second text distinct one two) (not_before texts second first text distinct two one)
+    same_place first second (not_before texts first second text distinct one two)
+    (not_before texts second first text distinct two one)

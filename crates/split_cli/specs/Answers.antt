@@ -26,7 +26,9 @@ PutsFront text sink = TakesFront text sink.taken_before sink.taken_after
 -- no more was put than a front of the first text and then a front of the second
 abbrev pub PutsFronts : List ℕ → List ℕ → SinkChange → Type 0
 PutsFronts first second sink =
-    (between : Option (List ℕ)) × TakesFront first sink.taken_before between × TakesFront second between sink.taken_after
+    (between : Option (List ℕ))
+    × TakesFront first sink.taken_before between
+    × TakesFront second between sink.taken_after
 
 -- ---- answers to what is due
 
@@ -36,21 +38,21 @@ Puts text status answer sink =
     ((answer ≡ status) × Takes text sink.taken_before sink.taken_after)
     ⊎ ((answer ≡ OutFault) × Rose sink.faults_before sink.faults_after × PutsFront text sink)
 
--- A refusal puts its line on the error output and nothing on the output. A report goes on the output, with nothing on the
--- error output.
+-- A refusal puts its line on the error output and nothing on the output. A report goes on the output, with nothing on
+-- the error output.
 abbrev pub IsAnswered : VerdictShape → Status → SinkChange → SinkChange → Type 0
 IsAnswered (Refuse status line) answer out err = IsUntouched out × Puts line status answer err
 IsAnswered (Print text) answer out err = IsUntouched err × Puts text Done answer out
 
 -- ---- where memory ran out
 
--- Memory ran out while what was due was put: no more was put than a front of it, and then a front of the line that says
--- so.
+-- no more was put than a front of what is due, and then a front of the line that says that memory ran out
 abbrev pub IsCutShort : VerdictShape → SinkChange → SinkChange → Type 0
 IsCutShort (Refuse status line) out err = IsUntouched out × PutsFronts line no_memory_line err
 IsCutShort (Print text) out err = PutsFront text out × PutsFront no_memory_line err
 
--- Memory ran out before anything was due, and no more was put than a front of the line that says so, or it ran out later.
+-- Memory ran out before anything was due, and no more was put than a front of the line that says so, or it ran out
+-- while what was due was put.
 abbrev pub RanOut : List (List ℕ) → FilesChange → SinkChange → SinkChange → Type 0
 RanOut words files out err =
     (IsUntouched out × PutsFront no_memory_line err)

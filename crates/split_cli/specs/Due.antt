@@ -7,7 +7,7 @@ use Rattle.split_cli.specs.Replay.{DueForBytes}
 
 -- the files of a replay are held, and this is due for their bytes, where files that do not tell hold some bytes
 pub record IsDueForReplay
-  (held : Option (List ℕ → Option (List ℕ))) (program hosts events : List ℕ) (verdict : VerdictShape) : Type 0 where
+    (held : Option (List ℕ → Option (List ℕ))) (program hosts events : List ℕ) (verdict : VerdictShape) : Type 0 where
   pub program_bytes : List ℕ
   pub hosts_bytes : List ℕ
   pub events_bytes : List ℕ
@@ -20,10 +20,10 @@ pub record IsDueForReplay
 abbrev pub DueForFiles : Option (List ℕ → Option (List ℕ)) → CommandShape → VerdictShape → Type 0
 DueForFiles held (Replay program hosts events) verdict = IsDueForReplay held program hosts events verdict
 
--- What is due for a command where no load fails, and the number of loads that come before it: those up to the first file
--- that is absent, or those of all files.
+-- What is due for a command where no load fails, and the number of loads that come before it: those up to the first
+-- file that is absent, or those of all files.
 pub data DueForCommand
-  (held : Option (List ℕ → Option (List ℕ))) (command : CommandShape) : ℕ → VerdictShape → Type 0 where
+    (held : Option (List ℕ → Option (List ℕ))) (command : CommandShape) : ℕ → VerdictShape → Type 0 where
   absent : (place : ℕ) (file : List ℕ) → IsFirstAbsent held (files_of command) place file →
       DueForCommand held command (place + 1) (no_such_file file)
   loaded : (verdict : VerdictShape) → DueForFiles held command verdict →

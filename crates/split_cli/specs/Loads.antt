@@ -34,7 +34,7 @@ pub record LoadsWell (number : ℕ) (files : FilesChange) : Type 0 where
 
 -- the file at this place is absent, and each before it is held
 pub record IsFirstAbsent
-  (held : Option (List ℕ → Option (List ℕ))) (names : List (List ℕ)) (place : ℕ) (file : List ℕ) : Type 0 where
+    (held : Option (List ℕ → Option (List ℕ))) (names : List (List ℕ)) (place : ℕ) (file : List ℕ) : Type 0 where
   pub here : slice_get names place ≡ Some file
   pub absent : Told held file None
   pub before : AllByRecursion (IsHeld held) (take place names)

@@ -1,5 +1,5 @@
 -- What is due for what the three files of a replay hold: a refusal, by the first cause, or the report.
-use Rattle.std.specs.Prelude.{◌≡◌, ◌≢◌, ℕ, ◌<◌, ◌≤◌, ◌⊎◌, List, length, Result, Ok, Err}
+use Rattle.std.specs.Prelude.{◌≢◌, ℕ, ◌<◌, ◌≤◌, ◌⊎◌, List, length, Result, Ok, Err}
 use Rattle.js_base.specs.declared.limits.TheConstants.{PROGRAM_BYTES, SCRIPT_BYTES}
 use Rattle.host_decl.specs.declared.error.HostsError.{HostsError}
 use Rattle.host_decl.specs.declared.error.HostsError.TheVariants as hosts_error
@@ -74,4 +74,4 @@ pub data DueForBytes (file program hosts events : List ℕ) : VerdictShape → T
       SCRIPT_BYTES < length events → DueForBytes file program hosts events (too_long file)
   script : (code : CodeShape) (tree : Program) → AreAccepted program hosts code tree → length events ≤ SCRIPT_BYTES →
       DueForBytes file program hosts events
-        (due_for_script file code (world_at_start code (starting_values tree)) (script_of code.hosts events))
+      (due_for_script file code (world_at_start code (starting_values tree)) (script_of code.hosts events))

@@ -1,4 +1,6 @@
-ghost use Rattle.std.specs.Prelude.{◌≡◌, ◌+◌, ◌^◌, ◌<◌, ◌≤◌, [], ◌∷◌, ◌++◌, IfOk, MatchResult, length, map, replicate};
+//! The code of a program on its hosts: all statements on the first host, and each field on the first that may hold it.
+
+ghost use Rattle.std.specs.Prelude.{◌≡◌, ◌+◌, ◌^◌, ◌<◌, [], ◌∷◌, ◌++◌, IfOk, MatchResult, length, map, replicate};
 ghost use Rattle.std.specs.String.{string_bytes};
 ghost use Rattle.jif_tree.specs.SourceRun.{main_body};
 ghost use Rattle.net_world.specs.FirstCode.{IsCodeOf, instruction_of, root_part};
@@ -8,8 +10,8 @@ mod placement;
 
 use host_decl::{HostRow, Hosts};
 use jif_tree::{Expr, Program, Stmt, StmtKind};
-use js_base::{HostId, OutOfMemory, StmtId};
 use js_base::text::owned_text;
+use js_base::{HostId, OutOfMemory, StmtId};
 use net_world::host_code::{Code, Instr, Op, Part};
 use placement::placed_fields;
 use std::alloc::{AllocFailed, Global};
@@ -51,7 +53,9 @@ impl<T: Drop> From<AllocFailed<T>> for CodeError {
 /// 32 bits.
 pub fn code_of(alloc: Global, program: &Program, hosts: &Hosts) -> Result<Code, CodeError>
     requires { length (main_body program.now) + 1 < 2 ^ 32 }
-    ensures { MatchResult result (IsCodeOf program.now hosts.now) (HaveNoCode hosts.now.hosts program.now.fields.items) }
+    ensures { MatchResult result
+        (IsCodeOf program.now hosts.now)
+        (HaveNoCode hosts.now.hosts program.now.fields.items) }
 {
     let rows = hosts.hosts();
     let fields = placed_fields(alloc, &program.fields, rows)?;
@@ -84,7 +88,8 @@ fn main_part(alloc: Global, program: &Program) -> Result<Part, OutOfMemory>
 
 /// An instruction for each statement, and then the one that gives the token back.
 fn body_part(alloc: Global, body: &[Stmt], head: StmtId) -> Result<Part, OutOfMemory>
-    ensures { IfOk result (λ part. part ≡ map instruction_of body.now ++ record { statement = head; op = Op.Back } ∷ []) }
+    ensures { IfOk result (λ part.
+        part ≡ map instruction_of body.now ++ record { statement = head; op = Op.Back } ∷ []) }
 {
     let mut instructions = Vec::new(alloc);
     for statement in body {

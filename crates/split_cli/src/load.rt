@@ -1,7 +1,7 @@
 //! The load of a file of a command.
 
-ghost use Rattle.std.specs.Prelude.{◌≡◌, ◌≤◌, ◌+◌, ℕ, List, length, Some, None, IfOk, IfErr, IfSome, IsSomeAnd, MatchResult, option_map, option_copied};
-ghost use Rattle.js_base.specs.Counts.{counted, Rose};
+ghost use Rattle.std.specs.Prelude.{◌≡◌, ◌≤◌, length, IfOk, IfSome, MatchResult, option_map};
+ghost use Rattle.js_base.specs.Counts.{counted};
 ghost use Rattle.split_cli.specs.Loading.{Gives, LoadStops, StopCounts};
 
 use js_base::{Files, LoadError};

@@ -1,6 +1,7 @@
 //! What is due for what the three files of a replay hold.
 
-ghost use Rattle.std.specs.Prelude.{◌≡◌, ◌≤◌, ◌<◌, ◌^◌, ℕ, List, All, length, option_copied, IfOk, IfSome, IfNone, IsSomeAnd, MatchResult};
+ghost use Rattle.std.specs.Prelude.{◌≡◌, ◌≤◌, ◌<◌, ◌^◌, ℕ, List, All, length, option_copied, IfOk, IfSome, IfNone};
+ghost use Rattle.std.specs.Prelude.{IsSomeAnd, MatchResult};
 ghost use Rattle.host_decl.specs.Reading.{ReadsHosts, RefusesHosts};
 ghost use Rattle.split_cli.specs.ProgramForm.{FieldForm, AssignmentForm, SpellsProgram};
 ghost use Rattle.split_cli.specs.Replay.{IsProgramText, DueForBytes, due_for_script};
@@ -43,7 +44,9 @@ pub fn verdict_for(
     requires program { IfSome (option_copied program) (λ bytes. length bytes ≤ PROGRAM_BYTES) }
     requires events { IfSome (option_copied events) (λ bytes. length bytes ≤ SCRIPT_BYTES) }
     ensures { IfOk result (λ verdict. (p h e : List ℕ) →
-        IsLoaded PROGRAM_BYTES p (option_copied program.entry) → IsLoaded HOSTS_BYTES h (option_copied hosts.entry) → IsLoaded SCRIPT_BYTES e (option_copied events.entry) →
+        IsLoaded PROGRAM_BYTES p (option_copied program.entry) →
+        IsLoaded HOSTS_BYTES h (option_copied hosts.entry) →
+        IsLoaded SCRIPT_BYTES e (option_copied events.entry) →
         DueForBytes name.now p h e (verdict_shape verdict)) }
 {
     let Some(program) = program_draft(alloc, program)? else {
@@ -70,7 +73,8 @@ fn program_draft(alloc: Global, program: Option<&[u8]>) -> Result<Option<Program
 
 /// The hosts of the host file that was loaded, where `None` is one that is too long.
 fn loaded_hosts(alloc: Global, hosts: Option<&[u8]>) -> Result<Hosts, HostsError>
-    ensures { (h : List ℕ) → IsLoaded HOSTS_BYTES h (option_copied hosts.entry) → MatchResult result (ReadsHosts h) (RefusesHosts h) }
+    ensures { (h : List ℕ) → IsLoaded HOSTS_BYTES h (option_copied hosts.entry) →
+        MatchResult result (ReadsHosts h) (RefusesHosts h) }
 {
     match hosts {
         Some(bytes) => read_hosts(alloc, bytes),
@@ -92,7 +96,8 @@ fn verdict_on(
     requires values { All (λ a. a.value ≤ 9223372036854775807) program.assignments.items }
     requires events { IfSome (option_copied events) (λ bytes. length bytes ≤ SCRIPT_BYTES) }
     ensures { IfOk result (λ verdict. (p h e : List ℕ) →
-        IsProgramText p program.fields.items program.assignments.items → ReadsHosts h hosts.now → IsLoaded SCRIPT_BYTES e (option_copied events.entry) →
+        IsProgramText p program.fields.items program.assignments.items → ReadsHosts h hosts.now →
+        IsLoaded SCRIPT_BYTES e (option_copied events.entry) →
         DueForBytes name.now p h e (verdict_shape verdict)) }
 {
     let Some(tree) = resolve(alloc, program, hosts.principals())? else {
@@ -121,7 +126,8 @@ fn replayed(
     requires script { length events.now ≤ SCRIPT_BYTES }
     requires fields { length accepted.now.code.fields < 2 ^ 32 }
     ensures { IfOk result (λ verdict. verdict_shape verdict ≡ due_for_script name.now accepted.now.code
-        (world_at_start accepted.now.code (starting_values accepted.now.tree)) (script_of accepted.now.code.hosts events.now)) }
+        (world_at_start accepted.now.code (starting_values accepted.now.tree))
+        (script_of accepted.now.code.hosts events.now)) }
 {
     let code = &accepted.code;
     let script = match read_events(alloc, code, events) {

@@ -1,4 +1,6 @@
-ghost use Rattle.std.specs.Prelude.{◌≡◌, ◌<◌, ◌≤◌, All, Any, Contains, length, IfOk, IfSome, IfNone};
+//! The program that fields and assignments stand for, once their names are known.
+
+ghost use Rattle.std.specs.Prelude.{◌<◌, ◌≤◌, All, Any, Contains, length, IfOk, IfSome, IfNone};
 ghost use Rattle.jif_tree.specs.Validity.{IsValid};
 ghost use Rattle.split_cli.specs.Resolution.{IsMainOf, IsProgramOf, HasBadName};
 

@@ -1,7 +1,6 @@
 //! The top call, from words and files to a status and what is put out.
 
-ghost use Rattle.std.specs.Prelude.{◌≡◌, ◌≤◌, ◌+◌, ◌⊎◌, ℕ, List, length, map, string_bytes, Option, IfOk, OnOk, IsErrOf};
-ghost use Rattle.js_base.specs.Counts.{Rose};
+ghost use Rattle.std.specs.Prelude.{◌≡◌, ◌≤◌, ◌+◌, length, map, string_bytes, IfOk, OnOk, IsErrOf};
 ghost use Rattle.js_base.specs.Sink.{TakesFront};
 ghost use Rattle.split_cli.specs.Answers.{AnswersTo};
 ghost use Rattle.split_cli.specs.Commands as command;
@@ -24,16 +23,17 @@ use std::alloc::Global;
 ///
 /// It answers `Done` where the report of a replay was put on `out`. Any other answer is a refusal or a fault:
 /// - `Usage`: the words ask for no command.
-/// - `SourceRefused`: the program does not have the first form or is too long, or a name in it is bad, or no host may hold
-///   a field.
-/// - `InputRefused`: a file is absent, the host file is refused, or the script of events is too long, or a line of it has
-///   no form or asks for what cannot happen.
+/// - `SourceRefused`: the program does not have the first form or is too long, or a name in it is bad, or no host may
+///   hold a field.
+/// - `InputRefused`: a file is absent, the host file is refused, or the script of events is too long, or a line of it
+///   has no form or asks for what cannot happen.
 /// - `FileFault`: a file could not be read.
 /// - `OutFault`: what was due could not all be put out.
 /// - `NoMemory`: memory ran out.
 ///
-/// Files are loaded in the order of the words, and after the first that is absent or could not be read none is loaded. The
-/// first four answers put a line on `err` that says why.
+/// Files are loaded in the order of the words, and after the first that is absent or could not be read none is loaded.
+/// `Usage`, `SourceRefused`, `InputRefused` and `FileFault` put a line on `err` that says why. Where memory runs out, a
+/// front of what was due may have been put, and the line `jifsplit: no memory` follows on `err` where it can.
 pub fn jifsplit<F: Files, S: Sink, E: Sink>(
     alloc: Global,
     words: &[String],
@@ -44,17 +44,26 @@ pub fn jifsplit<F: Files, S: Sink, E: Sink>(
     // What is answered and put out is what is due.
     ensures answer { AnswersTo (map string_bytes words.now)
         (record {
-            held = F.held files.old;
-            loads_before = F.loads files.old; loads_after = F.loads files.new;
-            faults_before = F.faults files.old; faults_after = F.faults files.new;
-            failed = F.failed files.new })
+          held = F.held files.old;
+          loads_before = F.loads files.old;
+          loads_after = F.loads files.new;
+          faults_before = F.faults files.old;
+          faults_after = F.faults files.new;
+          failed = F.failed files.new;
+        })
         result
         (record {
-            faults_before = S.faults out.old; faults_after = S.faults out.new;
-            taken_before = S.taken out.old; taken_after = S.taken out.new })
+          faults_before = S.faults out.old;
+          faults_after = S.faults out.new;
+          taken_before = S.taken out.old;
+          taken_after = S.taken out.new;
+        })
         (record {
-            faults_before = E.faults err.old; faults_after = E.faults err.new;
-            taken_before = E.taken err.old; taken_after = E.taken err.new }) }
+          faults_before = E.faults err.old;
+          faults_after = E.faults err.new;
+          taken_before = E.taken err.old;
+          taken_after = E.taken err.new;
+        }) }
     // Where all went well, what was put is the report of hosts whose fields follow the plain run of the program.
     ensures headline { result ≡ Status.Done →
         PutsFaithfully (map string_bytes words.now) (F.held files.old) (S.taken out.old) (S.taken out.new) }
@@ -80,17 +89,26 @@ fn answered<F: Files, S: Sink, E: Sink>(
 ) -> Status
     ensures answer { AnswersTo (map string_bytes words.now)
         (record {
-            held = F.held files.old;
-            loads_before = F.loads files.old; loads_after = F.loads files.new;
-            faults_before = F.faults files.old; faults_after = F.faults files.new;
-            failed = F.failed files.new })
+          held = F.held files.old;
+          loads_before = F.loads files.old;
+          loads_after = F.loads files.new;
+          faults_before = F.faults files.old;
+          faults_after = F.faults files.new;
+          failed = F.failed files.new;
+        })
         result
         (record {
-            faults_before = S.faults out.old; faults_after = S.faults out.new;
-            taken_before = S.taken out.old; taken_after = S.taken out.new })
+          faults_before = S.faults out.old;
+          faults_after = S.faults out.new;
+          taken_before = S.taken out.old;
+          taken_after = S.taken out.new;
+        })
         (record {
-            faults_before = E.faults err.old; faults_after = E.faults err.new;
-            taken_before = E.taken err.old; taken_after = E.taken err.new }) }
+          faults_before = E.faults err.old;
+          faults_after = E.faults err.new;
+          taken_before = E.taken err.old;
+          taken_after = E.taken err.new;
+        }) }
     ensures loads { (asked : command.CommandShape) → map string_bytes words.now ≡ command.words_of asked →
         F.loads files.new ≤ F.loads files.old + length (command.files_of asked) }
     ensures no_loads { command.HaveNoForm (map string_bytes words.now) → F.loads files.new ≡ F.loads files.old }
@@ -114,10 +132,13 @@ fn answered<F: Files, S: Sink, E: Sink>(
 fn due<F: Files>(alloc: Global, words: &[String], files: &mut F) -> Result<Verdict, OutOfMemory>
     ensures due { IfOk result (λ verdict. IsDue (map string_bytes words.now)
         (record {
-            held = F.held files.old;
-            loads_before = F.loads files.old; loads_after = F.loads files.new;
-            faults_before = F.faults files.old; faults_after = F.faults files.new;
-            failed = F.failed files.new })
+          held = F.held files.old;
+          loads_before = F.loads files.old;
+          loads_after = F.loads files.new;
+          faults_before = F.faults files.old;
+          faults_after = F.faults files.new;
+          failed = F.failed files.new;
+        })
         (verdict_shape verdict)) }
     ensures loads { (asked : command.CommandShape) → map string_bytes words.now ≡ command.words_of asked →
         F.loads files.new ≤ F.loads files.old + length (command.files_of asked) }
@@ -140,10 +161,13 @@ fn due_for_replay<F: Files>(
     ensures due { IfOk result (λ verdict. IsDueForCommand
         (command.Replay asked.now.program.now asked.now.hosts.now asked.now.events.now)
         (record {
-            held = F.held files.old;
-            loads_before = F.loads files.old; loads_after = F.loads files.new;
-            faults_before = F.faults files.old; faults_after = F.faults files.new;
-            failed = F.failed files.new })
+          held = F.held files.old;
+          loads_before = F.loads files.old;
+          loads_after = F.loads files.new;
+          faults_before = F.faults files.old;
+          faults_after = F.faults files.new;
+          failed = F.failed files.new;
+        })
         (verdict_shape verdict)) }
     ensures loads { F.loads files.new ≤ F.loads files.old + 3 }
     ensures saves { F.saves files.new ≡ F.saves files.old }

@@ -11,7 +11,8 @@ use js_base::{OutOfMemory, Status};
 use principals::PrincipalError;
 use std::alloc::{AllocError, Global};
 
-/// What is due for words and files: a refusal with its status and its line on the error output, or a report on the output.
+/// What is due for words and files: a refusal with its status and its line on the error output, or a report on the
+/// output.
 #[derive(Debug, Drop)]
 pub enum Verdict {
     Refuse { status: Status, line: String },
@@ -25,7 +26,8 @@ impl Verdict {
 
     /// A refusal whose line says this after the program's name.
     fn refusal(alloc: Global, status: Status, text: &str) -> Result<Verdict, OutOfMemory>
-        ensures { IfOk result (λ verdict. verdict_shape verdict ≡ verdicts.Refuse status (verdicts.error_line text.now)) }
+        ensures { IfOk result (λ verdict.
+            verdict_shape verdict ≡ verdicts.Refuse status (verdicts.error_line text.now)) }
     {
         let line = format!(in alloc; "jifsplit: {text}\n")?;
         Ok(Verdict::Refuse { status, line })
@@ -74,7 +76,8 @@ impl Verdict {
     /// # Errors
     /// Always where it is refused because memory ran out.
     pub fn hosts_refused(alloc: Global, why: &HostsError) -> Result<Verdict, OutOfMemory>
-        ensures refused { IfOk result (λ verdict. verdict_shape verdict ≡ verdicts.hosts_refused (refusal_shape why.now)) }
+        ensures refused { IfOk result (λ verdict.
+            verdict_shape verdict ≡ verdicts.hosts_refused (refusal_shape why.now)) }
         ensures not_memory { IfOk result (λ verdict. why.now ≢ HostsError.OutOfMemory) }
     {
         let cause = why_no_hosts(alloc, why)?;

@@ -1,6 +1,6 @@
 //! The host of each field: the first one that may hold it.
 
-ghost use Rattle.std.specs.Prelude.{◌≡◌, ◌≤◌, All, IfOk, IfSome, IfNone, MatchResult, length, string_bytes};
+ghost use Rattle.std.specs.Prelude.{◌≤◌, All, IfSome, IfNone, MatchResult, length};
 ghost use Rattle.std.specs.List.{AllZip};
 ghost use Rattle.net_world.specs.FirstCode.{IsFirstHolder, IsPlaced, MayHold};
 ghost use Rattle.split_cli.specs.FirstCodes.{HaveNoCode};
@@ -22,7 +22,9 @@ pub fn placed_fields(
     hosts: &[HostRow],
 ) -> Result<Vec<CodeField>, CodeError>
     requires { length hosts.now ≤ HOSTS }
-    ensures { MatchResult result (λ placed. AllZip (IsPlaced hosts.now) fields.now placed.items) (HaveNoCode hosts.now fields.now) }
+    ensures { MatchResult result
+        (λ placed. AllZip (IsPlaced hosts.now) fields.now placed.items)
+        (HaveNoCode hosts.now fields.now) }
 {
     let mut placed = Vec::new(alloc);
     for field in fields {

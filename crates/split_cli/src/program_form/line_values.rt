@@ -1,3 +1,5 @@
+//! Lines that each spell a value.
+
 ghost use Rattle.std.specs.Prelude.{IfOk, IfSome, IfNone, List, ℕ};
 ghost use Rattle.split_cli.specs.LineValues.{BeginsWith, BeginsWithNone};
 

@@ -1,3 +1,5 @@
+//! The fields of a program, with their names and labels.
+
 ghost use Rattle.std.specs.Prelude.{◌≡◌, Any, IfOk, IfSome, IfNone};
 ghost use Rattle.std.specs.List.{AllZip, IsDistinct};
 ghost use Rattle.std.specs.Str.{bytes_eq};

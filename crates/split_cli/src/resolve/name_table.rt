@@ -1,4 +1,7 @@
-ghost use Rattle.std.specs.Prelude.{◌≡◌, ◌++◌, ◌∷◌, ◌<◌, [], Contains, IfOk, IfSome, IfNone, OnErr, IsTrue, ◌↔◌, if◌then◌else◌, length, slice_get, Some};
+//! Names, no two the same, each known by its place.
+
+ghost use Rattle.std.specs.Prelude.{◌≡◌, ◌++◌, ◌∷◌, ◌<◌, [], Contains, IfOk, IfSome, IfNone, OnErr, IsTrue, ◌↔◌};
+ghost use Rattle.std.specs.Prelude.{if◌then◌else◌, length, slice_get, Some};
 
 use indexmap::IndexSet;
 use js_base::OutOfMemory;

@@ -1,3 +1,5 @@
+//! The statements of `main`.
+
 ghost use Rattle.std.specs.Prelude.{◌<◌, ◌≤◌, ◌+◌, All, Any, Contains, length, IfOk, IfSome, IfNone};
 ghost use Rattle.split_cli.specs.Resolution.{IsStatementOf, AreStatementsOf};
 

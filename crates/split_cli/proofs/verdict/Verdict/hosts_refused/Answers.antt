@@ -8,4 +8,5 @@ use Rattle.split_cli.proofs.verdict.Verdict.hosts_refused.Goals as goal
 pub returns-clause-refused : goal.returns-clause-refused
 returns-clause-refused c =
     IfOk-weaker c.refusal.result _ _ (λ verdict is. is ∙ ap (λ (text : List ℕ). Refuse InputRefused (error_line text))
-    (c.as_str.ensures.value ∙ c.in_ok-text.ensures.ok ∙ ap (λ (text : List ℕ). codes "hosts: " ++ text) c.in_ok-cause.ensures.text)) c.refusal.ensures
+    (c.as_str.ensures.value ∙ c.in_ok-text.ensures.ok
+    ∙ ap (λ (text : List ℕ). codes "hosts: " ++ text) c.in_ok-cause.ensures.text)) c.refusal.ensures
