@@ -7,7 +7,7 @@ use std::process::ExitCode;
 use std::rt::Env;
 use std::{env, io};
 
-/// The words after the program's name. A word that is no text is an error.
+/// The words after the program's name. A word that is not a text is an error.
 fn words(rt: &(impl Env + AllocGlobal)) -> io::Result<Vec<String>> {
     let mut words = Vec::new(rt.alloc());
     for word in env::args(rt)?.skip(1) {
@@ -22,7 +22,7 @@ fn main(rt: HostRuntime) -> ExitCode {
         Err(error) if error.kind() == io::ErrorKind::OutOfMemory => {
             return ExitCode::from(Status::NoMemory.code());
         }
-        // A command line that is no text has no form, as an empty one.
+        // A command line that is not a text asks for nothing, like an empty one.
         Err(_) => Vec::new(rt.alloc()),
     };
     let mut files = RealFiles::new(&rt);

@@ -1,5 +1,6 @@
 -- What a resolved program has, and why nothing was built.
-use Rattle.std.proofs.Common.{◌≡◌, ℕ, suc, ◌+◌, List, [], ◌∷◌, length, refl, ◌∙◌, ap, Option, Some, None, IfNone, slice_get}
+use Rattle.std.proofs.Common.{◌≡◌, ℕ, suc, ◌+◌, List, [], ◌∷◌, length, refl, ◌∙◌, ap, Option, Some, None, IfNone}
+use Rattle.std.proofs.Common.{slice_get}
 use Rattle.principals.specs.ActsFor.{Declared}
 use Rattle.jif_tree.specs.declared.program.Program.{Program}
 use Rattle.jif_tree.specs.declared.program.Stmt.{Stmt}
@@ -13,17 +14,24 @@ none_holds None P not p = p
 none_holds (Some x) P not p = absurd (not x refl)
 
 -- a statement for each assignment
-statements_count : (names : List (List ℕ)) (number : ℕ) (assignments : List AssignmentForm) (statements : List Stmt) → AreStatementsOf names number assignments statements → length statements ≡ length assignments
+statements_count : (names : List (List ℕ)) (number : ℕ) (assignments : List AssignmentForm) (statements : List Stmt)
+    → AreStatementsOf names number assignments statements → length statements ≡ length assignments
 statements_count names number [] [] are = refl
 statements_count names number [] (statement ∷ statements) are = absurd are
 statements_count names number (form ∷ forms) [] are = absurd are
-statements_count names number (form ∷ forms) (statement ∷ statements) are = ap suc (statements_count names (number + 1) forms statements are.1)
+statements_count names number (form ∷ forms) (statement ∷ statements) are =
+    ap suc (statements_count names (number + 1) forms statements are.1)
 
 -- the one method is `main`
-pub main_body_is : (principals : Declared) (fields : List FieldForm) (assignments : List AssignmentForm) (program : Program) (is : IsProgramOf principals fields assignments program) → main_body program ≡ is.main_method.body.items
+pub main_body_is : (principals : Declared) (fields : List FieldForm) (assignments : List AssignmentForm)
+    (program : Program) (is : IsProgramOf principals fields assignments program) →
+    main_body program ≡ is.main_method.body.items
 main_body_is principals fields assignments program is =
     ap body_of (ap (λ n. slice_get program.methods.items n.0) is.main ∙ ap (λ methods. slice_get methods 0) is.methods)
 
-pub main_size : (principals : Declared) (fields : List FieldForm) (assignments : List AssignmentForm) (program : Program) → IsProgramOf principals fields assignments program → length (main_body program) ≡ length assignments
+pub main_size : (principals : Declared) (fields : List FieldForm) (assignments : List AssignmentForm)
+    (program : Program) → IsProgramOf principals fields assignments program →
+    length (main_body program) ≡ length assignments
 main_size principals fields assignments program is =
-    ap length (main_body_is principals fields assignments program is) ∙ statements_count _ 0 assignments is.main_method.body.items is.main_is.body
+    ap length (main_body_is principals fields assignments program is)
+    ∙ statements_count _ 0 assignments is.main_method.body.items is.main_is.body

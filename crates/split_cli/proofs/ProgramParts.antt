@@ -12,7 +12,9 @@ use Rattle.js_base.proofs.Cuts.{same_cut}
 use Rattle.split_cli.proofs.FormLines.{declares_one_line, assigns_one_line, written_lacks}
 use Rattle.split_cli.proofs.LineValues.{same_rest}
 
-text_in_parts : (before after : List (List ℕ)) (middle last : List ℕ) → lines_text (before ++ middle ∷ (after ++ last ∷ [])) ≡ lines_text before ++ (middle ++ 10 ∷ (lines_text after ++ (last ++ 10 ∷ [])))
+text_in_parts : (before after : List (List ℕ)) (middle last : List ℕ) →
+    lines_text (before ++ middle ∷ (after ++ last ∷ []))
+    ≡ lines_text before ++ (middle ++ 10 ∷ (lines_text after ++ (last ++ 10 ∷ [])))
 text_in_parts before after middle last = simp (flat_map-append, append_assoc, append-nil)
 
 pub record ProgramParts (bytes : List ℕ) (fields : List FieldForm) (assignments : List AssignmentForm) : Type 0 where
@@ -20,7 +22,8 @@ pub record ProgramParts (bytes : List ℕ) (fields : List FieldForm) (assignment
   pub declared : BeginsWith DeclaresField bytes fields (codes "void main{}() {" ++ 10 ∷ body)
   pub assigned : BeginsWith AssignsNumber body assignments (codes "}" ++ 10 ∷ [])
 
-pub parts_of_program : (bytes : List ℕ) (fields : List FieldForm) (assignments : List AssignmentForm) → SpellsProgram bytes fields assignments → ProgramParts bytes fields assignments
+pub parts_of_program : (bytes : List ℕ) (fields : List FieldForm) (assignments : List AssignmentForm) →
+    SpellsProgram bytes fields assignments → ProgramParts bytes fields assignments
 parts_of_program bytes fields assignments spells = record {
   body = lines_text spells.assignment_lines ++ (codes "}" ++ 10 ∷ []);
   declared = record {
@@ -35,7 +38,8 @@ parts_of_program bytes fields assignments spells = record {
   };
 }
 
-pub program_from_parts : (bytes : List ℕ) (fields : List FieldForm) (assignments : List AssignmentForm) → ProgramParts bytes fields assignments → SpellsProgram bytes fields assignments
+pub program_from_parts : (bytes : List ℕ) (fields : List FieldForm) (assignments : List AssignmentForm) →
+    ProgramParts bytes fields assignments → SpellsProgram bytes fields assignments
 program_from_parts bytes fields assignments parts = record {
   field_lines = parts.declared.lines;
   assignment_lines = parts.assigned.lines;
@@ -47,7 +51,9 @@ program_from_parts bytes fields assignments parts = record {
 }
 
 -- what was read, with the head and the end that stood after it
-pub program_found : (bytes rest body end : List ℕ) (fields : List FieldForm) (assignments : List AssignmentForm) → BeginsWith DeclaresField bytes fields rest → rest ≡ codes "void main{}() {" ++ 10 ∷ (body ++ []) → BeginsWith AssignsNumber body assignments end → end ≡ codes "}" ++ 10 ∷ [] → SpellsProgram bytes fields assignments
+pub program_found : (bytes rest body end : List ℕ) (fields : List FieldForm) (assignments : List AssignmentForm) →
+    BeginsWith DeclaresField bytes fields rest → rest ≡ codes "void main{}() {" ++ 10 ∷ (body ++ []) →
+    BeginsWith AssignsNumber body assignments end → end ≡ codes "}" ++ 10 ∷ [] → SpellsProgram bytes fields assignments
 program_found bytes rest body end fields assignments declared head assigned closing =
     let P : List ℕ → Type 0 = λ r. BeginsWith DeclaresField bytes fields r in
     let Q : List ℕ → Type 0 = λ r. BeginsWith AssignsNumber body assignments r in
@@ -60,25 +66,36 @@ program_found bytes rest body end fields assignments declared head assigned clos
 other_first : (x y : ℕ) (xs ys : List ℕ) → eqb x y ≡ false → x ∷ xs ≡ y ∷ ys → ⊥
 other_first x y xs ys differ is = both_ways (eqb x y) differ (eq-eqb x y cc)
 
-head_declares_none : (body : List ℕ) → BeginsWithNone DeclaresField (codes "void main{}() {" ++ 10 ∷ body)
+pub head_declares_none : (body : List ℕ) → BeginsWithNone DeclaresField (codes "void main{}() {" ++ 10 ∷ body)
 head_declares_none body = λ line rest field is first declares.
-    let same = (same_cut 10 (codes "void main{}() {") line body rest (written_lacks (codes "void main{}() {") 10 refl) first is).0 in
+    let same =
+    (same_cut 10 (codes "void main{}() {") line body rest (written_lacks (codes "void main{}() {") 10 refl)
+    first is).0 in
     other_first 118 105 _ _ refl (same ∙ declares.text)
 
-end_assigns_none : BeginsWithNone AssignsNumber (codes "}" ++ 10 ∷ [])
+pub end_assigns_none : BeginsWithNone AssignsNumber (codes "}" ++ 10 ∷ [])
 end_assigns_none = λ line rest assignment is first assigns.
     let same = (same_cut 10 (codes "}") line [] rest (written_lacks (codes "}") 10 refl) first is).0 in
     other_first 125 32 _ _ refl (same ∙ assigns.text)
 
 -- the head and the body follow the fields that were read
-pub program_head : (bytes rest : List ℕ) (found fields : List FieldForm) (assignments : List AssignmentForm) → BeginsWith DeclaresField bytes found rest → BeginsWithNone DeclaresField rest → (parts : ProgramParts bytes fields assignments) → rest ≡ codes "void main{}() {" ++ 10 ∷ parts.body
+pub program_head : (bytes rest : List ℕ) (found fields : List FieldForm) (assignments : List AssignmentForm) →
+    BeginsWith DeclaresField bytes found rest → BeginsWithNone DeclaresField rest →
+    (parts : ProgramParts bytes fields assignments) → rest ≡ codes "void main{}() {" ++ 10 ∷ parts.body
 program_head bytes rest found fields assignments begins stops parts =
     same_rest DeclaresField declares_one_line begins parts.declared stops (head_declares_none parts.body)
 
 -- the closing brace follows the assignments that were read
-pub program_end : (bytes rest body end : List ℕ) (found fields : List FieldForm) (made assignments : List AssignmentForm) → BeginsWith DeclaresField bytes found rest → BeginsWithNone DeclaresField rest → rest ≡ codes "void main{}() {" ++ 10 ∷ (body ++ []) → BeginsWith AssignsNumber body made end → BeginsWithNone AssignsNumber end → SpellsProgram bytes fields assignments → end ≡ codes "}" ++ 10 ∷ []
+pub program_end : (bytes rest body end : List ℕ) (found fields : List FieldForm)
+    (made assignments : List AssignmentForm) → BeginsWith DeclaresField bytes found rest →
+    BeginsWithNone DeclaresField rest → rest ≡ codes "void main{}() {" ++ 10 ∷ (body ++ []) →
+    BeginsWith AssignsNumber body made end → BeginsWithNone AssignsNumber end →
+    SpellsProgram bytes fields assignments → end ≡ codes "}" ++ 10 ∷ []
 program_end bytes rest body end found fields made assignments declared stops head assigned ends spells =
     let parts = parts_of_program bytes fields assignments spells in
-    let same = append_cancel_left (codes "void main{}() {" ++ 10 ∷ []) (body ++ []) parts.body (sym head ∙ program_head bytes rest found fields assignments declared stops parts) in
+    let same =
+    append_cancel_left (codes "void main{}() {" ++ 10 ∷ []) (body ++ []) parts.body
+    (sym head ∙ program_head bytes rest found fields assignments declared stops parts) in
     let P : List ℕ → Type 0 = λ b. BeginsWith AssignsNumber b assignments (codes "}" ++ 10 ∷ []) in
-    same_rest AssignsNumber assigns_one_line assigned (subst P (sym same ∙ append-nil body) parts.assigned) ends end_assigns_none
+    same_rest AssignsNumber assigns_one_line assigned (subst P (sym same ∙ append-nil body) parts.assigned) ends
+    end_assigns_none

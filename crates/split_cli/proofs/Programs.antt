@@ -8,7 +8,11 @@ use Rattle.jif_tree.specs.declared.program.Method.{Method}
 use Rattle.split_cli.specs.ProgramForm.{FieldForm, AssignmentForm}
 use Rattle.split_cli.specs.Resolution.{IsFieldOf, IsMainOf, IsProgramOf, names_of}
 
-pub program_of : (principals : Declared) (names : List (List ℕ)) (fields : List FieldForm) (assignments : List AssignmentForm) (program : Program) (method : Method) → names ≡ names_of fields → IsDistinct bytes_eq names → AllZip (IsFieldOf principals) fields program.fields.items → program.methods.items ≡ method ∷ [] → program.main ≡ record { 0 = 0 } → IsMainOf names assignments method → IsProgramOf principals fields assignments program
+pub program_of : (principals : Declared) (names : List (List ℕ)) (fields : List FieldForm)
+    (assignments : List AssignmentForm) (program : Program) (method : Method) → names ≡ names_of fields →
+    IsDistinct bytes_eq names → AllZip (IsFieldOf principals) fields program.fields.items →
+    program.methods.items ≡ method ∷ [] → program.main ≡ record { 0 = 0 } → IsMainOf names assignments method →
+    IsProgramOf principals fields assignments program
 program_of principals names fields assignments program method names_are distinct fields_are methods main main_is =
     let P : List (List ℕ) → Type 0 = IsDistinct bytes_eq in
     let Q : List (List ℕ) → Type 0 = λ l. IsMainOf l assignments method in

@@ -12,14 +12,26 @@ use Rattle.split_cli.specs.Resolution.{IsFieldOf, IsProgramOf}
 use Rattle.split_cli.proofs.Drafts.{small_values, few_fields, few_assignments}
 
 -- what a short program spells fits
-pub read_sizes : (o : Option (List ℕ)) (fields : List FieldForm) (assignments : List AssignmentForm) → IfSome o (λ bytes. length bytes ≤ 1048576) → IsSomeAnd o (λ bytes. SpellsProgram bytes fields assignments) →
+pub read_sizes : (o : Option (List ℕ)) (fields : List FieldForm) (assignments : List AssignmentForm) →
+    IfSome o (λ bytes. length bytes ≤ 1048576) → IsSomeAnd o (λ bytes. SpellsProgram bytes fields assignments) →
     (length fields ≤ 1048576) × (length assignments ≤ 1048576) × All (λ a. a.value ≤ 9223372036854775807) assignments
 read_sizes None fields assignments short spells = absurd spells
-read_sizes (Some bytes) fields assignments short spells =
-    (omega (arith, few_fields bytes fields assignments spells), omega (arith, few_assignments bytes fields assignments spells), small_values bytes fields assignments spells)
+read_sizes (Some bytes) fields assignments short spells = (
+  omega (arith, few_fields bytes fields assignments spells),
+  omega
+      (arith, few_assignments bytes fields assignments spells),
+  small_values bytes fields assignments spells,
+)
 
 -- the code has a field for each
-pub code_fields : (principals : Declared) (file : HostsShape) (fields : List FieldForm) (assignments : List AssignmentForm) (tree : Program) (code : CodeShape) → IsProgramOf principals fields assignments tree → IsCodeOf tree file code →
+pub code_fields : (principals : Declared) (file : HostsShape) (fields : List FieldForm)
+    (assignments : List AssignmentForm) (tree : Program) (code : CodeShape) →
+    IsProgramOf principals fields assignments tree → IsCodeOf tree file code →
     length code.fields ≡ length fields
 code_fields principals file fields assignments tree code tree_is code_is =
-    omega (arith, AllZip-long (IsPlaced file.hosts) tree.fields.items code.fields code_is.fields, AllZip-long (IsFieldOf principals) fields tree.fields.items tree_is.fields_are)
+    omega (
+      arith,
+      AllZip-long (IsPlaced file.hosts) tree.fields.items code.fields code_is.fields,
+      AllZip-long
+          (IsFieldOf principals) fields tree.fields.items tree_is.fields_are,
+    )

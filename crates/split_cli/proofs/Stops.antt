@@ -1,45 +1,94 @@
--- What is due where a file was not loaded, and for the words.
-use Rattle.std.proofs.Common.{ℕ, ◌≤◌, List, refl, inl, inr, ⊎_elim, Option, Some, None, arith}
-use Rattle.js_base.specs.Counts.{Rose}
+-- What is due for a command where a file was not loaded, and where all were.
+use Rattle.std.proofs.Common.{◌≡◌, ℕ, ◌+◌, List, refl, sym, ◌∙◌, ap, subst, inl, inr, ⊎_elim, Option, Some, None}
+use Rattle.std.proofs.Common.{add-one}
+use Rattle.std.specs.Prelude.{take, slice_get, IsSome}
+use Rattle.std.specs.List.{AllByRecursion}
+use Rattle.js_base.specs.Counts.{counted}
+use Rattle.js_base.specs.declared.limits.TheConstants.{PROGRAM_BYTES, HOSTS_BYTES, SCRIPT_BYTES}
 use Rattle.split_cli.specs.declared.load.LoadStop.{LoadStop}
 use Rattle.split_cli.specs.declared.load.LoadStop.TheVariants as stop
-use Rattle.split_cli.specs.Replay.{Verdict, Told, IsReplay, replay}
-use Rattle.split_cli.specs.Loads.{Gives, LoadStops, HasFault, IsOwedForFiles, IsStopOf}
-use Rattle.split_cli.specs.Answers.{IsOwed}
+use Rattle.split_cli.specs.Commands.{CommandShape, Replay, words_of, files_of, HaveNoForm}
+use Rattle.split_cli.specs.Verdicts.{VerdictShape, usage}
+use Rattle.split_cli.specs.Loads.{FilesChange, IsHeld, counted_by}
+use Rattle.split_cli.specs.Loading.{IsLoaded, Gives, LoadStops, StopCounts, IsStopOf, IsDueForCommand}
+use Rattle.split_cli.specs.Replay.{DueForBytes}
+use Rattle.split_cli.specs.Due.{DueForCommand, absent, loaded, Due, no_words, for_command, IsDue}
 
--- something is held under each name, or nothing
-told_content : (held : Option (List ℕ → Option (List ℕ))) (name : List ℕ) → (content : Option (List ℕ)) × Told held name content
-told_content None name = (None, tt)
-told_content (Some holds) name = (holds name, refl)
+-- what was loaded is held
+pub held_where_loaded : (held : Option (List ℕ → Option (List ℕ))) (name : List ℕ) (most : ℕ)
+    (found : Option (List ℕ)) →
+    Gives held name most found → IsHeld held name
+held_where_loaded None name most found gives = tt
+held_where_loaded (Some holds) name most found gives = subst (IsSome {T = List ℕ}) (sym gives.1) refl
 
--- a count that rose later rose
-rose_later : (before middle after : ℕ) → before ≤ middle → Rose middle after → Rose before after
-rose_later before middle after le rose = ⊎_elim (λ lt. inl (omega arith)) (λ last. inr last) rose
+-- The file at a place was not loaded, those before it are held, and they were loaded without a fault.
+pub stop_at : (command : CommandShape) (place : ℕ) (file : List ℕ) (files : FilesChange) (loads faults : ℕ)
+    (why : LoadStop) (verdict : VerdictShape) →
+    slice_get (files_of command) place ≡ Some file →
+    AllByRecursion (IsHeld files.held) (take place (files_of command)) →
+    loads ≡ counted_by place files.loads_before → faults ≡ files.faults_before → files.loads_after ≡ counted loads →
+    LoadStops files.held file why → StopCounts file faults files.faults_after files.failed why →
+    IsStopOf why file verdict →
+    IsDueForCommand command files verdict
+stop_at command place file files loads faults stop.OutOfMemory verdict here before loads_so_far faults_so_far
+    one_more stops counts is = absurd is
+stop_at command place file files loads faults stop.Absent verdict here before loads_so_far faults_so_far one_more
+    stops counts is =
+    inl (
+      place + 1,
+      subst (DueForCommand files.held command (place + 1)) (sym is)
+          (absent place file (record { here = here; absent = stops; before = before })),
+      record { loads = rw add-one (one_more ∙ ap counted loads_so_far); no_fault = counts ∙ faults_so_far },
+    )
+stop_at command place file files loads faults stop.Failed verdict here before loads_so_far faults_so_far one_more
+    stops counts is =
+    inr (record {
+      place = place;
+      here = here ∙ ap Some (sym counts.1);
+      held = subst (IsHeld files.held) (sym counts.1) stops;
+      before = before;
+      loads = rw add-one (one_more ∙ ap counted loads_so_far);
+      rose = rw (← faults_so_far) counts.0;
+      verdict_is = rw counts.1 is;
+    })
 
-pub first_stop : (program hosts events : List ℕ) (held : Option (List ℕ → Option (List ℕ))) (why : LoadStop) (before after : ℕ) (failed : List ℕ) (verdict : Verdict) →
-    LoadStops held program why → HasFault why program before after failed → IsStopOf why program verdict → IsOwedForFiles program hosts events held before after failed verdict
-first_stop program hosts events held stop.OutOfMemory before after failed verdict stops fault is = absurd is
-first_stop program hosts events held stop.Absent before after failed verdict stops fault is =
-    let h = told_content held hosts in let e = told_content held events in
-    inl (None, h.0, e.0, stops, h.1, e.1, is)
-first_stop program hosts events held stop.Failed before after failed verdict stops fault is =
-    inr (record { verdict_is = rw fault.1 is; rose = fault.0; named = inl fault.1 })
+-- all three files of a replay were loaded
+pub replay_loaded : (program hosts events : List ℕ) (files : FilesChange) (p h e : Option (List ℕ))
+    (verdict : VerdictShape) →
+    files.loads_after ≡ counted_by 3 files.loads_before → files.faults_after ≡ files.faults_before →
+    Gives files.held program PROGRAM_BYTES p → Gives files.held hosts HOSTS_BYTES h →
+    Gives files.held events SCRIPT_BYTES e →
+    ((program_bytes hosts_bytes events_bytes : List ℕ) → IsLoaded PROGRAM_BYTES program_bytes p →
+    IsLoaded HOSTS_BYTES hosts_bytes h →
+    IsLoaded SCRIPT_BYTES events_bytes e → DueForBytes events program_bytes hosts_bytes events_bytes verdict) →
+    IsDueForCommand (Replay program hosts events) files verdict
+replay_loaded program hosts events files p h e verdict loads faults gives_p gives_h gives_e due =
+    inl (
+      3,
+      loaded verdict (record {
+        program_bytes = gives_p.0;
+        hosts_bytes = gives_h.0;
+        events_bytes = gives_e.0;
+        program_told = gives_p.1;
+        hosts_told = gives_h.1;
+        events_told = gives_e.1;
+        due = due gives_p.0 gives_h.0 gives_e.0 gives_p.2 gives_h.2 gives_e.2;
+      }),
+      record { loads = loads; no_fault = faults },
+    )
 
-pub second_stop : (program hosts events : List ℕ) (held : Option (List ℕ → Option (List ℕ))) (most : ℕ) (loaded : Option (List ℕ)) (why : LoadStop) (before middle after : ℕ) (failed : List ℕ) (verdict : Verdict) →
-    Gives held program most loaded → before ≤ middle → LoadStops held hosts why → HasFault why hosts middle after failed → IsStopOf why hosts verdict → IsOwedForFiles program hosts events held before after failed verdict
-second_stop program hosts events held most loaded stop.OutOfMemory before middle after failed verdict gives le stops fault is = absurd is
-second_stop program hosts events held most loaded stop.Absent before middle after failed verdict gives le stops fault is =
-    let e = told_content held events in
-    inl (Some gives.0, None, e.0, gives.1, stops, e.1, is)
-second_stop program hosts events held most loaded stop.Failed before middle after failed verdict gives le stops fault is =
-    inr (record { verdict_is = rw fault.1 is; rose = rose_later before middle after le fault.0; named = inr (inl fault.1) })
-
--- what is owed for the files is owed for the words that name them
-pub owed_words : (words : List (List ℕ)) (program hosts events : List ℕ) (held : Option (List ℕ → Option (List ℕ))) (before after : ℕ) (failed : List ℕ) (verdict : Verdict) →
-    IsReplay words program hosts events → IsOwedForFiles program hosts events held before after failed verdict →
-    IsOwed words (record { held = held; faults_before = before; faults_after = after; failed = failed }) verdict
-owed_words words program hosts events held before after failed verdict is owed =
+-- what is due for a command is due for its words
+pub due_for_words : (words : List (List ℕ)) (command : CommandShape) (files : FilesChange) (verdict : VerdictShape) →
+    words ≡ words_of command → IsDueForCommand command files verdict → IsDue words files verdict
+due_for_words words command files verdict asked due =
     ⊎_elim
-    (λ due. inl (replay program hosts events due.0 due.1 due.2 verdict is due.3 due.4 due.5 due.6))
-    (λ fault. inr (record { verdict_is = fault.verdict_is; rose = fault.rose; named = (program, hosts, events, is, fault.named) }))
-    owed
+    (λ whole. inl (whole.0, for_command command whole.0 verdict asked whole.1, whole.2))
+    (λ fault. inr (command, asked, fault))
+    due
+
+-- words that ask for nothing
+pub usage_due : (words : List (List ℕ)) (files : FilesChange) (verdict : VerdictShape) → HaveNoForm words →
+    files.loads_after ≡ files.loads_before → files.faults_after ≡ files.faults_before → verdict ≡ usage →
+    IsDue words files verdict
+usage_due words files verdict none loads faults is =
+    inl (0, subst (Due words files.held 0) (sym is) (no_words none), record { loads = loads; no_fault = faults })

@@ -4,7 +4,9 @@ use Rattle.js_base.specs.Counts.{Rose}
 use Rattle.js_base.specs.Sink.{Takes, TakesFront}
 use Rattle.js_base.specs.declared.status.Status.{Status}
 use Rattle.js_base.specs.declared.status.Status.TheVariants.{Done, OutFault, NoMemory}
-use Rattle.split_cli.specs.Replay.{Verdict, Refuse, Print, Due, IsFileFault}
+use Rattle.split_cli.specs.Verdicts.{VerdictShape, Refuse, Print, no_memory_line}
+use Rattle.split_cli.specs.Loads.{FilesChange}
+use Rattle.split_cli.specs.Due.{IsDue}
 
 -- a sink before and after: its faults, and what it has taken where it tells
 pub record SinkChange : Type 0 where
@@ -17,36 +19,47 @@ pub record SinkChange : Type 0 where
 abbrev pub IsUntouched : SinkChange → Type 0
 IsUntouched sink = sink.taken_after ≡ sink.taken_before
 
+-- no more was put than a front of the text
+abbrev pub PutsFront : List ℕ → SinkChange → Type 0
+PutsFront text sink = TakesFront text sink.taken_before sink.taken_after
+
+-- no more was put than a front of the first text and then a front of the second
+abbrev pub PutsFronts : List ℕ → List ℕ → SinkChange → Type 0
+PutsFronts first second sink =
+    (between : Option (List ℕ))
+    × TakesFront first sink.taken_before between
+    × TakesFront second between sink.taken_after
+
+-- ---- answers to what is due
+
 -- all of the text was put, and the answer is this status, or a front of it, where the sink counted a fault
 abbrev pub Puts : List ℕ → Status → Status → SinkChange → Type 0
 Puts text status answer sink =
     ((answer ≡ status) × Takes text sink.taken_before sink.taken_after)
-    ⊎ ((answer ≡ OutFault) × Rose sink.faults_before sink.faults_after × TakesFront text sink.taken_before sink.taken_after)
+    ⊎ ((answer ≡ OutFault) × Rose sink.faults_before sink.faults_after × PutsFront text sink)
 
--- A refusal puts its line on the error output and nothing on the output. A report goes on the output, with nothing on the
--- error output.
-abbrev pub IsAnswered : Verdict → Status → SinkChange → SinkChange → Type 0
+-- A refusal puts its line on the error output and nothing on the output. A report goes on the output, with nothing on
+-- the error output.
+abbrev pub IsAnswered : VerdictShape → Status → SinkChange → SinkChange → Type 0
 IsAnswered (Refuse status line) answer out err = IsUntouched out × Puts line status answer err
 IsAnswered (Print text) answer out err = IsUntouched err × Puts text Done answer out
 
--- what the files hold, where they tell, and the faults that they counted in this call, the last at this name
-pub record FilesChange : Type 0 where
-  pub held : Option (List ℕ → Option (List ℕ))
-  pub faults_before : ℕ
-  pub faults_after : ℕ
-  pub failed : List ℕ
+-- ---- where memory ran out
 
--- what is due for the words and the files: a file fault only where the files counted one
-abbrev pub IsOwed : List (List ℕ) → FilesChange → Verdict → Type 0
-IsOwed words files verdict =
-    Due words files.held verdict ⊎ IsFileFault words files.faults_before files.faults_after files.failed verdict
+-- no more was put than a front of what is due, and then a front of the line that says that memory ran out
+abbrev pub IsCutShort : VerdictShape → SinkChange → SinkChange → Type 0
+IsCutShort (Refuse status line) out err = IsUntouched out × PutsFronts line no_memory_line err
+IsCutShort (Print text) out err = PutsFront text out × PutsFront no_memory_line err
 
--- where memory ran out, no more went on the output than a front of the report that is due
-abbrev pub IsCutShort : List (List ℕ) → FilesChange → SinkChange → Type 0
-IsCutShort words files out =
-    IsUntouched out ⊎ ((text : List ℕ) × IsOwed words files (Print text) × TakesFront text out.taken_before out.taken_after)
+-- Memory ran out before anything was due, and no more was put than a front of the line that says so, or it ran out
+-- while what was due was put.
+abbrev pub RanOut : List (List ℕ) → FilesChange → SinkChange → SinkChange → Type 0
+RanOut words files out err =
+    (IsUntouched out × PutsFront no_memory_line err)
+    ⊎ ((verdict : VerdictShape) × IsDue words files verdict × IsCutShort verdict out err)
 
 -- the answer is that to what is due, or want of memory
 abbrev pub AnswersTo : List (List ℕ) → FilesChange → Status → SinkChange → SinkChange → Type 0
 AnswersTo words files answer out err =
-    ((answer ≡ NoMemory) × IsCutShort words files out) ⊎ ((verdict : Verdict) × IsOwed words files verdict × IsAnswered verdict answer out err)
+    ((answer ≡ NoMemory) × RanOut words files out err)
+    ⊎ ((verdict : VerdictShape) × IsDue words files verdict × IsAnswered verdict answer out err)

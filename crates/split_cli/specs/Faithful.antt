@@ -1,5 +1,6 @@
 -- The headline for hosts that all obey: the report of a replay is that of a world whose fields follow the plain run.
 use Rattle.std.specs.Prelude.{◌≡◌, ℕ, ◌≤◌, true, List, length, All, Option, Some, Ok}
+use Rattle.js_base.specs.declared.limits.TheConstants.{SCRIPT_BYTES}
 use Rattle.js_base.specs.Sink.{Takes}
 use Rattle.jif_tree.specs.declared.program.Program.{Program}
 use Rattle.jif_tree.specs.Store.{starting_values}
@@ -10,7 +11,9 @@ use Rattle.net_world.specs.Events.{script_of}
 use Rattle.net_world.specs.World.{World, run, world_at_start, has_halted}
 use Rattle.net_world.specs.AllObey.{FieldsAre, Follows, IsIdle}
 use Rattle.split_cli.specs.Report.{report}
-use Rattle.split_cli.specs.Replay.{IsReplay, Told, AreAccepted}
+use Rattle.split_cli.specs.Commands.{Replay, words_of}
+use Rattle.split_cli.specs.Loads.{Told}
+use Rattle.split_cli.specs.Replay.{AreAccepted}
 
 -- A program, a host file and a script of events of these bytes were replayed, to this report.
 pub record IsReplayed (program hosts events : List ℕ) (text : List ℕ) : Type 0 where
@@ -21,9 +24,9 @@ pub record IsReplayed (program hosts events : List ℕ) (text : List ℕ) : Type
   -- the events of the script, and the world that they lead to from the start
   pub script : List (ℕ × Event)
   pub last : World
-  pub short : length events ≤ 16777216
+  pub short : length events ≤ SCRIPT_BYTES
   pub read : script_of code.hosts events ≡ Ok script
-  pub ran : run code (world_at_start code (starting_values tree)) script ≡ Ok last
+  pub runs : run code (world_at_start code (starting_values tree)) script ≡ Ok last
   pub text_is : text ≡ report code last
 
 -- The replay follows the plain run of its program, at every moment of the script.
@@ -39,11 +42,12 @@ pub record IsFaithful (program hosts events : List ℕ) (text : List ℕ) : Type
   pub none_ignored : All (λ host. host.ignored ≡ 0) replayed.last.hosts
 
 -- The words name three files, and what was put is the faithful report of a replay of what they hold.
-pub record PutsFaithfully (words : List (List ℕ)) (held : Option (List ℕ → Option (List ℕ))) (before after : Option (List ℕ)) : Type 0 where
+pub record PutsFaithfully
+    (words : List (List ℕ)) (held : Option (List ℕ → Option (List ℕ))) (before after : Option (List ℕ)) : Type 0 where
   pub program : List ℕ
   pub hosts : List ℕ
   pub events : List ℕ
-  pub words_are : IsReplay words program hosts events
+  pub words_are : words ≡ words_of (Replay program hosts events)
   pub program_bytes : List ℕ
   pub hosts_bytes : List ℕ
   pub events_bytes : List ℕ

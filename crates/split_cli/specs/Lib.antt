@@ -1,10 +1,14 @@
 pub mod Answers
+pub mod Commands
+pub mod Due
 pub mod Faithful
+pub mod FirstCodes
 pub mod LineValues
+pub mod Loading
 pub mod Loads
 pub mod ProgramForm
 pub mod Replay
 pub mod Report
 pub mod Resolution
-pub mod Shown
 pub mod Text
+pub mod Verdicts

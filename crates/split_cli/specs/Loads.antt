@@ -1,41 +1,50 @@
--- What a load of a file of the command gives, and how it may stop the command.
-use Rattle.std.specs.Prelude.{◌≡◌, ◌⊎◌, ℕ, List, Option, Some, None, ⊤}
-use Rattle.js_base.specs.Counts.{Rose}
-use Rattle.split_cli.specs.declared.load.LoadStop.{LoadStop}
-use Rattle.split_cli.specs.declared.load.LoadStop.TheVariants as stop
-use Rattle.split_cli.specs.Replay.{Verdict, Told, DueForFiles, file_fault, no_such_file}
-use Rattle.split_cli.specs.Shown.{IsLoaded}
+-- What files did in a call, and how the loads of some files in order may end. A name and a file are lists of bytes.
+use Rattle.std.specs.Prelude.{◌≡◌, ℕ, ◌+◌, zero, suc, List, take, Option, Some, None, IfSome, IsSome, slice_get}
+use Rattle.std.specs.List.{AllByRecursion}
+use Rattle.js_base.specs.Counts.{counted, Rose}
+use Rattle.split_cli.specs.Verdicts.{VerdictShape, file_fault}
 
--- this was loaded of some bytes, which are those that are held where the files tell
-abbrev pub Gives : Option (List ℕ → Option (List ℕ)) → List ℕ → ℕ → Option (List ℕ) → Type 0
-Gives held name most loaded = (bytes : List ℕ) × Told held name (Some bytes) × IsLoaded most bytes loaded
+-- What files hold, where they tell, and what they counted before and after a call: loads, and faults, of which the last
+-- was at this name.
+pub record FilesChange : Type 0 where
+  pub held : Option (List ℕ → Option (List ℕ))
+  pub loads_before : ℕ
+  pub loads_after : ℕ
+  pub faults_before : ℕ
+  pub faults_after : ℕ
+  pub failed : List ℕ
 
--- only what is not held is absent
-abbrev pub LoadStops : Option (List ℕ → Option (List ℕ)) → List ℕ → LoadStop → Type 0
-LoadStops held name stop.OutOfMemory = ⊤
-LoadStops held name stop.Absent = Told held name None
-LoadStops held name stop.Failed = ⊤
+-- where the files tell what they hold, this is held under the name
+abbrev pub Told : Option (List ℕ → Option (List ℕ)) → List ℕ → Option (List ℕ) → Type 0
+Told held name content = IfSome held (λ holds. holds name ≡ content)
 
--- only where the files counted a fault at this name did they fail
-abbrev pub HasFault : LoadStop → List ℕ → ℕ → ℕ → List ℕ → Type 0
-HasFault stop.OutOfMemory name before after failed = ⊤
-HasFault stop.Absent name before after failed = ⊤
-HasFault stop.Failed name before after failed = Rose before after × (failed ≡ name)
+-- where the files tell what they hold, something is held under the name
+abbrev pub IsHeld : Option (List ℕ → Option (List ℕ)) → List ℕ → Type 0
+IsHeld held name = IfSome held (λ holds. IsSome (holds name))
 
--- a file fault at one of the three files
-pub record HasFailed (program hosts events : List ℕ) (before after : ℕ) (failed : List ℕ) (verdict : Verdict) : Type 0 where
-  pub verdict_is : verdict ≡ file_fault failed
-  pub rose : Rose before after
-  pub named : (failed ≡ program) ⊎ ((failed ≡ hosts) ⊎ (failed ≡ events))
+-- a count after so many more
+abbrev pub counted_by : ℕ → ℕ → ℕ
+counted_by zero count = count
+counted_by (suc more) count = counted (counted_by more count)
 
--- what is due for the three files of a replay: by what they hold, or a file fault
-abbrev pub IsOwedForFiles : List ℕ → List ℕ → List ℕ → Option (List ℕ → Option (List ℕ)) → ℕ → ℕ → List ℕ → Verdict → Type 0
-IsOwedForFiles program hosts events held before after failed verdict =
-    ((p : Option (List ℕ)) × (h : Option (List ℕ)) × (e : Option (List ℕ)) × Told held program p × Told held hosts h × Told held events e × DueForFiles program hosts events p h e verdict)
-    ⊎ HasFailed program hosts events before after failed verdict
+-- so many loads were asked for, and none of them failed
+pub record LoadsWell (number : ℕ) (files : FilesChange) : Type 0 where
+  pub loads : files.loads_after ≡ counted_by number files.loads_before
+  pub no_fault : files.faults_after ≡ files.faults_before
 
--- what is due where a file was not loaded
-abbrev pub IsStopOf : LoadStop → List ℕ → Verdict → Type 0
-IsStopOf stop.OutOfMemory name verdict = ⊥
-IsStopOf stop.Absent name verdict = verdict ≡ no_such_file name
-IsStopOf stop.Failed name verdict = verdict ≡ file_fault name
+-- the file at this place is absent, and each before it is held
+pub record IsFirstAbsent
+    (held : Option (List ℕ → Option (List ℕ))) (names : List (List ℕ)) (place : ℕ) (file : List ℕ) : Type 0 where
+  pub here : slice_get names place ≡ Some file
+  pub absent : Told held file None
+  pub before : AllByRecursion (IsHeld held) (take place names)
+
+-- The load of the file at some place failed. It is held and so is each before it, and nothing was loaded after it.
+pub record IsFileFault (names : List (List ℕ)) (files : FilesChange) (verdict : VerdictShape) : Type 0 where
+  pub place : ℕ
+  pub here : slice_get names place ≡ Some files.failed
+  pub held : IsHeld files.held files.failed
+  pub before : AllByRecursion (IsHeld files.held) (take place names)
+  pub loads : files.loads_after ≡ counted_by (place + 1) files.loads_before
+  pub rose : Rose files.faults_before files.faults_after
+  pub verdict_is : verdict ≡ file_fault files.failed

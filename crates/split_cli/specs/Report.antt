@@ -1,5 +1,6 @@
 -- The report of a world, as a text.
-use Rattle.std.specs.Prelude.{ℕ, ◌+◌, List, [], ◌∷◌, ◌++◌, length, map, is_some, unwrap_or, slice_get, if◌then◌else◌, codes}
+use Rattle.std.specs.Prelude.{ℕ, ◌+◌, List, [], ◌∷◌, ◌++◌, length, map, is_some, unwrap_or, slice_get, if◌then◌else◌}
+use Rattle.std.specs.Prelude.{codes}
 use Rattle.std.specs.List.{flat_map, join_with_byte}
 use Rattle.std.specs.Fmt.{decimal, signed_decimal}
 use Rattle.net_world.specs.Code.{CodeShape, FieldShape}
@@ -14,7 +15,9 @@ halted_line w = if has_halted w then codes "halted yes" else codes "halted no"
 
 -- `field NAME = V`, the elements parted by one space
 abbrev pub field_line : World → ℕ → FieldShape → List ℕ
-field_line w number field = codes "field " ++ field.name ++ codes " = " ++ join_with_byte 32 (map signed_decimal (field_row w number field))
+field_line w number field =
+    codes "field " ++ field.name ++ codes " = "
+    ++ join_with_byte 32 (map signed_decimal (field_row w number field))
 
 -- the lines of the fields from a number on
 abbrev pub field_lines : World → ℕ → List FieldShape → List (List ℕ)
@@ -40,7 +43,8 @@ host_lines code number (host ∷ hosts) = host_line (host_name code number) host
 -- `flying I J K: MESSAGE`, for the message at a place
 abbrev pub flying_line : CodeShape → ℕ → ℕ → ℕ → Flight → List ℕ
 flying_line code from to place message =
-    codes "flying " ++ host_name code from ++ codes " " ++ host_name code to ++ codes " " ++ decimal place ++ codes ": " ++ message_text code message
+    codes "flying " ++ host_name code from ++ codes " " ++ host_name code to ++ codes " " ++ decimal place ++ codes ": "
+    ++ message_text code message
 
 -- the lines of the messages from a place on
 abbrev pub queue_lines : CodeShape → ℕ → ℕ → ℕ → List Flight → List (List ℕ)
@@ -51,7 +55,8 @@ queue_lines code from to place (message ∷ messages) =
 -- the lines of what is in flight from a host to each host
 abbrev pub lines_from : CodeShape → World → ℕ → List (List ℕ)
 lines_from code w from =
-    flat_map (λ to. queue_lines code from to 0 (queue w (record { 0 = from }) (record { 0 = to }))) (numbers_below (length w.hosts))
+    flat_map (λ to. queue_lines code from to 0 (queue w (record { 0 = from }) (record { 0 = to })))
+    (numbers_below (length w.hosts))
 
 -- the lines of what is in flight, by pairs of hosts in file order
 abbrev pub flying_lines : CodeShape → World → List (List ℕ)

@@ -1,5 +1,6 @@
 -- What the lines of a program stand for, once their names are known.
-use Rattle.std.specs.Prelude.{◌≡◌, ℕ, ◌+◌, ◌⊎◌, pos, false, List, [], ◌∷◌, length, map, Any, Contains, Option, Some, None, slice_get, string_bytes, codes, ⊤}
+use Rattle.std.specs.Prelude.{◌≡◌, ℕ, ◌+◌, ◌⊎◌, pos, false, List, [], ◌∷◌, length, map, Any, Contains, Option, Some}
+use Rattle.std.specs.Prelude.{None, slice_get, string_bytes, codes, ⊤}
 use Rattle.std.specs.List.{AllZip, IsDistinct}
 use Rattle.std.specs.Str.{bytes_eq}
 use Rattle.js_base.specs.declared.ids.PrincipalId.{PrincipalId}
@@ -63,7 +64,9 @@ pub record IsMainOf (names : List (List ℕ)) (assignments : List AssignmentForm
   pub body : AreStatementsOf names 0 assignments method.body.items
 
 -- the program of these fields and assignments: the field names are distinct, and every name is known
-pub record IsProgramOf (principals : Declared) (fields : List FieldForm) (assignments : List AssignmentForm) (program : Program) : Type 0 where
+pub record IsProgramOf
+    (principals : Declared) (fields : List FieldForm) (assignments : List AssignmentForm) (program : Program)
+    : Type 0 where
   pub main_method : Method
   pub distinct : IsDistinct bytes_eq (names_of fields)
   pub fields_are : AllZip (IsFieldOf principals) fields program.fields.items

@@ -1,19 +1,20 @@
-ghost use Rattle.std.specs.Prelude.{◌≡◌, ◌+◌, ◌^◌, ◌<◌, ◌≤◌, [], ◌∷◌, ◌++◌, IfOk, MatchResult, length, map, replicate};
+//! The code of a program on its hosts: all statements on the first host, and each field on the first that may hold it.
+
+ghost use Rattle.std.specs.Prelude.{◌≡◌, ◌+◌, ◌^◌, ◌<◌, [], ◌∷◌, ◌++◌, IfOk, MatchResult, length, map, replicate};
 ghost use Rattle.std.specs.String.{string_bytes};
 ghost use Rattle.jif_tree.specs.SourceRun.{main_body};
 ghost use Rattle.net_world.specs.FirstCode.{IsCodeOf, instruction_of, root_part};
-ghost use Rattle.split_cli.specs.Shown.{HaveNoCode};
+ghost use Rattle.split_cli.specs.FirstCodes.{HaveNoCode};
 
 mod placement;
-#[cfg(test)]
-pub mod tests;
 
 use host_decl::{HostRow, Hosts};
 use jif_tree::{Expr, Program, Stmt, StmtKind};
+use js_base::text::owned_text;
 use js_base::{HostId, OutOfMemory, StmtId};
 use net_world::host_code::{Code, Instr, Op, Part};
 use placement::placed_fields;
-use std::alloc::Global;
+use std::alloc::{AllocFailed, Global};
 use thiserror::Error;
 
 /// Why there is no code of a program.
@@ -37,11 +38,24 @@ impl From<OutOfMemory> for CodeError {
     }
 }
 
+impl<T: Drop> From<AllocFailed<T>> for CodeError {
+    ghost use Rattle.std.specs.Prelude.{◌≡◌};
+    ghost use Rattle.split_cli.specs.declared.first_code.CodeError.TheVariants as error;
+
+    ghost from_gives = { λ _ e. e ≡ error.OutOfMemory };
+
+    fn from(_error: AllocFailed<T>) -> CodeError {
+        CodeError::OutOfMemory
+    }
+}
+
 /// The code of a program on these hosts. `main` has fewer than 2^32 - 1 statements, so that its places are numbers of
 /// 32 bits.
 pub fn code_of(alloc: Global, program: &Program, hosts: &Hosts) -> Result<Code, CodeError>
     requires { length (main_body program.now) + 1 < 2 ^ 32 }
-    ensures { MatchResult result (IsCodeOf program.now hosts.now) (HaveNoCode hosts.now.hosts program.now.fields.items) }
+    ensures { MatchResult result
+        (IsCodeOf program.now hosts.now)
+        (HaveNoCode hosts.now.hosts program.now.fields.items) }
 {
     let rows = hosts.hosts();
     let fields = placed_fields(alloc, &program.fields, rows)?;
@@ -57,8 +71,7 @@ fn host_names(alloc: Global, hosts: &[HostRow]) -> Result<Vec<String>, OutOfMemo
 {
     let mut names = Vec::new(alloc);
     for host in hosts {
-        let name = String::from_str(alloc, host.name()).map_err(|_| OutOfMemory)?;
-        names.push(name).map_err(|_| OutOfMemory)?;
+        names.push(owned_text(alloc, host.name())?)?;
     }
     Ok(names)
 }
@@ -75,19 +88,18 @@ fn main_part(alloc: Global, program: &Program) -> Result<Part, OutOfMemory>
 
 /// An instruction for each statement, and then the one that gives the token back.
 fn body_part(alloc: Global, body: &[Stmt], head: StmtId) -> Result<Part, OutOfMemory>
-    ensures { IfOk result (λ part. part ≡ map instruction_of body.now ++ record { statement = head; op = Op.Back } ∷ []) }
+    ensures { IfOk result (λ part.
+        part ≡ map instruction_of body.now ++ record { statement = head; op = Op.Back } ∷ []) }
 {
     let mut instructions = Vec::new(alloc);
     for statement in body {
-        instructions
-            .push(instruction_of(statement))
-            .map_err(|_| OutOfMemory)?;
+        instructions.push(instruction_of(statement))?;
     }
     let back = Instr {
         statement: head,
         op: Op::Back,
     };
-    instructions.push(back).map_err(|_| OutOfMemory)?;
+    instructions.push(back)?;
     Ok(Part::new(instructions))
 }
 
@@ -108,10 +120,10 @@ fn all_parts(alloc: Global, root: Part, others: usize) -> Result<Vec<Part>, OutO
     ensures { IfOk result (λ parts. parts.items ≡ root ∷ replicate others []) }
 {
     let mut parts = Vec::new(alloc);
-    parts.push(root).map_err(|_| OutOfMemory)?;
+    parts.push(root)?;
     for _made in 0..others {
         let empty = Part::new(Vec::new(alloc));
-        parts.push(empty).map_err(|_| OutOfMemory)?;
+        parts.push(empty)?;
     }
     Ok(parts)
 }

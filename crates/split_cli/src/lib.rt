@@ -3,6 +3,7 @@
 
 mod first_code;
 mod labels;
+mod laws;
 mod lines;
 mod load;
 mod program_form;
@@ -13,4 +14,5 @@ mod top;
 mod verdict;
 mod words;
 
+pub use laws::due_laws;
 pub use top::jifsplit;

@@ -1,3 +1,5 @@
+//! Cutting a text at a byte, and what stands between two texts.
+
 ghost use Rattle.std.specs.Prelude.{◌≡◌, ◌++◌, ◌∷◌, Contains, IfSome, IfNone, List, ℕ};
 
 /// What stands before the first of a byte, and what stands after it.

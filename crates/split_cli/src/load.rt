@@ -1,8 +1,8 @@
-// The three files of a command, loaded in the order of its words.
+//! The load of a file of a command.
 
-ghost use Rattle.std.specs.Prelude.{◌≡◌, ◌≤◌, ◌+◌, ℕ, List, length, Some, None, IfOk, IfErr, IfSome, IsSomeAnd, MatchResult, option_map, option_copied};
-ghost use Rattle.js_base.specs.Counts.{counted, Rose};
-ghost use Rattle.split_cli.specs.Loads.{Gives, LoadStops, HasFault};
+ghost use Rattle.std.specs.Prelude.{◌≡◌, ◌≤◌, length, IfOk, IfSome, MatchResult, option_map};
+ghost use Rattle.js_base.specs.Counts.{counted};
+ghost use Rattle.split_cli.specs.Loading.{Gives, LoadStops, StopCounts};
 
 use js_base::{Files, LoadError};
 use std::alloc::Global;
@@ -29,10 +29,11 @@ pub fn load<F: Files>(
         (LoadStops (F.held files.old) name.now) }
     ensures within { IfOk result (λ loaded. IfSome loaded (λ bytes. length bytes.items ≤ most)) }
     ensures held { F.held files.new ≡ F.held files.old }
-    ensures loads { F.loads files.new ≤ F.loads files.old + 1 }
+    ensures loads { F.loads files.new ≡ counted (F.loads files.old) }
     ensures saves { F.saves files.new ≡ F.saves files.old }
-    ensures faults { F.faults files.old ≤ F.faults files.new }
-    ensures fault { IfErr result (λ stop. HasFault stop name.now (F.faults files.old) (F.faults files.new) (F.failed files.new)) }
+    ensures faults { MatchResult result
+        (λ loaded. F.faults files.new ≡ F.faults files.old)
+        (StopCounts name.now (F.faults files.old) (F.faults files.new) (F.failed files.new)) }
 {
     match files.load(alloc, name, most) {
         Ok(bytes) => Ok(Some(bytes)),

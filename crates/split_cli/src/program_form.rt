@@ -1,3 +1,5 @@
+//! The first form of a program: lines of fields, and a `main` of assignments.
+
 ghost use Rattle.std.specs.Prelude.{IfOk, IfSome, IfNone, List};
 ghost use Rattle.split_cli.specs.ProgramForm.{FieldForm, AssignmentForm, SpellsProgram};
 
@@ -5,8 +7,6 @@ mod assignment_line;
 mod field_line;
 mod line_values;
 mod number;
-#[cfg(test)]
-mod tests;
 
 use crate::lines::strip_circumfix;
 use js_base::OutOfMemory;
@@ -60,7 +60,8 @@ pub fn read_program(alloc: Global, bytes: &[u8]) -> Result<Option<ProgramDraft>,
     ensures found { IfOk result (λ found. IfSome found (λ draft.
         SpellsProgram bytes.now draft.fields.items draft.assignments.items)) }
     ensures none { IfOk result (λ found. IfNone found (
-        (fields : List FieldForm) (assignments : List AssignmentForm) → SpellsProgram bytes.now fields assignments → ⊥)) }
+        (fields : List FieldForm) (assignments : List AssignmentForm) →
+        SpellsProgram bytes.now fields assignments → ⊥)) }
 {
     let (fields, rest) = line_values::<FieldDraft>(alloc, bytes)?;
     let Some(body) = strip_circumfix(rest, b"void main{}() {\n", b"") else {

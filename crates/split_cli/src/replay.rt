@@ -1,10 +1,12 @@
-// What is owed for what the three files hold.
+//! What is due for what the three files of a replay hold.
 
-ghost use Rattle.std.specs.Prelude.{◌≡◌, ◌≤◌, ◌<◌, ◌^◌, ℕ, List, All, length, option_copied, IfOk, IfSome, IfNone, IsSomeAnd, MatchResult};
+ghost use Rattle.std.specs.Prelude.{◌≡◌, ◌≤◌, ◌<◌, ◌^◌, ℕ, List, All, length, option_copied, IfOk, IfSome, IfNone};
+ghost use Rattle.std.specs.Prelude.{IsSomeAnd, MatchResult};
 ghost use Rattle.host_decl.specs.Reading.{ReadsHosts, RefusesHosts};
 ghost use Rattle.split_cli.specs.ProgramForm.{FieldForm, AssignmentForm, SpellsProgram};
 ghost use Rattle.split_cli.specs.Replay.{IsProgramText, DueForBytes, due_for_script};
-ghost use Rattle.split_cli.specs.Shown.{shown, IsLoaded};
+ghost use Rattle.split_cli.specs.Loading.{IsLoaded};
+ghost use Rattle.split_cli.specs.Verdicts.{verdict_shape};
 ghost use Rattle.jif_tree.specs.Store.{starting_values};
 ghost use Rattle.net_world.specs.World.{world_at_start};
 ghost use Rattle.net_world.specs.Events.{script_of};
@@ -17,6 +19,7 @@ use crate::verdict::Verdict;
 use host_decl::{Hosts, HostsError, read_hosts};
 use jif_tree::{Program, Store};
 use js_base::OutOfMemory;
+use js_base::limits::{HOSTS_BYTES, PROGRAM_BYTES, SCRIPT_BYTES};
 use net_world::event_text::{EventsError, read_events};
 use net_world::host_code::Code;
 use net_world::world::{EventError, World};
@@ -29,7 +32,7 @@ struct Accepted {
     code: Code,
 }
 
-/// What is owed for what the three files hold, where `None` is a file that is too long and `name` is that of the
+/// What is due for what the three files hold, where `None` is a file that is too long and `name` is that of the
 /// third.
 pub fn verdict_for(
     alloc: Global,
@@ -38,11 +41,13 @@ pub fn verdict_for(
     hosts: Option<&[u8]>,
     events: Option<&[u8]>,
 ) -> Result<Verdict, OutOfMemory>
-    requires program { IfSome (option_copied program) (λ bytes. length bytes ≤ 1048576) }
-    requires events { IfSome (option_copied events) (λ bytes. length bytes ≤ 16777216) }
+    requires program { IfSome (option_copied program) (λ bytes. length bytes ≤ PROGRAM_BYTES) }
+    requires events { IfSome (option_copied events) (λ bytes. length bytes ≤ SCRIPT_BYTES) }
     ensures { IfOk result (λ verdict. (p h e : List ℕ) →
-        IsLoaded 1048576 p (option_copied program.entry) → IsLoaded 65536 h (option_copied hosts.entry) → IsLoaded 16777216 e (option_copied events.entry) →
-        DueForBytes name.now p h e (shown verdict)) }
+        IsLoaded PROGRAM_BYTES p (option_copied program.entry) →
+        IsLoaded HOSTS_BYTES h (option_copied hosts.entry) →
+        IsLoaded SCRIPT_BYTES e (option_copied events.entry) →
+        DueForBytes name.now p h e (verdict_shape verdict)) }
 {
     let Some(program) = program_draft(alloc, program)? else {
         return Verdict::program_not_built(alloc);
@@ -68,7 +73,8 @@ fn program_draft(alloc: Global, program: Option<&[u8]>) -> Result<Option<Program
 
 /// The hosts of the host file that was loaded, where `None` is one that is too long.
 fn loaded_hosts(alloc: Global, hosts: Option<&[u8]>) -> Result<Hosts, HostsError>
-    ensures { (h : List ℕ) → IsLoaded 65536 h (option_copied hosts.entry) → MatchResult result (ReadsHosts h) (RefusesHosts h) }
+    ensures { (h : List ℕ) → IsLoaded HOSTS_BYTES h (option_copied hosts.entry) →
+        MatchResult result (ReadsHosts h) (RefusesHosts h) }
 {
     match hosts {
         Some(bytes) => read_hosts(alloc, bytes),
@@ -76,7 +82,7 @@ fn loaded_hosts(alloc: Global, hosts: Option<&[u8]>) -> Result<Hosts, HostsError
     }
 }
 
-/// What is owed for a program of the first form on these hosts, where `None` is a script that is too long and `name` is
+/// What is due for a program of the first form on these hosts, where `None` is a script that is too long and `name` is
 /// that of the script.
 fn verdict_on(
     alloc: Global,
@@ -88,10 +94,11 @@ fn verdict_on(
     requires fields { length program.fields.items < 2 ^ 31 }
     requires assignments { length program.assignments.items < 2 ^ 31 }
     requires values { All (λ a. a.value ≤ 9223372036854775807) program.assignments.items }
-    requires events { IfSome (option_copied events) (λ bytes. length bytes ≤ 16777216) }
+    requires events { IfSome (option_copied events) (λ bytes. length bytes ≤ SCRIPT_BYTES) }
     ensures { IfOk result (λ verdict. (p h e : List ℕ) →
-        IsProgramText p program.fields.items program.assignments.items → ReadsHosts h hosts.now → IsLoaded 16777216 e (option_copied events.entry) →
-        DueForBytes name.now p h e (shown verdict)) }
+        IsProgramText p program.fields.items program.assignments.items → ReadsHosts h hosts.now →
+        IsLoaded SCRIPT_BYTES e (option_copied events.entry) →
+        DueForBytes name.now p h e (verdict_shape verdict)) }
 {
     let Some(tree) = resolve(alloc, program, hosts.principals())? else {
         return Verdict::program_not_built(alloc);
@@ -109,17 +116,18 @@ fn verdict_on(
     }
 }
 
-/// What is owed for a script of events of an accepted program, where `None` is a script that is too long.
+/// What is due for a script of events of an accepted program, where `None` is a script that is too long.
 fn replayed(
     alloc: Global,
     name: &str,
     accepted: &Accepted,
     events: &[u8],
 ) -> Result<Verdict, OutOfMemory>
-    requires script { length events.now ≤ 16777216 }
+    requires script { length events.now ≤ SCRIPT_BYTES }
     requires fields { length accepted.now.code.fields < 2 ^ 32 }
-    ensures { IfOk result (λ verdict. shown verdict ≡ due_for_script name.now accepted.now.code
-        (world_at_start accepted.now.code (starting_values accepted.now.tree)) (script_of accepted.now.code.hosts events.now)) }
+    ensures { IfOk result (λ verdict. verdict_shape verdict ≡ due_for_script name.now accepted.now.code
+        (world_at_start accepted.now.code (starting_values accepted.now.tree))
+        (script_of accepted.now.code.hosts events.now)) }
 {
     let code = &accepted.code;
     let script = match read_events(alloc, code, events) {

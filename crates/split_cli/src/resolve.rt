@@ -1,12 +1,12 @@
-ghost use Rattle.std.specs.Prelude.{◌≡◌, ◌<◌, ◌≤◌, All, Any, Contains, length, IfOk, IfSome, IfNone};
+//! The program that fields and assignments stand for, once their names are known.
+
+ghost use Rattle.std.specs.Prelude.{◌<◌, ◌≤◌, All, Any, Contains, length, IfOk, IfSome, IfNone};
 ghost use Rattle.jif_tree.specs.Validity.{IsValid};
 ghost use Rattle.split_cli.specs.Resolution.{IsMainOf, IsProgramOf, HasBadName};
 
 mod fields;
 mod name_table;
 mod statements;
-#[cfg(test)]
-mod tests;
 
 use crate::program_form::{AssignmentDraft, ProgramDraft};
 use fields::{field_names, fields};
@@ -34,7 +34,7 @@ fn main_method(
     let Some(body) = statements(alloc, names, assignments)? else {
         return Ok(None);
     };
-    let name = String::from_str(alloc, "main").map_err(|_| OutOfMemory)?;
+    let name = String::from_str(alloc, "main")?;
     Ok(Some(Method {
         name,
         begin: Label::empty(),
@@ -69,7 +69,7 @@ pub fn resolve(
     let Some(fields) = fields(alloc, principals, draft.fields)? else {
         return Ok(None);
     };
-    let methods = vec![in alloc; method].map_err(|_| OutOfMemory)?;
+    let methods = vec![in alloc; method]?;
     Ok(Some(Program {
         fields,
         methods,

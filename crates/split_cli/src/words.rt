@@ -1,5 +1,7 @@
-ghost use Rattle.std.specs.Prelude.{map, string_bytes, IfSome, IfNone};
-ghost use Rattle.split_cli.specs.Replay.{IsReplay, HaveNoForm};
+//! The words of commands.
+
+ghost use Rattle.std.specs.Prelude.{◌≡◌, map, string_bytes, IfSome, IfNone};
+ghost use Rattle.split_cli.specs.Commands as command;
 
 /// The words of `replay P H EVENTS`: the names of the three files.
 #[derive(Drop)]
@@ -9,11 +11,11 @@ pub struct Replay<'a> {
     pub events: &'a str,
 }
 
-/// The command that the words say, or `None` where they say none.
+/// The command that the words ask for, or `None` where they ask for none.
 pub fn command_of(words: &[String]) -> Option<Replay<'_>>
-    ensures found { IfSome result (λ command.
-        IsReplay (map string_bytes words.now) command.program.now command.hosts.now command.events.now) }
-    ensures none { IfNone result (HaveNoForm (map string_bytes words.now)) }
+    ensures found { IfSome result (λ asked. map string_bytes words.now
+        ≡ command.words_of (command.Replay asked.program.now asked.hosts.now asked.events.now)) }
+    ensures none { IfNone result (command.HaveNoForm (map string_bytes words.now)) }
 {
     match words {
         [verb, program, hosts, events] if verb.as_str() == "replay" => Some(Replay {

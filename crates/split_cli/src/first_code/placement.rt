@@ -1,14 +1,16 @@
 //! The host of each field: the first one that may hold it.
 
-ghost use Rattle.std.specs.Prelude.{◌≡◌, ◌≤◌, All, IfOk, IfSome, IfNone, MatchResult, length, string_bytes};
+ghost use Rattle.std.specs.Prelude.{◌≤◌, All, IfSome, IfNone, MatchResult, length};
 ghost use Rattle.std.specs.List.{AllZip};
 ghost use Rattle.net_world.specs.FirstCode.{IsFirstHolder, IsPlaced, MayHold};
-ghost use Rattle.split_cli.specs.Shown.{HaveNoCode};
+ghost use Rattle.split_cli.specs.FirstCodes.{HaveNoCode};
 
 use crate::first_code::CodeError;
 use host_decl::HostRow;
 use jif_tree::Field;
-use js_base::{HostId, OutOfMemory};
+use js_base::HostId;
+use js_base::limits::HOSTS;
+use js_base::text::owned_text;
 use label_lattice::Label;
 use net_world::host_code::CodeField;
 use std::alloc::Global;
@@ -19,32 +21,25 @@ pub fn placed_fields(
     fields: &[Field],
     hosts: &[HostRow],
 ) -> Result<Vec<CodeField>, CodeError>
-    requires { length hosts.now ≤ 16 }
-    ensures { MatchResult result (λ placed. AllZip (IsPlaced hosts.now) fields.now placed.items) (HaveNoCode hosts.now fields.now) }
+    requires { length hosts.now ≤ HOSTS }
+    ensures { MatchResult result
+        (λ placed. AllZip (IsPlaced hosts.now) fields.now placed.items)
+        (HaveNoCode hosts.now fields.now) }
 {
     let mut placed = Vec::new(alloc);
     for field in fields {
-        let name = name_of(field)?;
+        let name = owned_text(alloc, field.name.as_str())?;
         let Some(host) = first_holder(&field.label, hosts) else {
             return Err(CodeError::NoHostForField(name));
         };
-        placed
-            .push(CodeField { name, host })
-            .map_err(|_| OutOfMemory)?;
+        placed.push(CodeField { name, host })?;
     }
     Ok(placed)
 }
 
-/// The field's name, as a text of its own.
-fn name_of(field: &Field) -> Result<String, OutOfMemory>
-    ensures { IfOk result (λ name. string_bytes name ≡ string_bytes field.now.name) }
-{
-    field.name.clone().map_err(|_| OutOfMemory)
-}
-
 /// The first host that may hold a field of this label.
 fn first_holder(label: &Label, hosts: &[HostRow]) -> Option<HostId>
-    requires { length hosts.now ≤ 16 }
+    requires { length hosts.now ≤ HOSTS }
     ensures found { IfSome result (λ host. IsFirstHolder hosts.now label.now host.0) }
     ensures none { IfNone result (All (λ host. ¬ MayHold label.now host) hosts.now) }
 {

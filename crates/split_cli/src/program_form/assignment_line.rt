@@ -1,4 +1,6 @@
-ghost use Rattle.std.specs.Prelude.{IfOk, IfSome, IfNone};
+//! The line that assigns a number to a field.
+
+ghost use Rattle.std.specs.Prelude.{IfSome, IfNone};
 ghost use Rattle.split_cli.specs.ProgramForm.{AssignmentForm, AssignsNumber};
 
 use super::AssignmentDraft;

@@ -1,4 +1,6 @@
-ghost use Rattle.std.specs.Prelude.{◌≡◌, IfOk, IfSome, IfNone, List, ℕ, Option};
+//! The line that declares a field.
+
+ghost use Rattle.std.specs.Prelude.{◌≡◌, IfSome, IfNone, List, ℕ, Option};
 ghost use Rattle.std.specs.Option.{option_copied};
 ghost use Rattle.js_base.specs.Name.{IsName};
 ghost use Rattle.split_cli.specs.ProgramForm.{FieldForm, DeclaresField};
@@ -15,7 +17,8 @@ use std::alloc::Global;
 fn policy_owner(policy: &[u8]) -> Option<Option<&[u8]>>
     ensures named { IfSome result (λ owner. IfSome (option_copied owner) IsName) }
     ensures found { IfSome result (λ owner. policy.now ≡ policy_text (option_copied owner)) }
-    ensures none { IfNone result ((owner : Option (List ℕ)) → IfSome owner IsName → policy.now ≡ policy_text owner → ⊥) }
+    ensures none { IfNone result (
+        (owner : Option (List ℕ)) → IfSome owner IsName → policy.now ≡ policy_text owner → ⊥) }
 {
     if policy.is_empty() {
         return Some(None);

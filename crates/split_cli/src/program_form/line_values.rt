@@ -1,3 +1,5 @@
+//! Lines that each spell a value.
+
 ghost use Rattle.std.specs.Prelude.{IfOk, IfSome, IfNone, List, ℕ};
 ghost use Rattle.split_cli.specs.LineValues.{BeginsWith, BeginsWithNone};
 
@@ -32,7 +34,7 @@ pub fn line_values<T: LineValue>(
         let Some(value) = T::read(alloc, line)? else {
             return Ok((values, rest));
         };
-        values.push(value).map_err(|_| OutOfMemory)?;
+        values.push(value)?;
         rest = after;
     }
 }

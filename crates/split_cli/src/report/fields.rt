@@ -1,12 +1,12 @@
 //! The lines of the fields.
 
-ghost use Rattle.std.specs.Prelude.{◌≡◌, ◌^◌, ◌<◌, ◌∷◌, [], ◌++◌, OnOk, length, map};
+ghost use Rattle.std.specs.Prelude.{◌≡◌, ◌^◌, ◌<◌, ◌∷◌, ◌++◌, OnOk, length, map};
 ghost use Rattle.std.specs.Fmt.{signed_decimal};
 ghost use Rattle.std.specs.List.{flat_map, join_with_byte};
 ghost use Rattle.std.specs.String.{string_bytes};
 ghost use Rattle.net_world.specs.World.{field_row, world_of};
 ghost use Rattle.split_cli.specs.Report.{field_line, field_lines};
-ghost use Rattle.split_cli.specs.Text.{lines_text};
+ghost use Rattle.split_cli.specs.Text.{line_text, lines_text};
 
 use js_base::{FieldId, OutOfMemory};
 use net_world::host_code::{Code, CodeField};
@@ -17,7 +17,9 @@ use std::fmt::Write;
 #[tactic(auto, using(crate::proofs::ReportLines::field_lines_more))]
 pub fn push_fields(text: &mut String, code: &Code, world: &World) -> Result<(), OutOfMemory>
     requires { length code.now.fields < 2 ^ 32 }
-    ensures { OnOk result (string_bytes text.new ≡ string_bytes text.old ++ lines_text (field_lines (world_of world.now) 0 code.now.fields)) }
+    ensures { OnOk result (
+        string_bytes text.new ≡ string_bytes text.old
+        ++ lines_text (field_lines (world_of world.now) 0 code.now.fields)) }
 {
     for (number, field) in code.fields().iter().enumerate() {
         push_field(text, world, number, field)?;
@@ -33,12 +35,14 @@ fn push_field(
     field: &CodeField,
 ) -> Result<(), OutOfMemory>
     requires { number < 2 ^ 32 }
-    ensures { OnOk result (string_bytes text.new ≡ string_bytes text.old ++ (field_line (world_of world.now) number field.now ++ 10 ∷ [])) }
+    ensures { OnOk result (
+        string_bytes text.new ≡ string_bytes text.old ++ line_text (field_line (world_of world.now) number field.now)) }
 {
     let name = &field.name;
     write!(text, "field {name} = ").map_err(|_| OutOfMemory)?;
     push_row(text, field_row(world, number, field))?;
-    text.push('\n').map_err(|_| OutOfMemory)
+    text.push('\n')?;
+    Ok(())
 }
 
 /// The elements of a field on its host.
@@ -55,7 +59,8 @@ fn field_row<'a>(world: &'a World, number: usize, field: &CodeField) -> &'a [i64
 /// Adds the elements of a field, parted by spaces.
 #[tactic(auto, using(crate::proofs::ReportLines::join_with_byte_cons))]
 fn push_row(text: &mut String, row: &[i64]) -> Result<(), OutOfMemory>
-    ensures { OnOk result (string_bytes text.new ≡ string_bytes text.old ++ join_with_byte 32 (map signed_decimal row.now)) }
+    ensures { OnOk result (
+        string_bytes text.new ≡ string_bytes text.old ++ join_with_byte 32 (map signed_decimal row.now)) }
 {
     let Some((first, rest)) = row.split_first() else {
         return Ok(());
@@ -66,7 +71,8 @@ fn push_row(text: &mut String, row: &[i64]) -> Result<(), OutOfMemory>
 
 /// Adds the elements after the first, each after a space.
 fn push_rest(text: &mut String, rest: &[i64]) -> Result<(), OutOfMemory>
-    ensures { OnOk result (string_bytes text.new ≡ string_bytes text.old ++ flat_map (λ element. 32 ∷ signed_decimal element) rest.now) }
+    ensures { OnOk result (
+        string_bytes text.new ≡ string_bytes text.old ++ flat_map (λ element. 32 ∷ signed_decimal element) rest.now) }
 {
     for element in rest {
         write!(text, " {element}").map_err(|_| OutOfMemory)?;

@@ -1,12 +1,13 @@
 //! The lines of what is in flight.
 
-ghost use Rattle.std.specs.Prelude.{◌≡◌, ◌<◌, ◌≤◌, ◌∷◌, [], ◌++◌, OnOk, length};
+ghost use Rattle.std.specs.Prelude.{◌≡◌, ◌≤◌, ◌++◌, OnOk, length};
 ghost use Rattle.std.specs.String.{string_bytes};
 ghost use Rattle.net_world.specs.World.{world_of};
-ghost use Rattle.split_cli.specs.Report.{flying_line, flying_lines, host_name, lines_from, queue_lines};
-ghost use Rattle.split_cli.specs.Text.{lines_text};
+ghost use Rattle.split_cli.specs.Report.{flying_line, flying_lines, lines_from, queue_lines};
+ghost use Rattle.split_cli.specs.Text.{line_text, lines_text};
 
 use crate::report::hosts::host_name;
+use js_base::limits::HOSTS;
 use js_base::{HostId, OutOfMemory};
 use net_world::event_text::message_text;
 use net_world::host_code::{Code, Message};
@@ -22,8 +23,9 @@ pub fn push_flying(
     code: &Code,
     world: &World,
 ) -> Result<(), OutOfMemory>
-    requires { length world.now.hosts ≤ 16 }
-    ensures { OnOk result (string_bytes text.new ≡ string_bytes text.old ++ lines_text (flying_lines code.now (world_of world.now))) }
+    requires { length world.now.hosts ≤ HOSTS }
+    ensures { OnOk result (
+        string_bytes text.new ≡ string_bytes text.old ++ lines_text (flying_lines code.now (world_of world.now))) }
 {
     for from in 0..world.host_count() {
         push_flying_from(alloc, text, code, world, HostId(from as u8))?;
@@ -40,8 +42,9 @@ fn push_flying_from(
     world: &World,
     from: HostId,
 ) -> Result<(), OutOfMemory>
-    requires { length world.now.hosts ≤ 16 }
-    ensures { OnOk result (string_bytes text.new ≡ string_bytes text.old ++ lines_text (lines_from code.now (world_of world.now) from.0)) }
+    requires { length world.now.hosts ≤ HOSTS }
+    ensures { OnOk result (
+        string_bytes text.new ≡ string_bytes text.old ++ lines_text (lines_from code.now (world_of world.now) from.0)) }
 {
     for to in 0..world.host_count() {
         let to = HostId(to as u8);
@@ -59,7 +62,9 @@ fn push_queue(
     pair: (HostId, HostId),
     queue: &[Message],
 ) -> Result<(), OutOfMemory>
-    ensures { OnOk result (string_bytes text.new ≡ string_bytes text.old ++ lines_text (queue_lines code.now pair.0.0 pair.1.0 0 queue.now)) }
+    ensures { OnOk result (
+        string_bytes text.new ≡ string_bytes text.old
+        ++ lines_text (queue_lines code.now pair.0.0 pair.1.0 0 queue.now)) }
 {
     for (place, message) in queue.iter().enumerate() {
         push_message(alloc, text, code, pair, place, message)?;
@@ -76,7 +81,9 @@ fn push_message(
     place: usize,
     message: &Message,
 ) -> Result<(), OutOfMemory>
-    ensures { OnOk result (string_bytes text.new ≡ string_bytes text.old ++ (flying_line code.now pair.0.0 pair.1.0 place message.now ++ 10 ∷ [])) }
+    ensures { OnOk result (
+        string_bytes text.new ≡ string_bytes text.old
+        ++ line_text (flying_line code.now pair.0.0 pair.1.0 place message.now)) }
 {
     let from = host_name(code, pair.0);
     let to = host_name(code, pair.1);

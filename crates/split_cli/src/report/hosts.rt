@@ -1,11 +1,13 @@
 //! The lines of the hosts.
 
-ghost use Rattle.std.specs.Prelude.{◌≡◌, ◌<◌, ◌≤◌, ◌∷◌, [], ◌++◌, OnOk, Some, is_some, if◌then◌else◌, length, slice_get};
+ghost use Rattle.std.specs.Prelude.{◌≡◌, ◌<◌, ◌≤◌, ◌++◌, OnOk, Some, is_some, if◌then◌else◌, length};
+ghost use Rattle.std.specs.Prelude.{slice_get};
 ghost use Rattle.std.specs.String.{string_bytes};
 ghost use Rattle.net_world.specs.World.{world_of};
 ghost use Rattle.split_cli.specs.Report.{host_line, host_lines, host_name};
-ghost use Rattle.split_cli.specs.Text.{lines_text};
+ghost use Rattle.split_cli.specs.Text.{line_text, lines_text};
 
+use js_base::limits::HOSTS;
 use js_base::{HostId, OutOfMemory};
 use net_world::host_code::Code;
 use net_world::host_core::Host;
@@ -14,8 +16,10 @@ use std::fmt::Write;
 
 /// Adds the lines of the hosts.
 pub fn push_hosts(text: &mut String, code: &Code, world: &World) -> Result<(), OutOfMemory>
-    requires { length world.now.hosts ≤ 16 }
-    ensures { OnOk result (string_bytes text.new ≡ string_bytes text.old ++ lines_text (host_lines code.now 0 (world_of world.now).hosts)) }
+    requires { length world.now.hosts ≤ HOSTS }
+    ensures { OnOk result (
+        string_bytes text.new ≡ string_bytes text.old
+        ++ lines_text (host_lines code.now 0 (world_of world.now).hosts)) }
 {
     for number in 0..world.host_count() {
         let id = HostId(number as u8);
@@ -26,7 +30,8 @@ pub fn push_hosts(text: &mut String, code: &Code, world: &World) -> Result<(), O
 
 /// Adds the line of a host.
 fn push_host(text: &mut String, name: &str, host: &Host) -> Result<(), OutOfMemory>
-    ensures { OnOk result (string_bytes text.new ≡ string_bytes text.old ++ (host_line name.now host.now.state ++ 10 ∷ [])) }
+    ensures { OnOk result (
+        string_bytes text.new ≡ string_bytes text.old ++ line_text (host_line name.now host.now.state)) }
 {
     let running = running_threads(host);
     let waiting = host.waiting();

@@ -1,3 +1,5 @@
+//! The fields of a program, with their names and labels.
+
 ghost use Rattle.std.specs.Prelude.{◌≡◌, Any, IfOk, IfSome, IfNone};
 ghost use Rattle.std.specs.List.{AllZip, IsDistinct};
 ghost use Rattle.std.specs.Str.{bytes_eq};
@@ -58,7 +60,7 @@ pub fn fields(
         let Some(field) = field(principals, draft) else {
             return Ok(None);
         };
-        fields.push(field).map_err(|_| OutOfMemory)?;
+        fields.push(field)?;
     }
     Ok(Some(fields))
 }

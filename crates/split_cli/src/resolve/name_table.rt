@@ -1,4 +1,7 @@
-ghost use Rattle.std.specs.Prelude.{◌≡◌, ◌++◌, ◌∷◌, ◌<◌, [], Contains, IfOk, IfSome, IfNone, OnErr, IsTrue, ◌↔◌, if◌then◌else◌, length, slice_get, Some};
+//! Names, no two the same, each known by its place.
+
+ghost use Rattle.std.specs.Prelude.{◌≡◌, ◌++◌, ◌∷◌, ◌<◌, [], Contains, IfOk, IfSome, IfNone, OnErr, IsTrue, ◌↔◌};
+ghost use Rattle.std.specs.Prelude.{if◌then◌else◌, length, slice_get, Some};
 
 use indexmap::IndexSet;
 use js_base::OutOfMemory;
@@ -43,8 +46,8 @@ impl NameTable {
         ensures names { IfOk result (λ added. self.new ≡ (if added then self.old ++ name.now ∷ [] else self.old)) }
         ensures unchanged { OnErr result (self.new ≡ self.old) }
     {
-        let name = String::from_str(alloc, name).map_err(|_| OutOfMemory)?;
-        self.names.insert(name).map_err(|_| OutOfMemory)
+        let name = String::from_str(alloc, name)?;
+        Ok(self.names.insert(name)?)
     }
 
     /// The place of a name.

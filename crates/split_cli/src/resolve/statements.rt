@@ -1,3 +1,5 @@
+//! The statements of `main`.
+
 ghost use Rattle.std.specs.Prelude.{◌<◌, ◌≤◌, ◌+◌, All, Any, Contains, length, IfOk, IfSome, IfNone};
 ghost use Rattle.split_cli.specs.Resolution.{IsStatementOf, AreStatementsOf};
 
@@ -46,7 +48,7 @@ pub fn statements(
         let Some(statement) = statement(names, number, draft) else {
             return Ok(None);
         };
-        statements.push(statement).map_err(|_| OutOfMemory)?;
+        statements.push(statement)?;
     }
     Ok(Some(statements))
 }

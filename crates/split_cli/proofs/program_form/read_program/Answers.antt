@@ -10,15 +10,21 @@ pub returns-in_default-clause-none : goal.returns-in_default-clause-none
 returns-in_default-clause-none c = λ fields assignments spells.
     let parts = parts_of_program _ _ _ spells in
     let head = program_head _ _ _ _ _ c.in_ok-fields.ensures.begins c.in_ok-fields.ensures.stops parts in
-    c.in_default.ensures.none parts.body (head ∙ ap (λ body. codes "void main{}() {" ++ 10 ∷ body) (sym (append-nil parts.body)))
+    c.in_default.ensures.none parts.body
+    (head ∙ ap (λ body. codes "void main{}() {" ++ 10 ∷ body) (sym (append-nil parts.body)))
 
 pub returns-then-eq-clause-found : goal.returns-then-eq-clause-found
 returns-then-eq-clause-found c =
-    let closing = (bytes_eq-Decides c.in_ok-assignments.rest.now c.as_slice.result.now).0 (sym c.eq.ensures ∙ c.if-eq.true) in
-    program_found _ _ _ _ _ _ c.in_ok-fields.ensures.begins c.in-Some.ensures.found c.in_ok-assignments.ensures.begins (closing ∙ c.as_slice.ensures)
+    let closing =
+    (bytes_eq-Decides c.in_ok-assignments.rest.now c.as_slice.result.now).0 (sym c.eq.ensures ∙ c.if-eq.true) in
+    program_found _ _ _ _ _ _ c.in_ok-fields.ensures.begins c.in-Some.ensures.found
+    c.in_ok-assignments.ensures.begins (closing ∙ c.as_slice.ensures)
 
 pub returns-else-eq-clause-none : goal.returns-else-eq-clause-none
 returns-else-eq-clause-none c = λ fields assignments spells.
-    let closing = program_end _ _ _ _ _ fields _ assignments c.in_ok-fields.ensures.begins c.in_ok-fields.ensures.stops c.in-Some.ensures.found c.in_ok-assignments.ensures.begins c.in_ok-assignments.ensures.stops spells in
-    let equal = (bytes_eq-Decides c.in_ok-assignments.rest.now c.as_slice.result.now).1 (closing ∙ sym c.as_slice.ensures) in
+    let closing =
+    program_end _ _ _ _ _ fields _ assignments c.in_ok-fields.ensures.begins c.in_ok-fields.ensures.stops
+    c.in-Some.ensures.found c.in_ok-assignments.ensures.begins c.in_ok-assignments.ensures.stops spells in
+    let equal =
+    (bytes_eq-Decides c.in_ok-assignments.rest.now c.as_slice.result.now).1 (closing ∙ sym c.as_slice.ensures) in
     both_ways _ (sym c.eq.ensures ∙ c.if-eq.false) equal

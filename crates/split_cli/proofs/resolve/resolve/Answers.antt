@@ -1,19 +1,18 @@
-use Rattle.std.proofs.Common.{◌≡◌, ◌∙◌, List, [], ◌∷◌, ap, subst, refl, Vec, Global}
-use Rattle.std.proofs.lemmas.Result.{IfOk-at_ok}
-use Rattle.jif_tree.specs.declared.program.Method.{Method}
+use Rattle.std.proofs.Common.{◌≡◌, ◌∙◌, List, ap, subst, refl}
 use Rattle.split_cli.specs.Resolution.{IsMainOf, names_of}
 use Rattle.split_cli.specs.ProgramForm.{AssignmentForm}
 use Rattle.split_cli.proofs.Programs.{program_of}
 use Rattle.split_cli.proofs.ValidPrograms.{valid_program}
-use Rattle.split_cli.proofs.Results.{mapped_ok}
 use Rattle.split_cli.proofs.resolve.resolve.Goals as goal
 
 pub returns-clause-found : goal.returns-clause-found
 returns-clause-found c =
-    let names : c.in-Some.names ≡ names_of c.args.draft.fields.items = rw c.in-Some.is at c.in_ok-names.ensures.found ∙ ap names_of c.deref.ensures.value in
+    let names : c.in-Some.names ≡ names_of c.args.draft.fields.items =
+    rw c.in-Some.is at c.in_ok-names.ensures.found ∙ ap names_of c.deref.ensures.value in
     let P : List AssignmentForm → Type 0 = λ forms. IsMainOf c.in-Some.names forms c.in-Some-2.method in
-    let methods = IfOk-at_ok (λ (methods : Vec Method Global). methods.items ≡ c.in-Some-2.method ∷ []) c.in_ok-methods.was (mapped_ok _ c.vec.result c.map_err.result _ _ (λ x is. is) c.vec.ensures.items c.map_err.ensures.cases) in
-    program_of _ _ _ _ _ c.in-Some-2.method names (rw c.in-Some.is at c.in_ok-names.ensures.distinct) (rw c.in-Some-3.is at c.in_ok-fields.ensures.found) methods refl
+    let methods = c.in_ok-methods.ensures.items in
+    program_of _ _ _ _ _ c.in-Some-2.method names (rw c.in-Some.is at c.in_ok-names.ensures.distinct)
+    (rw c.in-Some-3.is at c.in_ok-fields.ensures.found) methods refl
     (subst P c.deref-2.ensures.value (rw c.in-Some-2.is at c.in_ok-method.ensures.found))
 
 pub returns-clause-valid : goal.returns-clause-valid

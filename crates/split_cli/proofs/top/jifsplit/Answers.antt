@@ -3,10 +3,10 @@ use Rattle.split_cli.proofs.top.jifsplit.Goals as goal
 
 pub returns-clause-headline : goal.returns-clause-headline
 returns-clause-headline g c =
-    done_is_faithful
+    done_is_faithful (λ bytes hosts reads. (c.host_file_laws.ensures.sound bytes hosts reads).names)
     (λ tree file code store script w set ran. record {
-      follows = c.all_obey.ensures.follows tree file code store script w set ran;
-      idle = c.all_obey.ensures.idle tree file code store script w set ran;
-      ignored = c.all_obey.ensures.ignored tree file code store script w set ran;
+      follows = c.all_obey_laws.ensures.follows tree file code store script w set ran;
+      idle = c.all_obey_laws.ensures.idle tree file code store script w set ran;
+      ignored = c.all_obey_laws.ensures.ignored tree file code store script w set ran;
     })
     _ _ _ _ _ c.answered.ensures.answer

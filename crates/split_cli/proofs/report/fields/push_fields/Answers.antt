@@ -6,5 +6,8 @@ use Rattle.split_cli.proofs.report.fields.push_fields.Goals as goal
 pub loop-number-preserved : goal.loop-number-preserved
 loop-number-preserved c =
     let item = rw c.fields-field-items.ensures at c.field-item.is in
-    let within : c.loop-number.number < length c.args.code.now.fields = rw (← c.fields-field-items.ensures) c.loop-number-test.true in
-    added _ _ _ c.loop-number.invariant c.in_ok-push_field.ensures (field_lines_more (world_of c.args.world.now) c.args.code.now.fields c.loop-number.number c.field-item.result within item)
+    let within : c.loop-number.number < length c.args.code.now.fields =
+    rw (← c.fields-field-items.ensures) c.loop-number-test.true in
+    added _ _ _ c.loop-number.invariant c.in_ok-push_field.ensures
+    (field_lines_more (world_of c.args.world.now) c.args.code.now.fields c.loop-number.number
+    c.field-item.result within item)

@@ -7,4 +7,6 @@ use Rattle.split_cli.proofs.report.fields.push_fields.Given as goal
 
 -- the lines of the fields so far were added
 abbrev pub invariant-loop-number : goal.invariant-loop-number
-invariant-loop-number l = string_bytes l.text ≡ string_bytes l.initial.text ++ lines_text (field_lines (world_of l.world) 0 (take l.number l.code.fields))
+invariant-loop-number l =
+    string_bytes l.text ≡ string_bytes l.initial.text ++ lines_text
+    (field_lines (world_of l.world) 0 (take l.number l.code.fields))

@@ -6,4 +6,6 @@ use Rattle.split_cli.proofs.report.fields.push_rest.Given as goal
 
 -- the elements so far were added
 abbrev pub invariant-loop-element : goal.invariant-loop-element
-invariant-loop-element l = string_bytes l.text ≡ string_bytes l.initial.text ++ flat_map (λ element. 32 ∷ signed_decimal element) (take l.element-index l.rest)
+invariant-loop-element l =
+    string_bytes l.text ≡ string_bytes l.initial.text ++ flat_map (λ element. 32 ∷ signed_decimal element)
+    (take l.element-index l.rest)

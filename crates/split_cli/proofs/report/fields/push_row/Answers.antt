@@ -8,5 +8,7 @@ use Rattle.split_cli.proofs.report.fields.push_row.Goals as goal
 pub returns : goal.returns
 returns c =
     let wrote = from_ok c.write.result c.in_ok-map_err.ensures.variant c.write.ensures.bytes in
-    let row = ap (λ row. join_with_byte 32 (map signed_decimal row)) c.in-Some.ensures.cases.0 ∙ join_with_byte_cons c.in-Some.first.now c.in-Some.rest.now in
+    let row =
+    ap (λ row. join_with_byte 32 (map signed_decimal row)) c.in-Some.ensures.cases.0
+    ∙ join_with_byte_cons c.in-Some.first.now c.in-Some.rest.now in
     on_ok_weaker c.push_rest.result (λ pushed. added _ _ _ wrote pushed row) c.push_rest.ensures

@@ -8,4 +8,6 @@ use Rattle.split_cli.proofs.report.flying.push_flying.Given as goal
 
 -- the lines of what the hosts so far sent were added
 abbrev pub invariant-loop-from : goal.invariant-loop-from
-invariant-loop-from l = string_bytes l.text ≡ string_bytes l.initial.text ++ lines_text (flat_map (lines_from l.code (world_of l.world)) (numbers_below l.from))
+invariant-loop-from l =
+    string_bytes l.text ≡ string_bytes l.initial.text ++ lines_text
+    (flat_map (lines_from l.code (world_of l.world)) (numbers_below l.from))

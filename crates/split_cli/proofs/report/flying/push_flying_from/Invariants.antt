@@ -9,4 +9,5 @@ use Rattle.split_cli.proofs.report.flying.push_flying_from.Given as goal
 -- the lines of what is in flight to the hosts so far were added
 abbrev pub invariant-loop-to : goal.invariant-loop-to
 invariant-loop-to l = string_bytes l.text ≡ string_bytes l.initial.text
-    ++ lines_text (flat_map (λ to. queue_lines l.code l.from.0 to 0 (queue (world_of l.world) l.from (record { 0 = to }))) (numbers_below l.to))
+    ++ lines_text (flat_map (λ to. queue_lines l.code l.from.0 to 0
+    (queue (world_of l.world) l.from (record { 0 = to }))) (numbers_below l.to))

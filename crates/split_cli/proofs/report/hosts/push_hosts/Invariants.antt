@@ -7,4 +7,6 @@ use Rattle.split_cli.proofs.report.hosts.push_hosts.Given as goal
 
 -- the lines of the hosts so far were added
 abbrev pub invariant-loop-number : goal.invariant-loop-number
-invariant-loop-number l = string_bytes l.text ≡ string_bytes l.initial.text ++ lines_text (host_lines l.code 0 (take l.number (world_of l.world).hosts))
+invariant-loop-number l =
+    string_bytes l.text ≡ string_bytes l.initial.text ++ lines_text
+    (host_lines l.code 0 (take l.number (world_of l.world).hosts))

@@ -1,0 +1,15 @@
+//! Tests of the command line, by the top call over files and sinks in memory.
+#![tactic(auto)]
+
+#[cfg(test)]
+mod answers;
+#[cfg(test)]
+mod call;
+#[cfg(test)]
+mod host_files;
+#[cfg(test)]
+mod limits;
+#[cfg(test)]
+mod outside;
+#[cfg(test)]
+mod programs;

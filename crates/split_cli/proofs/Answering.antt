@@ -1,0 +1,69 @@
+-- What a put leaves on a sink, and what is then answered.
+use Rattle.std.proofs.Common.{◌≡◌, ℕ, List, length, Option, refl, sym, ◌∙◌, subst, inl, inr, Result, Ok, Err}
+use Rattle.std.proofs.Common.{arith}
+use Rattle.std.specs.Prelude.{OnOk, OnErr, IsErrOf}
+use Rattle.std.proofs.lemmas.List.{take_all}
+use Rattle.js_base.specs.Counts.{Rose}
+use Rattle.js_base.specs.Sink.{Takes, TakesFront}
+use Rattle.js_base.specs.declared.sink.PutError.{PutError}
+use Rattle.js_base.specs.declared.sink.PutError.TheVariants as put_error
+use Rattle.js_base.specs.declared.status.Status.{Status}
+use Rattle.js_base.specs.declared.status.Status.TheVariants.{OutFault, NoMemory}
+use Rattle.split_cli.specs.Verdicts.{Refuse, no_memory_line}
+use Rattle.split_cli.specs.Loads.{FilesChange}
+use Rattle.split_cli.specs.Due.{IsDue}
+use Rattle.split_cli.specs.Answers.{SinkChange, AnswersTo}
+
+-- whatever a put answered, a front of the text was put
+pub front_put : {T E : Type 0} (put : Result T E) (text : List ℕ) (before after : Option (List ℕ)) →
+    OnOk put (Takes text before after) →
+    OnErr put (TakesFront text before after) → TakesFront text before after
+front_put (Ok x) text before after whole front = (
+  length text,
+  let P : List ℕ → Type 0 =
+      λ t. Takes t before after in subst P (sym (take_all (length text) text (omega arith))) whole,
+)
+front_put (Err e) text before after whole front = front
+
+-- the answer after a put of a refusal's line
+pub refused : {T : Type 0} (words : List (List ℕ)) (files : FilesChange) (status answer : Status) (line : List ℕ)
+    (put : Result T PutError) (out : SinkChange)
+    (faults_before faults_between faults_after : ℕ) (taken_before taken_between taken_after : Option (List ℕ)) →
+    IsDue words files (Refuse status line) →
+    out.taken_after ≡ out.taken_before →
+    OnOk put (Takes line taken_before taken_between) → OnErr put (TakesFront line taken_before taken_between) →
+    (IsErrOf put put_error.Failed → Rose faults_before faults_between) →
+    OnOk put (answer ≡ status) → (IsErrOf put put_error.Failed → answer ≡ OutFault) →
+    (IsErrOf put put_error.OutOfMemory → answer ≡ NoMemory) →
+    (IsErrOf put put_error.OutOfMemory → TakesFront no_memory_line taken_between taken_after) →
+    ((IsErrOf put put_error.OutOfMemory → ⊥) → (taken_after ≡ taken_between) × (faults_after ≡ faults_between)) →
+    AnswersTo words files answer out
+    (record {
+      faults_before = faults_before;
+      faults_after = faults_after;
+      taken_before =
+          taken_before;
+      taken_after = taken_after;
+    })
+refused words files status answer line (Ok x) out faults_before faults_between faults_after taken_before
+    taken_between taken_after due same whole front cause ok failed memory line_put untouched =
+    let no_more = untouched (λ is. cc) in
+    inr (Refuse status line, due, (same, inl (ok, no_more.0 ∙ whole)))
+refused words files status answer line (Err put_error.Failed) out faults_before faults_between faults_after
+    taken_before taken_between taken_after due same whole front cause ok failed memory line_put untouched =
+    let no_more = untouched (λ is. cc) in
+    inr (
+      Refuse status line,
+      due,
+      (
+        same,
+        inr (
+          failed refl,
+          subst (λ (n : ℕ). Rose faults_before n) (sym no_more.1) (cause refl),
+          subst (λ (t : Option (List ℕ)). TakesFront line taken_before t) (sym no_more.0) front,
+        ),
+      ),
+    )
+refused words files status answer line (Err put_error.OutOfMemory) out faults_before faults_between faults_after
+    taken_before taken_between taken_after due same whole front cause ok failed memory line_put untouched =
+    inl (memory refl, inr (Refuse status line, due, (same, (taken_between, front, line_put refl))))

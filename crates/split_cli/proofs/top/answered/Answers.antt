@@ -1,0 +1,15 @@
+use Rattle.std.proofs.Common.{refl}
+use Rattle.split_cli.proofs.Answering.{refused}
+use Rattle.split_cli.proofs.top.answered.Goals as goal
+
+pub returns-in-Ok-Refuse-clause-answer : goal.returns-in-Ok-Refuse-clause-answer
+returns-in-Ok-Refuse-clause-answer g c =
+    refused _ _ c.in-Ok-Refuse.status _ _ c.put-put-in-Ok-Refuse.result _ _
+    (g.E.Sink.faults c.put-put-in-Ok-Refuse.new.self) _ _ (g.E.Sink.taken c.put-put-in-Ok-Refuse.new.self) _
+    (rw c.in-Ok-Refuse.field-0-is at c.in-Ok-Refuse.ensures.due) refl
+    (rw c.as_bytes-in-Ok-Refuse.ensures.value at c.put-put-in-Ok-Refuse.ensures.ok)
+    (rw c.as_bytes-in-Ok-Refuse.ensures.value at c.put-put-in-Ok-Refuse.ensures.err)
+    c.put-put-in-Ok-Refuse.ensures.cause
+    c.status_after-in-Ok-Refuse.ensures.ok c.status_after-in-Ok-Refuse.ensures.failed
+    c.status_after-in-Ok-Refuse.ensures.memory
+    c.status_after-in-Ok-Refuse.ensures.line c.status_after-in-Ok-Refuse.ensures.untouched

@@ -1,0 +1,22 @@
+use Rattle.std.proofs.Common.{refl}
+use Rattle.std.proofs.lemmas.Result.{IfOk-weaker}
+use Rattle.split_cli.specs.Commands.{Replay}
+use Rattle.split_cli.specs.Verdicts.{verdict_shape}
+use Rattle.split_cli.proofs.Stops.{due_for_words, usage_due}
+use Rattle.split_cli.proofs.top.due.Goals as goal
+
+pub returns-in-Some-clause-due : goal.returns-in-Some-clause-due
+returns-in-Some-clause-due g c =
+    IfOk-weaker c.due_for_replay.result _ _
+    (λ verdict due. due_for_words _ _ _ (verdict_shape verdict) c.in-Some.ensures.found due)
+    c.due_for_replay.ensures.due
+
+pub returns-in-Some-clause-no_loads : goal.returns-in-Some-clause-no_loads
+returns-in-Some-clause-no_loads g c = λ none.
+    absurd (none (Replay c.in-Some.asked.program.now c.in-Some.asked.hosts.now c.in-Some.asked.events.now)
+    c.in-Some.ensures.found)
+
+pub returns-in-None-clause-due : goal.returns-in-None-clause-due
+returns-in-None-clause-due g c =
+    IfOk-weaker c.usage.result _ _
+    (λ verdict is. usage_due _ _ (verdict_shape verdict) c.in-None.ensures.none refl refl is) c.usage.ensures

@@ -1,0 +1,29 @@
+//! The laws of what is due.
+
+ghost use Rattle.std.specs.Prelude.{◌≡◌, ◌<◌, ℕ, List, Option, Some};
+ghost use Rattle.js_base.specs.Counts.{last_count};
+ghost use Rattle.split_cli.specs.Verdicts.{VerdictShape};
+ghost use Rattle.split_cli.specs.Loads.{FilesChange, IsFileFault};
+ghost use Rattle.split_cli.specs.Due.{Due, IsDue};
+
+use host_decl::host_file_laws;
+
+/// Laws of what is due, for who reasons about answers. The call does nothing.
+pub fn due_laws()
+    // For words and files that tell what they hold one verdict is due, after one number of loads.
+    ensures one_verdict { (words : List (List ℕ)) (holds : List ℕ → Option (List ℕ)) (number other : ℕ) (first second : VerdictShape) →
+        Due words (Some holds) number first → Due words (Some holds) other second →
+        (number ≡ other) × (first ≡ second) }
+
+    // So it is too where a load may have failed, as long as the count of faults tells whether one did.
+    ensures one_answer { (words : List (List ℕ)) (files : FilesChange) (holds : List ℕ → Option (List ℕ)) (first second : VerdictShape) →
+        files.held ≡ Some holds → files.faults_before < last_count →
+        IsDue words files first → IsDue words files second → first ≡ second }
+
+    // A file fault is due for one place of the names, as long as the count of loads tells it.
+    ensures one_fault { (names : List (List ℕ)) (files : FilesChange) (first second : VerdictShape)
+        (one : IsFileFault names files first) (two : IsFileFault names files second) →
+        files.loads_after < last_count → one.place ≡ two.place }
+{
+    host_file_laws();
+}
