@@ -8,5 +8,5 @@ mod token;
 
 pub use held::Held;
 pub use pending::Pending;
-pub use tags::{TAG_BYTES, tag};
+pub use tags::{KEY_BYTES, TAG_BYTES, tag};
 pub use token::Token;

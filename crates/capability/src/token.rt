@@ -1,5 +1,7 @@
 //! Tokens.
 
+ghost use Rattle.std.specs.Prelude.{◌≡◌, ◌↔◌, IsTrue};
+
 use crate::tags::TAG_BYTES;
 use js_base::{EntryId, FrameId, HostId};
 
@@ -18,4 +20,13 @@ pub struct Token {
     pub serial: u64,
     /// The tag of these parts under the host's key.
     pub tag: [u8; TAG_BYTES],
+}
+
+impl Token {
+    /// Whether two tokens are the same in all their parts.
+    pub fn is_same(&self, other: &Token) -> bool
+        ensures { IsTrue result ↔ (self.now ≡ other.now) }
+    {
+        self == other
+    }
 }
