@@ -1,23 +1,17 @@
 -- A list is cut at the first of a separator in one way only.
-use Rattle.std.proofs.Common.{◌≡◌, suc, List, [], ◌∷◌, ◌++◌, refl, subst, arith}
+use Rattle.std.proofs.Common.{◌≡◌, List, [], ◌∷◌, ◌++◌, refl, subst}
 use Rattle.std.specs.Prelude.{Contains}
-
-Contains-tail : {X : Type 0} (x : X) (xs : List X) (c : X) → Contains xs c → Contains (x ∷ xs) c
-Contains-tail x xs c found = (suc found.0, omega (arith, found.1), found.2)
-
-pub Contains-middle : {X : Type 0} (a : List X) (c : X) (x : List X) → Contains (a ++ c ∷ x) c
-Contains-middle [] c x = (0, omega arith, refl)
-Contains-middle (h ∷ a) c x = Contains-tail h (a ++ c ∷ x) c (Contains-middle a c x)
-
-Contains-at_head : {X : Type 0} (x c : X) (xs : List X) → x ≡ c → Contains (x ∷ xs) c
-Contains-at_head x c xs same = (0, omega arith, same)
+use Rattle.js_base.proofs.Lists.{Contains-at_head, Contains-tail, Contains-middle}
 
 -- no cut where the separator is missing
 pub no_cut : {X : Type 0} (c : X) (whole a x : List X) → ¬ Contains whole c → whole ≡ a ++ c ∷ x → ⊥
-no_cut {X} c whole a x missing is = let P : List X → Type 0 = λ w. ¬ Contains w c in subst P is missing (Contains-middle a c x)
+no_cut {X} c whole a x missing is =
+    let P : List X → Type 0 = λ w. ¬ Contains w c in
+    subst P is missing (Contains-middle a c x)
 
 -- what stands before the first separator, and after it, is determined
-pub same_cut : {X : Type 0} (c : X) (a b x y : List X) → ¬ Contains a c → ¬ Contains b c → a ++ c ∷ x ≡ b ++ c ∷ y → (a ≡ b) × (x ≡ y)
+pub same_cut : {X : Type 0} (c : X) (a b x y : List X) →
+    ¬ Contains a c → ¬ Contains b c → a ++ c ∷ x ≡ b ++ c ∷ y → (a ≡ b) × (x ≡ y)
 same_cut c [] [] x y a_lacks b_lacks is = (refl, cc)
 same_cut c [] (k ∷ b) x y a_lacks b_lacks is = absurd (b_lacks (Contains-at_head k c b cc))
 same_cut c (h ∷ a) [] x y a_lacks b_lacks is = absurd (a_lacks (Contains-at_head h c a cc))

@@ -1,5 +1,8 @@
 pub mod BitLemmas
 pub mod Cuts
+pub mod DecimalDigits
+mod HeldFiles
+pub mod Lists
 pub mod NameTexts
-mod Named
+pub mod NamedItems
 pub mod Texts

@@ -2,13 +2,13 @@
 use Rattle.std.proofs.Common.{◌≡◌, ℕ, ◌<◌, Bool, true, false, ◌&&◌, ◌||◌, not, refl, List, [], ◌∷◌, ap, ◌∙◌, arith}
 use Rattle.std.specs.Prelude.{Contains}
 use Rattle.std.specs.List.{list_all, list_any}
-use Rattle.std.specs.Str.{IsAscii, IsUtf8, bytes_eq}
+use Rattle.std.specs.Str.{IsUtf8, bytes_eq}
 use Rattle.std.proofs.lemmas.Str.{IsUtf8-from_ascii}
-use Rattle.std.proofs.lemmas.Str.Ascii.{IsAscii-nil, IsAscii-cons}
-use Rattle.std.proofs.lemmas.Bool.{and_parts, both_ways}
+use Rattle.std.proofs.lemmas.Bool.{both_ways}
 use Rattle.std.proofs.lemmas.Bool.Decides.{nat_tests}
 use Rattle.std.proofs.lemmas.List.Folds.{list_all_at}
 use Rattle.js_base.specs.Name.{IsName, starts_name, continues_name, keywords}
+use Rattle.js_base.proofs.Texts.{list_ascii}
 use Rattle.std.specs.Char.{is_ascii_digit}
 
 shape_alone : (first other rest plain : Bool) → (first && rest && plain) ≡ true → ((first || other) && rest) ≡ true
@@ -29,12 +29,6 @@ name_lacks byte text stops is found =
 continues_ascii : (byte : ℕ) → continues_name byte ≡ true → byte < 128
 continues_ascii byte is = grind (arith, nat_tests)
 
-list_ascii : (text : List ℕ) → list_all continues_name text ≡ true → IsAscii text
-list_ascii [] all = IsAscii-nil
-list_ascii (byte ∷ bytes) all =
-    let parts = and_parts (continues_name byte) (list_all continues_name bytes) all in
-    IsAscii-cons byte bytes (continues_ascii byte parts.0) (list_ascii bytes parts.1)
-
 -- a name is a text
 pub name_IsUtf8 : (text : List ℕ) → IsName text → IsUtf8 text
-name_IsUtf8 text is = IsUtf8-from_ascii text (list_ascii text (all_continue text is))
+name_IsUtf8 text is = IsUtf8-from_ascii text (list_ascii continues_name continues_ascii text (all_continue text is))

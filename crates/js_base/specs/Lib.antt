@@ -5,6 +5,7 @@ pub mod Files
 pub mod MemFiles
 pub mod MemSink
 pub mod Name
+pub mod Named
 pub mod RealFiles
 pub mod Sink
 pub mod Status

@@ -1,7 +1,8 @@
 -- The exit codes, a table that users and scripts rely on.
 use Rattle.std.specs.Prelude.{ℕ}
 use Rattle.js_base.specs.declared.status.Status.{Status}
-use Rattle.js_base.specs.declared.status.Status.TheVariants.{Done, Usage, SourceRefused, InputRefused, Differ, FileFault, OutFault, NoMemory, Spent, LinkFault}
+use Rattle.js_base.specs.declared.status.Status.TheVariants.{Done, Usage, SourceRefused, InputRefused, Differ}
+use Rattle.js_base.specs.declared.status.Status.TheVariants.{FileFault, OutFault, NoMemory, Spent, LinkFault}
 
 abbrev pub exit_code : Status → ℕ
 exit_code Done = 0

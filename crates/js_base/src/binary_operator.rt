@@ -1,3 +1,5 @@
+//! The binary operators of programs.
+
 /// A binary operator, from the loosest to the tightest.
 #[derive(Clone, Copy, Debug, PartialEq, Eq)]
 pub enum BinOp {

@@ -4,9 +4,12 @@ ghost use Rattle.std.specs.Prelude.{◌≡◌, ℕ, ◌-◌, ◌<◌, ◌≢◌,
 ghost use Rattle.std.specs.Int.{bit_at};
 ghost use Rattle.js_base.specs.Bits.{BitsWithin};
 
+/// The bits of a word, which are its places from 0.
+pub const WORD_BITS: u8 = 64;
+
 /// Whether this bit is set.
 pub fn has_bit(word: u64, place: u8) -> bool
-    requires { place < 64 }
+    requires { place < WORD_BITS }
     ensures { IsTrue result ↔ (bit_at word place ≡ 1) }
 {
     (word >> place) & 1 == 1
@@ -35,14 +38,14 @@ pub fn common_bits(first: u64, second: u64) -> u64
 
 /// The word without the bits that are set in `removed`.
 pub fn without_bits(word: u64, removed: u64) -> u64
-    ensures { (k : ℕ) → k < 64 → bit_at result k ≡ min (bit_at word k) (1 - bit_at removed k) }
+    ensures { (k : ℕ) → k < WORD_BITS → bit_at result k ≡ min (bit_at word k) (1 - bit_at removed k) }
 {
     word & !removed
 }
 
 /// The word with one more bit set.
 pub fn with_bit(word: u64, place: u8) -> u64
-    requires { place < 64 }
+    requires { place < WORD_BITS }
     ensures set { bit_at result place ≡ 1 }
     ensures others { (k : ℕ) → k ≢ place → bit_at result k ≡ bit_at word k }
 {

@@ -1,4 +1,7 @@
-ghost use Rattle.std.specs.Prelude.{◌≡◌, ◌≢◌, ◌≤◌, [], Some, IfOk, OnOk, MatchResult, OnErr, IsErrOf, IsOkUnless, vec_len};
+//! Files in memory that never fail.
+
+ghost use Rattle.std.specs.Prelude.{◌≡◌, ◌≢◌, ◌≤◌, [], Some, IfOk, OnOk, MatchResult, OnErr, IsErrOf, IsOkUnless};
+ghost use Rattle.std.specs.Prelude.{vec_len};
 ghost use Rattle.js_base.specs.Files.{LoadFails, ChangesOnly};
 ghost use Rattle.js_base.specs.MemFiles.{named_bytes};
 ghost use Rattle.js_base.specs.CalmFiles.{held_always, after_load, after_save};

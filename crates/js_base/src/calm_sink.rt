@@ -1,3 +1,5 @@
+//! A sink in memory that never fails.
+
 ghost use Rattle.std.specs.Prelude.{◌≡◌, ◌++◌, [], Some, OnOk, OnErr, IsOkUnless};
 ghost use Rattle.js_base.specs.Sink.{Takes, TakesFront};
 

@@ -1,4 +1,7 @@
-ghost use Rattle.std.specs.Prelude.{◌≡◌, ◌≤◌, ◌⊎◌, ℕ, List, Option, Some, IfOk, IfSome, OnOk, MatchResult, IsErrOf, vec_len, if◌then◌else◌};
+//! Files under names, as a trait.
+
+ghost use Rattle.std.specs.Prelude.{◌≡◌, ◌≤◌, ◌⊎◌, ℕ, List, Option, Some, IfOk, IfSome, OnOk, MatchResult, IsErrOf};
+ghost use Rattle.std.specs.Prelude.{vec_len, if◌then◌else◌};
 ghost use Rattle.js_base.specs.Counts.{counted, Rose};
 ghost use Rattle.js_base.specs.Files.{LoadFails, ChangesOnly};
 
@@ -58,7 +61,7 @@ pub trait Files {
         ensures loads { loads self.new ≡ counted (loads self.old) }
         ensures saves { saves self.new ≡ saves self.old }
         ensures faults { faults self.old ≤ faults self.new }
-        ensures absent { IsErrOf result LoadError.Absent → faults self.new ≡ faults self.old }
+        ensures no_fault { IsErrOf result LoadError.Failed ⊎ (faults self.new ≡ faults self.old) }
         ensures cause { IsErrOf result LoadError.Failed → Rose (faults self.old) (faults self.new) }
         ensures failed_at { IsErrOf result LoadError.Failed → failed self.new ≡ name.now }
         ensures failed_before { (failed self.new ≡ failed self.old) ⊎ IsErrOf result LoadError.Failed };
@@ -71,6 +74,7 @@ pub trait Files {
         ensures loads { loads self.new ≡ loads self.old }
         ensures saves { saves self.new ≡ counted (saves self.old) }
         ensures faults { faults self.old ≤ faults self.new }
+        ensures no_fault { IsErrOf result SaveError.Failed ⊎ (faults self.new ≡ faults self.old) }
         ensures cause { IsErrOf result SaveError.Failed → Rose (faults self.old) (faults self.new) }
         ensures failed_at { IsErrOf result SaveError.Failed → failed self.new ≡ name.now }
         ensures failed_before { (failed self.new ≡ failed self.old) ⊎ IsErrOf result SaveError.Failed };

@@ -1,11 +1,11 @@
-// The numbers by which programs and code name their parts. Each counts from 0 in the order of the text or of
-// the host file, but for call sites, which count from 1: site 0 is the frame of `main`.
+//! The numbers by which programs and code name their parts. Each counts from 0 in the order of the text or of the host
+//! file, except that call sites count from 1: site 0 is the frame of `main`.
 
-/// A declared principal, 0 to 62.
+/// A declared principal, below `PRINCIPALS`.
 #[derive(Clone, Copy, Debug, PartialEq, Eq, PartialOrd, Ord, Hash)]
 pub struct PrincipalId(pub u8);
 
-/// A host, 0 to 15.
+/// A host, below `HOSTS`.
 #[derive(Clone, Copy, Debug, PartialEq, Eq, PartialOrd, Ord, Hash)]
 pub struct HostId(pub u8);
 

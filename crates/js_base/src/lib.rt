@@ -5,20 +5,24 @@ mod binary_operator;
 pub mod bits;
 mod calm_files;
 mod calm_sink;
+pub mod digits;
 mod files;
 mod ids;
 pub mod limits;
 mod listed;
 mod mem_files;
 mod mem_sink;
+pub mod named;
 mod named_files;
 pub mod names;
+mod out_of_memory;
 mod real_files;
 mod real_sink;
 mod sink;
 mod status;
 #[cfg(test)]
 mod tests;
+pub mod text;
 
 pub use binary_operator::BinOp;
 pub use calm_files::CalmFiles;
@@ -29,11 +33,8 @@ pub use ids::{
 };
 pub use mem_files::MemFiles;
 pub use mem_sink::MemSink;
+pub use out_of_memory::OutOfMemory;
 pub use real_files::RealFiles;
 pub use real_sink::RealSink;
 pub use sink::{PutError, Sink};
 pub use status::Status;
-
-/// Memory ran out, and nothing else went wrong.
-#[derive(Clone, Copy, Debug, PartialEq, Eq)]
-pub struct OutOfMemory;

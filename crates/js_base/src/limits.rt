@@ -34,3 +34,5 @@ pub const EXPRESSION_NODES: usize = 256;
 pub const NESTING: usize = 64;
 /// Bytes of a message's frame after its length.
 pub const FRAME_BYTES: usize = 4_096;
+/// The largest number of a program.
+pub const LARGEST_NUMBER: i64 = 9_223_372_036_854_775_807;

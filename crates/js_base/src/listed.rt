@@ -1,3 +1,5 @@
+//! The calls that are to fail.
+
 ghost use Rattle.std.specs.Prelude.{◌↔◌, IsTrue, Contains};
 
 /// Whether a call's number is among those that are to fail.

@@ -1,4 +1,7 @@
-ghost use Rattle.std.specs.Prelude.{◌≡◌, ◌≤◌, ◌⊎◌, ◌↔◌, [], Option, Some, IsTrue, IfOk, IfSome, OnOk, OnErr, MatchResult, IsErrOf, vec_len, option_copied};
+//! Files in memory that fail at listed calls.
+
+ghost use Rattle.std.specs.Prelude.{◌≡◌, ◌≤◌, ◌⊎◌, ◌↔◌, [], Option, Some, IsTrue, IfOk, IfSome, OnOk, OnErr};
+ghost use Rattle.std.specs.Prelude.{MatchResult, IsErrOf, vec_len, option_copied};
 ghost use Rattle.js_base.specs.Counts.{counted, Rose};
 ghost use Rattle.js_base.specs.Files.{LoadFails, ChangesOnly};
 ghost use Rattle.js_base.specs.MemFiles.{named_bytes, held_in, IsListed, after_load, after_save, after_fault};
@@ -128,7 +131,7 @@ impl Files for MemFiles {
         ensures loads { self.new.loads ≡ counted self.old.loads }
         ensures saves { self.new.saves ≡ self.old.saves }
         ensures faults { self.old.faults ≤ self.new.faults }
-        ensures absent { IsErrOf result LoadError.Absent → self.new.faults ≡ self.old.faults }
+        ensures no_fault { IsErrOf result LoadError.Failed ⊎ (self.new.faults ≡ self.old.faults) }
         ensures cause { IsErrOf result LoadError.Failed → Rose self.old.faults self.new.faults }
         ensures failed_at { IsErrOf result LoadError.Failed → self.new.failed ≡ name.now }
         ensures failed_before { (self.new.failed ≡ self.old.failed) ⊎ IsErrOf result LoadError.Failed }
@@ -162,6 +165,7 @@ impl Files for MemFiles {
         ensures loads { self.new.loads ≡ self.old.loads }
         ensures saves { self.new.saves ≡ counted self.old.saves }
         ensures faults { self.old.faults ≤ self.new.faults }
+        ensures no_fault { IsErrOf result SaveError.Failed ⊎ (self.new.faults ≡ self.old.faults) }
         ensures cause { IsErrOf result SaveError.Failed → Rose self.old.faults self.new.faults }
         ensures failed_at { IsErrOf result SaveError.Failed → self.new.failed ≡ name.now }
         ensures failed_before { (self.new.failed ≡ self.old.failed) ⊎ IsErrOf result SaveError.Failed }

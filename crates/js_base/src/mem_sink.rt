@@ -1,4 +1,6 @@
-ghost use Rattle.std.specs.Prelude.{◌≡◌, ◌≤◌, ◌↔◌, [], Some, IsTrue, OnOk, OnErr, IsErrOf};
+//! A sink in memory that fails at listed calls.
+
+ghost use Rattle.std.specs.Prelude.{◌≡◌, ◌≤◌, ◌⊎◌, ◌↔◌, [], Some, IsTrue, OnOk, OnErr, IsErrOf};
 ghost use Rattle.js_base.specs.Counts.{Rose};
 ghost use Rattle.js_base.specs.Sink.{Takes, TakesFront};
 ghost use Rattle.js_base.specs.MemSink.{IsListed, after_call, after_fault, with_bytes};
@@ -87,6 +89,7 @@ impl Sink for MemSink {
         ensures ok { OnOk result (Takes bytes.now (Some self.old.taken) (Some self.new.taken)) }
         ensures err { OnErr result (TakesFront bytes.now (Some self.old.taken) (Some self.new.taken)) }
         ensures faults { self.old.faults ≤ self.new.faults }
+        ensures no_fault { IsErrOf result PutError.Failed ⊎ (self.new.faults ≡ self.old.faults) }
         ensures cause { IsErrOf result PutError.Failed → Rose self.old.faults self.new.faults }
 
         // It fails at the listed calls and at no other.

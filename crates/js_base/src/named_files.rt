@@ -1,4 +1,5 @@
-// Pairs of a name and bytes, of which the first with a name counts.
+//! Pairs of a name and bytes, of which the first with a name counts.
+
 ghost use Rattle.std.specs.Prelude.{◌≡◌, ◌≢◌, List, ℕ, Some, OnOk, OnErr, option_copied, unwrap_or, []};
 ghost use Rattle.std.specs.Prelude.{position, bytes_eq, string_bytes};
 ghost use Rattle.js_base.specs.MemFiles.{named_bytes, held_in};

@@ -1,5 +1,5 @@
-//! Names, as programs, host files and codes have them: an ASCII letter or `_`, then ASCII letters, digits and `_`, and no
-//! keyword of the language.
+//! Names, as programs, host files and codes have them: an ASCII letter or `_`, then ASCII letters, digits and `_`, and
+//! no keyword of the language.
 
 ghost use Rattle.std.specs.Prelude.{◌≡◌, IfOk};
 ghost use Rattle.std.specs.List.{list_all, list_any};
@@ -8,6 +8,7 @@ ghost use Rattle.std.specs.String.{string_bytes};
 ghost use Rattle.js_base.specs.Name.{IsName, is_name, starts_name, continues_name, keywords};
 
 use crate::OutOfMemory;
+use crate::text::owned_text;
 use std::alloc::Global;
 
 /// Whether the byte is an ASCII letter or `_`.
@@ -24,6 +25,7 @@ pub fn continues_name(byte: u8) -> bool
     starts_name(byte) || byte.is_ascii_digit()
 }
 
+/// Whether each byte may stand in a name after its first.
 fn all_continue_name(bytes: &[u8]) -> bool
     ensures { result ≡ list_all continues_name bytes.now }
 {
@@ -58,11 +60,11 @@ pub fn is_name(text: &[u8]) -> bool
     }
 }
 
-/// A name as a text of its own.
+/// An owned copy of a name, as a text.
 pub fn name_text(alloc: Global, name: &[u8]) -> Result<String, OutOfMemory>
     requires { IsName name.now }
     ensures { IfOk result (λ text. string_bytes text ≡ name.now) }
 {
     let text = str::from_utf8(name).unwrap();
-    String::from_str(alloc, text).map_err(|_| OutOfMemory)
+    owned_text(alloc, text)
 }

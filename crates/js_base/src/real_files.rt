@@ -1,3 +1,5 @@
+//! The files of the system.
+
 ghost use Rattle.std.specs.Prelude.{◌≡◌, ◌≤◌, [], None, IfSome, OnOk, OnErr, string_bytes};
 ghost use Rattle.js_base.specs.Counts.{Rose};
 

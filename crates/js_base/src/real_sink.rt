@@ -1,3 +1,5 @@
+//! Sinks of the system.
+
 ghost use Rattle.std.specs.Prelude.{◌≡◌, ◌≤◌, None};
 ghost use Rattle.js_base.specs.Counts.{counted, Rose};
 

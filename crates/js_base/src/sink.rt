@@ -1,4 +1,6 @@
-ghost use Rattle.std.specs.Prelude.{◌≤◌, ℕ, List, Option, OnOk, OnErr, IsErrOf};
+//! Where bytes go, as a trait.
+
+ghost use Rattle.std.specs.Prelude.{◌≡◌, ◌≤◌, ◌⊎◌, ℕ, List, Option, OnOk, OnErr, IsErrOf};
 ghost use Rattle.js_base.specs.Counts.{Rose};
 ghost use Rattle.js_base.specs.Sink.{Takes, TakesFront};
 
@@ -28,6 +30,7 @@ pub trait Sink {
         ensures ok { OnOk result (Takes bytes.now (taken self.old) (taken self.new)) }
         ensures err { OnErr result (TakesFront bytes.now (taken self.old) (taken self.new)) }
         ensures faults { faults self.old ≤ faults self.new }
+        ensures no_fault { IsErrOf result PutError.Failed ⊎ (faults self.new ≡ faults self.old) }
         ensures cause { IsErrOf result PutError.Failed → Rose (faults self.old) (faults self.new) };
 }
 

@@ -1,3 +1,5 @@
+//! How a run ends, and its exit code.
+
 ghost use Rattle.std.specs.Prelude.{◌≡◌};
 
 /// How a run of a program ends.

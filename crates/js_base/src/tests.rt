@@ -1,3 +1,5 @@
+//! Tests of files and sinks.
+
 use crate::{
     CalmFiles, CalmSink, Files, LoadError, MemFiles, MemSink, PutError, RealFiles, RealSink,
     SaveError, Sink,

@@ -22,8 +22,9 @@ IsNamed names name principal = slice_get names principal ≡ Some name
 abbrev pub IsPairOf : List (List ℕ) → List ℕ × List ℕ → ℕ × ℕ → Type 0
 IsPairOf names written pair = IsNamed names written.0 pair.0 × IsNamed names written.1 pair.1
 
--- these names and pairs of names were declared
+-- these names may be declared, and they and the pairs of names were
 pub record AreDeclaredAs (names : List (List ℕ)) (pairs : List (List ℕ × List ℕ)) (principals : Declared) : Type 0 where
+  pub declarable : AreDeclarable names
   pub names_are : principals.names ≡ names
   pub pairs_are : AllZip (IsPairOf names) pairs principals.pairs
 

@@ -1,5 +1,5 @@
 use Rattle.std.proofs.Common.{arith}
-use Rattle.js_base.proofs.Named.{held_in-from_position, held_in-from_no_position}
+use Rattle.js_base.proofs.HeldFiles.{held_in-from_position, held_in-from_no_position}
 use Rattle.js_base.proofs.named_files.bytes_of.Goals as goal
 
 pub returns-in-Some : goal.returns-in-Some

@@ -1,5 +1,5 @@
 use Rattle.std.proofs.Common.{Some, ap, ◌∙◌}
-use Rattle.js_base.proofs.Named.{held_in-set_same, held_in-set_other, held_in-push_same, held_in-push_other}
+use Rattle.js_base.proofs.HeldFiles.{held_in-set_same, held_in-set_other, held_in-push_same, held_in-push_other}
 use Rattle.js_base.proofs.named_files.replace.Goals as goal
 
 pub returns-in-Some-clause-ok : goal.returns-in-Some-clause-ok
