@@ -7,7 +7,7 @@ use Rattle.jif_tree.specs.declared.program.StmtKind.{StmtKind}
 use Rattle.jif_tree.specs.declared.program.StmtKind.TheVariants.{SetField}
 use Rattle.jif_tree.specs.declared.program.Expr.{Expr}
 use Rattle.jif_tree.specs.declared.program.Expr.TheVariants.{Number}
-use Rattle.jif_tree.specs.Store.{written}
+use Rattle.jif_tree.specs.Store.{store_after_write}
 
 -- A call that was made: the number of the call that made it, and the values of its variables, 0 where none was set.
 -- Calls are numbered from 0 as they are made, and `main` is call 0.
@@ -30,23 +30,27 @@ abbrev pub value_of : Configuration → ℕ → Expr → ℤ
 value_of c call (Number n) = n
 
 -- what a statement of a call leaves, where these items were pending behind it
-abbrev pub executed : Configuration → ℕ → StmtKind → List Item → Configuration
-executed c call (SetField field value) behind =
-    record { store = written c.store field.0 (pos 0) (value_of c call value); calls = c.calls; pending = behind }
+abbrev pub after_statement : Configuration → ℕ → StmtKind → List Item → Configuration
+after_statement c call (SetField field value) behind =
+    record {
+      store = store_after_write c.store field.0 (pos 0) (value_of c call value);
+      calls = c.calls;
+      pending = behind;
+    }
 
--- what the item at the front leaves. At the end nothing changes any more
-abbrev pub stepped : Configuration → List Item → Configuration
-stepped c [] = c
-stepped c (Run call statement ∷ behind) = executed c call statement.kind behind
+-- what the item at the front leaves; at the end nothing changes any more
+abbrev pub after_item : Configuration → List Item → Configuration
+after_item c [] = c
+after_item c (Run call statement ∷ behind) = after_statement c call statement.kind behind
 
 -- one step
 abbrev pub step : Configuration → Configuration
-step c = stepped c c.pending
+step c = after_item c c.pending
 
 -- the configuration after n steps
-abbrev pub after : ℕ → Configuration → Configuration
-after zero c = c
-after (suc n) c = step (after n c)
+abbrev pub after_steps : ℕ → Configuration → Configuration
+after_steps zero c = c
+after_steps (suc n) c = step (after_steps n c)
 
 -- the statements of `main`
 abbrev pub body_of : Option Method → List Stmt
@@ -57,13 +61,17 @@ abbrev pub main_body : Program → List Stmt
 main_body program = body_of (slice_get program.methods.items program.main.0)
 
 -- where the run from a store begins: `main` is called, and its body is to be done
-abbrev pub started : Program → List (List ℤ) → Configuration
-started program store =
-    record { store = store; calls = record { caller = 0; values = λ x. pos 0 } ∷ []; pending = map (Run 0) (main_body program) }
+abbrev pub configuration_at_start : Program → List (List ℤ) → Configuration
+configuration_at_start program store =
+    record {
+      store = store;
+      calls = record { caller = 0; values = λ x. pos 0 } ∷ [];
+      pending = map (Run 0) (main_body program);
+    }
 
 -- the run's prefix of n steps
 abbrev pub prefix : Program → List (List ℤ) → ℕ → Configuration
-prefix program store n = after n (started program store)
+prefix program store n = after_steps n (configuration_at_start program store)
 
 -- nothing is left to be done
 abbrev pub IsAtEnd : Configuration → Type 0

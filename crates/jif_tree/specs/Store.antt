@@ -19,8 +19,8 @@ abbrev pub row_of : List (List ℤ) → ℕ → List ℤ
 row_of store field = unwrap_or (slice_get store field) []
 
 -- the store after a write of a field's element
-abbrev pub written : List (List ℤ) → ℕ → ℤ → ℤ → List (List ℤ)
-written store field index value = slice_set store field (with_element (row_of store field) index value)
+abbrev pub store_after_write : List (List ℤ) → ℕ → ℤ → ℤ → List (List ℤ)
+store_after_write store field index value = slice_set store field (with_element (row_of store field) index value)
 
 -- what a field's elements start with
 abbrev pub starting_row : Field → List ℤ

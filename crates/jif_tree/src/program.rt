@@ -1,3 +1,5 @@
+//! The trees of programs whose names are resolved.
+
 use js_base::{FieldId, MethodId, StmtId};
 use label_lattice::Label;
 

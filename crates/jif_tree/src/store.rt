@@ -1,3 +1,5 @@
+//! Stores: the elements of fields.
+
 ghost use Rattle.std.specs.Prelude.{◌≡◌, ◌==◌, ◌<◌, length, IfOk, [], List};
 ghost use Rattle.jif_tree.specs.Store.{starting_values, starting_row, element_at, with_element};
 
@@ -25,10 +27,8 @@ impl Row {
     pub fn starting(alloc: Global, field: &Field) -> Result<Row, OutOfMemory>
         ensures { IfOk result (λ row. row ≡ starting_row field.now) }
     {
-        match vec![in alloc; field.first; field.size as usize] {
-            Ok(elements) => Ok(Row { elements }),
-            Err(_) => Err(OutOfMemory),
-        }
+        let elements = vec![in alloc; field.first; field.size as usize]?;
+        Ok(Row { elements })
     }
 
     /// A row of no elements.
@@ -44,10 +44,8 @@ impl Row {
     pub fn copied(&self, alloc: Global) -> Result<Row, OutOfMemory>
         ensures { IfOk result (λ row. row ≡ self.now) }
     {
-        match Vec::from_slice(alloc, &self.elements) {
-            Ok(elements) => Ok(Row { elements }),
-            Err(_) => Err(OutOfMemory),
-        }
+        let elements = Vec::from_slice(alloc, &self.elements)?;
+        Ok(Row { elements })
     }
 
     /// The elements in order.
@@ -101,7 +99,7 @@ impl Store {
         let mut rows = Vec::new(alloc);
         for field in &program.fields {
             let row = Row::starting(alloc, field)?;
-            rows.push(row).map_err(|_| OutOfMemory)?;
+            rows.push(row)?;
         }
         Ok(Store { rows })
     }

@@ -12,8 +12,8 @@ use Rattle.net_world.specs.declared.event_text.Event.TheVariants.{Take, Turn}
 use Rattle.net_world.specs.Code.{CodeShape}
 use Rattle.host_decl.specs.Hosts.{HostsShape}
 use Rattle.net_world.specs.Flying.{pair_place}
-use Rattle.net_world.specs.HostTable.{HostState, turned}
-use Rattle.net_world.specs.World.{World, run, world_at_start, moved, has_halted}
+use Rattle.net_world.specs.HostTable.{HostState, after_turn}
+use Rattle.net_world.specs.World.{World, run, world_at_start, after_step, has_halted}
 use Rattle.net_world.specs.AllObey.{IsSet, Follows, IsIdle}
 use Rattle.net_world.proofs.AllObeyLists.{flights_at-empty, none_passes, one_passes, All-from_get, get-from_All}
 use Rattle.net_world.proofs.AllObeyRun.{has_length}
@@ -75,8 +75,8 @@ module _ {program : Program} {file : HostsShape} {code : CodeShape} {store : Lis
         | inl same ↦
             let host_of : ℕ → HostId = λ k. record { 0 = k } in
             let root : host ≡ code.root = ap host_of same in
-            let leaves : v ≡ moved w code.root (turned code code.root r.h) =
-            t.after ∙ ap (λ k. moved w k (turned code k t.h)) root ∙ ap (λ h. moved w code.root (turned code code.root h)) (sym (root_is agrees.orderly r.h r.root.there host.0 t.h same t.there)) in
+            let leaves : v ≡ after_step w code.root (after_turn code code.root r.h) =
+            t.after ∙ ap (λ k. after_step w k (after_turn code k t.h)) root ∙ ap (λ h. after_step w code.root (after_turn code code.root h)) (sym (root_is agrees.orderly r.h r.root.there host.0 t.h same t.there)) in
             subst Goes (sym leaves) (turn_kept set agrees r)
         | inr other ↦
             let none = (agrees.orderly.others host.0 t.h t.there other).running in

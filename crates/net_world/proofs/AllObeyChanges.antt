@@ -3,12 +3,12 @@ use Rattle.std.proofs.Common.{◌≡◌, ◌≢◌, ℕ, zero, suc, ◌<◌, ◌
 use Rattle.std.specs.Prelude.{slice_get, slice_set, remove}
 use Rattle.std.proofs.lemmas.Bool.{cases_eq}
 use Rattle.js_base.specs.declared.ids.HostId.{HostId}
-use Rattle.jif_tree.specs.Store.{row_of, written, with_element}
+use Rattle.jif_tree.specs.Store.{row_of, store_after_write, with_element}
 use Rattle.net_world.specs.declared.host_code.Message.{Message}
 use Rattle.net_world.specs.Code.{CodeShape, FieldShape}
 use Rattle.net_world.specs.Flying.{Flight, flights_at, pair_place}
 use Rattle.net_world.specs.HostTable.{HostState}
-use Rattle.net_world.specs.World.{World, host_row, queue, posted, without_message}
+use Rattle.net_world.specs.World.{World, host_row, queue, after_posting, without_message}
 use Rattle.net_world.specs.AllObey.{FieldsAre}
 use Rattle.net_world.proofs.AllObeyLists.{get-set_same, get-set_other, row_of-written_same, row_of-written_other, flights_at-set_same, flights_at-set_other, same_pair}
 use Rattle.net_world.proofs.AllObeyEvents.{changed, flight_hosts, queue_of, queue_empty, posted_some}
@@ -59,7 +59,7 @@ fields_same code w store k h new flying fields there same number field at =
 
 -- a field was set on its host and in the store
 pub fields_set : (code : CodeShape) (w : World) (store : List (List ℤ)) (k : ℕ) (h new : HostState) (flying : List (List Flight)) (number : ℕ) (value : ℤ) (place : FieldShape) → FieldsAre code w store → slice_get w.hosts k ≡ Some h →
-    new.rows ≡ written h.rows number (pos 0) value → slice_get code.fields number ≡ Some place → place.host.0 ≡ k → FieldsAre code (changed w k new flying) (written store number (pos 0) value)
+    new.rows ≡ store_after_write h.rows number (pos 0) value → slice_get code.fields number ≡ Some place → place.host.0 ≡ k → FieldsAre code (changed w k new flying) (store_after_write store number (pos 0) value)
 fields_set code w store k h new flying number value place fields there set is on other field at =
     elim (cases_eq other number) [
       | inl same ↦
@@ -68,10 +68,10 @@ fields_set code w store k h new flying number value place fields there set is on
           let host : field.host.0 ≡ k = ap (λ (f : FieldShape). f.host.0) (sym placed) ∙ on in
           let before : row_of h.rows number ≡ row_of store number =
           sym (ap (λ o. host_row o number) (ap (slice_get w.hosts) on ∙ there)) ∙ fields number place is in
-          let row : row_of new.rows number ≡ row_of (written store number (pos 0) value) number =
+          let row : row_of new.rows number ≡ row_of (store_after_write store number (pos 0) value) number =
           ap (λ rows. row_of rows number) set ∙ row_of-written_same h.rows number value ∙ ap (λ r. with_element r (pos 0) value) before ∙ sym (row_of-written_same store number value) in
           ap (λ i. host_row (slice_get (slice_set w.hosts k new) i) other) host ∙ ap (λ o. host_row o other) (get-set_same w.hosts k new h there)
-          ∙ ap (row_of new.rows) same ∙ row ∙ ap (row_of (written store number (pos 0) value)) (sym same)
+          ∙ ap (row_of new.rows) same ∙ row ∙ ap (row_of (store_after_write store number (pos 0) value)) (sym same)
       | inr apart ↦
           host_row_same w.hosts k field.host.0 other h new there (ap (λ rows. row_of rows other) set ∙ row_of-written_other h.rows number other (pos 0) value apart)
           ∙ fields other field at ∙ sym (row_of-written_other store number other (pos 0) value apart)
@@ -136,7 +136,7 @@ none_taken w from to place message none there =
 
 -- what is sent where nothing is in flight
 pub sent_first : (w : World) (from to : HostId) (message : Message) → w.misbehaving ≡ [] → HasNoFlight w →
-    posted w from (Some (to, message)) ≡ record w { flying = slice_set w.flying (pair_place from to) (message ∷ []) }
+    after_posting w from (Some (to, message)) ≡ record w { flying = slice_set w.flying (pair_place from to) (message ∷ []) }
 sent_first w from to message obeying none =
     posted_some w from to message obeying
     ∙ ap (λ flights. record w { flying = slice_set w.flying (pair_place from to) (flights ++ message ∷ []) }) (queue_empty w from to (none (pair_place from to)))

@@ -9,15 +9,15 @@ use Rattle.jif_tree.specs.declared.program.Program.{Program}
 use Rattle.jif_tree.specs.declared.program.Stmt.{Stmt}
 use Rattle.jif_tree.specs.declared.program.StmtKind.TheVariants.{SetField}
 use Rattle.jif_tree.specs.declared.program.Expr.TheVariants.{Number}
-use Rattle.jif_tree.specs.Store.{written}
+use Rattle.jif_tree.specs.Store.{store_after_write}
 use Rattle.jif_tree.specs.SourceRun.{main_body, prefix}
 use Rattle.net_world.specs.declared.host_code.Message.{Message}
 use Rattle.net_world.specs.declared.host_code.Message.TheVariants.{Set, Ack}
 use Rattle.net_world.specs.Code.{CodeShape, FieldShape}
 use Rattle.host_decl.specs.Hosts.{HostsShape}
 use Rattle.net_world.specs.Flying.{Flight, pair_place}
-use Rattle.net_world.specs.HostTable.{HostState, advanced, next_request, taken, turned, waits_for}
-use Rattle.net_world.specs.World.{World, moved, without_message}
+use Rattle.net_world.specs.HostTable.{HostState, thread_after, next_request, after_taking, after_turn, after_asking}
+use Rattle.net_world.specs.World.{World, after_step, without_message}
 use Rattle.net_world.specs.AllObey.{IsSet, FieldsAre}
 use Rattle.net_world.proofs.AllObeyLists.{get-set_same, get-set_other}
 use Rattle.net_world.proofs.AllObeyRun.{statement_cases, kind_cases, store_after}
@@ -34,9 +34,9 @@ module _ {program : Program} {file : HostsShape} {code : CodeShape} {store : Lis
   -- the root set a field of its own
   turn_here : (r : Runs code w n) →
       (s : Stmt) (field : FieldId) (value : ℤ) (place : FieldShape) → slice_get (main_body program) n ≡ Some s → s.kind ≡ SetField field (Number value) → slice_get code.fields field.0 ≡ Some place → place.host.0 ≡ code.root.0 →
-      Agrees program code store (moved w code.root (turned code code.root r.h)) (suc n)
+      Agrees program code store (after_step w code.root (after_turn code code.root r.h)) (suc n)
   turn_here r s field value place there kind at here =
-      let new : HostState = record (r.h) { rows = written r.h.rows field.0 (pos 0) value; running = Some (advanced (thread_at code.root n)) } in
+      let new : HostState = record (r.h) { rows = store_after_write r.h.rows field.0 (pos 0) value; running = Some (thread_after (thread_at code.root n)) } in
       let turn = turned_at code code.root r.h (thread_at code.root n) _ r.running (instruction_at set n s there) ∙ put_here code code.root r.h (thread_at code.root n) s.kind field value place kind at here in
       let within : n < length (main_body program) = slice_get_within (main_body program) n s there in
       let fields : FieldsAre code (changed w code.root.0 new w.flying) (prefix program store (suc n)).store =
@@ -55,22 +55,22 @@ module _ {program : Program} {file : HostsShape} {code : CodeShape} {store : Lis
           flights = r.flights;
         });
       } in
-      subst (λ outcome. Agrees program code store (moved w code.root outcome) (suc n)) (sym turn) after
+      subst (λ outcome. Agrees program code store (after_step w code.root outcome) (suc n)) (sym turn) after
 
   -- the root asked another host to set a field
   turn_there : (r : Runs code w n) →
       (s : Stmt) (field : FieldId) (value : ℤ) (place : FieldShape) → slice_get (main_body program) n ≡ Some s → s.kind ≡ SetField field (Number value) → slice_get code.fields field.0 ≡ Some place → place.host.0 ≢ code.root.0 →
-      Agrees program code store (moved w code.root (turned code code.root r.h)) n
+      Agrees program code store (after_step w code.root (after_turn code code.root r.h)) n
   turn_there r s field value place there kind at elsewhere =
-      let new : HostState = waits_for r.h (thread_at code.root n) place.host in
+      let new : HostState = after_asking r.h (thread_at code.root n) place.host in
       let message : Message = Set (next_request r.h (thread_at code.root n)) field (pos 0) value in
       let few = few_hosts set in
       let root = root_within set in
       let asked = field_host set field.0 place at in
       let flying : List (List Flight) = slice_set w.flying (pair_place code.root place.host) (message ∷ []) in
       let turn = turned_at code code.root r.h (thread_at code.root n) _ r.running (instruction_at set n s there) ∙ put_there code code.root r.h (thread_at code.root n) s.kind field value place kind at elsewhere in
-      let leaves : moved w code.root (turned code code.root r.h) ≡ changed w code.root.0 new flying =
-      ap (moved w code.root) turn ∙ sent_first (changed w code.root.0 new w.flying) code.root place.host message agrees.orderly.obeying r.flights in
+      let leaves : after_step w code.root (after_turn code code.root r.h) ≡ changed w code.root.0 new flying =
+      ap (after_step w code.root) turn ∙ sent_first (changed w code.root.0 new w.flying) code.root place.host message agrees.orderly.obeying r.flights in
       let after : Agrees program code store (changed w code.root.0 new flying) n =
       record {
         orderly = orderly_changed agrees.orderly code.root.0 r.h new flying r.root.there (agrees.orderly.ignored code.root.0 r.h r.root.there) (λ other. absurd (other refl))
@@ -91,7 +91,7 @@ module _ {program : Program} {file : HostsShape} {code : CodeShape} {store : Lis
           waits = record {
             root = record { there = get-set_same w.hosts code.root.0 new r.h r.root.there; stack = r.root.stack; halted = r.root.halted };
             running = refl;
-            waiting = ap (λ waiting. waiting ++ record { thread = advanced (thread_at code.root n); request = next_request r.h (thread_at code.root n); asked = place.host } ∷ []) r.waiting;
+            waiting = ap (λ waiting. waiting ++ record { thread = thread_after (thread_at code.root n); request = next_request r.h (thread_at code.root n); asked = place.host } ∷ []) r.waiting;
           };
           flights = first_flight w code.root place.host message (slice_set w.hosts code.root.0 new) r.flights agrees.orderly.queues (omega arith) (omega arith);
         });
@@ -100,7 +100,7 @@ module _ {program : Program} {file : HostsShape} {code : CodeShape} {store : Lis
 
   -- the root gave the token of `halt` back
   turn_end : (r : Runs code w n) →
-      n ≡ length (main_body program) → Agrees program code store (moved w code.root (turned code code.root r.h)) n
+      n ≡ length (main_body program) → Agrees program code store (after_step w code.root (after_turn code code.root r.h)) n
   turn_end r end =
       let new : HostState = record (r.h) { running = None; stack = take (length r.h.stack - 1) r.h.stack; halted = true } in
       let turn = turned_at code code.root r.h (thread_at code.root n) _ r.running (instruction_end set n end) ∙ ap (λ h. record { state = h; sent = None }) (halts code.root r.h n r.root.stack) in
@@ -111,17 +111,17 @@ module _ {program : Program} {file : HostsShape} {code : CodeShape} {store : Lis
         within = agrees.within;
         phase = Halting (record { h = new; there = get-set_same w.hosts code.root.0 new r.h r.root.there; rests = refl; halted = refl; flights = r.flights; end = end });
       } in
-      subst (λ outcome. Agrees program code store (moved w code.root outcome) n) (sym turn) after
+      subst (λ outcome. Agrees program code store (after_step w code.root outcome) n) (sym turn) after
 
   -- the turn of the root
   pub turn_kept : (r : Runs code w n) →
-      (m : ℕ) × (n ≤ m) × Agrees program code store (moved w code.root (turned code code.root r.h)) m
+      (m : ℕ) × (n ≤ m) × Agrees program code store (after_step w code.root (after_turn code code.root r.h)) m
   turn_kept r =
-      elim (statement_cases (main_body program) n agrees.within) as (λ _. (m : ℕ) × (n ≤ m) × Agrees program code store (moved w code.root (turned code code.root r.h)) m) [
+      elim (statement_cases (main_body program) n agrees.within) as (λ _. (m : ℕ) × (n ≤ m) × Agrees program code store (after_step w code.root (after_turn code code.root r.h)) m) [
         | inl there ↦
             let kind = kind_cases there.0.kind in
             let place = field_there set n there.0 kind.0 kind.1 there.1 kind.2 in
-            elim (cases_eq place.0.host.0 code.root.0) as (λ _. (m : ℕ) × (n ≤ m) × Agrees program code store (moved w code.root (turned code code.root r.h)) m) [
+            elim (cases_eq place.0.host.0 code.root.0) as (λ _. (m : ℕ) × (n ≤ m) × Agrees program code store (after_step w code.root (after_turn code code.root r.h)) m) [
               | inl here ↦ (suc n, omega arith, turn_here r there.0 kind.0 kind.1 place.0 there.1 kind.2 place.1 here)
               | inr elsewhere ↦ (n, omega arith, turn_there r there.0 kind.0 kind.1 place.0 there.1 kind.2 place.1 elsewhere)
             ]
@@ -135,7 +135,7 @@ module _ {program : Program} {file : HostsShape} {code : CodeShape} {store : Lis
       let root_host : HostId = code.root in
       let asked : HostId = a.place.host in
       let message : Message = Set a.request a.field (pos 0) a.value in
-      let new : HostState = record (t.h) { rows = written t.h.rows a.field.0 (pos 0) a.value } in
+      let new : HostState = record (t.h) { rows = store_after_write t.h.rows a.field.0 (pos 0) a.value } in
       let few = few_hosts set in
       let root = root_within set in
       let other = field_host set a.field.0 a.place a.place_is in
@@ -145,9 +145,9 @@ module _ {program : Program} {file : HostsShape} {code : CodeShape} {store : Lis
       let queues : length left ≡ 256 = length-set w.flying (pair_place root_host asked) [] ∙ agrees.orderly.queues in
       let none : HasNoFlight (changed w asked.0 new left) = last_flight w root_host asked message a.flights agrees.orderly.queues (omega arith) (omega arith) in
       let leaves : v ≡ changed w asked.0 new flying =
-      t.after ∙ ap (λ m. moved (without_message w root_host asked 0) asked (taken code asked t.h root_host m)) (sym message_is)
-      ∙ ap (λ u. moved u asked (taken code asked t.h root_host message)) (left_by_last w root_host asked message a.flights (omega arith) (omega arith))
-      ∙ ap (moved (record w { flying = left }) asked) (set_taken code asked t.h root_host a.request a.field (pos 0) a.value a.place a.place_is refl)
+      t.after ∙ ap (λ m. after_step (without_message w root_host asked 0) asked (after_taking code asked t.h root_host m)) (sym message_is)
+      ∙ ap (λ u. after_step u asked (after_taking code asked t.h root_host message)) (left_by_last w root_host asked message a.flights (omega arith) (omega arith))
+      ∙ ap (after_step (record w { flying = left }) asked) (set_taken code asked t.h root_host a.request a.field (pos 0) a.value a.place a.place_is refl)
       ∙ sent_first (changed w asked.0 new left) asked root_host (Ack a.request) agrees.orderly.obeying none in
       let rests = agrees.orderly.others asked.0 t.h t.there a.elsewhere in
       let fields : FieldsAre code (changed w asked.0 new flying) (prefix program store (suc n)).store =
@@ -196,10 +196,10 @@ module _ {program : Program} {file : HostsShape} {code : CodeShape} {store : Lis
       let there = t.there in
       let same : t.h ≡ a.h = cc in
       let leaves : v ≡ changed w code.root.0 new left =
-      t.after ∙ ap (λ m. moved (without_message w asked root_host 0) root_host (taken code root_host t.h asked m)) (sym message_is)
-      ∙ ap (λ h. moved (without_message w asked root_host 0) root_host (taken code root_host h asked (Ack a.request))) same
-      ∙ ap (λ u. moved u root_host (taken code root_host a.h asked (Ack a.request))) (left_by_last w asked root_host (Ack a.request) a.flights (omega arith) (omega arith))
-      ∙ ap (moved (record w { flying = left }) root_host) (ack_taken code root_host a.h asked a.request (thread_at code.root n) a.waits.waiting) in
+      t.after ∙ ap (λ m. after_step (without_message w asked root_host 0) root_host (after_taking code root_host t.h asked m)) (sym message_is)
+      ∙ ap (λ h. after_step (without_message w asked root_host 0) root_host (after_taking code root_host h asked (Ack a.request))) same
+      ∙ ap (λ u. after_step u root_host (after_taking code root_host a.h asked (Ack a.request))) (left_by_last w asked root_host (Ack a.request) a.flights (omega arith) (omega arith))
+      ∙ ap (after_step (record w { flying = left }) root_host) (ack_taken code root_host a.h asked a.request (thread_at code.root n) a.waits.waiting) in
       let after : Agrees program code store (changed w code.root.0 new left) n =
       record {
         orderly = orderly_changed agrees.orderly code.root.0 a.h new left found (agrees.orderly.ignored code.root.0 a.h found) (λ apart. absurd (apart refl))

@@ -5,7 +5,7 @@ use Rattle.std.specs.List.{list_any, AllZip}
 use Rattle.std.proofs.lemmas.Bool.{or_right, cond-true, lt-ltb}
 use Rattle.std.proofs.lemmas.Option.{slice_get-get_or}
 use Rattle.js_base.specs.declared.ids.HostId.{HostId}
-use Rattle.jif_tree.specs.Store.{row_of, written, with_element}
+use Rattle.jif_tree.specs.Store.{row_of, store_after_write, with_element}
 use Rattle.net_world.specs.Flying.{Flight, flights_at, pair_place}
 
 pub get-set_same : {X : Type 0} (xs : List X) (i : ℕ) (y x : X) → slice_get xs i ≡ Some x → slice_get (slice_set xs i y) i ≡ Some y
@@ -28,11 +28,11 @@ row_of-set_same (row ∷ rows) zero index value = refl
 row_of-set_same (row ∷ rows) (suc field) index value = row_of-set_same rows field index value
 
 -- a write of a field's element changes its row
-pub row_of-written_same : (rows : List (List ℤ)) (field : ℕ) (value : ℤ) → row_of (written rows field (pos 0) value) field ≡ with_element (row_of rows field) (pos 0) value
+pub row_of-written_same : (rows : List (List ℤ)) (field : ℕ) (value : ℤ) → row_of (store_after_write rows field (pos 0) value) field ≡ with_element (row_of rows field) (pos 0) value
 row_of-written_same rows field value = row_of-set_same rows field 0 value
 
 -- and no other
-pub row_of-written_other : (rows : List (List ℤ)) (field other : ℕ) (index value : ℤ) → other ≢ field → row_of (written rows field index value) other ≡ row_of rows other
+pub row_of-written_other : (rows : List (List ℤ)) (field other : ℕ) (index value : ℤ) → other ≢ field → row_of (store_after_write rows field index value) other ≡ row_of rows other
 row_of-written_other rows field other index value ne = ap (λ o. unwrap_or o []) (get-set_other rows field other (with_element (row_of rows field) index value) ne)
 
 -- queues

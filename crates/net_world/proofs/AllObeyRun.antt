@@ -8,8 +8,8 @@ use Rattle.jif_tree.specs.declared.program.Stmt.{Stmt}
 use Rattle.jif_tree.specs.declared.program.StmtKind.{StmtKind}
 use Rattle.jif_tree.specs.declared.program.StmtKind.TheVariants.{SetField}
 use Rattle.jif_tree.specs.declared.program.Expr.TheVariants.{Number}
-use Rattle.jif_tree.specs.Store.{written}
-use Rattle.jif_tree.specs.SourceRun.{Configuration, Item, Run, executed, stepped, after, main_body, started, prefix, HasLength}
+use Rattle.jif_tree.specs.Store.{store_after_write}
+use Rattle.jif_tree.specs.SourceRun.{Configuration, Item, Run, after_statement, after_item, after_steps, main_body, configuration_at_start, prefix, HasLength}
 
 -- a statement is there, or all statements were done
 pub statement_cases : (body : List Stmt) (n : ℕ) → n ≤ length body → ((s : Stmt) × (slice_get body n ≡ Some s)) ⊎ (n ≡ length body)
@@ -31,33 +31,33 @@ drop_one zero body = refl
 drop_one (suc n) [] = refl
 drop_one (suc n) (s ∷ body) = drop_one n body
 
-executed_pending : (c : Configuration) (kind : StmtKind) (behind : List Item) → (executed c 0 kind behind).pending ≡ behind
+executed_pending : (c : Configuration) (kind : StmtKind) (behind : List Item) → (after_statement c 0 kind behind).pending ≡ behind
 executed_pending c (SetField field value) behind = refl
 
-stepped_pending : (c : Configuration) (body : List Stmt) → c.pending ≡ map (Run 0) body → (stepped c (map (Run 0) body)).pending ≡ map (Run 0) (drop 1 body)
+stepped_pending : (c : Configuration) (body : List Stmt) → c.pending ≡ map (Run 0) body → (after_item c (map (Run 0) body)).pending ≡ map (Run 0) (drop 1 body)
 stepped_pending c [] pending = pending
 stepped_pending c (s ∷ body) pending = executed_pending c s.kind (map (Run 0) body)
 
-after_pending : (c : Configuration) (body : List Stmt) (n : ℕ) → c.pending ≡ map (Run 0) body → (after n c).pending ≡ map (Run 0) (drop n body)
+after_pending : (c : Configuration) (body : List Stmt) (n : ℕ) → c.pending ≡ map (Run 0) body → (after_steps n c).pending ≡ map (Run 0) (drop n body)
 after_pending c body zero pending = pending
 after_pending c body (suc n) pending =
     let before = after_pending c body n pending in
-    ap (λ items. (stepped (after n c) items).pending) before ∙ stepped_pending (after n c) (drop n body) before ∙ ap (map (Run 0)) (drop_one n body)
+    ap (λ items. (after_item (after_steps n c) items).pending) before ∙ stepped_pending (after_steps n c) (drop n body) before ∙ ap (map (Run 0)) (drop_one n body)
 
 -- what is still to be done after n steps
 pub pending_after : (program : Program) (store : List (List ℤ)) (n : ℕ) → (prefix program store n).pending ≡ map (Run 0) (drop n (main_body program))
-pending_after program store n = after_pending (started program store) (main_body program) n refl
+pending_after program store n = after_pending (configuration_at_start program store) (main_body program) n refl
 
 executed_store : (c : Configuration) (kind : StmtKind) (behind : List Item) (field : FieldId) (value : ℤ) → kind ≡ SetField field (Number value) →
-    (executed c 0 kind behind).store ≡ written c.store field.0 (pos 0) value
-executed_store c kind behind field value is = ap (λ k. (executed c 0 k behind).store) is
+    (after_statement c 0 kind behind).store ≡ store_after_write c.store field.0 (pos 0) value
+executed_store c kind behind field value is = ap (λ k. (after_statement c 0 k behind).store) is
 
 -- the n-th step executes the n-th statement
 pub store_after : (program : Program) (store : List (List ℤ)) (n : ℕ) (s : Stmt) (field : FieldId) (value : ℤ) → slice_get (main_body program) n ≡ Some s → s.kind ≡ SetField field (Number value) →
-    (prefix program store (suc n)).store ≡ written (prefix program store n).store field.0 (pos 0) value
+    (prefix program store (suc n)).store ≡ store_after_write (prefix program store n).store field.0 (pos 0) value
 store_after program store n s field value there is =
     let pending = pending_after program store n ∙ ap (map (Run 0)) (drop_at (main_body program) n s there) in
-    ap (λ items. (stepped (prefix program store n) items).store) pending
+    ap (λ items. (after_item (prefix program store n) items).store) pending
     ∙ executed_store (prefix program store n) s.kind (map (Run 0) (drop (suc n) (main_body program))) field value is
 
 drop_whole : (body : List Stmt) → drop (length body) body ≡ []

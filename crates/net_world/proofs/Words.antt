@@ -159,25 +159,3 @@ position-map p f xs = rw (length-map, prefix_len-map (λ y. not (p y)) f xs) ref
 pub host_named-at : {X : Type 0} (text : X → List ℕ) (xs : List X) (names : List (List ℕ)) (word : List ℕ) (place : Option ℕ) →
     map text xs ≡ names → place ≡ position (λ x. bytes_eq word (text x)) xs → host_named names word ≡ option_map (λ n. record { 0 = n }) place
 host_named-at text xs names word place same at = rw (← same, at) (ap (option_map (λ n. record { 0 = n })) (position-map (bytes_eq word) text xs))
-
--- NUMBERS
-
-in_range : (low high c : ℕ) → is_in_range low high c ≡ true → (low ≤ c) × (c ≤ high)
-in_range low high c e = grind (arith, nat_tests)
-
-digit_at : (digits : List ℕ) (i : ℕ) → list_all is_ascii_digit digits ≡ true → i < length digits → is_ascii_digit (get_or digits i 0) ≡ true
-digit_at digits i all lt = true_from_ne_false _ (λ no. false≢true (sym (list_all_at is_ascii_digit digits i 0 lt no) ∙ all))
-
--- what one more digit makes of the number
-pub digits_value-next : (digits : List ℕ) (i value : ℕ) → list_all is_ascii_digit digits ≡ true → i < length digits → value ≡ digits_value 10 (take i digits) →
-    digits_value 10 (take (i + 1) digits) ≡ value * 10 + (get_or digits i 0 - 48)
-digits_value-next digits i value all lt e =
-    let range = in_range 48 57 (get_or digits i 0) (digit_at digits i all lt) in
-    let digit = digit_value_digit (get_or digits i 0) range in
-    let more = digits_value_more 10 digits i lt in
-    omega arith
-
--- and it is no more than that of all digits
-pub digits_value-at_least : (digits : List ℕ) (i value : ℕ) → list_all is_ascii_digit digits ≡ true → i < length digits → value ≡ digits_value 10 (take i digits) →
-    value * 10 + (get_or digits i 0 - 48) ≤ digits_value 10 digits
-digits_value-at_least digits i value all lt e = omega (arith, digits_value-next digits i value all lt e, digits_value-take-le 10 digits (i + 1) (omega arith))

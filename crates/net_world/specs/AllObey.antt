@@ -1,5 +1,6 @@
 -- What hosts that all obey promise together: their fields follow the plain run of the program.
-use Rattle.std.specs.Prelude.{◌≡◌, ℕ, ◌+◌, ◌≤◌, ℤ, true, List, [], length, take, All, Some, None, Ok, slice_get, slice_index}
+use Rattle.std.specs.Prelude.{◌≡◌, ℕ, ◌+◌, ◌≤◌, ℤ, true, List, [], length, take, All, Some, None, Ok, slice_get}
+use Rattle.std.specs.Prelude.{slice_index}
 use Rattle.std.specs.List.Sorted.{IsNonDecreasing}
 use Rattle.jif_tree.specs.declared.program.Program.{Program}
 use Rattle.jif_tree.specs.Store.{row_of}
@@ -20,7 +21,8 @@ pub record IsSet (program : Program) (file : HostsShape) (code : CodeShape) (sto
 
 -- each field has on its host what the store has
 abbrev pub FieldsAre : CodeShape → World → List (List ℤ) → Type 0
-FieldsAre code w store = (number : ℕ) (field : FieldShape) → slice_get code.fields number ≡ Some field → field_row w number field ≡ row_of store number
+FieldsAre code w store = (number : ℕ) (field : FieldShape) → slice_get code.fields number ≡ Some field →
+    field_row w number field ≡ row_of store number
 
 -- the world after the first events of a script
 abbrev pub IsAfter : CodeShape → List (List ℤ) → List (ℕ × Event) → ℕ → World → Type 0
@@ -29,7 +31,8 @@ IsAfter code store events moment w = run code (world_at_start code store) (take 
 -- There is for each moment, from before the first event of the script to after its last, a number of steps of the plain
 -- run, none less than the one before. The fields at that moment are those after so many steps, and where the program
 -- has halted so many steps are the whole run.
-pub record Follows (program : Program) (code : CodeShape) (store : List (List ℤ)) (events : List (ℕ × Event)) : Type 0 where
+pub record Follows (program : Program) (code : CodeShape) (store : List (List ℤ)) (events : List (ℕ × Event))
+    : Type 0 where
   pub steps : List ℕ
   pub moments : length steps ≡ length events + 1
   pub first : slice_index steps 0 ≡ 0

@@ -1,7 +1,9 @@
 -- The code of all hosts, as contracts see it. A name is the list of its bytes.
-use Rattle.std.specs.Prelude.{◌≡◌, ℕ, ◌<◌, ◌≤◌, ◌^◌, Bool, false, ◌==◌, List, [], length, All, Option, Some, None, unwrap_or, slice_get}
+use Rattle.std.specs.Prelude.{◌≡◌, ℕ, ◌<◌, ◌≤◌, ◌^◌, Bool, false, ◌==◌, List, [], length, All, Option, Some, None}
+use Rattle.std.specs.Prelude.{unwrap_or, slice_get}
 use Rattle.js_base.specs.declared.ids.HostId.{HostId}
 use Rattle.js_base.specs.declared.ids.FieldId.{FieldId}
+use Rattle.js_base.specs.declared.limits.TheConstants.{HOSTS}
 use Rattle.net_world.specs.declared.host_code.Instr.{Instr}
 
 -- a field and the host that holds it
@@ -21,7 +23,7 @@ part_of code host = unwrap_or (slice_get code.parts host) []
 
 -- what every code keeps
 pub record IsSound (code : CodeShape) : Type 0 where
-  pub few_hosts : length code.hosts ≤ 16
+  pub few_hosts : length code.hosts ≤ HOSTS
   pub a_part_each : length code.parts ≡ length code.hosts
   pub root : code.root.0 < length code.hosts
   pub fields_on_hosts : All (λ field. field.host.0 < length code.hosts) code.fields

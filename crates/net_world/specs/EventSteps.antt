@@ -1,5 +1,6 @@
 -- What the parts of an event find and leave: the test before it, the step of its host, and its answer.
-use Rattle.std.specs.Prelude.{◌≡◌, ◌≢◌, ◌≤◌, ℕ, ⊤, false, List, All, length, Option, Some, None, IsSome, IsSomeAnd, IfSome, IsOk, slice_get, slice_set, Result, Ok, Err}
+use Rattle.std.specs.Prelude.{◌≡◌, ◌≢◌, ◌≤◌, ◌⊎◌, ℕ, ⊤, false, List, All, length, Option, Some, None, IsSome, IsSomeAnd}
+use Rattle.std.specs.Prelude.{IfSome, IsOk, slice_get, slice_set, Result, Ok, Err}
 use Rattle.js_base.specs.declared.ids.HostId.{HostId}
 use Rattle.net_world.specs.declared.host_code.Message.{Message}
 use Rattle.net_world.specs.declared.event_text.Event.{Event}
@@ -7,7 +8,8 @@ use Rattle.net_world.specs.declared.world.EventError.{EventError}
 use Rattle.net_world.specs.declared.world.EventError.TheVariants as answer
 use Rattle.net_world.specs.Code.{CodeShape}
 use Rattle.net_world.specs.HostTable.{HostModel, IsStopped, Outcome}
-use Rattle.net_world.specs.World.{World, WorldModel, world_of, states_of, queue, next, run, not_there, host_busy, mover, HasStopped, IsStuck}
+use Rattle.net_world.specs.World.{World, WorldModel, world_of, states_of, queue, next, run, not_there, host_busy, mover}
+use Rattle.net_world.specs.World.{HasStopped, IsStuck}
 
 -- a host that answers, and takes a message or makes a turn
 abbrev pub IsReady : HostModel → Type 0
@@ -33,20 +35,24 @@ pub record IsTakeable (w : WorldModel) (from to : HostId) (place : ℕ) (message
 abbrev pub CannotTake : WorldModel → HostId → HostId → ℕ → EventError → Type 0
 CannotTake w from to place answer.NotThere = slice_get (queue (world_of w) from to) place ≡ None
 CannotTake w from to place answer.HostBusy =
-    IsSome (slice_get (queue (world_of w) from to) place) × IsSomeAnd (slice_get w.hosts to.0) (λ host. IsSome host.state.running)
+    IsSome (slice_get (queue (world_of w) from to) place)
+    × IsSomeAnd (slice_get w.hosts to.0) (λ host. IsSome host.state.running)
 CannotTake w from to place answer.Stopped =
-    IsSome (slice_get (queue (world_of w) from to) place) × IsSomeAnd (slice_get w.hosts to.0) (λ host. (host.state.running ≡ None) × IsStopped host)
+    IsSome (slice_get (queue (world_of w) from to) place)
+    × IsSomeAnd (slice_get w.hosts to.0) (λ host. (host.state.running ≡ None) × IsStopped host)
 CannotTake w from to place answer.OutOfMemory = ⊥
 
 -- why a host makes no turn
 abbrev pub CannotTurn : WorldModel → HostId → EventError → Type 0
 CannotTurn w host answer.NotThere = IfSome (slice_get w.hosts host.0) (λ there. there.state.running ≡ None)
 CannotTurn w host answer.HostBusy = ⊥
-CannotTurn w host answer.Stopped = IsSomeAnd (slice_get w.hosts host.0) (λ there. IsSome there.state.running × IsStopped there)
+CannotTurn w host answer.Stopped =
+    IsSomeAnd (slice_get w.hosts host.0) (λ there. IsSome there.state.running × IsStopped there)
 CannotTurn w host answer.OutOfMemory = ⊥
 
 -- a host made the step, and this was sent
-pub record HasStepped (old new : List HostModel) (host : HostId) (outcome : Outcome) (letter : Option (HostId × Message)) : Type 0 where
+pub record HasStepped (old new : List HostModel) (host : HostId) (outcome : Outcome)
+    (letter : Option (HostId × Message)) : Type 0 where
   pub states : states_of new ≡ slice_set (states_of old) host.0 outcome.state
   pub sent : outcome.sent ≡ letter
 
@@ -55,14 +61,23 @@ pub record ChangesOnly (number : ℕ) (old new : List HostModel) : Type 0 where
   pub count : length new ≡ length old
   pub others : (host : ℕ) → host ≢ number → slice_get new host ≡ slice_get old host
 
+-- Where memory ran out no host has changed, as the world had no room for what the step may send, or the step itself had
+-- no memory, and its host answers no more.
+abbrev pub HasNoMemory : WorldModel → Event → WorldModel → Type 0
+HasNoMemory w event after = (after.hosts ≡ w.hosts) ⊎ HasStopped after (mover event)
+
 -- an event has this answer, and leaves this world
 abbrev pub IsAnswer : CodeShape → WorldModel → Event → Result (Unit {0}) EventError → WorldModel → Type 0
-IsAnswer code w event (Ok done) after = (next code (world_of w) event ≡ Ok (world_of after)) × ¬ HasStopped w (mover event)
-IsAnswer code w event (Err answer.NotThere) after = (next code (world_of w) event ≡ Err not_there) × (world_of after ≡ world_of w)
-IsAnswer code w event (Err answer.HostBusy) after = (next code (world_of w) event ≡ Err host_busy) × (world_of after ≡ world_of w)
+IsAnswer code w event (Ok done) after =
+    (next code (world_of w) event ≡ Ok (world_of after)) × ¬ HasStopped w (mover event)
+IsAnswer code w event (Err answer.NotThere) after =
+    (next code (world_of w) event ≡ Err not_there) × (world_of after ≡ world_of w)
+IsAnswer code w event (Err answer.HostBusy) after =
+    (next code (world_of w) event ≡ Err host_busy) × (world_of after ≡ world_of w)
 IsAnswer code w event (Err answer.Stopped) after = IsStuck code w event × (world_of after ≡ world_of w)
 IsAnswer code w event (Err answer.OutOfMemory) after =
-    IsOk (next code (world_of w) event) × (¬ HasStopped w (mover event)) × HasStopped after (mover event) × (world_of after ≡ world_of w)
+    IsOk (next code (world_of w) event) × (¬ HasStopped w (mover event)) × HasNoMemory w event after
+    × (world_of after ≡ world_of w)
 
 -- how a script may fail at a line, from hosts that have made no step: none of them is stopped before the first want of
 -- memory

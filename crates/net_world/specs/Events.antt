@@ -1,5 +1,7 @@
 -- What the lines of a script of events say. A line is the list of its bytes, without what ends it.
-use Rattle.std.specs.Prelude.{◌≡◌, ℕ, ◌+◌, ◌^◌, ◌<◌, ◌≤◌, Bool, true, not, ◌==◌, ◌&&◌, ◌||◌, nat_lt, if◌then◌else◌, List, [], ◌∷◌, length, filter, position, slice_index, Option, Some, None, Result, Ok, Err, codes, ⊤}
+use Rattle.std.specs.Prelude.{◌≡◌, ℕ, ◌+◌, ◌^◌, ◌<◌, ◌≤◌, Bool, true, not, ◌==◌, ◌&&◌, ◌||◌, nat_lt, if◌then◌else◌}
+use Rattle.std.specs.Prelude.{List, [], ◌∷◌, length, filter, position, slice_index, Option, Some, None, Result, Ok, Err}
+use Rattle.std.specs.Prelude.{codes, ⊤}
 use Rattle.std.specs.Option.{option_map}
 use Rattle.std.specs.List.{slice_split, starts_with, list_all}
 use Rattle.std.specs.Prelude.{nat_eq}
@@ -12,6 +14,7 @@ use Rattle.net_world.specs.declared.event_text.Event.{Event}
 use Rattle.net_world.specs.declared.event_text.Event.TheVariants.{Take, Turn}
 use Rattle.net_world.specs.declared.event_text.EventsError.{EventsError}
 use Rattle.net_world.specs.declared.event_text.EventsError.TheVariants as error
+use Rattle.js_base.specs.declared.limits.TheConstants.{SCRIPT_BYTES}
 use Rattle.net_world.specs.Code.{CodeShape}
 
 -- a space or a tab
@@ -33,7 +36,8 @@ is_plain_number word =
 
 -- a number of 64 bits
 abbrev pub number_of : List ℕ → Option ℕ
-number_of word = if is_plain_number word && nat_lt (digits_value 10 word) (2 ^ 64) then Some (digits_value 10 word) else None
+number_of word =
+    if is_plain_number word && nat_lt (digits_value 10 word) (2 ^ 64) then Some (digits_value 10 word) else None
 
 abbrev pub take_of : Option HostId → Option HostId → Option ℕ → Option Event
 take_of (Some from) (Some to) (Some place) = Some (Take from to place)
@@ -43,9 +47,12 @@ take_of None to place = None
 
 -- the event that the words say: `turn HOST` or `take FROM TO PLACE`
 abbrev pub event_of : List (List ℕ) → List (List ℕ) → Option Event
-event_of names (verb ∷ host ∷ []) = if bytes_eq verb (codes "turn") then option_map Turn (host_named names host) else None
+event_of names (verb ∷ host ∷ []) =
+    if bytes_eq verb (codes "turn") then option_map Turn (host_named names host) else None
 event_of names (verb ∷ from ∷ to ∷ place ∷ []) =
-    if bytes_eq verb (codes "take") then take_of (host_named names from) (host_named names to) (number_of place) else None
+    if bytes_eq verb (codes "take")
+    then take_of (host_named names from) (host_named names to) (number_of place)
+    else None
 event_of names other = None
 
 -- whether the words are to be skipped: a blank line, or a comment
@@ -74,5 +81,5 @@ script_of names bytes = script_from names 1 (lines bytes)
 -- how reading a script may fail
 abbrev pub EventsFail : CodeShape → List ℕ → EventsError → Type 0
 EventsFail code bytes error.OutOfMemory = ⊤
-EventsFail code bytes error.TooLong = 16777216 < length bytes
-EventsFail code bytes (error.BadLine n) = (length bytes ≤ 16777216) × (script_of code.hosts bytes ≡ Err n)
+EventsFail code bytes error.TooLong = SCRIPT_BYTES < length bytes
+EventsFail code bytes (error.BadLine n) = (length bytes ≤ SCRIPT_BYTES) × (script_of code.hosts bytes ≡ Err n)

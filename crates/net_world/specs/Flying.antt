@@ -1,7 +1,9 @@
 -- What is in flight, as the program keeps it: a queue for each ordered pair of hosts, and how many more messages each
 -- has room for.
-use Rattle.std.specs.Prelude.{ℕ, ◌+◌, ◌*◌, ◌<◌, List, [], ◌∷◌, ◌++◌, map, Option, Some, None, IsSomeAnd, unwrap_or, slice_get, slice_set}
+use Rattle.std.specs.Prelude.{ℕ, ◌+◌, ◌*◌, ◌<◌, List, [], ◌∷◌, ◌++◌, map, Option, Some, None, IsSomeAnd, unwrap_or}
+use Rattle.std.specs.Prelude.{slice_get, slice_set}
 use Rattle.js_base.specs.declared.ids.HostId.{HostId}
+use Rattle.js_base.specs.declared.limits.TheConstants.{HOSTS}
 use Rattle.net_world.specs.declared.host_code.Message.{Message}
 
 -- What is in flight: a message. A label will stand beside its fields.
@@ -14,7 +16,7 @@ pub record Queue : Type 0 where
 
 -- the place of the queue from a host to a host, among those of 16 hosts
 abbrev pub pair_place : HostId → HostId → ℕ
-pair_place from to = 16 * from.0 + to.0
+pair_place from to = HOSTS * from.0 + to.0
 
 abbrev pub flights_of : List Queue → List (List Flight)
 flights_of queues = map (λ queue. queue.flights) queues

@@ -22,8 +22,10 @@ ack_text request = codes "ack " ++ request_text request
 -- `set AT.COUNT FIELD INDEX VALUE`
 abbrev pub set_text : RequestId → List ℕ → ℤ → ℤ → List ℕ
 set_text request field index value =
-    codes "set " ++ request_text request ++ codes " " ++ field ++ codes " " ++ signed_decimal index ++ codes " " ++ signed_decimal value
+    codes "set " ++ request_text request ++ codes " " ++ field
+    ++ codes " " ++ signed_decimal index ++ codes " " ++ signed_decimal value
 
 abbrev pub message_text : CodeShape → Message → List ℕ
-message_text code (Set request field index value) = set_text request (field_name (slice_get code.fields field.0)) index value
+message_text code (Set request field index value) =
+    set_text request (field_name (slice_get code.fields field.0)) index value
 message_text code (Ack request) = ack_text request

@@ -1,14 +1,18 @@
 -- All hosts, what is in flight between them, and what each event leaves.
-use Rattle.std.specs.Prelude.{◌≡◌, ℕ, ◌≤◌, zero, suc, ℤ, Bool, ◌==◌, ◌&&◌, nat_lt, if◌then◌else◌, List, [], ◌∷◌, ◌++◌, length, map, Option, Some, None, is_some, IsSomeAnd, IsOk, slice_get, slice_set, remove, replicate, Result, Ok, Err}
+use Rattle.std.specs.Prelude.{◌≡◌, ℕ, ◌≤◌, zero, suc, ℤ, Bool, ◌==◌, ◌&&◌, nat_lt, if◌then◌else◌, List, [], ◌∷◌, ◌++◌}
+use Rattle.std.specs.Prelude.{length, map, Option, Some, None, is_some, IsSomeAnd, IsOk, slice_get, slice_set, remove}
+use Rattle.std.specs.Prelude.{replicate, Result, Ok, Err}
 use Rattle.std.specs.List.{list_any, fold}
 use Rattle.js_base.specs.declared.ids.HostId.{HostId}
 use Rattle.net_world.specs.declared.host_code.Message.{Message}
 use Rattle.net_world.specs.declared.event_text.Event.{Event}
 use Rattle.net_world.specs.declared.event_text.Event.TheVariants.{Take, Turn}
 use Rattle.jif_tree.specs.Store.{row_of}
+use Rattle.js_base.specs.declared.limits.TheConstants.{HOSTS}
+use Rattle.net_world.specs.declared.flying.TheConstants.{PAIRS}
 use Rattle.net_world.specs.Code.{CodeShape, FieldShape}
 use Rattle.net_world.specs.Flying.{Flight, Queue, pair_place, flights_at, flights_of}
-use Rattle.net_world.specs.HostTable.{HostState, HostModel, IsStopped, Outcome, taken, turned, host_at_start}
+use Rattle.net_world.specs.HostTable.{HostState, HostModel, IsStopped, Outcome, after_taking, after_turn, host_at_start}
 
 -- a message to a misbehaving host
 pub record SentMessage : Type 0 where
@@ -16,8 +20,8 @@ pub record SentMessage : Type 0 where
   pub to : HostId
   pub message : Message
 
--- The state of all hosts. What is in flight from host i to host j, the oldest first, stands at place 16 * i + j. No
--- host misbehaves so far.
+-- The state of all hosts. What is in flight from host i to host j, the oldest first, stands at place `HOSTS * i + j`.
+-- No host misbehaves so far.
 pub record World : Type 0 where
   pub hosts : List HostState
   pub flying : List (List Flight)
@@ -41,43 +45,46 @@ queue w from to =
     if is_host w from && is_host w to then flights_at w.flying (pair_place from to) else []
 
 -- what a host sends is in flight, or is told to a misbehaving host
-abbrev pub posted : World → HostId → Option (HostId × Message) → World
-posted w from None = w
-posted w from (Some letter) =
+abbrev pub after_posting : World → HostId → Option (HostId × Message) → World
+after_posting w from None = w
+after_posting w from (Some letter) =
     if misbehaves w letter.0
     then record w { sent = w.sent ++ record { from = from; to = letter.0; message = letter.1 } ∷ [] }
     else record w { flying = slice_set w.flying (pair_place from letter.0) (queue w from letter.0 ++ letter.1 ∷ []) }
 
 -- a host was moved on by one of its steps
-abbrev pub moved : World → HostId → Outcome → World
-moved w host outcome = posted (record w { hosts = slice_set w.hosts host.0 outcome.state }) host outcome.sent
+abbrev pub after_step : World → HostId → Outcome → World
+after_step w host outcome =
+    after_posting (record w { hosts = slice_set w.hosts host.0 outcome.state }) host outcome.sent
 
 -- a message is no longer in flight
 abbrev pub without_message : World → HostId → HostId → ℕ → World
 without_message w from to place =
     record w { flying = slice_set w.flying (pair_place from to) (remove (queue w from to) place) }
 
-abbrev pub take_by : CodeShape → World → HostId → HostId → ℕ → Option HostState → Option Flight → Result World Refusal
-take_by code w from to place None flight = Err not_there
-take_by code w from to place (Some h) None = Err not_there
-take_by code w from to place (Some h) (Some message) =
+abbrev pub world_after_taking : CodeShape → World → HostId → HostId → ℕ → Option HostState → Option Flight
+    → Result World Refusal
+world_after_taking code w from to place None flight = Err not_there
+world_after_taking code w from to place (Some h) None = Err not_there
+world_after_taking code w from to place (Some h) (Some message) =
     if is_some h.running
     then Err host_busy
-    else Ok (moved (without_message w from to place) to (taken code to h from message))
+    else Ok (after_step (without_message w from to place) to (after_taking code to h from message))
 
-abbrev pub turn_by : CodeShape → World → HostId → Option HostState → Result World Refusal
-turn_by code w host None = Err not_there
-turn_by code w host (Some h) =
-    if is_some h.running then Ok (moved w host (turned code host h)) else Err not_there
+abbrev pub world_after_turn : CodeShape → World → HostId → Option HostState → Result World Refusal
+world_after_turn code w host None = Err not_there
+world_after_turn code w host (Some h) =
+    if is_some h.running then Ok (after_step w host (after_turn code host h)) else Err not_there
 
 -- the state of an obeying host
-abbrev pub obeying : World → HostId → Option HostState
-obeying w host = if misbehaves w host then None else slice_get w.hosts host.0
+abbrev pub obeying_state : World → HostId → Option HostState
+obeying_state w host = if misbehaves w host then None else slice_get w.hosts host.0
 
 -- what an event leaves, or why there is no such event
 abbrev pub next : CodeShape → World → Event → Result World Refusal
-next code w (Take from to place) = take_by code w from to place (obeying w to) (slice_get (queue w from to) place)
-next code w (Turn host) = turn_by code w host (obeying w host)
+next code w (Take from to place) =
+    world_after_taking code w from to place (obeying_state w to) (slice_get (queue w from to) place)
+next code w (Turn host) = world_after_turn code w host (obeying_state w host)
 
 -- what an event leaves, or the line of the script where it is refused
 abbrev pub at_line : ℕ → Result World Refusal → Result World (ℕ × Refusal)
@@ -103,7 +110,7 @@ abbrev pub world_at_start : CodeShape → List (List ℤ) → World
 world_at_start code store =
     record {
       hosts = map (λ n. host_at_start code store (record { 0 = n })) (numbers_below (length code.hosts));
-      flying = replicate 256 [];
+      flying = replicate PAIRS [];
       sent = [];
       misbehaving = [];
     }
@@ -120,7 +127,7 @@ host_row (Some host) number = row_of host.rows number
 abbrev pub field_row : World → ℕ → FieldShape → List ℤ
 field_row w number field = host_row (slice_get w.hosts field.host.0) number
 
--- A WORLD IN THE PROGRAM
+-- ---- a world in the program
 
 pub record WorldModel : Type 0 where
   pub hosts : List HostModel
@@ -135,7 +142,7 @@ world_of w =
 
 -- what every world keeps of its hosts: there are at most 16, and each has its number
 pub record AreNumbered (hosts : List HostModel) : Type 0 where
-  pub few : length hosts ≤ 16
+  pub few : length hosts ≤ HOSTS
   pub numbered : map (λ host. host.me.0) hosts ≡ numbers_below (length hosts)
 
 -- the host whose step an event is

@@ -1,6 +1,7 @@
 //! Scripts of events: what their lines mean.
 
-ghost use Rattle.std.specs.Prelude.{◌≡◌, ◌==◌, ◌<◌, ◌≤◌, ◌^◌, [], ◌∷◌, length, position, slice_get, codes, Ok, MatchResult, IfOk, IfSome, IfNone, IsTrue};
+ghost use Rattle.std.specs.Prelude.{◌≡◌, ◌==◌, ◌<◌, ◌≤◌, ◌^◌, [], ◌∷◌, length, position, slice_get, codes, Ok};
+ghost use Rattle.std.specs.Prelude.{MatchResult, IfOk, IfSome, IfNone, IsTrue};
 ghost use Rattle.std.specs.Char.{is_ascii_digit};
 ghost use Rattle.std.specs.List.{list_all, prefix_len, position_or_len};
 ghost use Rattle.std.specs.Str.{bytes_eq};
@@ -8,10 +9,13 @@ ghost use Rattle.std.specs.Str.Lines.{lines, strip_carriage_return};
 ghost use Rattle.std.specs.Str.Parse.{digits_value};
 ghost use Rattle.std.specs.String.{string_bytes};
 ghost use Rattle.net_world.specs.MessageText.{field_name, message_text, set_text, ack_text};
-ghost use Rattle.net_world.specs.Events.{script_of, EventsFail, is_blank, words, is_skipped, event_of, host_named, is_plain_number, number_of};
+ghost use Rattle.net_world.specs.Events.{script_of, EventsFail, is_blank, words, is_skipped, event_of, host_named};
+ghost use Rattle.net_world.specs.Events.{is_plain_number, number_of};
 
 use crate::host_code::{Code, Message};
+use js_base::digits::{are_digits, digits_value};
 use js_base::limits::{HOSTS, SCRIPT_BYTES};
+use js_base::text::line_len;
 use js_base::{FieldId, HostId, OutOfMemory, RequestId};
 use std::alloc::{AllocError, Global};
 use std::marker::Model;
@@ -66,7 +70,7 @@ impl Script {
 /// The events that a script says, by the host names of the code.
 pub fn read_events(alloc: Global, code: &Code, bytes: &[u8]) -> Result<Script, EventsError>
     ensures { MatchResult result
-        (λ script. (length bytes.now ≤ 16777216) × (script_of code.now.hosts bytes.now ≡ Ok script))
+        (λ script. (length bytes.now ≤ SCRIPT_BYTES) × (script_of code.now.hosts bytes.now ≡ Ok script))
         (EventsFail code.now bytes.now) }
 {
     if bytes.len() > SCRIPT_BYTES {
@@ -78,7 +82,7 @@ pub fn read_events(alloc: Global, code: &Code, bytes: &[u8]) -> Result<Script, E
 
 /// The events of the lines.
 fn events_of(alloc: Global, code: &Code, bytes: &[u8]) -> Result<Vec<(u32, Event)>, EventsError>
-    requires { length bytes.now ≤ 16777216 }
+    requires { length bytes.now ≤ SCRIPT_BYTES }
     ensures { MatchResult result
         (λ events. script_of code.now.hosts bytes.now ≡ Ok events.items)
         (EventsFail code.now bytes.now) }
@@ -116,14 +120,6 @@ fn first_line(bytes: &[u8]) -> Option<(&[u8], &[u8])>
     }
     let line = without_carriage_return(&bytes[..end]);
     Some((line, &bytes[end + 1..]))
-}
-
-/// How many bytes there are before the first line feed.
-fn line_len(bytes: &[u8]) -> usize
-    ensures len { result ≡ position_or_len (λ byte. byte == 10) bytes.now }
-    ensures within { result ≤ length bytes.now }
-{
-    bytes.iter().take_while(|byte| **byte != b'\n').count()
 }
 
 /// A line without the carriage return at its end.
@@ -256,28 +252,6 @@ fn is_plain_number(word: &[u8]) -> bool
         [b'0', _, ..] => false,
         digits => are_digits(digits),
     }
-}
-
-/// Whether all bytes are digits.
-fn are_digits(bytes: &[u8]) -> bool
-    ensures { result ≡ list_all is_ascii_digit bytes.now }
-{
-    bytes.iter().all(|byte| byte.is_ascii_digit())
-}
-
-/// The number that digits write, where it has 64 bits.
-fn digits_value(digits: &[u8]) -> Option<u64>
-    requires { IsTrue (list_all is_ascii_digit digits.now) }
-    ensures some { IfSome result (λ value. digits_value 10 digits.now ≡ value) }
-    ensures none { IfNone result (2 ^ 64 ≤ digits_value 10 digits.now) }
-{
-    let mut value = 0u64;
-    for digit in digits {
-        value = value
-            .checked_mul(10)?
-            .checked_add(u64::from(*digit - b'0'))?;
-    }
-    Some(value)
 }
 
 /// A message as reports print it.

@@ -1,17 +1,19 @@
-// What is in flight between the hosts.
+//! What is in flight between the hosts.
 
-ghost use Rattle.std.specs.Prelude.{◌≡◌, ◌+◌, ◌-◌, ◌<◌, ◌≤◌, ℕ, [], ◌∷◌, ◌++◌, length, remove, slice_set, replicate, IfOk, IfSome, OnOk, OnErr};
+ghost use Rattle.std.specs.Prelude.{◌≡◌, ◌+◌, ◌-◌, ◌<◌, ◌≤◌, ℕ, [], ◌∷◌, ◌++◌, length, remove, slice_set, replicate};
+ghost use Rattle.std.specs.Prelude.{IfOk, IfSome, OnOk, OnErr};
 ghost use Rattle.js_base.specs.declared.ids.HostId.{HostId};
 ghost use Rattle.net_world.specs.Flying.{Queue, HasRoom, pair_place, flights_of, flights_at, flights_after};
 
 use crate::host_code::Message;
 use crate::host_core::Sent;
+use js_base::limits::HOSTS;
 use js_base::{HostId, OutOfMemory};
 use std::alloc::Global;
 use std::marker::Model;
 
-/// The ordered pairs of 16 hosts.
-const PAIRS: usize = 256;
+/// The ordered pairs of so many hosts as there may be.
+const PAIRS: usize = HOSTS * HOSTS;
 
 /// Messages in flight from one host to another, the oldest first.
 #[derive(Drop)]
@@ -50,7 +52,8 @@ impl Queue {
         ensures same { self.new.flights ≡ self.old.flights }
         ensures no_less { self.old.room ≤ self.new.room }
     {
-        self.messages.reserve(1).map_err(|_| OutOfMemory)
+        self.messages.reserve(1)?;
+        Ok(())
     }
 
     /// Adds a message, for which there is room.
@@ -72,13 +75,14 @@ impl Queue {
     }
 }
 
-/// A queue for each ordered pair of 16 hosts.
+/// A queue for each ordered pair of hosts.
 #[derive(Drop)]
 pub struct Flying {
     queues: Vec<Queue>,
 }
 
 impl Model for Flying {
+    ghost use Rattle.net_world.specs.declared.flying.TheConstants.{PAIRS};
     ghost use Rattle.std.specs.Prelude.{List, ◌≡◌, length};
     ghost use Rattle.net_world.specs.Flying.{Queue};
 
@@ -86,22 +90,22 @@ impl Model for Flying {
 
     ghost view = { λ f. f.queues.items };
 
-    ghost invariant = { λ f. length f.queues.items ≡ 256 };
+    ghost invariant = { λ f. length f.queues.items ≡ PAIRS };
 }
 
 fn place_of(from: HostId, to: HostId) -> usize
-    requires from { from.0 < 16 }
-    requires to { to.0 < 16 }
+    requires from { from.0 < HOSTS }
+    requires to { to.0 < HOSTS }
     ensures place { result ≡ pair_place from to }
-    ensures within { result < 256 }
+    ensures within { result < PAIRS }
 {
-    16 * from.0 as usize + to.0 as usize
+    HOSTS * from.0 as usize + to.0 as usize
 }
 
 impl Flying {
     /// Nothing is in flight.
     pub fn new(alloc: Global) -> Result<Flying, OutOfMemory>
-        ensures { IfOk result (λ flying. flights_of flying ≡ replicate 256 []) }
+        ensures { IfOk result (λ flying. flights_of flying ≡ replicate PAIRS []) }
     {
         let mut queues = Vec::new(alloc);
         for made in 0..PAIRS {
@@ -115,8 +119,8 @@ impl Flying {
 
     /// The messages in flight from a host to a host, the oldest first.
     pub fn messages(&self, from: HostId, to: HostId) -> &[Message]
-        requires from { from.0 < 16 }
-        requires to { to.0 < 16 }
+        requires from { from.0 < HOSTS }
+        requires to { to.0 < HOSTS }
         ensures { result.now ≡ flights_at (flights_of self.now) (pair_place from to) }
     {
         let place = place_of(from, to);
@@ -126,8 +130,8 @@ impl Flying {
     #[tactic(auto, using(crate::proofs::Queues::flights_of_same, crate::proofs::Queues::has_room, crate::proofs::Queues::keeps_room))]
     /// Makes room for one more message from a host to a host, and changes nothing else, also after an error.
     pub fn reserve(&mut self, from: HostId, to: HostId) -> Result<(), OutOfMemory>
-        requires from { from.0 < 16 }
-        requires to { to.0 < 16 }
+        requires from { from.0 < HOSTS }
+        requires to { to.0 < HOSTS }
         ensures room { OnOk result (HasRoom self.new (pair_place from to)) }
         ensures flights { flights_of self.new ≡ flights_of self.old }
         ensures others { (place : ℕ) → HasRoom self.old place → HasRoom self.new place }
@@ -138,11 +142,11 @@ impl Flying {
 
     /// Makes room for one more message from a host to each other, and changes nothing else, also after an error.
     pub fn reserve_from(&mut self, from: HostId) -> Result<(), OutOfMemory>
-        requires { from.0 < 16 }
-        ensures room { OnOk result ((to : HostId) → to.0 < 16 → HasRoom self.new (pair_place from to)) }
+        requires { from.0 < HOSTS }
+        ensures room { OnOk result ((to : HostId) → to.0 < HOSTS → HasRoom self.new (pair_place from to)) }
         ensures flights { flights_of self.new ≡ flights_of self.old }
     {
-        for to in 0..16 {
+        for to in 0..HOSTS as u8 {
             self.reserve(from, HostId(to))?;
         }
         Ok(())
@@ -151,8 +155,8 @@ impl Flying {
     #[tactic(auto, using(crate::proofs::Queues::flights_of_set, crate::proofs::Queues::flights_at_queue, crate::proofs::Queues::room_of))]
     /// Adds a message, for which there is room.
     pub fn push(&mut self, from: HostId, to: HostId, message: Message)
-        requires from { from.0 < 16 }
-        requires to { to.0 < 16 }
+        requires from { from.0 < HOSTS }
+        requires to { to.0 < HOSTS }
         requires room { HasRoom self.old (pair_place from to) }
         ensures { flights_of self.new ≡ slice_set (flights_of self.old) (pair_place from to)
             (flights_at (flights_of self.old) (pair_place from to) ++ message ∷ []) }
@@ -163,8 +167,8 @@ impl Flying {
 
     /// Adds what a host sends, if anything. There is room for it.
     pub fn post(&mut self, from: HostId, sent: Sent)
-        requires from { from.0 < 16 }
-        requires room { IfSome sent (λ letter. (letter.0.0 < 16) × HasRoom self.old (pair_place from letter.0)) }
+        requires from { from.0 < HOSTS }
+        requires room { IfSome sent (λ letter. (letter.0.0 < HOSTS) × HasRoom self.old (pair_place from letter.0)) }
         ensures { flights_of self.new ≡ flights_after (flights_of self.old) from sent }
     {
         if let Some((to, message)) = sent {
@@ -175,8 +179,8 @@ impl Flying {
     #[tactic(auto, using(crate::proofs::Queues::flights_of_set, crate::proofs::Queues::flights_at_queue, crate::proofs::Queues::keeps_room))]
     /// Takes a message out.
     pub fn remove(&mut self, from: HostId, to: HostId, at: usize)
-        requires from { from.0 < 16 }
-        requires to { to.0 < 16 }
+        requires from { from.0 < HOSTS }
+        requires to { to.0 < HOSTS }
         requires there { at < length (flights_at (flights_of self.old) (pair_place from to)) }
         ensures flights { flights_of self.new ≡ slice_set (flights_of self.old) (pair_place from to)
             (remove (flights_at (flights_of self.old) (pair_place from to)) at) }

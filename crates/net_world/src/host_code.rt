@@ -113,16 +113,36 @@ impl Model for Code {
 
     ghost Value = { CodeShape };
 
-    ghost view = { λ c. record { hosts = map string_bytes c.hosts.items; fields = c.fields.items; parts = c.parts.items; root = c.root } };
+    ghost view = { λ c. record {
+      hosts = map string_bytes c.hosts.items;
+      fields = c.fields.items;
+      parts = c.parts.items;
+      root = c.root;
+    } };
 
-    ghost invariant = { λ c. IsSound (record { hosts = map string_bytes c.hosts.items; fields = c.fields.items; parts = c.parts.items; root = c.root }) };
+    ghost invariant = { λ c. IsSound (record {
+      hosts = map string_bytes c.hosts.items;
+      fields = c.fields.items;
+      parts = c.parts.items;
+      root = c.root;
+    }) };
 }
 
 impl Code {
     /// The code of these parts: the hosts' names, the fields, each host's instructions, and the root host.
     pub fn new(hosts: Vec<String>, fields: Vec<CodeField>, parts: Vec<Part>, root: HostId) -> Code
-        requires { IsSound (record { hosts = map string_bytes hosts.items; fields = fields.items; parts = parts.items; root = root }) }
-        ensures { result ≡ record { hosts = map string_bytes hosts.items; fields = fields.items; parts = parts.items; root = root } }
+        requires { IsSound (record {
+          hosts = map string_bytes hosts.items;
+          fields = fields.items;
+          parts = parts.items;
+          root = root;
+        }) }
+        ensures { result ≡ record {
+          hosts = map string_bytes hosts.items;
+          fields = fields.items;
+          parts = parts.items;
+          root = root;
+        } }
     {
         Code {
             hosts,

@@ -1,8 +1,13 @@
 //! One host: its fields, its threads and its control stack, and how a message and an instruction change them.
 
-ghost use Rattle.std.specs.Prelude.{◌≡◌, ◌≢◌, ◌+◌, ◌<◌, ◌↔◌, length, All, IsTrue, IsSome, IsNone, IfOk, OnOk, OnErr, IsErrOf, IfSome, Some, None, Err, Option, position, ◌^◌, slice_set, slice_index, is_none, false, true};
-ghost use Rattle.jif_tree.specs.Store.{written, row_of};
-ghost use Rattle.net_world.specs.HostTable.{HostState, HostModel, IsStopped, host_at_start, own_row, own_rows, taken, turned, resumed, awaits, waits_for, advanced, given_back, top, same_token, next_request, put, with_one_ignored, halt_token, halt_entry, main_thread};
+ghost use Rattle.std.specs.Prelude.{◌≡◌, ◌≢◌, ◌+◌, ◌<◌, ◌↔◌, length, All, IsTrue, IsSome, IsNone, IfOk, OnOk, OnErr};
+ghost use Rattle.std.specs.Prelude.{IsErrOf, IfSome, Some, None, Err, Option, position, ◌^◌, slice_set, slice_index};
+ghost use Rattle.std.specs.Prelude.{is_none, false, true};
+ghost use Rattle.jif_tree.specs.Store.{store_after_write, row_of};
+ghost use Rattle.net_world.specs.HostTable.{HostState, HostModel, IsStopped, host_at_start, own_row, own_rows};
+ghost use Rattle.net_world.specs.HostTable.{after_taking, after_turn, after_answer, awaits, after_asking, thread_after};
+ghost use Rattle.net_world.specs.HostTable.{after_giving_back, top, same_token, next_request, after_put};
+ghost use Rattle.net_world.specs.HostTable.{with_one_ignored, halt_token, halt_entry, main_thread};
 
 use crate::host_code::{Code, CodeField, Message, Op, Token};
 use jif_tree::{Row, Store};
@@ -79,6 +84,7 @@ pub struct Host {
 }
 
 impl Model for Host {
+    ghost use Rattle.net_world.specs.declared.host_core.TheConstants.{MOST_CALLS};
     ghost use Rattle.std.specs.Prelude.{◌≤◌, ◌^◌, All};
     ghost use Rattle.net_world.specs.HostTable.{HostState, HostModel};
 
@@ -86,12 +92,20 @@ impl Model for Host {
 
     ghost view = { λ h. record {
       me = h.me;
-      state = record { rows = h.rows.items; running = h.running; waiting = h.waiting.items; stack = h.stack.items; asked = h.asked.items; ignored = h.ignored; halted = h.halted };
+      state = record {
+        rows = h.rows.items;
+        running = h.running;
+        waiting = h.waiting.items;
+        stack = h.stack.items;
+        asked = h.asked.items;
+        ignored = h.ignored;
+        halted = h.halted;
+      };
       calls = h.calls;
       stopped = h.stopped;
     } };
 
-    ghost invariant = { λ h. All (λ n. n ≤ h.calls) h.asked.items × (h.ignored ≤ h.calls) × (h.calls ≤ 2 ^ 62) };
+    ghost invariant = { λ h. All (λ n. n ≤ h.calls) h.asked.items × (h.ignored ≤ h.calls) × (h.calls ≤ MOST_CALLS) };
 }
 
 impl Host {
@@ -172,13 +186,6 @@ impl Host {
         }
     }
 
-    /// The host answers no more.
-    pub fn stop(&mut self)
-        ensures { self.new ≡ record self.old { stopped = true } }
-    {
-        self.stopped = true;
-    }
-
     /// What the host does with a message from another host. It is for a host at rest.
     pub fn deliver(
         &mut self,
@@ -187,7 +194,9 @@ impl Host {
         message: Message,
     ) -> Result<Sent, HostError>
         requires { self.old.state.running ≡ None }
-        ensures ok { IfOk result (λ sent. taken code.now self.old.me self.old.state from message ≡ record { state = self.new.state; sent = sent }) }
+        ensures ok { IfOk result (λ sent.
+            after_taking code.now self.old.me self.old.state from message
+            ≡ record { state = self.new.state; sent = sent }) }
         ensures stopped { IsErrOf result HostError.Stopped ↔ IsStopped self.old }
         ensures same { self.new.me ≡ self.old.me }
         ensures err { OnErr result (self.new.state ≡ self.old.state) }
@@ -224,7 +233,8 @@ impl Host {
     /// What the host does at a turn of its running thread.
     pub fn turn(&mut self, code: &Code) -> Result<Sent, HostError>
         requires { IsSome self.old.state.running }
-        ensures ok { IfOk result (λ sent. turned code.now self.old.me self.old.state ≡ record { state = self.new.state; sent = sent }) }
+        ensures ok { IfOk result (λ sent.
+            after_turn code.now self.old.me self.old.state ≡ record { state = self.new.state; sent = sent }) }
         ensures stopped { IsErrOf result HostError.Stopped ↔ IsStopped self.old }
         ensures same { self.new.me ≡ self.old.me }
         ensures err { OnErr result (self.new.state ≡ self.old.state) }
@@ -264,7 +274,9 @@ impl Host {
     ) -> Result<Sent, HostError>
         requires next { thread.at + 1 < 2 ^ 32 }
         requires asked { All (λ n. n < self.old.calls) self.old.state.asked }
-        ensures ok { IfOk result (λ sent. put self.old.me self.old.state thread field value (Some there.now) ≡ record { state = self.new.state; sent = sent }) }
+        ensures ok { IfOk result (λ sent.
+            after_put self.old.me self.old.state thread field value (Some there.now)
+            ≡ record { state = self.new.state; sent = sent }) }
         ensures to { IfOk result (λ sent. IfSome sent (λ letter. letter.0 ≡ there.now.host)) }
         ensures memory { result ≢ Err HostError.Stopped }
         ensures same { self.new.me ≡ self.old.me }
@@ -298,7 +310,7 @@ impl Host {
     fn wait_for(&mut self, thread: Thread, host: HostId) -> Result<RequestId, HostError>
         requires next { thread.at + 1 < 2 ^ 32 }
         requires asked { All (λ n. n < self.old.calls) self.old.state.asked }
-        ensures state { OnOk result (self.new.state ≡ waits_for self.old.state thread host) }
+        ensures state { OnOk result (self.new.state ≡ after_asking self.old.state thread host) }
         ensures request { IfOk result (λ request. request ≡ next_request self.old.state thread) }
         ensures memory { result ≢ Err HostError.Stopped }
         ensures same { self.new.me ≡ self.old.me }
@@ -334,7 +346,8 @@ impl Host {
     /// The thread gives its token back and ends.
     fn give_back(&mut self, thread: Thread)
         requires { self.old.state.ignored < self.old.calls }
-        ensures { self.new ≡ record self.old { state = given_back self.old.state thread (top self.old.state.stack) } }
+        ensures { self.new
+            ≡ record self.old { state = after_giving_back self.old.state thread (top self.old.state.stack) } }
     {
         self.running = None;
         match self.stack.last() {
@@ -374,7 +387,9 @@ impl Host {
     /// ignored.
     fn resume(&mut self, request: RequestId, from: HostId)
         requires { self.old.state.ignored < self.old.calls }
-        ensures { self.new ≡ record self.old { state = resumed self.old.state (position (awaits request from) self.old.state.waiting) } }
+        ensures { self.new ≡ record self.old {
+          state = after_answer self.old.state (position (awaits request from) self.old.state.waiting);
+        } }
     {
         match awaited_place(&self.waiting, request, from) {
             Some(place) => {
@@ -468,7 +483,7 @@ fn awaited_place(waiting: &[Waiting], request: RequestId, from: HostId) -> Optio
 
 /// One more request was made by the instruction at this place.
 fn count_request(asked: &mut Vec<u64>, at: usize)
-    requires { All (λ n. n < 2 ^ 62) asked.old.items }
+    requires { All (λ n. n < MOST_CALLS) asked.old.items }
     ensures { asked.new.items ≡ slice_set asked.old.items at (slice_index asked.old.items at + 1) }
 {
     if let Some(count) = asked.get_mut(at) {
@@ -478,7 +493,7 @@ fn count_request(asked: &mut Vec<u64>, at: usize)
 
 /// Writes an element of a field.
 fn write_element(rows: &mut Vec<Row>, field: FieldId, index: i64, value: i64)
-    ensures { rows.new.items ≡ written rows.old.items field.0 index value }
+    ensures { rows.new.items ≡ store_after_write rows.old.items field.0 index value }
 {
     if let Some(row) = rows.get_mut(field.0 as usize) {
         row.set_element(index, value);

@@ -8,13 +8,19 @@ ghost use Rattle.host_decl.specs.Hosts.{HostsShape};
 ghost use Rattle.net_world.specs.World.{World, run, world_at_start, has_halted};
 ghost use Rattle.net_world.specs.AllObey.{IsSet, Follows, IsIdle};
 
-/// Where all hosts obey, whatever the schedule: the fields follow the plain run of the program, and are those at its end
-/// once it has halted. Where nothing is in flight and no thread runs, it has halted. No message is ever ignored.
-pub fn all_obey()
-    ensures follows { (program : Program) (file : HostsShape) (code : CodeShape) (store : List (List ℤ)) (events : List (ℕ × Event)) (w : World) →
-        IsSet program file code store → run code (world_at_start code store) events ≡ Ok w → Follows program code store events }
-    ensures idle { (program : Program) (file : HostsShape) (code : CodeShape) (store : List (List ℤ)) (events : List (ℕ × Event)) (w : World) →
-        IsSet program file code store → run code (world_at_start code store) events ≡ Ok w → IsIdle w → has_halted w ≡ true }
-    ensures ignored { (program : Program) (file : HostsShape) (code : CodeShape) (store : List (List ℤ)) (events : List (ℕ × Event)) (w : World) →
-        IsSet program file code store → run code (world_at_start code store) events ≡ Ok w → All (λ host. host.ignored ≡ 0) w.hosts }
+/// Where all hosts obey, whatever the schedule: the fields follow the plain run of the program, and are those at its
+/// end once it has halted. Where nothing is in flight and no thread runs, it has halted. No message is ever ignored.
+pub fn all_obey_laws()
+    ensures follows { (program : Program) (file : HostsShape) (code : CodeShape) (store : List (List ℤ))
+        (events : List (ℕ × Event)) (w : World) →
+        IsSet program file code store → run code (world_at_start code store) events ≡ Ok w →
+        Follows program code store events }
+    ensures idle { (program : Program) (file : HostsShape) (code : CodeShape) (store : List (List ℤ))
+        (events : List (ℕ × Event)) (w : World) →
+        IsSet program file code store → run code (world_at_start code store) events ≡ Ok w →
+        IsIdle w → has_halted w ≡ true }
+    ensures ignored { (program : Program) (file : HostsShape) (code : CodeShape) (store : List (List ℤ))
+        (events : List (ℕ × Event)) (w : World) →
+        IsSet program file code store → run code (world_at_start code store) events ≡ Ok w →
+        All (λ host. host.ignored ≡ 0) w.hosts }
 {}

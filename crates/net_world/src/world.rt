@@ -1,22 +1,26 @@
 //! All hosts, what is in flight between them, and the events that move them on.
 
-ghost use Rattle.std.specs.Prelude.{◌≡◌, ◌≢◌, ◌<◌, ◌≤◌, ◌+◌, ◌↔◌, ℕ, length, Ok, Err, OnOk, OnErr, IfOk, IfErr, IfSome, IsSomeAnd, IsErrOf, slice_get, map, option_copied};
+ghost use Rattle.std.specs.Prelude.{◌≡◌, ◌≢◌, ◌<◌, ◌≤◌, ◌+◌, ◌↔◌, ℕ, length, Ok, Err, OnOk, OnErr, IfOk, IfErr, IfSome};
+ghost use Rattle.std.specs.Prelude.{IsSomeAnd, IsErrOf, slice_get, map, option_copied};
 ghost use Rattle.std.specs.List.{list_any};
-ghost use Rattle.net_world.specs.World.{World, world_of, next, not_there, host_busy, run, queue, IsStuck, world_at_start, has_halted, AreNumbered, numbers_below, states_of, mover, HasStopped};
-ghost use Rattle.net_world.specs.EventSteps.{RunFails, HaveMade, IsReady, IsActive, IsTakeable, CannotTake, CannotTurn, HasStepped, ChangesOnly, IsAnswer};
-ghost use Rattle.net_world.specs.HostTable.{host_at_start, taken, turned, IsStopped};
+ghost use Rattle.net_world.specs.World.{World, world_of, next, not_there, host_busy, run, queue, IsStuck};
+ghost use Rattle.net_world.specs.World.{world_at_start, has_halted, AreNumbered, numbers_below, states_of, mover};
+ghost use Rattle.net_world.specs.EventSteps.{RunFails, HaveMade, IsReady, IsActive, IsTakeable, CannotTake, CannotTurn};
+ghost use Rattle.net_world.specs.EventSteps.{HasStepped, ChangesOnly, IsAnswer, HasNoMemory};
+ghost use Rattle.net_world.specs.HostTable.{host_at_start, after_taking, after_turn, IsStopped};
 
 use crate::event_text::Event;
 use crate::flying::Flying;
 use crate::host_code::{Code, Message};
 use crate::host_core::{Host, HostError, Sent};
 use jif_tree::Store;
+use js_base::limits::HOSTS;
 use js_base::{HostId, OutOfMemory};
 use std::alloc::Global;
 use std::marker::Model;
 use thiserror::Error;
 
-/// Why an event was not applied. The world is as before, but that after want of memory the event's host is stopped.
+/// Why an event was not applied. The world is as before, except that a host whose own step had no memory is stopped.
 #[derive(Clone, Copy, Debug, PartialEq, Eq, Error)]
 pub enum EventError {
     #[error("out of memory")]
@@ -27,7 +31,7 @@ pub enum EventError {
     /// The host runs a thread, and takes no message meanwhile.
     #[error("host busy")]
     HostBusy,
-    /// The host had no memory for an earlier event, or has made 2^62 calls.
+    /// The host had no memory for an earlier step, or has made 2^62 calls.
     #[error("stopped")]
     Stopped,
 }
@@ -61,24 +65,27 @@ impl World {
         Ok(World { hosts, flying })
     }
 
-    /// Makes an event happen. After an error the world is as before, but that after want of memory the event's host
+    /// Makes an event happen. After an error the world is as before, except that a host whose own step had no memory
     /// answers no more.
     pub fn apply(&mut self, code: &Code, event: &Event) -> Result<(), EventError>
         requires { length self.old.hosts ≡ length code.now.hosts }
         ensures ok { OnOk result (next code.now (world_of self.old) event.now ≡ Ok (world_of self.new)) }
-        ensures not_there { IsErrOf result EventError.NotThere ↔ (next code.now (world_of self.old) event.now ≡ Err not_there) }
-        ensures busy { IsErrOf result EventError.HostBusy ↔ (next code.now (world_of self.old) event.now ≡ Err host_busy) }
+        ensures not_there { IsErrOf result EventError.NotThere ↔
+            (next code.now (world_of self.old) event.now ≡ Err not_there) }
+        ensures busy { IsErrOf result EventError.HostBusy ↔
+            (next code.now (world_of self.old) event.now ≡ Err host_busy) }
         ensures stopped { IsErrOf result EventError.Stopped ↔ IsStuck code.now self.old event.now }
         ensures err { OnErr result (world_of self.new ≡ world_of self.old) }
         ensures hosts { length self.new.hosts ≡ length self.old.hosts }
         // An event is one more step, and stops no host.
         ensures made { OnOk result ((n : ℕ) → HaveMade n self.old.hosts → HaveMade (n + 1) self.new.hosts) }
-        // After want of memory the event's host is stopped.
-        ensures out_of_memory { IsErrOf result EventError.OutOfMemory → HasStopped self.new (mover event.now) }
-        // After an error no host changes, but the event's after want of memory.
+        // Where memory ran out no host has changed, or the event's host had none and answers no more.
+        ensures out_of_memory { IsErrOf result EventError.OutOfMemory → HasNoMemory self.old event.now self.new }
+        // After an error no host changes, except that the event's may be stopped where memory ran out.
         ensures kept { IfErr result (λ error. error ≢ EventError.OutOfMemory → self.new.hosts ≡ self.old.hosts) }
         // No host but that of the event changes.
-        ensures others { (host : ℕ) → host ≢ (mover event.now).0 → slice_get self.new.hosts host ≡ slice_get self.old.hosts host }
+        ensures others { (host : ℕ) → host ≢ (mover event.now).0 →
+            slice_get self.new.hosts host ≡ slice_get self.old.hosts host }
     {
         match *event {
             Event::Take(from, to, place) => self.take(code, from, to, place),
@@ -112,7 +119,6 @@ impl World {
         let place = place as usize;
         let message = self.takeable(from, to, place)?;
         if self.flying.reserve(to, from).is_err() {
-            stop_host(&mut self.hosts, to);
             return Err(EventError::OutOfMemory);
         }
         let Ok(sent) = deliver_at(&mut self.hosts, code, to, from, message) else {
@@ -133,7 +139,6 @@ impl World {
     {
         self.runnable(host)?;
         if self.flying.reserve_from(host).is_err() {
-            stop_host(&mut self.hosts, host);
             return Err(EventError::OutOfMemory);
         }
         let Ok(sent) = turn_at(&mut self.hosts, code, host) else {
@@ -189,7 +194,7 @@ impl World {
     /// How many hosts there are.
     pub fn host_count(&self) -> usize
         ensures count { result ≡ length self.now.hosts }
-        ensures few { result ≤ 16 }
+        ensures few { result ≤ HOSTS }
     {
         self.hosts.len()
     }
@@ -233,19 +238,6 @@ fn start_hosts(alloc: Global, code: &Code, store: &Store) -> Result<Vec<Host>, O
     Ok(hosts)
 }
 
-/// A host answers no more.
-#[tactic(auto, using(crate::proofs::Hosts::states_of_same, crate::proofs::Hosts::AreNumbered_set, crate::proofs::Hosts::ChangesOnly_set))]
-fn stop_host(hosts: &mut Vec<Host>, host: HostId)
-    requires numbered { AreNumbered hosts.old.items }
-    requires there { host.0 < length hosts.old.items }
-    ensures states { states_of hosts.new.items ≡ states_of hosts.old.items }
-    ensures stopped { IsSomeAnd (slice_get hosts.new.items host.0) IsStopped }
-    ensures numbered { AreNumbered hosts.new.items }
-    ensures others { ChangesOnly host.0 hosts.old.items hosts.new.items }
-{
-    hosts[host.0 as usize].stop();
-}
-
 /// A host that is ready takes a message. After want of memory it answers no more.
 #[tactic(auto, using(crate::proofs::Hosts::states_of_same, crate::proofs::Hosts::AreNumbered_set, crate::proofs::Hosts::is_there, crate::proofs::Hosts::has_property))]
 fn deliver_at(
@@ -258,7 +250,7 @@ fn deliver_at(
     requires numbered { AreNumbered hosts.old.items }
     requires ready { IsSomeAnd (slice_get hosts.old.items to.0) IsReady }
     ensures ok { IfOk result (λ sent. IfSome (slice_get hosts.old.items to.0) (λ host.
-        HasStepped hosts.old.items hosts.new.items to (taken code.now to host.state from message) sent)) }
+        HasStepped hosts.old.items hosts.new.items to (after_taking code.now to host.state from message) sent)) }
     ensures err { OnErr result (states_of hosts.new.items ≡ states_of hosts.old.items) }
     ensures stopped { OnErr result (IsSomeAnd (slice_get hosts.new.items to.0) IsStopped) }
     ensures numbered { AreNumbered hosts.new.items }
@@ -282,7 +274,7 @@ fn turn_at(hosts: &mut Vec<Host>, code: &Code, host: HostId) -> Result<Sent, Out
     requires numbered { AreNumbered hosts.old.items }
     requires active { IsSomeAnd (slice_get hosts.old.items host.0) IsActive }
     ensures ok { IfOk result (λ sent. IfSome (slice_get hosts.old.items host.0) (λ there.
-        HasStepped hosts.old.items hosts.new.items host (turned code.now host there.state) sent)) }
+        HasStepped hosts.old.items hosts.new.items host (after_turn code.now host there.state) sent)) }
     ensures err { OnErr result (states_of hosts.new.items ≡ states_of hosts.old.items) }
     ensures stopped { OnErr result (IsSomeAnd (slice_get hosts.new.items host.0) IsStopped) }
     ensures numbered { AreNumbered hosts.new.items }

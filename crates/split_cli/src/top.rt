@@ -15,7 +15,7 @@ use crate::verdict::Verdict;
 use crate::words::{Replay, command_of};
 use js_base::limits::{HOSTS_BYTES, PROGRAM_BYTES, SCRIPT_BYTES};
 use js_base::{Files, OutOfMemory, PutError, Sink, Status};
-use net_world::laws::all_obey;
+use net_world::laws::all_obey_laws;
 use std::alloc::Global;
 
 /// Runs `jifsplit` on the words after its name.
@@ -51,7 +51,7 @@ pub fn jifsplit<F: Files, S: Sink, E: Sink>(
     ensures saves { F.saves files.new ≡ F.saves files.old }
     ensures held { F.held files.new ≡ F.held files.old }
 {
-    all_obey();
+    all_obey_laws();
     answered(alloc, words, files, out, err)
 }
 

@@ -1,5 +1,5 @@
 use Rattle.net_world.proofs.AllObey.{follows, idle_halted, none_ignored}
-use Rattle.net_world.proofs.laws.all_obey.Goals as goal
+use Rattle.net_world.proofs.laws.all_obey_laws.Goals as goal
 
 pub returns-clause-follows : goal.returns-clause-follows
 returns-clause-follows c program file code store events w set accepted = follows set events w accepted
