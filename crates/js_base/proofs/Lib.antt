@@ -5,4 +5,5 @@ mod HeldFiles
 pub mod Lists
 pub mod NameTexts
 pub mod NamedItems
+pub mod Repeats
 pub mod Texts

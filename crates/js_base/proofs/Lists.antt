@@ -1,5 +1,5 @@
 -- Lists in general.
-use Rattle.std.proofs.Common.{◌≡◌, ℕ, zero, suc, List, [], ◌∷◌, ◌++◌, Some, slice_get, refl, subst, arith}
+use Rattle.std.proofs.Common.{◌≡◌, ℕ, zero, suc, List, [], ◌∷◌, ◌++◌, Some, slice_get, refl, ap, ◌∙◌, subst, arith}
 use Rattle.std.specs.Prelude.{Contains}
 use Rattle.std.specs.List.{AllZip}
 
@@ -40,3 +40,14 @@ zip_get R [] (w ∷ ys) place y all there = absurd all
 zip_get R (x ∷ xs) [] place y all there = absurd all
 zip_get R (x ∷ xs) (w ∷ ys) zero y all there = (x, subst (R x) (let same : w ≡ y = cc in same) all.0)
 zip_get R (x ∷ xs) (w ∷ ys) (suc place) y all there = zip_get R xs ys place y all.1 there
+
+-- what stands for each element of a list is determined, where it is for each element
+pub one_zipped : {X Y : Type 0} (R : X → Y → Type 0) → ((x : X) (y z : Y) → R x y → R x z → y ≡ z) →
+    (xs : List X) (ys zs : List Y) → AllZip R xs ys → AllZip R xs zs → ys ≡ zs
+one_zipped R one [] [] [] first second = refl
+one_zipped R one [] [] (z ∷ zs) first second = absurd second
+one_zipped R one [] (y ∷ ys) zs first second = absurd first
+one_zipped R one (x ∷ xs) [] zs first second = absurd first
+one_zipped R one (x ∷ xs) (y ∷ ys) [] first second = absurd second
+one_zipped R one (x ∷ xs) (y ∷ ys) (z ∷ zs) first second =
+    ap (λ w. w ∷ ys) (one x y z first.0 second.0) ∙ ap (λ ws. z ∷ ws) (one_zipped R one xs ys zs first.1 second.1)

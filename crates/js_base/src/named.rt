@@ -17,7 +17,7 @@ pub trait Named {
 impl Named for String {
     ghost use Rattle.std.specs.Prelude.{string_bytes};
 
-    ghost called = { λ text. string_bytes text };
+    ghost called = { string_bytes };
 
     fn name(&self) -> &str {
         self.as_str()

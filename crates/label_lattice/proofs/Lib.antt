@@ -1,10 +1,14 @@
+pub mod AnyLemmas
 pub mod Joins
+pub mod JoinLaws
 pub mod KnownNames
 pub mod LatticeLemmas
 pub mod NamesLoop
 pub mod OneLabel
+pub mod OverLemmas
 pub mod PartLemmas
 pub mod PartsLoop
 pub mod PolicyLemmas
 pub mod TokenCuts
 pub mod TrustLemmas
+pub mod Values

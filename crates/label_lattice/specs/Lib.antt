@@ -1,4 +1,5 @@
 pub mod Label
 pub mod Lattice
+pub mod Over
 pub mod Written
 pub mod Reading

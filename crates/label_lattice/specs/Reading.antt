@@ -3,7 +3,9 @@ use Rattle.std.specs.Prelude.{◌≡◌, ◌≢◌, ℕ, ◌<◌, ◌↔◌, ◌
 use Rattle.jif_lex.specs.declared.token.TokenKind.{TokenKind}
 use Rattle.jif_lex.specs.declared.token.Symbol.TheVariants.{Question}
 use Rattle.principals.specs.ActsFor.{Declared}
+use Rattle.js_base.specs.declared.limits.TheConstants.{PRINCIPALS}
 use Rattle.label_lattice.specs.declared.label.Label.{Label}
+use Rattle.label_lattice.specs.declared.label.TheConstants.{READERS}
 use Rattle.label_lattice.specs.Label.{Forbids, Trusts}
 use Rattle.label_lattice.specs.Written.{symbol, Part, KnownPart, part_tokens, IsKnownPart, PartForbids, PartTrusts}
 
@@ -24,9 +26,10 @@ MayStand part (Some after) = (rest : List TokenKind) → part ≢ symbol Questio
 
 -- the new label also forbids what the part forbids, and is trusted by whom the part has as trusting
 pub record Adds (principals : Declared) (part : KnownPart) (old new : Label) : Type 0 where
-  pub forbids : (owner reader : ℕ) → owner < 63 → reader < 64 →
+  pub forbids : (owner reader : ℕ) → owner < PRINCIPALS → reader < READERS →
       (Forbids new owner reader ↔ (Forbids old owner reader ⊎ PartForbids principals owner reader part))
-  pub trusts : (principal : ℕ) → principal < 64 → (Trusts new principal ↔ (Trusts old principal ⊎ PartTrusts principals principal part))
+  pub trusts : (principal : ℕ) → principal < READERS →
+      (Trusts new principal ↔ (Trusts old principal ⊎ PartTrusts principals principal part))
 
 -- the tokens are a part, which is added to the old label
 pub record AddsPart (principals : Declared) (tokens : List TokenKind) (old new : Label) : Type 0 where
@@ -38,4 +41,5 @@ pub record AddsPart (principals : Declared) (tokens : List TokenKind) (old new :
 
 -- no part with declared names is written so
 abbrev pub IsNoPart : Declared → List TokenKind → Type 0
-IsNoPart principals tokens = (part : Part) (known : KnownPart) → tokens ≡ part_tokens part → ¬ IsKnownPart principals part known
+IsNoPart principals tokens = (part : Part) (known : KnownPart) →
+    tokens ≡ part_tokens part → ¬ IsKnownPart principals part known

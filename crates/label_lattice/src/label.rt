@@ -1,3 +1,5 @@
+//! Labels, and what is made of them.
+
 ghost use Rattle.std.specs.Prelude.{◌≡◌, ℕ, ◌<◌, ◌↔◌, IsTrue, List, All, length};
 ghost use Rattle.label_lattice.specs.Label.{ConfFlows, IntegFlows};
 
@@ -10,23 +12,34 @@ use js_base::bits::{all_bits, bits_within, common_bits, with_bit, without_bits};
 use js_base::limits::PRINCIPALS;
 use principals::{Principals, acts_for_laws};
 
-/// Which readers each owner of a value forbids, and which principals trust it. At most 63 principals are owners.
+/// How many readers there may be: the declared principals, and the outsider, who is the last.
+pub const READERS: usize = PRINCIPALS + 1;
+
+/// Which readers each owner of a value forbids, and which principals trust it, after the decentralized label model of
+/// Myers and Liskov.
 #[derive(Clone, Copy, Debug, PartialEq, Eq)]
 pub struct Label {
-    /// For each owner a word with a bit for each reader that the owner allows. Bit 63 is that of the outsider.
+    /// For each owner a word with a bit for each reader that the owner allows. The last bit is that
+    /// of the outsider.
     rows: [u64; PRINCIPALS],
     /// A word with a bit for each principal that trusts.
     trust: u64,
 }
 
 impl Label {
-    ghost use Rattle.label_lattice.specs.Label.{IsUntrusted, IsBottom, ConfFlows, IntegFlows, ForbidsNothing, AddsPolicy, AddsTrust, SameTrust, SameForbidden};
-    ghost use Rattle.label_lattice.specs.Lattice.{IsJoin, IsIntegrityMeet};
+    ghost use Rattle.principals.specs.ActsFor.{Declared};
+    ghost use Rattle.label_lattice.specs.Label.{IsUntrusted, IsBottom, ForbidsNothing, AddsPolicy, AddsTrust};
+    ghost use Rattle.label_lattice.specs.Label.{SameTrust, SameForbidden};
+    ghost use Rattle.label_lattice.specs.Lattice.{IsJoin, IsIntegrityMeet, empty_label, bottom_of};
+    ghost use Rattle.label_lattice.specs.Lattice.{join_of, meet_of};
+    ghost use Rattle.label_lattice.specs.Over.{IsLabelOver};
 
     /// The label `{}`, which forbids nothing and is trusted by nobody.
     pub fn empty() -> Self
         ensures forbids { ForbidsNothing result }
         ensures trusts { IsUntrusted result }
+        ensures value { result ≡ empty_label }
+        ensures over { (principals : Declared) → IsLabelOver principals result }
     {
         Label {
             rows: [u64::MAX; PRINCIPALS],
@@ -34,10 +47,14 @@ impl Label {
         }
     }
 
-    /// The label that forbids nothing and is trusted by every declared principal. It may flow to every label.
+    /// The label that forbids nothing and is trusted by every declared principal. It may flow to each label that only
+    /// these principals trust.
     pub fn bottom(principals: &Principals) -> Self
-        ensures { IsBottom principals.now result }
+        ensures sets { IsBottom principals.now result }
+        ensures value { result ≡ bottom_of principals.now }
+        ensures over { IsLabelOver principals.now result }
     {
+        acts_for_laws();
         let mut trust = 0;
         for place in 0..principals.count() {
             trust = with_bit(trust, place);
@@ -48,8 +65,8 @@ impl Label {
         }
     }
 
-    /// The label with one more policy, that of the owner and of the readers whom the owner names. It forbids a reader who
-    /// acts for none of these, on behalf of each principal whom the owner acts for. It is trusted as before.
+    /// The label with one more policy, that of the owner and of the readers whom the owner names. It also forbids each
+    /// reader who acts for none of these, on behalf of each principal whom the owner acts for. It is trusted as before.
     pub fn with_policy(
         self,
         principals: &Principals,
@@ -60,6 +77,7 @@ impl Label {
         requires readers { All (λ named. named.0 < length principals.now.names) readers.now }
         ensures forbids { AddsPolicy self result principals.now owner readers.now }
         ensures trusts { SameTrust self result }
+        ensures over { IsLabelOver principals.now self → IsLabelOver principals.now result }
     {
         acts_for_laws();
         let forbidden = forbidden_readers(principals, owner, readers);
@@ -80,7 +98,9 @@ impl Label {
         requires { All (λ member. member.0 < length principals.now.names) by.now }
         ensures forbids { SameForbidden self result }
         ensures trusts { AddsTrust self result principals.now by.now }
+        ensures over { IsLabelOver principals.now self → IsLabelOver principals.now result }
     {
+        acts_for_laws();
         let rows = self.rows;
         let mut trust = self.trust;
         for member in by {
@@ -91,7 +111,10 @@ impl Label {
 
     /// The least label to which both may flow: it forbids what either forbids, and is trusted by whoever trusts both.
     pub fn join(self, other: Label) -> Self
-        ensures { IsJoin self other result }
+        ensures sets { IsJoin self other result }
+        ensures value { result ≡ join_of self other }
+        ensures over { (principals : Declared) → IsLabelOver principals self → IsLabelOver principals other →
+            IsLabelOver principals result }
     {
         let mut rows = self.rows;
         for owner in 0..PRINCIPALS {
@@ -105,7 +128,10 @@ impl Label {
 
     /// The label with this one's confidentiality that is trusted by whoever trusts either.
     pub fn meet_integrity(self, other: Label) -> Self
-        ensures { IsIntegrityMeet self other result }
+        ensures sets { IsIntegrityMeet self other result }
+        ensures value { result ≡ meet_of self other }
+        ensures over { (principals : Declared) → IsLabelOver principals self → IsLabelOver principals other →
+            IsLabelOver principals result }
     {
         let rows = self.rows;
         let trust = all_bits(self.trust, other.trust);

@@ -1,12 +1,17 @@
+//! Laws of labels.
+
 ghost use Rattle.std.specs.Prelude.{◌≡◌, ℕ, ◌<◌, ◌↔◌, List, [], All, length};
 ghost use Rattle.js_base.specs.declared.ids.PrincipalId.{PrincipalId};
 ghost use Rattle.principals.specs.ActsFor.{Declared, ActsFor, IsDeclared};
-ghost use Rattle.label_lattice.specs.declared.label.Label.{Label};
-ghost use Rattle.label_lattice.specs.Label.{IsLabel, ConfFlows, IntegFlows, Flows, ForbidsNothing, IsPolicy, AddsPolicy, IsBottom, Trusts};
 ghost use Rattle.jif_lex.specs.declared.token.Token.{Token};
+ghost use Rattle.label_lattice.specs.declared.label.Label.{Label};
+ghost use Rattle.label_lattice.specs.Label.{IsLabel, Trusts, ConfFlows, IntegFlows, Flows};
+ghost use Rattle.label_lattice.specs.Label.{ForbidsNothing, IsUntrusted, IsBottom, IsPolicy, AddsPolicy};
+ghost use Rattle.label_lattice.specs.Lattice.{IsJoin, IsIntegrityMeet, empty_label, bottom_of, join_of, meet_of};
+ghost use Rattle.label_lattice.specs.Over.{IsLabelOver};
 ghost use Rattle.label_lattice.specs.Written.{IsLabelOf};
-ghost use Rattle.label_lattice.specs.Lattice.{IsJoin, IsIntegrityMeet};
 
+use crate::label::READERS;
 use principals::acts_for_laws;
 
 /// Laws of labels, for who reasons about them. The call does nothing.
@@ -26,9 +31,46 @@ pub fn label_laws()
     ensures meet_greatest { (first second meet below : Label) → IsIntegrityMeet first second meet →
         IntegFlows below first → IntegFlows below second → IntegFlows below meet }
 
+    // The values have the sets that they are named after, and no other label has them.
+    ensures empty_sets { ForbidsNothing empty_label × IsUntrusted empty_label }
+    ensures bottom_sets { (principals : Declared) → IsBottom principals (bottom_of principals) }
+    ensures join_sets { (first second : Label) → IsLabel first → IsLabel second →
+        IsJoin first second (join_of first second) }
+    ensures meet_sets { (first second : Label) → IsIntegrityMeet first second (meet_of first second) }
+    ensures join_once { (first second join : Label) → IsLabel first → IsLabel second → IsLabel join →
+        IsJoin first second join → join ≡ join_of first second }
+    ensures meet_once { (first second meet : Label) → IsLabel first → IsLabel second → IsLabel meet →
+        IsIntegrityMeet first second meet → meet ≡ meet_of first second }
+
+    // Joins and meets of labels over the same principals are such labels.
+    ensures empty_over { (principals : Declared) → IsLabelOver principals empty_label }
+    ensures bottom_over { (principals : Declared) → IsDeclared principals →
+        IsLabelOver principals (bottom_of principals) }
+    ensures join_over { (principals : Declared) (first second : Label) → IsLabelOver principals first →
+        IsLabelOver principals second → IsLabelOver principals (join_of first second) }
+    ensures meet_over { (principals : Declared) (first second : Label) → IsLabelOver principals first →
+        IsLabelOver principals second → IsLabelOver principals (meet_of first second) }
+
+    // The order and the grouping of a join do not matter, nor does what stands in it twice. The meet keeps the
+    // confidentiality of its first label, so there only the grouping does not matter.
+    ensures join_commutative { (first second : Label) → join_of first second ≡ join_of second first }
+    ensures join_associative { (first second third : Label) →
+        join_of (join_of first second) third ≡ join_of first (join_of second third) }
+    ensures join_idempotent { (label : Label) → join_of label label ≡ label }
+    ensures meet_associative { (first second third : Label) →
+        meet_of (meet_of first second) third ≡ meet_of first (meet_of second third) }
+    ensures meet_idempotent { (label : Label) → meet_of label label ≡ label }
+
+    // The bottom adds nothing to a join, and the empty label nothing to a meet. Joined with the empty label, a label
+    // keeps its confidentiality and loses its trust.
+    ensures join_bottom { (principals : Declared) (label : Label) → IsDeclared principals →
+        IsLabelOver principals label → join_of (bottom_of principals) label ≡ label }
+    ensures meet_empty { (label : Label) → meet_of label empty_label ≡ label }
+    ensures join_empty { (label : Label) → IsLabel label → join_of label empty_label ≡ record label { trust = 0 } }
+
     // The bottom label may flow to each label that only declared principals trust.
     ensures from_bottom { (principals : Declared) (bottom label : Label) → IsBottom principals bottom →
-        ((principal : ℕ) → principal < 64 → Trusts label principal → principal < length principals.names) →
+        ((principal : ℕ) → principal < READERS → Trusts label principal → principal < length principals.names) →
         Flows bottom label }
 
     // The confidentiality of a label without policies flows to every label, and that of none with a policy flows to it.
@@ -50,9 +92,9 @@ pub fn label_laws()
         (ConfFlows from to ↔ ActsFor principals second.0 first.0) }
 
     // Tokens are one label at most.
-    ensures written_once { (principals : Declared) (tokens : List Token) (first second : Label) → IsDeclared principals →
-        IsLabel first → IsLabel second → IsLabelOf principals tokens first → IsLabelOf principals tokens second →
-        first ≡ second }
+    ensures written_once { (principals : Declared) (tokens : List Token) (first second : Label) →
+        IsDeclared principals → IsLabelOver principals first → IsLabelOver principals second →
+        IsLabelOf principals tokens first → IsLabelOf principals tokens second → first ≡ second }
 {
     acts_for_laws();
 }

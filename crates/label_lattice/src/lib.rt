@@ -8,6 +8,6 @@ mod policy;
 mod test_principals;
 mod tokens;
 
-pub use label::Label;
+pub use label::{Label, READERS};
 pub use laws::label_laws;
 pub use tokens::read_label;

@@ -1,15 +1,18 @@
-// What the policies and the trust of declared principals come to, as words of bits.
+//! What the policies and the trust of declared principals come to, as words of bits.
+
 ghost use Rattle.std.specs.Prelude.{◌≡◌, ℕ, ◌<◌, ◌↔◌, IsTrue, List, All, length};
 ghost use Rattle.std.specs.Int.{bit_at};
 ghost use Rattle.principals.specs.ActsFor.{ActsFor};
 ghost use Rattle.label_lattice.specs.Label.{KeepsOut};
 
+use crate::label::READERS;
 use js_base::PrincipalId;
 use js_base::bits::with_bit;
+use js_base::limits::PRINCIPALS;
 use principals::{Principals, acts_for_laws};
 
-/// The bit of the reader who stands for everyone that is no declared principal.
-const OUTSIDER: u8 = 63;
+/// The bit of the reader who stands for everyone who is not a declared principal.
+const OUTSIDER: u8 = PRINCIPALS as u8;
 
 /// The readers whom a policy keeps out, a bit for each.
 pub fn forbidden_readers(
@@ -19,7 +22,7 @@ pub fn forbidden_readers(
 ) -> u64
     requires owner { owner.0 < length principals.now.names }
     requires readers { All (λ named. named.0 < length principals.now.names) readers.now }
-    ensures { (reader : ℕ) → reader < 64 →
+    ensures { (reader : ℕ) → reader < READERS →
         ((bit_at result reader ≡ 1) ↔ KeepsOut principals.now owner readers.now reader) }
 {
     acts_for_laws();
@@ -64,8 +67,10 @@ fn acts_for_none(principals: &Principals, p: PrincipalId, others: &[PrincipalId]
 /// The principals whom this one acts for, a bit for each.
 pub fn acted_for(principals: &Principals, member: PrincipalId) -> u64
     requires { member.0 < length principals.now.names }
-    ensures { (principal : ℕ) → principal < 64 →
+    ensures bits { (principal : ℕ) → principal < READERS →
         ((bit_at result principal ≡ 1) ↔ ActsFor principals.now member.0 principal) }
+    ensures declared { (principal : ℕ) → ActsFor principals.now member.0 principal →
+        principal < length principals.now.names }
 {
     acts_for_laws();
     let mut word = 0;

@@ -1,7 +1,9 @@
-// The label that tokens spell.
+//! The label that tokens spell.
+
 ghost use Rattle.std.specs.Prelude.{IfOk, IfSome, IfNone};
 ghost use Rattle.label_lattice.specs.declared.label.Label.{Label};
 ghost use Rattle.label_lattice.specs.Written.{IsLabelOf, IsPartsOf, kinds};
+ghost use Rattle.label_lattice.specs.Over.{IsLabelOver};
 ghost use Rattle.label_lattice.specs.Reading.{AddsPart, IsNoPart};
 
 mod names;
@@ -17,14 +19,15 @@ use js_base::OutOfMemory;
 use principals::Principals;
 use std::alloc::Global;
 
-/// The label that the tokens are, written with names of these principals. `None` where they are no label, or where a
-/// name in it is not declared.
+/// The label that the tokens are, written with names of these principals. `None` where they are not a label, or where
+/// a name in it is not declared.
 pub fn read_label(
     alloc: Global,
     tokens: &[Token],
     principals: &Principals,
 ) -> Result<Option<Label>, OutOfMemory>
     ensures found { IfOk result (λ read. IfSome read (IsLabelOf principals.now tokens.now)) }
+    ensures over { IfOk result (λ read. IfSome read (IsLabelOver principals.now)) }
     ensures none { IfOk result (λ read. IfNone read ((label : Label) → ¬ IsLabelOf principals.now tokens.now label)) }
 {
     match between_braces(tokens) {
@@ -40,7 +43,9 @@ fn label_of_parts(
     principals: &Principals,
 ) -> Result<Option<Label>, OutOfMemory>
     ensures found { IfOk result (λ read. IfSome read (IsPartsOf principals.now (kinds inside.now))) }
-    ensures none { IfOk result (λ read. IfNone read ((label : Label) → ¬ IsPartsOf principals.now (kinds inside.now) label)) }
+    ensures over { IfOk result (λ read. IfSome read (IsLabelOver principals.now)) }
+    ensures none { IfOk result (λ read. IfNone read ((label : Label) →
+        ¬ IsPartsOf principals.now (kinds inside.now) label)) }
 {
     let mut label = Label::empty();
     let mut left = unless_empty(inside);
@@ -66,6 +71,8 @@ fn with_part(
     principals: &Principals,
 ) -> Result<Option<Label>, OutOfMemory>
     ensures found { IfOk result (λ read. IfSome read (AddsPart principals.now (kinds part.now) label)) }
+    ensures over { IfOk result (λ read. IfSome read (λ more.
+        IsLabelOver principals.now label → IsLabelOver principals.now more)) }
     ensures none { IfOk result (λ read. IfNone read (IsNoPart principals.now (kinds part.now))) }
 {
     let Some((head, names)) = after_colon(part) else {

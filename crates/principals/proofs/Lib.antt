@@ -1,5 +1,4 @@
 pub mod Chains
-pub mod FirstRepeated
-pub mod NameLemmas
+pub mod Declarations
 pub mod Pairing
 pub mod Rows

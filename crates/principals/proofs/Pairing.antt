@@ -7,6 +7,7 @@ use Rattle.std.proofs.lemmas.List.{map_more, map-append, length-map, get_or-map}
 use Rattle.std.proofs.Math.Seq.{drop-cons}
 use Rattle.std.proofs.lemmas.List.Elements.{All-map}
 use Rattle.js_base.specs.Name.{IsName}
+use Rattle.js_base.proofs.Lists.{zip_push}
 use Rattle.js_base.specs.declared.ids.PrincipalId.{PrincipalId}
 use Rattle.std.proofs.lemmas.Option.{slice_get_within, get_or_from_slice_get}
 use Rattle.principals.specs.Declaring.{IsNamed, IsPairOf, IsFirstUnknown, IsUnknownIn, mentioned, written_pair, written_pairs}
@@ -23,12 +24,6 @@ Written = String Global × String Global
 pub record PairedSoFar (names : List (String Global)) (pairs : List Written) (place : ℕ) (ids : List (PrincipalId × PrincipalId)) : Type 0 where
   pub known : AllZip (IsPairOf (map string_bytes names)) (map written_pair (take place pairs)) (map pair_of ids)
   pub first : (name : List ℕ) → IsFirstUnknown (map string_bytes names) (mentioned (map written_pair (drop place pairs))) name → IsFirstUnknown (map string_bytes names) (mentioned (map written_pair pairs)) name
-
-zip_push : (names : List (List ℕ)) (xs : List (List ℕ × List ℕ)) (ys : List (ℕ × ℕ)) (x : List ℕ × List ℕ) (y : ℕ × ℕ) → AllZip (IsPairOf names) xs ys → IsPairOf names x y → AllZip (IsPairOf names) (xs ++ x ∷ []) (ys ++ y ∷ [])
-zip_push names [] [] x y so_far is = (is, tt)
-zip_push names [] (z ∷ ys) x y so_far is = absurd so_far
-zip_push names (z ∷ xs) [] x y so_far is = absurd so_far
-zip_push names (z ∷ xs) (w ∷ ys) x y so_far is = (so_far.0, zip_push names xs ys x y so_far.1 is)
 
 pub named_is_held : (names : List (List ℕ)) (name : List ℕ) (place : ℕ) → IsNamed names name place → Contains names name
 named_is_held names name place is = (place, slice_get_within names place name is, get_or_from_slice_get names place name name is)
@@ -47,7 +42,7 @@ known_more names pairs place ids pair id within read is so_far =
     let Q : List (ℕ × ℕ) → Type 0 = λ ys. AllZip (IsPairOf names) (map written_pair (take place pairs) ++ written_pair pair ∷ []) ys in
     let last : written_pair pair ≡ written_pair (get_or pairs place pair) = ap written_pair read in
     subst P (ap (λ y. map written_pair (take place pairs) ++ y ∷ []) last ∙ sym (map_more written_pair pairs place pair within))
-    (subst Q (sym (map-append pair_of ids (id ∷ []))) (zip_push names _ _ _ _ so_far is))
+    (subst Q (sym (map-append pair_of ids (id ∷ []))) (zip_push (IsPairOf names) _ _ _ _ so_far is))
 
 -- the next pair is known
 pub paired_more : (names : List (String Global)) (pairs : List Written) (place : ℕ) (ids : List (PrincipalId × PrincipalId)) (pair : Written) (id : PrincipalId × PrincipalId) → place < length pairs → pair ≡ get_or pairs place pair → IsPairOf (map string_bytes names) (written_pair pair) (pair_of id) → PairedSoFar names pairs place ids → PairedSoFar names pairs (place + 1) (ids ++ id ∷ [])
@@ -73,26 +68,6 @@ first_of_all names pairs place ids pair name within read so_far unknown =
     let here : IsFirstUnknown (map string_bytes names) (mentioned (written_pair pair ∷ []) ++ mentioned (map written_pair (drop (place + 1) pairs))) name =
     unknown_in_front (map string_bytes names) (mentioned (written_pair pair ∷ [])) (mentioned (map written_pair (drop (place + 1) pairs))) name unknown in
     so_far.first name (subst Q (sym (rest_mentions pairs place pair within read)) here)
-
-pub unknown_of_all : (names : List (String Global)) (pairs : List Written) (place : ℕ) (ids : List (PrincipalId × PrincipalId)) (pair : Written) (error : PrincipalError) → place < length pairs → pair ≡ get_or pairs place pair → PairedSoFar names pairs place ids → IsUnknownIn (map string_bytes names) (mentioned (written_pair pair ∷ [])) error → IsUnknownIn (map string_bytes names) (mentioned (written_pairs pairs)) error
-unknown_of_all names pairs place ids pair OutOfMemory within read so_far unknown = tt
-unknown_of_all names pairs place ids pair TooMany within read so_far unknown = unknown
-unknown_of_all names pairs place ids pair (Twice name) within read so_far unknown = unknown
-unknown_of_all names pairs place ids pair (Unknown name) within read so_far unknown =
-    first_of_all names pairs place ids pair (string_bytes name) within read so_far unknown
-
--- in a pair, the first name is unknown, or the second is and the first is known
-pub first_of_pair : (names : List (List ℕ)) (first second : List ℕ) (error : PrincipalError) → IsUnknownIn names (first ∷ []) error → IsUnknownIn names (first ∷ second ∷ []) error
-first_of_pair names first second OutOfMemory unknown = tt
-first_of_pair names first second TooMany unknown = unknown
-first_of_pair names first second (Twice name) unknown = unknown
-first_of_pair names first second (Unknown name) unknown = unknown_in_front names (first ∷ []) (second ∷ []) (string_bytes name) unknown
-
-pub second_of_pair : (names : List (List ℕ)) (first second : List ℕ) (place : ℕ) (error : PrincipalError) → IsNamed names first place → IsUnknownIn names (second ∷ []) error → IsUnknownIn names (first ∷ second ∷ []) error
-second_of_pair names first second place OutOfMemory known unknown = tt
-second_of_pair names first second place TooMany known unknown = unknown
-second_of_pair names first second place (Twice name) known unknown = unknown
-second_of_pair names first second place (Unknown name) known unknown = inr (named_is_held names first place known, unknown)
 
 -- ---- pairs are of declared principals
 

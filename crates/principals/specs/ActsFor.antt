@@ -1,14 +1,15 @@
 -- Principals, and who acts for whom, after the decentralized label model of Myers and Liskov. A declared principal is
--- known by its place in the list of the names, and a name is the list of its bytes. At most 63 are declared, so 0 to 62
--- stand for principals, and 63 for the outsider, whom nobody declares.
+-- known by its place in the list of the names, and a name is the list of its bytes. At most `PRINCIPALS` are declared,
+-- so the numbers below it stand for principals, and it for the outsider, whom nobody declares.
 use Rattle.std.specs.Prelude.{◌≡◌, ℕ, ◌<◌, ◌≤◌, ◌⊎◌, List, [], ◌∷◌, All, Contains, length, Bool, IsTrue}
 use Rattle.std.specs.List.{IsDistinct}
 use Rattle.std.specs.Str.{bytes_eq}
 use Rattle.js_base.specs.Name.{IsName}
+use Rattle.js_base.specs.declared.limits.TheConstants.{PRINCIPALS}
 
 -- the reader who stands for everyone that is no declared principal
 abbrev pub outsider : ℕ
-outsider = 63
+outsider = PRINCIPALS
 
 -- the names in order, and the declared pairs: the first of a pair acts for the second
 pub record Declared : Type 0 where
@@ -17,7 +18,7 @@ pub record Declared : Type 0 where
 
 -- names that may be declared together: few enough, and no two the same
 pub record AreDeclarable (names : List (List ℕ)) : Type 0 where
-  pub few : length names ≤ 63
+  pub few : length names ≤ PRINCIPALS
   pub distinct : IsDistinct bytes_eq names
 
 -- the names are names of the language and may be declared together, and every pair is of declared principals

@@ -3,6 +3,8 @@ use Rattle.std.specs.Prelude.{◌≡◌, ◌≤◌, ◌<◌, ◌⊎◌, ℕ, Lis
 use Rattle.std.specs.List.{AllZip, IsDistinct}
 use Rattle.std.specs.Str.{bytes_eq}
 use Rattle.std.specs.declared.alloc.Global.{Global}
+use Rattle.js_base.specs.declared.limits.TheConstants.{PRINCIPALS}
+use Rattle.js_base.specs.Named.{IsFirstRepeated}
 use Rattle.principals.specs.ActsFor.{Declared, AreDeclarable}
 use Rattle.principals.specs.declared.principals.PrincipalError.{PrincipalError}
 use Rattle.principals.specs.declared.principals.PrincipalError.TheVariants.{OutOfMemory, TooMany, Twice, Unknown}
@@ -28,13 +30,6 @@ pub record AreDeclaredAs (names : List (List ℕ)) (pairs : List (List ℕ × Li
   pub names_are : principals.names ≡ names
   pub pairs_are : AllZip (IsPairOf names) pairs principals.pairs
 
--- the first name that repeats an earlier one
-pub record IsFirstRepeated (names : List (List ℕ)) (name : List ℕ) : Type 0 where
-  pub place : ℕ
-  pub here : slice_get names place ≡ Some name
-  pub repeated : Contains (take place names) name
-  pub none_before : IsDistinct bytes_eq (take place names)
-
 -- the names that pairs mention, in order
 abbrev pub mentioned : List (List ℕ × List ℕ) → List (List ℕ)
 mentioned [] = []
@@ -53,10 +48,10 @@ IsUnknownIn names used TooMany = ⊥
 IsUnknownIn names used (Twice name) = ⊥
 IsUnknownIn names used (Unknown name) = IsFirstUnknown names used (string_bytes name)
 
--- Why names and pairs are not declared: too many names, else a repeated name, else a pair with an undeclared name. Memory
--- may run out at any time.
+-- Why names and pairs are not declared: too many names, otherwise a repeated name, otherwise a pair with an undeclared
+-- name. Memory may run out at any time.
 abbrev pub Refuses : List (List ℕ) → List (List ℕ × List ℕ) → PrincipalError → Type 0
 Refuses names pairs OutOfMemory = ⊤
-Refuses names pairs TooMany = 63 < length names
-Refuses names pairs (Twice name) = (length names ≤ 63) × IsFirstRepeated names (string_bytes name)
+Refuses names pairs TooMany = PRINCIPALS < length names
+Refuses names pairs (Twice name) = (length names ≤ PRINCIPALS) × IsFirstRepeated names (string_bytes name)
 Refuses names pairs (Unknown name) = AreDeclarable names × IsFirstUnknown names (mentioned pairs) (string_bytes name)

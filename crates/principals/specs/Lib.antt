@@ -2,3 +2,4 @@ pub mod ActsFor
 pub mod Closure
 pub mod Declaring
 pub mod Pairs
+pub mod Refusal

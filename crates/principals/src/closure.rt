@@ -1,4 +1,5 @@
-// Who acts for whom, as a row of bits for each principal.
+//! Who acts for whom, as a row of bits for each principal.
+
 ghost use Rattle.std.specs.Prelude.{◌≡◌, ℕ, ◌<◌, ◌↔◌, ◌⊎◌, List, [], ◌∷◌, ◌++◌, All, map, length, slice_index};
 ghost use Rattle.std.specs.Int.{bit_at};
 ghost use Rattle.principals.specs.ActsFor.{LeadsFrom};
@@ -22,8 +23,8 @@ fn own_rows() -> [u64; PRINCIPALS]
 
 /// Adds a pair: who acts for its first principal also acts for all whom the second acts for.
 fn add_pair(rows: &mut [u64; PRINCIPALS], pair: &(PrincipalId, PrincipalId))
-    requires first { pair.now.0.0 < 63 }
-    requires second { pair.now.1.0 < 63 }
+    requires first { pair.now.0.0 < PRINCIPALS }
+    requires second { pair.now.1.0 < PRINCIPALS }
     ensures { (pairs : List (ℕ × ℕ)) → AreRowsOf pairs rows.old → AreRowsOf (pairs ++ pair_of pair.now ∷ []) rows.new }
 {
     let (first, second) = *pair;
@@ -37,7 +38,7 @@ fn add_pair(rows: &mut [u64; PRINCIPALS], pair: &(PrincipalId, PrincipalId))
 
 /// The rows of these pairs.
 pub fn rows_of(pairs: &[(PrincipalId, PrincipalId)]) -> [u64; PRINCIPALS]
-    requires { All (λ pair. (pair.0.0 < 63) × (pair.1.0 < 63)) pairs.now }
+    requires { All (λ pair. (pair.0.0 < PRINCIPALS) × (pair.1.0 < PRINCIPALS)) pairs.now }
     ensures { AreRowsOf (pairs_of pairs.now) result }
 {
     let mut rows = own_rows();

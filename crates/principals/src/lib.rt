@@ -3,8 +3,10 @@
 
 mod closure;
 mod declaring;
+mod laws;
 mod principals;
 #[cfg(test)]
 mod tests;
 
-pub use principals::{PrincipalError, Principals, acts_for_laws};
+pub use laws::{acts_for_laws, principals_laws};
+pub use principals::{PrincipalError, Principals};

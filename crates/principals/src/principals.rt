@@ -1,15 +1,19 @@
-ghost use Rattle.std.specs.Prelude.{◌≡◌, ℕ, ◌<◌, ◌≤◌, ◌↔◌, length, map, Some, IsTrue, IfSome, IfNone, All, Contains, slice_get, MatchResult, Bool};
-ghost use Rattle.std.specs.String.{string_bytes};
+//! Principals, and who acts for whom.
+
+ghost use Rattle.std.specs.Prelude.{◌≡◌, ◌<◌, ◌↔◌, length, map, Some, IsTrue, IfSome, IfNone, All, Contains};
+ghost use Rattle.std.specs.Prelude.{slice_get, MatchResult, string_bytes};
 ghost use Rattle.js_base.specs.Name.{IsName};
-ghost use Rattle.principals.specs.ActsFor.{Declared, ActsFor, IsDeclared, IsPreorder, outsider};
+ghost use Rattle.principals.specs.ActsFor.{ActsFor, IsDeclared};
 ghost use Rattle.principals.specs.Declaring.{AreDeclaredAs, Refuses, written_pairs};
 
 use crate::closure::rows_of;
-use crate::declaring::{copies, copy_of, first_repeated, pair_ids, place_of};
-use js_base::PrincipalId;
+use crate::declaring::pair_ids;
 use js_base::bits::has_bit;
 use js_base::limits::PRINCIPALS;
-use std::alloc::{AllocError, Global};
+use js_base::named::{first_repeated, place_of};
+use js_base::text::{owned_text, owned_texts};
+use js_base::{OutOfMemory, PrincipalId};
+use std::alloc::{AllocFailed, Global};
 use std::marker::Model;
 use thiserror::Error;
 
@@ -18,7 +22,7 @@ use thiserror::Error;
 pub enum PrincipalError {
     #[error("out of memory")]
     OutOfMemory,
-    /// There are more than 63 names.
+    /// There are more than `PRINCIPALS` names.
     #[error("too many principals")]
     TooMany,
     /// The first name that repeats an earlier one.
@@ -29,18 +33,29 @@ pub enum PrincipalError {
     Unknown(String),
 }
 
-impl From<AllocError> for PrincipalError {
+impl From<OutOfMemory> for PrincipalError {
     ghost use Rattle.std.specs.Prelude.{◌≡◌};
     ghost use Rattle.principals.specs.declared.principals.PrincipalError.TheVariants.{OutOfMemory};
 
     ghost from_gives = { λ _ error. error ≡ OutOfMemory };
 
-    fn from(_error: AllocError) -> Self {
+    fn from(_error: OutOfMemory) -> Self {
         PrincipalError::OutOfMemory
     }
 }
 
-/// The declared principals by their names, at most 63 and no two of one name, and who acts for whom.
+impl<T: Drop> From<AllocFailed<T>> for PrincipalError {
+    ghost use Rattle.std.specs.Prelude.{◌≡◌};
+    ghost use Rattle.principals.specs.declared.principals.PrincipalError.TheVariants.{OutOfMemory};
+
+    ghost from_gives = { λ _ error. error ≡ OutOfMemory };
+
+    fn from(_error: AllocFailed<T>) -> Self {
+        PrincipalError::OutOfMemory
+    }
+}
+
+/// The declared principals by their names, at most `PRINCIPALS` and no two of one name, and who acts for whom.
 #[derive(Debug, Drop)]
 pub struct Principals {
     names: Vec<String>,
@@ -70,7 +85,7 @@ impl Principals {
     /// The principals of these names, in their order, where the first of each pair acts for the second.
     ///
     /// # Errors
-    /// More than 63 names, else a name that stands twice, else an undeclared name in a pair.
+    /// More than `PRINCIPALS` names, otherwise a name that stands twice, otherwise an undeclared name in a pair.
     pub fn new(
         alloc: Global,
         names: &[String],
@@ -85,15 +100,15 @@ impl Principals {
             return Err(PrincipalError::TooMany);
         }
         if let Some(place) = first_repeated(names) {
-            return Err(PrincipalError::Twice(copy_of(alloc, names[place].as_str())?));
+            return Err(PrincipalError::Twice(owned_text(alloc, names[place].as_str())?));
         }
         let pairs = pair_ids(alloc, names, pairs)?;
-        let names = copies(alloc, names)?;
+        let names = owned_texts(alloc, names)?;
         let rows = rows_of(&pairs);
         Ok(Principals { names, pairs, rows })
     }
 
-    /// How many are declared, at most 63.
+    /// How many are declared, at most `PRINCIPALS`.
     pub fn count(&self) -> u8
         ensures count { result ≡ length self.now.names }
         ensures declared { IsDeclared self.now }
@@ -128,27 +143,3 @@ impl Principals {
         has_bit(self.rows[p.0 as usize], q.0)
     }
 }
-
-/// Laws of who acts for whom, for who reasons about it. The call does nothing.
-pub fn acts_for_laws()
-    // It is the smallest relation that leads from each to itself, goes on over another, and holds the declared pairs.
-    ensures reflexive { (principals : Declared) (p : ℕ) → ActsFor principals p p }
-    ensures transitive { (principals : Declared) (p q r : ℕ) → ActsFor principals p q → ActsFor principals q r →
-        ActsFor principals p r }
-    ensures declared { (principals : Declared) (p q : ℕ) → Contains principals.pairs (p, q) → ActsFor principals p q }
-    ensures smallest { (principals : Declared) (relation : ℕ → ℕ → Bool) → IsPreorder relation →
-        ((p q : ℕ) → Contains principals.pairs (p, q) → IsTrue (relation p q)) →
-        (p q : ℕ) → ActsFor principals p q → IsTrue (relation p q) }
-
-    // The outsider acts for itself alone, and only itself acts for it.
-    ensures of_outsider { (principals : Declared) (p : ℕ) → IsDeclared principals → ActsFor principals outsider p →
-        p ≡ outsider }
-    ensures for_outsider { (principals : Declared) (p : ℕ) → IsDeclared principals → ActsFor principals p outsider →
-        p ≡ outsider }
-
-    // Whom a declared principal acts for is declared, and so is who acts for one.
-    ensures of_declared { (principals : Declared) (p q : ℕ) → IsDeclared principals → p < length principals.names →
-        ActsFor principals p q → q < length principals.names }
-    ensures for_declared { (principals : Declared) (p q : ℕ) → IsDeclared principals → q < length principals.names →
-        ActsFor principals p q → p < length principals.names }
-{}

@@ -1,7 +1,13 @@
-use Rattle.std.proofs.Common.{arith, refl}
-use Rattle.js_base.proofs.BitLemmas.{set_in_ones}
+use Rattle.std.proofs.Common.{refl}
+use Rattle.label_lattice.specs.Lattice.{empty_label}
+use Rattle.label_lattice.proofs.Values.{empty_forbids, empty_untrusted, empty_over}
 use Rattle.label_lattice.proofs.label.Label.empty.Goals as goal
 
-pub returns-clause-forbids : goal.returns-clause-forbids
-returns-clause-forbids c owner reader owner_in reader_in forbidden =
-    omega (arith, set_in_ones 18446744073709551615 owner reader refl owner_in reader_in)
+pub returns : goal.returns
+unfolding empty_label
+returns c = record {
+  forbids = empty_forbids;
+  trusts = empty_untrusted;
+  value = refl;
+  over = empty_over;
+}

@@ -10,6 +10,6 @@ rows_of-rows-requires c =
 
 pub invariant_of-result : goal.invariant_of-result
 invariant_of-result c = (
-  declared_pairs c.args.names.now c.in_ok-names.names.items _ _ c.requires (omega arith) c.in_ok-names.ensures.copied c.in_default.ensures.none c.in_ok-pairs.ensures.known,
+  declared_pairs c.args.names.now c.in_ok-names.names.items _ _ c.requires (omega arith) c.in_ok-names.ensures c.in_default.ensures.none c.in_ok-pairs.ensures.known,
   rw c.deref.ensures.value at c.rows_of-rows.ensures,
 )

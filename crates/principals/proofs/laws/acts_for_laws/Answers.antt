@@ -1,5 +1,5 @@
 use Rattle.principals.proofs.Chains.{goes_on, to_itself, over_pair, smallest, of_outsider, for_outsider, of_declared, for_declared}
-use Rattle.principals.proofs.principals.acts_for_laws.Goals as goal
+use Rattle.principals.proofs.laws.acts_for_laws.Goals as goal
 
 pub returns-clause-transitive : goal.returns-clause-transitive
 returns-clause-transitive c principals p q r = goes_on principals.pairs p q r
