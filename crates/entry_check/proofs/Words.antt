@@ -24,8 +24,9 @@ pub of_all : (code : CodeShape) (me : HostId) (asked : ℕ → Ask) (words : Lis
     → (n : ℕ) → IsWordOf code me (asked n) (get_or words n 0)
 of_all code me asked words count long within past n =
     elim (cases_lt n count) as (λ _. IsWordOf code me (asked n) (get_or words n 0)) [
-      inl lt ↦ within n lt
-    | inr ge ↦ (λ from small.
-      (λ is. absurd (no_bit (get_or words n 0) from.0 (get_or_past words n 0 (omega arith)) is),
-      λ may. absurd (past n from ge may)))
+      | inl lt ↦ within n lt
+      | inr ge ↦ (λ from small. (
+        λ is. absurd (no_bit (get_or words n 0) from.0 (get_or_past words n 0 (omega arith)) is),
+        λ may. absurd (past n from ge may),
+      ))
     ]

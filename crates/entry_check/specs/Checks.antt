@@ -51,14 +51,14 @@ IsTrustedFor None need = ⊥
 abbrev pub MayEnter : CodeShape → HostId → EntryId → Option Label → Type 0
 MayEnter code me entry host =
     (entry ≢ halt) × IsSomeAnd (entry_at code entry) (λ there.
-      (there.host ≡ me) × IsTrustedFor host there.need × MaySee (label_at code there.label) host)
+    (there.host ≡ me) × IsTrustedFor host there.need × MaySee (label_at code there.label) host)
 
 abbrev pub May : CodeShape → HostId → Ask → HostId → Type 0
 May code me (ask.Get field) from =
     IsSomeAnd (field_at code field) (λ there. (there.host ≡ me) × MaySee (label_at code there.label) (label_of_host code from))
 May code me (ask.Set field) from =
     IsSomeAnd (field_at code field) (λ there.
-      (there.host ≡ me) × MayAffect (label_of_host code from) (label_at code there.label))
+    (there.host ≡ me) × MayAffect (label_of_host code from) (label_at code there.label))
 May code me (ask.Forward variable) from =
     IsSomeAnd (variable_at code variable) (λ there. MayAffect (label_of_host code from) (label_at code there.label))
 May code me (ask.Enter entry) from = MayEnter code me entry (label_of_host code from)
