@@ -34,6 +34,10 @@ ConfFlows from to = (owner reader : ℕ) → owner < PRINCIPALS → reader < REA
 abbrev pub IntegFlows : Label → Label → Type 0
 IntegFlows from to = (principal : ℕ) → principal < READERS → Trusts to principal → Trusts from principal
 
+-- each principal of a word trusts the label
+abbrev pub IsTrustedBy : Label → ℕ → Type 0
+IsTrustedBy label word = (principal : ℕ) → principal < READERS → bit_at word principal ≡ 1 → Trusts label principal
+
 -- the first may flow to the second
 abbrev pub Flows : Label → Label → Type 0
 Flows from to = ConfFlows from to × IntegFlows from to

@@ -1,7 +1,7 @@
 //! Labels, and what is made of them.
 
 ghost use Rattle.std.specs.Prelude.{◌≡◌, ℕ, ◌<◌, ◌↔◌, IsTrue, List, All, length};
-ghost use Rattle.label_lattice.specs.Label.{ConfFlows, IntegFlows};
+ghost use Rattle.label_lattice.specs.Label.{ConfFlows, IntegFlows, IsTrustedBy};
 
 use crate::policy::{acted_for, forbidden_readers};
 use js_base::PrincipalId;
@@ -152,5 +152,12 @@ impl Label {
         ensures { IsTrue result ↔ IntegFlows self.now to.now }
     {
         bits_within(to.trust, self.trust)
+    }
+
+    /// Whether each principal of a word trusts the label, where bit p of the word is that of principal p.
+    pub fn is_trusted_by(&self, principals: u64) -> bool
+        ensures { IsTrue result ↔ IsTrustedBy self.now principals }
+    {
+        bits_within(principals, self.trust)
     }
 }

@@ -1,0 +1,16 @@
+//! The code that hosts run and the messages that they send: what is in it, what holds of it, and how it is printed.
+#![tactic(auto)]
+
+mod code;
+mod code_expr;
+mod instruction;
+mod instruction_texts;
+mod message;
+mod message_texts;
+
+pub use code::{Code, CodeField, CodeHost, CodeParts, CodeVar, Entry, MOST_ITEMS, Part};
+pub use code_expr::{CodeExpr, MOST_NODES, Node, depth_of};
+pub use instruction::{Instr, Op};
+pub use instruction_texts::instruction_text;
+pub use message::Message;
+pub use message_texts::{message_text, token_text};

@@ -1,0 +1,205 @@
+//! How messages are printed.
+
+ghost use Rattle.std.specs.Prelude.{◌≡◌, IfOk};
+ghost use Rattle.std.specs.String.{string_bytes};
+ghost use Rattle.host_code.specs.Messages.{MessageFits};
+ghost use Rattle.host_code.specs.MessageText as text;
+
+use crate::code::Code;
+use crate::message::Message;
+use capability::Token;
+use js_base::{EntryId, FieldId, FrameId, HostId, OutOfMemory, RequestId, VarId};
+use std::alloc::Global;
+
+/// A message as reports, journals and scripts print it. It has to fit the code.
+pub fn message_text(alloc: Global, code: &Code, message: &Message) -> Result<String, OutOfMemory>
+    requires { MessageFits code.now message.now }
+    ensures { IfOk result (λ printed. string_bytes printed ≡ text.message_text code.now message.now) }
+{
+    match message {
+        Message::Get {
+            request,
+            field,
+            index,
+        } => { get_text(alloc, *request, field_name(code, *field), *index) }
+        Message::Set {
+            request,
+            field,
+            index,
+            value,
+        } => { set_text(alloc, *request, field_name(code, *field), *index, *value) }
+        Message::Forward {
+            request,
+            frame,
+            var,
+            value,
+        } => { forward_text(alloc, *request, *frame, var_name(code, *var), *value) }
+        Message::Sync {
+            request,
+            frame,
+            entry,
+            token,
+        } => {
+            let token = token_text(alloc, code, token)?;
+            sync_text(alloc, *request, *frame, *entry, token.as_str())
+        }
+        Message::Rgoto {
+            frame,
+            entry,
+            token,
+        } => {
+            let token = token_text(alloc, code, token)?;
+            rgoto_text(alloc, *frame, *entry, token.as_str())
+        }
+        Message::Lgoto { token } => {
+            let token = token_text(alloc, code, token)?;
+            lgoto_text(alloc, token.as_str())
+        }
+        Message::Value { request, value } => value_text(alloc, *request, *value),
+        Message::Ack { request } => ack_text(alloc, *request),
+        Message::Token { request, token } => {
+            let token = token_text(alloc, code, token)?;
+            answer_text(alloc, *request, token.as_str())
+        }
+    }
+}
+
+/// A token as it is printed: `HOST:FRAME:ENTRY:SERIAL`.
+pub fn token_text(alloc: Global, code: &Code, token: &Token) -> Result<String, OutOfMemory>
+    ensures { IfOk result (λ printed. string_bytes printed ≡ text.token_text code.now token.now) }
+{
+    let host = host_name(code, token.host);
+    let frame = token.frame;
+    let (entry, serial) = (token.entry, token.serial);
+    Ok(format!(in alloc;
+        "{host}:{}.{}:e{}:{serial}",
+        frame.site.0, frame.count, entry.0
+    )?)
+}
+
+fn get_text(
+    alloc: Global,
+    request: RequestId,
+    field: &str,
+    index: i64,
+) -> Result<String, OutOfMemory>
+    ensures { IfOk result (λ printed. string_bytes printed ≡ text.get_text request field.now index) }
+{
+    Ok(format!(in alloc; "get {}.{} {field} {index}", request.at, request.count)?)
+}
+
+fn set_text(
+    alloc: Global,
+    request: RequestId,
+    field: &str,
+    index: i64,
+    value: i64,
+) -> Result<String, OutOfMemory>
+    ensures { IfOk result (λ printed. string_bytes printed ≡ text.set_text request field.now index value) }
+{
+    Ok(format!(in alloc;
+        "set {}.{} {field} {index} {value}",
+        request.at, request.count
+    )?)
+}
+
+fn forward_text(
+    alloc: Global,
+    request: RequestId,
+    frame: FrameId,
+    var: &str,
+    value: i64,
+) -> Result<String, OutOfMemory>
+    ensures { IfOk result (λ printed. string_bytes printed ≡ text.forward_text request frame var.now value) }
+{
+    Ok(format!(in alloc;
+        "forward {}.{} {}.{} {var} {value}",
+        request.at, request.count, frame.site.0, frame.count
+    )?)
+}
+
+fn sync_text(
+    alloc: Global,
+    request: RequestId,
+    frame: FrameId,
+    entry: EntryId,
+    token: &str,
+) -> Result<String, OutOfMemory>
+    ensures { IfOk result (λ printed.
+        string_bytes printed ≡ text.sync_text request frame entry token.now) }
+{
+    Ok(format!(in alloc;
+        "sync {}.{} {}.{} e{} {token}",
+        request.at, request.count, frame.site.0, frame.count, entry.0
+    )?)
+}
+
+fn rgoto_text(
+    alloc: Global,
+    frame: FrameId,
+    entry: EntryId,
+    token: &str,
+) -> Result<String, OutOfMemory>
+    ensures { IfOk result (λ printed.
+        string_bytes printed ≡ text.rgoto_text frame entry token.now) }
+{
+    Ok(format!(in alloc;
+        "rgoto {}.{} e{} {token}",
+        frame.site.0, frame.count, entry.0
+    )?)
+}
+
+fn lgoto_text(alloc: Global, token: &str) -> Result<String, OutOfMemory>
+    ensures { IfOk result (λ printed. string_bytes printed ≡ text.lgoto_text token.now) }
+{
+    Ok(format!(in alloc; "lgoto {token}")?)
+}
+
+fn value_text(alloc: Global, request: RequestId, value: i64) -> Result<String, OutOfMemory>
+    ensures { IfOk result (λ printed. string_bytes printed ≡ text.value_text request value) }
+{
+    Ok(format!(in alloc; "value {}.{} {value}", request.at, request.count)?)
+}
+
+fn ack_text(alloc: Global, request: RequestId) -> Result<String, OutOfMemory>
+    ensures { IfOk result (λ printed. string_bytes printed ≡ text.ack_text request) }
+{
+    Ok(format!(in alloc; "ack {}.{}", request.at, request.count)?)
+}
+
+fn answer_text(alloc: Global, request: RequestId, token: &str) -> Result<String, OutOfMemory>
+    ensures { IfOk result (λ printed.
+        string_bytes printed ≡ text.answer_text request token.now) }
+{
+    Ok(format!(in alloc; "token {}.{} {token}", request.at, request.count)?)
+}
+
+/// The name of a host, empty where there is no such host.
+pub(crate) fn host_name(code: &Code, host: HostId) -> &str
+    ensures { result.now ≡ text.host_text code.now host }
+{
+    match code.host(host) {
+        Some(there) => there.name(),
+        None => "",
+    }
+}
+
+/// The name of a field, empty where there is no such field.
+pub(crate) fn field_name(code: &Code, field: FieldId) -> &str
+    ensures { result.now ≡ text.field_text code.now field }
+{
+    match code.field(field) {
+        Some(there) => there.name(),
+        None => "",
+    }
+}
+
+/// The name of a variable, empty where there is no such variable.
+pub(crate) fn var_name(code: &Code, var: VarId) -> &str
+    ensures { result.now ≡ text.variable_text code.now var }
+{
+    match code.var(var) {
+        Some(there) => there.name(),
+        None => "",
+    }
+}

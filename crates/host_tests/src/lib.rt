@@ -1,0 +1,13 @@
+//! Tests of what one host is made of, through the public calls of its crates.
+#![tactic(auto)]
+
+#[cfg(test)]
+mod checks;
+#[cfg(test)]
+mod control_stack;
+#[cfg(test)]
+mod small_code;
+#[cfg(test)]
+mod stores;
+#[cfg(test)]
+mod texts;
