@@ -7,7 +7,7 @@ use Rattle.std.specs.List.{IsDistinct, take-map}
 use Rattle.std.specs.Option.{option_map}
 use Rattle.std.specs.Str.{bytes_eq}
 use Rattle.std.proofs.lemmas.Bool.{cases_lt, false≢true}
-use Rattle.std.proofs.lemmas.List.{map_more, get_or-map}
+use Rattle.std.proofs.lemmas.List.{map_more, get_or-map, get_or-take, length-take}
 use Rattle.std.proofs.lemmas.Option.{slice_get-map, slice_get_read, slice_get_within, get_or_from_slice_get}
 use Rattle.std.proofs.lemmas.Slice.Eq.{bytes_eq-Decides}
 use Rattle.js_base.proofs.Texts.{distinct_more}
@@ -43,6 +43,13 @@ no_name_more f items place item text name within read is differs before k below 
           let P : ℕ → Type 0 = λ n. get_or (map f items) n name ≢ name in
           subst P k_is (at_other f items place item text name within read is differs)
     ]
+
+-- so none of the items so far has it
+pub lacks_so_far : (names : List (List ℕ)) (place : ℕ) (name : List ℕ) →
+    ((k : ℕ) → k < place → get_or names k name ≢ name) → ¬ Contains (take place names) name
+lacks_so_far names place name before found =
+    let within : found.0 < place = omega (arith, found.1, length-take place names) in
+    before found.0 within (sym (get_or-take place names found.0 name within) ∙ found.2)
 
 -- ---- the first item whose name repeats an earlier one
 

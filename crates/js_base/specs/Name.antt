@@ -3,6 +3,7 @@ use Rattle.std.specs.Prelude.{ℕ, Bool, false, not, ◌||◌, ◌&&◌, ◌==�
 use Rattle.std.specs.List.{list_all, list_any}
 use Rattle.std.specs.Char.{is_ascii_alphabetic, is_ascii_digit}
 use Rattle.std.specs.Str.{bytes_eq}
+use Rattle.js_base.specs.declared.names.TheConstants.{UNDERSCORE}
 
 -- the words that the language has for itself
 abbrev pub keywords : List (List ℕ)
@@ -11,7 +12,7 @@ keywords = codes "int" ∷ codes "void" ∷ codes "if" ∷ codes "else" ∷ code
 
 -- an ASCII letter or `_`
 abbrev pub starts_name : ℕ → Bool
-starts_name byte = is_ascii_alphabetic byte || byte == 95
+starts_name byte = is_ascii_alphabetic byte || byte == UNDERSCORE
 
 -- an ASCII letter, a digit or `_`
 abbrev pub continues_name : ℕ → Bool

@@ -1,4 +1,4 @@
-//! What every crate stands on: the ids, the limits, the exit codes, and the outside world as traits.
+//! What every crate stands on: ids, limits, exit codes, names and texts, and the outside world as traits.
 #![tactic(auto)]
 
 mod binary_operator;

@@ -28,6 +28,7 @@ impl Named for String {
 pub fn place_of<T: Named>(items: &[T], name: &str) -> Option<usize>
     ensures found { IfSome result (λ place. slice_get (map T.called items.now) place ≡ Some name.now) }
     ensures within { IfSome result (λ place. place < length items.now) }
+    ensures none_before { IfSome result (λ place. ¬ Contains (take place (map T.called items.now)) name.now) }
     ensures none { IfNone result (¬ Contains (map T.called items.now) name.now) }
 {
     for (index, item) in items.iter().enumerate() {

@@ -11,11 +11,14 @@ use crate::OutOfMemory;
 use crate::text::owned_text;
 use std::alloc::Global;
 
+/// The byte `_`, which stands in names as a letter does.
+pub const UNDERSCORE: u8 = b'_';
+
 /// Whether the byte is an ASCII letter or `_`.
 pub fn starts_name(byte: u8) -> bool
     ensures { result ≡ starts_name byte }
 {
-    byte.is_ascii_alphabetic() || byte == b'_'
+    byte.is_ascii_alphabetic() || byte == UNDERSCORE
 }
 
 /// Whether the byte is an ASCII letter, a digit or `_`.
