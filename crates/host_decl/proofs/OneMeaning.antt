@@ -1,7 +1,8 @@
 -- A host file has one meaning.
-use Rattle.std.proofs.Common.{◌≡◌, ℕ, pos, List, [], ◌∷◌, All, map, Some, refl, sym, subst, ap, ◌∙◌}
+use Rattle.std.proofs.Common.{◌≡◌, ℕ, pos, List, [], ◌∷◌, All, map, Some, refl, sym, subst, ◌∙◌}
 use Rattle.std.specs.List.{AllZip}
 use Rattle.js_base.specs.Name.{IsName}
+use Rattle.js_base.proofs.Lists.{one_zipped}
 use Rattle.principals.specs.ActsFor.{Declared, IsDeclared}
 use Rattle.principals.specs.Declaring.{AreDeclaredAs}
 use Rattle.jif_lex.specs.declared.token.Token.{Token}
@@ -64,15 +65,9 @@ host_once laws principals text first second declared one two =
 hosts_once : AreOnce → (principals : Declared) (texts : List HostDraftShape) (first second : List HostShape)
     → IsDeclared principals → AllZip (IsHostOf principals) texts first → AllZip (IsHostOf principals) texts second
     → first ≡ second
-hosts_once laws principals [] [] [] declared one two = refl
-hosts_once laws principals [] [] (host ∷ hosts) declared one two = absurd two
-hosts_once laws principals [] (host ∷ hosts) second declared one two = absurd one
-hosts_once laws principals (text ∷ texts) [] second declared one two = absurd one
-hosts_once laws principals (text ∷ texts) (host ∷ hosts) [] declared one two = absurd two
-hosts_once laws principals (text ∷ texts) (host ∷ hosts) (other ∷ others) declared one two =
-    let here = host_once laws principals text host other declared one.0 two.0 in
-    let rest = hosts_once laws principals texts hosts others declared one.1 two.1 in
-    ap (λ found. found ∷ hosts) here ∙ ap (λ found. other ∷ found) rest
+hosts_once laws principals texts first second declared one two =
+    one_zipped (IsHostOf principals) (λ text host other. host_once laws principals text host other declared)
+    texts first second one two
 
 -- ---- costs
 

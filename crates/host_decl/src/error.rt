@@ -9,6 +9,7 @@ use thiserror::Error;
 /// time: too long, not TOML, a bad key, the principals, no host, too many hosts, a host twice, a bad label, a bad link.
 #[derive(Debug, PartialEq, Eq, Drop, Error)]
 pub enum HostsError {
+    /// Memory ran out.
     #[error("out of memory")]
     OutOfMemory,
     /// It is not UTF-8, or not a TOML document.
@@ -30,6 +31,7 @@ pub enum HostsError {
     /// The first name of a host that repeats an earlier one.
     #[error("host {0} twice")]
     HostTwice(String),
+    /// There is no host.
     #[error("no host")]
     NoHost,
     /// The first link, counted from 0, with an unknown host, with one host at both ends, with a cost that is not 1 to

@@ -7,7 +7,7 @@ ghost use Rattle.toml.specs.Data.{as_str};
 ghost use Rattle.toml.specs.View.{view, items_view, table_view};
 ghost use Rattle.principals.specs.Declaring.{written_pair, written_pairs};
 ghost use Rattle.host_decl.specs.declared.schema.TableKind.TheVariants.{Host};
-ghost use Rattle.host_decl.specs.Schema.{IsSound, IsSoundFile, items_at, tables_of};
+ghost use Rattle.host_decl.specs.Schema.{IsSound, IsSoundFile, tables_of};
 ghost use Rattle.host_decl.specs.Draft.{texts_of, pairs_of, pair_of, host_of, link_of, draft_of, key_of, path_of};
 ghost use Rattle.host_decl.specs.Draft.{text_at, or_empty, whole_at};
 ghost use Rattle.host_decl.specs.DraftView.{hosts_draft, host_draft, link_draft};

@@ -1,6 +1,6 @@
 //! Keys of hosts: read from digits, or made from names.
 
-ghost use Rattle.std.specs.Prelude.{◌≡◌, ◌+◌, ◌*◌, ◌<◌, ◌^◌, IsTrue};
+ghost use Rattle.std.specs.Prelude.{◌≡◌, ◌+◌, ◌*◌, ◌<◌, IsTrue};
 ghost use Rattle.std.specs.Char.{is_ascii_hexdigit, digit_value};
 ghost use Rattle.sha2.specs.Sha256.{sha256};
 ghost use Rattle.host_decl.specs.Schema.{is_key};

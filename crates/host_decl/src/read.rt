@@ -1,6 +1,6 @@
 //! From the bytes of a host file to its hosts, or to why it is refused.
 
-ghost use Rattle.std.specs.Prelude.{◌≤◌, length, MatchResult, IfOk, IfErr};
+ghost use Rattle.std.specs.Prelude.{◌≤◌, length, MatchResult};
 ghost use Rattle.toml.specs.View.{table_view};
 ghost use Rattle.host_decl.specs.Reading.{IsDocument, ReadsHosts, RefusesHosts, DocumentFails};
 

@@ -2,11 +2,10 @@
 
 ghost use Rattle.std.specs.Prelude.{◌≡◌, ℕ, List, map, option_map, IfSome, IfNone};
 ghost use Rattle.std.specs.List.{AllByRecursion, list_all};
-ghost use Rattle.std.specs.Str.{bytes_eq};
 ghost use Rattle.std.specs.Char.{is_ascii_hexdigit};
 ghost use Rattle.toml.specs.Data.{get_member};
 ghost use Rattle.toml.specs.View.{view, items_view, table_view};
-ghost use Rattle.host_decl.specs.Schema.{is_key, is_text, is_text_of, all_items, is_array_of, are_two_texts, is_pair};
+ghost use Rattle.host_decl.specs.Schema.{is_key, is_text_of, is_array_of, are_two_texts, is_pair};
 ghost use Rattle.host_decl.specs.Schema.{is_table, has_form, form_at, required_keys, is_unfit, HoldsUnfit, IsMissing};
 ghost use Rattle.host_decl.specs.Schema.{IsBadKey, IsSound, IsLeast, IsFirstBadKey, IsSoundFile, items_in, items_at};
 ghost use Rattle.host_decl.specs.Schema.{tables_of, table_in, of_kind, file_tables};

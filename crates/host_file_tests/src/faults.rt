@@ -71,7 +71,8 @@ fn hosts(rt: HostRuntime) -> Result<(), Fail> {
 
 #[test]
 fn links(rt: HostRuntime) -> Result<(), Fail> {
-    let beginning = "principals = []\nhost = [{ name = 'A', label = '{}' }, { name = 'B', label = '{}' }]\n[[link]]\n";
+    let beginning =
+        "principals = []\nhost = [{ name = 'A', label = '{}' }, { name = 'B', label = '{}' }]\n[[link]]\n";
     let files = [
         ("", "bad key cost"),
         ("from = 'A'\nto = 'B'", "bad key cost"),

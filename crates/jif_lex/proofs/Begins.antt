@@ -1,5 +1,6 @@
 -- What the first byte of a lexeme, a blank or a comment tells.
-use Rattle.std.proofs.Common.{◌≡◌, ℕ, inl, inr, Bool, true, false, ◌||◌, ◌==◌, cond, List, [], ◌∷◌, ◌++◌, refl, sym, ap, ◌∙◌, arith}
+use Rattle.std.proofs.Common.{◌≡◌, ℕ, inl, inr, Bool, true, false, ◌||◌, ◌==◌, cond, List, [], ◌∷◌, ◌++◌, refl, sym, ap}
+use Rattle.std.proofs.Common.{◌∙◌, arith}
 use Rattle.std.specs.List.{list_all}
 use Rattle.std.specs.Char.{is_ascii_digit}
 use Rattle.std.proofs.lemmas.Bool.{and_parts, cond-true, cond-false}
@@ -33,7 +34,8 @@ digit_starts_none byte is = grind (arith, nat_tests)
 
 pub word_class : (text : List ℕ) → IsWordLike text → class_of text ≡ letter
 word_class [] is = absurd is
-word_class (byte ∷ bytes) is = cond-true (starts_name byte) letter (cond (is_ascii_digit byte) digit (cond (is_blank byte) blank other)) is.0
+word_class (byte ∷ bytes) is =
+    cond-true (starts_name byte) letter (cond (is_ascii_digit byte) digit (cond (is_blank byte) blank other)) is.0
 
 pub digits_class : (text : List ℕ) → AreDigits text → class_of text ≡ digit
 digits_class [] is = absurd is
@@ -59,6 +61,7 @@ blank_class text is = elim is [
 ]
 
 -- what a text begins with does not depend on what follows
-pub class_of_front : (text after : List ℕ) (kind : Class) → class_of text ≡ kind → (kind ≡ nothing → ⊥) → class_of (text ++ after) ≡ kind
+pub class_of_front : (text after : List ℕ) (kind : Class) → class_of text ≡ kind → (kind ≡ nothing → ⊥) →
+    class_of (text ++ after) ≡ kind
 class_of_front [] after kind is some = absurd (some (sym is))
 class_of_front (byte ∷ bytes) after kind is some = is

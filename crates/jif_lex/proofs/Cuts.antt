@@ -1,6 +1,7 @@
 -- A text is cut in one way only.
 use Rattle.std.proofs.Common.{◌≡◌, ℕ, List, [], ◌∷◌, ◌++◌, refl, sym, ap, ◌∙◌, subst}
-use Rattle.jif_lex.specs.Tokens.{Piece, piece_text, IsPieceBefore, CutsTo, BeginsBadNumber, Reading, tokens, bad_byte, bad_number, ReadsAs, tokens_of, pieces_length}
+use Rattle.jif_lex.specs.Tokens.{Piece, piece_text, IsPieceBefore, CutsTo, BeginsBadNumber, Reading, tokens, bad_byte}
+use Rattle.jif_lex.specs.Tokens.{bad_number, ReadsAs, tokens_of, pieces_length}
 use Rattle.jif_lex.proofs.Begins.{nothing, digit, class_of, digits_class, class_of_front}
 use Rattle.jif_lex.proofs.Pieces.{same_piece, bad_number_no_piece, piece_some}
 
@@ -15,7 +16,8 @@ front_none (x ∷ a) b is = cc
 stuck_at_end : Stuck []
 stuck_at_end p after is piece = piece_some p after piece (front_none (piece_text p) after is)
 
-pub same_cut : (text : List ℕ) (ps qs : List Piece) (r s : List ℕ) → CutsTo text ps r → CutsTo text qs s → Stuck r → Stuck s → (ps ≡ qs) × (r ≡ s)
+pub same_cut : (text : List ℕ) (ps qs : List Piece) (r s : List ℕ) → CutsTo text ps r → CutsTo text qs s → Stuck r →
+    Stuck s → (ps ≡ qs) × (r ≡ s)
 same_cut text [] [] r s first second here there = (refl, sym first ∙ second)
 same_cut text [] (q ∷ qs) r s first second here there = absurd (here q second.0 (sym first ∙ second.1) second.2)
 same_cut text (p ∷ ps) [] r s first second here there = absurd (there p first.0 (sym second ∙ first.1) first.2)
@@ -29,7 +31,9 @@ same_cut text (p ∷ ps) (q ∷ qs) r s first second here there =
 
 bad_number_some : (text : List ℕ) → BeginsBadNumber text → text ≡ [] → ⊥
 bad_number_some text bad none =
-    let there : class_of text ≡ digit = ap class_of bad.written ∙ class_of_front bad.digits bad.after digit (digits_class bad.digits bad.are_digits) (λ e. cc) in
+    let there : class_of text ≡ digit =
+    ap class_of bad.written
+    ∙ class_of_front bad.digits bad.after digit (digits_class bad.digits bad.are_digits) (λ e. cc) in
     let both : nothing ≡ digit = sym (ap class_of none) ∙ there in cc
 
 bad_number_stuck : (text : List ℕ) → BeginsBadNumber text → Stuck text
@@ -64,5 +68,7 @@ same_reading text (bad_number a) (bad_byte b) one two =
     let P : List ℕ → Type 0 = BeginsBadNumber in
     absurd (two.3.no_number (subst P cut.1 one.3))
 same_reading text (bad_number a) (bad_number b) one two =
-    let cut = same_cut text one.0 two.0 one.1 two.1 one.2 two.2 (bad_number_stuck one.1 one.3) (bad_number_stuck two.1 two.3) in
+    let cut =
+    same_cut text one.0 two.0 one.1 two.1 one.2 two.2 (bad_number_stuck one.1 one.3)
+    (bad_number_stuck two.1 two.3) in
     ap bad_number (one.4 ∙ ap pieces_length cut.0 ∙ sym two.4)

@@ -1,6 +1,5 @@
 -- Two cuts of one list.
-use Rattle.std.proofs.Common.{◌≡◌, ℕ, suc, ◌⊎◌, inl, inr, List, [], ◌∷◌, ◌++◌, refl, sym, ap, ◌∙◌, arith}
-use Rattle.std.specs.Prelude.{Contains}
+use Rattle.std.proofs.Common.{◌≡◌, ℕ, ◌⊎◌, inl, inr, List, [], ◌∷◌, ◌++◌, refl, sym, ap, ◌∙◌}
 use Rattle.std.proofs.lemmas.List.{append-nil}
 
 -- one of the fronts goes on where the other ends
@@ -22,13 +21,10 @@ pub same_front : (a b x y : List ℕ) → a ++ x ≡ b ++ y
     → ((more : List ℕ) → b ≡ a ++ more → x ≡ more ++ y → more ≡ []) → (a ≡ b) × (x ≡ y)
 same_front a b x y same first second =
     elim (two_fronts a b x y same) [
-      | inl w ↦ (let none = first w.0 w.1 w.2 in (w.1 ∙ ap (λ (m : List ℕ). b ++ m) none ∙ append-nil b, sym (w.2 ∙ ap (λ (m : List ℕ). m ++ x) none)))
-      | inr w ↦ (let none = second w.0 w.1 w.2 in (sym (w.1 ∙ ap (λ (m : List ℕ). a ++ m) none ∙ append-nil a), w.2 ∙ ap (λ (m : List ℕ). m ++ y) none))
+      | inl w ↦ (let none =
+          first w.0 w.1 w.2 in
+          (w.1 ∙ ap (λ (m : List ℕ). b ++ m) none ∙ append-nil b, sym (w.2 ∙ ap (λ (m : List ℕ). m ++ x) none)))
+      | inr w ↦ (let none =
+          second w.0 w.1 w.2 in
+          (sym (w.1 ∙ ap (λ (m : List ℕ). a ++ m) none ∙ append-nil a), w.2 ∙ ap (λ (m : List ℕ). m ++ y) none))
     ]
-
-pub Contains-tail : (x : ℕ) (xs : List ℕ) (c : ℕ) → Contains xs c → Contains (x ∷ xs) c
-Contains-tail x xs c found = (suc found.0, omega (arith, found.1), found.2)
-
-pub Contains-middle : (a : List ℕ) (c : ℕ) (x : List ℕ) → Contains (a ++ c ∷ x) c
-Contains-middle [] c x = (0, omega arith, refl)
-Contains-middle (h ∷ a) c x = Contains-tail h (a ++ c ∷ x) c (Contains-middle a c x)

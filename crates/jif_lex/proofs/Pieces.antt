@@ -1,18 +1,25 @@
 -- One piece only stands at the front of a text.
-use Rattle.std.proofs.Common.{◌≡◌, ℕ, ◌≤◌, ◌⊎◌, inl, inr, true, List, [], ◌∷◌, ◌++◌, codes, refl, sym, ap, ◌∙◌, subst, arith}
+use Rattle.std.proofs.Common.{◌≡◌, ℕ, ℤ, pos, ◌<ℤ◌, ◌≤ℤ◌, ◌⊎◌, inl, inr, true, List, [], ◌∷◌, ◌++◌, codes, refl}
+use Rattle.std.proofs.Common.{sym, ap, ◌∙◌, subst, arith}
 use Rattle.std.specs.Prelude.{Contains, IsTrue}
 use Rattle.std.specs.Char.{is_ascii_digit}
 use Rattle.std.specs.Str.Parse.{digits_value}
 use Rattle.js_base.specs.Name.{starts_name}
+use Rattle.js_base.specs.declared.limits.TheConstants.{LARGEST_NUMBER}
+use Rattle.std.proofs.lemmas.Int.{ints}
 use Rattle.std.proofs.lemmas.List.{append_assoc, append_cancel_left}
 use Rattle.std.specs.List.{list_all}
 use Rattle.std.proofs.lemmas.Bool.{and_parts}
 use Rattle.std.proofs.lemmas.List.Folds.{list_all-append}
 use Rattle.jif_lex.specs.declared.token.TokenKind.{TokenKind}
 use Rattle.jif_lex.specs.declared.token.TokenKind.TheVariants as token
-use Rattle.jif_lex.specs.Tokens.{IsWordLike, AreDigits, IsSymbol, IsLexeme, IsKind, IsLongest, IsBlank, IsLineComment, IsBlockComment, OpensComment, FirstIs, Piece, skipped, lexeme, piece_text, IsPieceBefore, BeginsBadNumber}
-use Rattle.jif_lex.proofs.Lists.{same_front, Contains-middle}
-use Rattle.jif_lex.proofs.Begins.{Class, nothing, letter, digit, blank, other, class_of, word_class, digits_class, symbol_class, symbol_text_class, word_text_class, blank_class, class_of_front}
+use Rattle.jif_lex.specs.Tokens.{IsWordLike, AreDigits, IsSymbol, IsLexeme, IsKind, IsLongest, IsBlank, IsLineComment}
+use Rattle.jif_lex.specs.Tokens.{IsBlockComment, OpensComment, FirstIs, Piece, skipped, lexeme, piece_text}
+use Rattle.jif_lex.specs.Tokens.{IsPieceBefore, BeginsBadNumber}
+use Rattle.js_base.proofs.Lists.{Contains-middle}
+use Rattle.jif_lex.proofs.Lists.{same_front}
+use Rattle.jif_lex.proofs.Begins.{Class, nothing, letter, digit, blank, other, class_of, word_class, digits_class}
+use Rattle.jif_lex.proofs.Begins.{symbol_class, symbol_text_class, word_text_class, blank_class, class_of_front}
 use Rattle.jif_lex.proofs.Meanings.{same_kind, clash, name_is_word}
 
 -- ---- longest lexemes
@@ -25,7 +32,8 @@ same_longest a b x y first second same =
 
 -- ---- comments
 
-line_ends : (body more after rest : List ℕ) → ¬ Contains (body ++ more) 10 → rest ≡ more ++ after → (rest ≡ []) ⊎ FirstIs (λ byte. byte ≡ 10) rest → more ≡ []
+line_ends : (body more after rest : List ℕ) → ¬ Contains (body ++ more) 10 → rest ≡ more ++ after →
+    (rest ≡ []) ⊎ FirstIs (λ byte. byte ≡ 10) rest → more ≡ []
 line_ends body [] after rest lacks is ends = refl
 line_ends body (byte ∷ more) after rest lacks is ends = elim ends [
   | inl none ↦ absurd (let never : [] ≡ byte ∷ (more ++ after) = sym none ∙ is in cc)
@@ -41,10 +49,13 @@ same_line a b x y first second same =
     let P : List ℕ → List ℕ → Type 0 = λ s t. s ++ x ≡ t ++ y in
     let whole : (codes "//" ++ first.body) ++ x ≡ (codes "//" ++ second.body) ++ y =
     sym (ap (λ (t : List ℕ). t ++ x) first.written) ∙ same ∙ ap (λ (t : List ℕ). t ++ y) second.written in
-    let bodies : first.body ++ x ≡ second.body ++ y = append_cancel_left (codes "//") (first.body ++ x) (second.body ++ y) whole in
+    let bodies : first.body ++ x ≡ second.body ++ y =
+    append_cancel_left (codes "//") (first.body ++ x) (second.body ++ y) whole in
     let cut = same_front first.body second.body x y bodies
-    (λ more is after. line_ends second.body more x y (let Q : List ℕ → Type 0 = λ t. ¬ Contains t 10 in subst Q is first.one_line) after second.to_its_end)
-    (λ more is after. line_ends first.body more y x (let Q : List ℕ → Type 0 = λ t. ¬ Contains t 10 in subst Q is second.one_line) after first.to_its_end) in
+    (λ more is after. line_ends second.body more x y
+    (let Q : List ℕ → Type 0 = λ t. ¬ Contains t 10 in subst Q is first.one_line) after second.to_its_end)
+    (λ more is after. line_ends first.body more y x
+    (let Q : List ℕ → Type 0 = λ t. ¬ Contains t 10 in subst Q is second.one_line) after first.to_its_end) in
     (first.written ∙ ap (λ (t : List ℕ). codes "//" ++ t) cut.0 ∙ sym second.written, cut.1)
 
 pub same_block : (a b x y : List ℕ) → IsBlockComment a → IsBlockComment b → a ++ x ≡ b ++ y → (a ≡ b) × (x ≡ y)
@@ -74,7 +85,8 @@ pub same_blank : (a b x y : List ℕ) → IsBlank a → IsBlank b → a ++ x ≡
 same_blank a b x y first second same =
     let one = blank_byte a first in
     let two = blank_byte b second in
-    let whole : one.0 ∷ x ≡ two.0 ∷ y = sym (ap (λ (t : List ℕ). t ++ x) one.1) ∙ same ∙ ap (λ (t : List ℕ). t ++ y) two.1 in
+    let whole : one.0 ∷ x ≡ two.0 ∷ y =
+    sym (ap (λ (t : List ℕ). t ++ x) one.1) ∙ same ∙ ap (λ (t : List ℕ). t ++ y) two.1 in
     let heads : one.0 ≡ two.0 = cc in
     (one.1 ∙ ap (λ (c : ℕ). c ∷ []) heads ∙ sym two.1, cc)
 
@@ -90,7 +102,8 @@ blank_whole : (a x : List ℕ) → IsBlank a → class_of (a ++ x) ≡ blank
 blank_whole a x is = class_of_front a x blank (blank_class a is) (λ e. cc)
 
 line_no_block : (text body other_body : List ℕ) → text ≡ codes "//" ++ body → text ≡ codes "/*" ++ other_body → ⊥
-line_no_block text body other_body is is' = let both : codes "//" ++ body ≡ codes "/*" ++ other_body = sym is ∙ is' in cc
+line_no_block text body other_body is is' = let both : codes "//" ++ body ≡ codes "/*" ++ other_body =
+    sym is ∙ is' in cc
 
 comment_no_blank : (text : List ℕ) → OpensComment text → class_of text ≡ blank → ⊥
 comment_no_blank text opens is = elim opens.1 [
@@ -102,8 +115,10 @@ lexeme_no_blank : (a x : List ℕ) → IsLexeme a → class_of (a ++ x) ≡ blan
 lexeme_no_blank a x is there = elim is [
   | inl word ↦ clash (a ++ x) letter blank (class_of_front a x letter (word_class a word) (λ e. cc)) there (λ e. cc)
   | inr b ↦ elim b [
-    | inl digits ↦ clash (a ++ x) digit blank (class_of_front a x digit (digits_class a digits) (λ e. cc)) there (λ e. cc)
-    | inr symbol ↦ clash (a ++ x) other blank (class_of_front a x other (symbol_class a symbol) (λ e. cc)) there (λ e. cc)
+    | inl digits ↦ clash (a ++ x) digit blank (class_of_front a x digit (digits_class a digits) (λ e. cc)) there
+        (λ e. cc)
+    | inr symbol ↦ clash (a ++ x) other blank (class_of_front a x other (symbol_class a symbol) (λ e. cc)) there
+        (λ e. cc)
   ]
 ]
 
@@ -120,19 +135,23 @@ same_comment : (a b x y : List ℕ) → Comment a x → Comment b y → a ++ x �
 same_comment a b x y first second same = elim first [
   | inl line ↦ elim second [
     | inl line' ↦ same_line a b x y line line' same
-    | inr block' ↦ absurd (line_no_block (a ++ x) (line.body ++ x) ((block'.body ++ codes "*/") ++ y) (line_opens a x line) (same ∙ block_opens b y block'))
+    | inr block' ↦ absurd (line_no_block (a ++ x) (line.body ++ x) ((block'.body ++ codes "*/") ++ y)
+        (line_opens a x line) (same ∙ block_opens b y block'))
   ]
   | inr block ↦ elim second [
-    | inl line' ↦ absurd (line_no_block (a ++ x) (line'.body ++ y) ((block.body ++ codes "*/") ++ x) (same ∙ line_opens b y line') (block_opens a x block))
+    | inl line' ↦ absurd (line_no_block (a ++ x) (line'.body ++ y) ((block.body ++ codes "*/") ++ x)
+        (same ∙ line_opens b y line') (block_opens a x block))
     | inr block' ↦ same_block a b x y block block' same
   ]
 ]
 
-same_skipped : (a b x y : List ℕ) → IsPieceBefore (skipped a) x → IsPieceBefore (skipped b) y → a ++ x ≡ b ++ y → (a ≡ b) × (x ≡ y)
+same_skipped : (a b x y : List ℕ) → IsPieceBefore (skipped a) x → IsPieceBefore (skipped b) y → a ++ x ≡ b ++ y →
+    (a ≡ b) × (x ≡ y)
 same_skipped a b x y first second same = elim first [
   | inl one ↦ elim second [
     | inl two ↦ same_blank a b x y one two same
-    | inr two ↦ absurd (comment_no_blank (b ++ y) (comment_opens b y two) (sym (ap class_of same) ∙ blank_whole a x one))
+    | inr two ↦ absurd (comment_no_blank (b ++ y) (comment_opens b y two)
+        (sym (ap class_of same) ∙ blank_whole a x one))
   ]
   | inr one ↦ elim second [
     | inl two ↦ absurd (comment_no_blank (a ++ x) (comment_opens a x one) (ap class_of same ∙ blank_whole b y two))
@@ -140,17 +159,20 @@ same_skipped a b x y first second same = elim first [
   ]
 ]
 
-pub skipped_no_lexeme : (a b x y : List ℕ) (kind : TokenKind) → IsPieceBefore (skipped a) x → IsPieceBefore (lexeme b kind) y → a ++ x ≡ b ++ y → ⊥
+pub skipped_no_lexeme : (a b x y : List ℕ) (kind : TokenKind) → IsPieceBefore (skipped a) x →
+    IsPieceBefore (lexeme b kind) y → a ++ x ≡ b ++ y → ⊥
 skipped_no_lexeme a b x y kind first second same = elim first [
   | inl one ↦ lexeme_no_blank b y second.1.lexeme (sym (ap class_of same) ∙ blank_whole a x one)
   | inr one ↦ second.0 (let P : List ℕ → Type 0 = OpensComment in subst P same (comment_opens a x one))
 ]
 
-pub same_piece : (p q : Piece) (x y : List ℕ) → IsPieceBefore p x → IsPieceBefore q y → piece_text p ++ x ≡ piece_text q ++ y → (p ≡ q) × (x ≡ y)
+pub same_piece : (p q : Piece) (x y : List ℕ) → IsPieceBefore p x → IsPieceBefore q y →
+    piece_text p ++ x ≡ piece_text q ++ y → (p ≡ q) × (x ≡ y)
 same_piece (skipped a) (skipped b) x y first second same =
     let cut = same_skipped a b x y first second same in (ap skipped cut.0, cut.1)
 same_piece (skipped a) (lexeme b kind) x y first second same = absurd (skipped_no_lexeme a b x y kind first second same)
-same_piece (lexeme a kind) (skipped b) x y first second same = absurd (skipped_no_lexeme b a y x kind second first (sym same))
+same_piece (lexeme a kind) (skipped b) x y first second same =
+    absurd (skipped_no_lexeme b a y x kind second first (sym same))
 same_piece (lexeme a kind) (lexeme b kind') x y first second same =
     let cut = same_longest a b x y first.1 second.1 same in
     let texts : a ≡ b = cut.0 in
@@ -189,20 +211,32 @@ is_digits text is there = elim is [
 ]
 
 -- what a lexeme begins with, its text begins with
-pub lexeme_whole : (text after : List ℕ) (kind : Class) → IsLexeme text → class_of (text ++ after) ≡ kind → class_of text ≡ kind
+pub lexeme_whole : (text after : List ℕ) (kind : Class) → IsLexeme text → class_of (text ++ after) ≡ kind →
+    class_of text ≡ kind
 lexeme_whole text after kind is there = elim is [
   | inl word ↦ (let here = word_class text word in here ∙ sym (class_of_front text after letter here (λ e. cc)) ∙ there)
   | inr b ↦ elim b [
-    | inl digits ↦ (let here = digits_class text digits in here ∙ sym (class_of_front text after digit here (λ e. cc)) ∙ there)
-    | inr symbol ↦ (let here = symbol_class text symbol in here ∙ sym (class_of_front text after other here (λ e. cc)) ∙ there)
+    | inl digits ↦ (let here =
+        digits_class text digits in here ∙ sym (class_of_front text after digit here (λ e. cc)) ∙ there)
+    | inr symbol ↦ (let here =
+        symbol_class text symbol in here ∙ sym (class_of_front text after other here (λ e. cc)) ∙ there)
   ]
 ]
 
-number_fits : (text : List ℕ) (kind : TokenKind) → AreDigits text → IsKind text kind → digits_value 10 text ≤ 9223372036854775807
-number_fits text (token.Name n) digits is = absurd (clash text letter digit (word_class text (name_is_word text is.0)) (digits_class text digits) (λ e. cc))
-number_fits text (token.Number n) digits is = is.2
-number_fits text (token.Word n) digits is = absurd (clash text letter digit (ap class_of is ∙ word_text_class n) (digits_class text digits) (λ e. cc))
-number_fits text (token.Symbol n) digits is = absurd (clash text other digit (ap class_of is ∙ symbol_text_class n) (digits_class text digits) (λ e. cc))
+number_fits : (text : List ℕ) (kind : TokenKind) → AreDigits text → IsKind text kind →
+    pos (digits_value 10 text) ≤ℤ LARGEST_NUMBER
+number_fits text (token.Name n) digits is =
+    absurd (clash text letter digit (word_class text (name_is_word text is.0)) (digits_class text digits) (λ e. cc))
+number_fits text (token.Number n) digits is =
+    let P : ℤ → Type 0 = λ value. value ≤ℤ LARGEST_NUMBER in
+    subst P is.1 is.2
+number_fits text (token.Word n) digits is =
+    absurd (clash text letter digit (ap class_of is ∙ word_text_class n) (digits_class text digits) (λ e. cc))
+number_fits text (token.Symbol n) digits is =
+    absurd (clash text other digit (ap class_of is ∙ symbol_text_class n) (digits_class text digits) (λ e. cc))
+
+not_above : (n m : ℕ) → n ≡ m → pos n ≤ℤ LARGEST_NUMBER → ¬ (LARGEST_NUMBER <ℤ pos m)
+not_above n m same low high = grind (arith, ints)
 
 pub all_digits : (text : List ℕ) → AreDigits text → list_all is_ascii_digit text ≡ true
 all_digits [] is = absurd is
@@ -220,15 +254,21 @@ no_more_digits digits (byte ∷ more) after rest all is stops =
 
 -- the digits of a bad number are those of the lexeme there
 bad_run : (text digits after after' : List ℕ) → IsLongest text after → AreDigits text → AreDigits digits
-    → ¬ FirstIs (λ byte. IsTrue (is_ascii_digit byte)) after' → text ++ after ≡ digits ++ after' → (text ≡ digits) × (after ≡ after')
+    → ¬ FirstIs (λ byte. IsTrue (is_ascii_digit byte)) after' → text ++ after ≡ digits ++ after' →
+    (text ≡ digits) × (after ≡ after')
 bad_run text digits after after' longest all all' stops same =
     same_front text digits after after' same
-    (λ more is rest. no_more_digits digits more after after' (let P : List ℕ → Type 0 = AreDigits in subst P is all) rest stops)
-    (λ more is rest. longest.longest more after' rest (inr (inl (let P : List ℕ → Type 0 = AreDigits in subst P is all'))))
+    (λ more is rest. no_more_digits digits more after after' (let P : List ℕ → Type 0 = AreDigits in subst P is all)
+    rest stops)
+    (λ more is rest. longest.longest more after' rest
+    (inr (inl (let P : List ℕ → Type 0 = AreDigits in subst P is all'))))
 
-pub bad_number_no_piece : (text : List ℕ) (p : Piece) (after : List ℕ) → BeginsBadNumber text → text ≡ piece_text p ++ after → ¬ IsPieceBefore p after
+pub bad_number_no_piece : (text : List ℕ) (p : Piece) (after : List ℕ) → BeginsBadNumber text →
+    text ≡ piece_text p ++ after → ¬ IsPieceBefore p after
 bad_number_no_piece text (skipped a) after bad is piece =
-    let there : class_of text ≡ digit = ap class_of bad.written ∙ class_of_front bad.digits bad.after digit (digits_class bad.digits bad.are_digits) (λ e. cc) in
+    let there : class_of text ≡ digit =
+    ap class_of bad.written
+    ∙ class_of_front bad.digits bad.after digit (digits_class bad.digits bad.are_digits) (λ e. cc) in
     elim piece [
       | inl one ↦ clash text blank digit (ap class_of is ∙ blank_whole a after one) there (λ e. cc)
       | inr one ↦ (
@@ -239,7 +279,9 @@ bad_number_no_piece text (skipped a) after bad is piece =
           ])
     ]
 bad_number_no_piece text (lexeme a kind) after bad is piece =
-    let there : class_of text ≡ digit = ap class_of bad.written ∙ class_of_front bad.digits bad.after digit (digits_class bad.digits bad.are_digits) (λ e. cc) in
+    let there : class_of text ≡ digit =
+    ap class_of bad.written
+    ∙ class_of_front bad.digits bad.after digit (digits_class bad.digits bad.are_digits) (λ e. cc) in
     let longest : IsLongest a after = piece.1 in
     let here = lexeme_whole a after digit longest.lexeme (sym (ap class_of is) ∙ there) in
     let all = is_digits a longest.lexeme here in
@@ -247,8 +289,9 @@ bad_number_no_piece text (lexeme a kind) after bad is piece =
     elim bad.bad [
       | inl large ↦ (
           let fits = number_fits a kind all piece.2 in
-          let same = ap (digits_value 10) cut.0 in omega arith)
-      | inr letter_next ↦ piece.3 all (let P : List ℕ → Type 0 = FirstIs (λ byte. IsTrue (starts_name byte)) in subst P (sym cut.1) letter_next)
+          absurd (not_above (digits_value 10 a) (digits_value 10 bad.digits) (ap (digits_value 10) cut.0) fits large))
+      | inr letter_next ↦ piece.3 all
+          (let P : List ℕ → Type 0 = FirstIs (λ byte. IsTrue (starts_name byte)) in subst P (sym cut.1) letter_next)
     ]
 
 -- ---- a piece has some bytes
@@ -265,7 +308,8 @@ lexeme_some text is none = elim is [
 comment_some : (text after : List ℕ) → Comment text after → text ≡ [] → ⊥
 comment_some text after is none = elim is [
   | inl line ↦ (let both : codes "//" ++ line.body ≡ [] = sym line.written ∙ none in cc)
-  | inr block ↦ (let both : codes "/*" ++ (block.body ++ codes "*/") ≡ [] = sym (block.written ∙ append_assoc (codes "/*") block.body (codes "*/")) ∙ none in cc)
+  | inr block ↦ (let both : codes "/*" ++ (block.body ++ codes "*/") ≡ [] =
+      sym (block.written ∙ append_assoc (codes "/*") block.body (codes "*/")) ∙ none in cc)
 ]
 
 pub piece_some : (p : Piece) (after : List ℕ) → IsPieceBefore p after → piece_text p ≡ [] → ⊥

@@ -1,10 +1,12 @@
 -- What blanks and comments make of the front of a text.
-use Rattle.std.proofs.Common.{◌≡◌, ◌≢◌, ℕ, suc, ◌+◌, ◌<◌, ◌≤◌, ◌⊎◌, inl, inr, Bool, true, false, cond, ◌==◌, not, List, [], ◌∷◌, ◌++◌, length, take, drop, get_or, codes, refl, sym, ap, ◌∙◌, subst, arith}
+use Rattle.std.proofs.Common.{◌≡◌, ◌≢◌, ℕ, suc, ◌+◌, ◌<◌, ◌≤◌, ◌⊎◌, inl, inr, Bool, true, false, cond, ◌==◌, not, List}
+use Rattle.std.proofs.Common.{[], ◌∷◌, ◌++◌, length, take, drop, get_or, codes, refl, sym, ap, ◌∙◌, subst, arith}
 use Rattle.std.specs.Prelude.{Contains}
 use Rattle.std.specs.List.{position_or_len, count_by}
 use Rattle.std.proofs.lemmas.Bool.{cases_lt}
 use Rattle.std.proofs.lemmas.Bool.Decides.{nat_tests}
-use Rattle.std.proofs.lemmas.List.{take_more, drop_more, drop_all, get_or-take, length-take-le, length-take, append_assoc, append_cancel_left}
+use Rattle.std.proofs.lemmas.List.{take_more, drop_more, drop_all, get_or-take, length-take-le, length-take}
+use Rattle.std.proofs.lemmas.List.{append_assoc, append_cancel_left}
 use Rattle.std.proofs.lemmas.List.Sums.{prefix_len_passes, prefix_len_stops, sum_by-cons}
 use Rattle.jif_lex.specs.Tokens.{line_feeds, FirstIs, IsLineComment, IsBlockComment}
 use Rattle.jif_lex.specs.Lexing.{HasFront, LacksFront, IsSkipped, EndsFirst}
@@ -25,7 +27,8 @@ end_length : (before rest : List ℕ) → length (before ++ codes "*/" ++ rest) 
 end_length [] rest = omega arith
 end_length (x ∷ before) rest = omega (arith, end_length before rest)
 
-no_earlier : (text before rest : List ℕ) (place : ℕ) → place < length text → take (place + 1) text ≡ before ++ codes "*/" ++ rest
+no_earlier : (text before rest : List ℕ) (place : ℕ) → place < length text →
+    take (place + 1) text ≡ before ++ codes "*/" ++ rest
     → ((k : ℕ) → k + 1 < place → get_or text k 0 ≡ 42 → get_or text (k + 1) 0 ≡ 47 → ⊥) → rest ≡ []
 no_earlier text before [] place within is earlier = refl
 no_earlier text before (x ∷ rest) place within is earlier =
@@ -33,21 +36,25 @@ no_earlier text before (x ∷ rest) place within is earlier =
     let long : place + 1 ≡ length before + 2 + length (x ∷ rest) =
     sym (length-take-le (place + 1) text (omega arith)) ∙ ap length is ∙ end_length before (x ∷ rest) in
     let star : get_or text k 0 ≡ 42 =
-    sym (get_or-take (place + 1) text k 0 (omega arith)) ∙ ap (λ (t : List ℕ). get_or t k 0) is ∙ star_at before (x ∷ rest) in
+    sym (get_or-take (place + 1) text k 0 (omega arith)) ∙ ap (λ (t : List ℕ). get_or t k 0) is
+    ∙ star_at before (x ∷ rest) in
     let slash : get_or text (suc k) 0 ≡ 47 =
-    sym (get_or-take (place + 1) text (suc k) 0 (omega arith)) ∙ ap (λ (t : List ℕ). get_or t (suc k) 0) is ∙ slash_at before (x ∷ rest) in
+    sym (get_or-take (place + 1) text (suc k) 0 (omega arith)) ∙ ap (λ (t : List ℕ). get_or t (suc k) 0) is
+    ∙ slash_at before (x ∷ rest) in
     let next : k + 1 ≡ suc k = omega arith in
     absurd (earlier k (omega arith) star (ap (λ (i : ℕ). get_or text i 0) next ∙ slash))
 
 -- the first `*/` ends at this place
-pub ends_first : (text : List ℕ) (q place : ℕ) → q + 1 ≡ place → place < length text → get_or text q 0 ≡ 42 → get_or text place 0 ≡ 47
+pub ends_first : (text : List ℕ) (q place : ℕ) → q + 1 ≡ place → place < length text → get_or text q 0 ≡ 42 →
+    get_or text place 0 ≡ 47
     → ((k : ℕ) → k + 1 < place → get_or text k 0 ≡ 42 → get_or text (k + 1) 0 ≡ 47 → ⊥)
     → EndsFirst (take (place + 1) text) (drop (place + 1) text)
 ends_first text q place is within star slash earlier =
     let last : take (place + 1) text ≡ take place text ++ 47 ∷ [] =
     take_more text place 0 within ∙ ap (λ (c : ℕ). take place text ++ c ∷ []) slash in
     let before : take place text ≡ take q text ++ 42 ∷ [] =
-    sym (ap (λ (i : ℕ). take i text) is) ∙ take_more text q 0 (omega arith) ∙ ap (λ (c : ℕ). take q text ++ c ∷ []) star in
+    sym (ap (λ (i : ℕ). take i text) is) ∙ take_more text q 0 (omega arith)
+    ∙ ap (λ (c : ℕ). take q text ++ c ∷ []) star in
     let whole : take (place + 1) text ≡ take q text ++ codes "*/" =
     last ∙ ap (λ (t : List ℕ). t ++ 47 ∷ []) before ∙ append_assoc (take q text) (42 ∷ []) (47 ∷ []) in
     (take q text, whole, λ front rest same. no_earlier text front rest place within (whole ∙ same) earlier)
@@ -77,11 +84,14 @@ line_lacks body found =
     let fails : p (get_or body k 10) ≡ false = ap p here in
     let never : true ≡ false = sym passes ∙ fails in cc
 
-line_end : (body : List ℕ) (n : ℕ) → n ≡ position_or_len (λ byte. byte == 10) body → (drop n body ≡ []) ⊎ FirstIs (λ byte. byte ≡ 10) (drop n body)
+line_end : (body : List ℕ) (n : ℕ) → n ≡ position_or_len (λ byte. byte == 10) body →
+    (drop n body ≡ []) ⊎ FirstIs (λ byte. byte ≡ 10) (drop n body)
 line_end body n is = elim (cases_lt n (length body)) [
   | inl within ↦ (
       let p : ℕ → Bool = λ byte. not (byte == 10) in
-      let stops : p (get_or body n 0) ≡ false = ap (λ (k : ℕ). p (get_or body k 0)) is ∙ prefix_len_stops p body 0 (let P : ℕ → Type 0 = λ k. k < length body in subst P is within) in
+      let stops : p (get_or body n 0) ≡ false =
+      ap (λ (k : ℕ). p (get_or body k 0)) is
+      ∙ prefix_len_stops p body 0 (let P : ℕ → Type 0 = λ k. k < length body in subst P is within) in
       let ten : get_or body n 0 ≡ 10 = grind (arith, nat_tests) in
       let P : List ℕ → Type 0 = FirstIs (λ byte. byte ≡ 10) in
       inr (subst P (sym (drop_more body n 0 within)) ten))
@@ -90,14 +100,16 @@ line_end body n is = elim (cases_lt n (length body)) [
 
 -- ---- the front of a text
 
-two_more : (a b : ℕ) (body : List ℕ) (n : ℕ) (P : List ℕ → List ℕ → Type 0) → n ≤ length body → P (a ∷ b ∷ take n body) (drop n body) → HasFront (a ∷ b ∷ body) (2 + n) P
+two_more : (a b : ℕ) (body : List ℕ) (n : ℕ) (P : List ℕ → List ℕ → Type 0) → n ≤ length body →
+    P (a ∷ b ∷ take n body) (drop n body) → HasFront (a ∷ b ∷ body) (2 + n) P
 two_more a b body n P within is =
     let e : suc (suc n) ≡ 2 + n = omega arith in
     let Q : ℕ → Type 0 = λ k. P (take k (a ∷ b ∷ body)) (drop k (a ∷ b ∷ body)) in
     (omega arith, subst Q e is)
 
 -- a comment of one line is skipped
-pub line_front : (text body : List ℕ) (n : ℕ) → text ≡ codes "//" ++ body → n ≡ position_or_len (λ byte. byte == 10) body → n ≤ length body → HasFront text (2 + n) IsSkipped
+pub line_front : (text body : List ℕ) (n : ℕ) → text ≡ codes "//" ++ body →
+    n ≡ position_or_len (λ byte. byte == 10) body → n ≤ length body → HasFront text (2 + n) IsSkipped
 line_front text body n is len within =
     let P : List ℕ → Type 0 = λ t. HasFront t (2 + n) IsSkipped in
     let Q : ℕ → Type 0 = λ k. ¬ Contains (take k body) 10 in
@@ -110,7 +122,8 @@ line_front text body n is len within =
     subst P (sym is) (two_more 47 47 body n IsSkipped within (inr (inl comment)))
 
 -- a comment of many lines is skipped
-pub block_front : (text body : List ℕ) (n : ℕ) → text ≡ codes "/*" ++ body → HasFront body n EndsFirst → HasFront text (2 + n) IsSkipped
+pub block_front : (text body : List ℕ) (n : ℕ) → text ≡ codes "/*" ++ body → HasFront body n EndsFirst →
+    HasFront text (2 + n) IsSkipped
 block_front text body n is ends =
     let P : List ℕ → Type 0 = λ t. HasFront t (2 + n) IsSkipped in
     let comment : IsBlockComment (47 ∷ 42 ∷ take n body) = record {
@@ -121,13 +134,18 @@ block_front text body n is ends =
     subst P (sym is) (two_more 47 42 body n IsSkipped ends.0 (inr (inr comment)))
 
 -- a comment that has no end is not skipped
-pub open_lacks : (text body : List ℕ) → text ≡ codes "/*" ++ body → ((inside rest : List ℕ) → body ≢ inside ++ codes "*/" ++ rest) → LacksFront text IsSkipped
+pub open_lacks : (text body : List ℕ) → text ≡ codes "/*" ++ body →
+    ((inside rest : List ℕ) → body ≢ inside ++ codes "*/" ++ rest) → LacksFront text IsSkipped
 open_lacks text body is never front after same piece = elim piece [
-  | inl one ↦ (let there = sym (ap class_of is) ∙ ap class_of same ∙ class_of_front front after blank (blank_class front one) (λ e. cc) in let both : other ≡ blank = there in cc)
+  | inl one ↦ (let there =
+      sym (ap class_of is) ∙ ap class_of same
+      ∙ class_of_front front after blank (blank_class front one) (λ e. cc) in let both : other ≡ blank = there in cc)
   | inr b ↦ elim b [
-    | inl line ↦ (let both : codes "/*" ++ body ≡ codes "//" ++ (line.body ++ after) = sym is ∙ same ∙ line_opens front after line in cc)
+    | inl line ↦ (let both : codes "/*" ++ body ≡ codes "//" ++ (line.body ++ after) =
+        sym is ∙ same ∙ line_opens front after line in cc)
     | inr block ↦ (
-        let both : codes "/*" ++ body ≡ codes "/*" ++ ((block.body ++ codes "*/") ++ after) = sym is ∙ same ∙ block_opens front after block in
+        let both : codes "/*" ++ body ≡ codes "/*" ++ ((block.body ++ codes "*/") ++ after) =
+        sym is ∙ same ∙ block_opens front after block in
         never block.body after (append_cancel_left (codes "/*") body ((block.body ++ codes "*/") ++ after) both))
   ]
 ]
@@ -137,4 +155,5 @@ open_lacks text body is never front after same piece = elim piece [
 pub line_feeds_count : (bytes : List ℕ) → line_feeds bytes ≡ count_by (λ byte. byte == 10) bytes
 line_feeds_count [] = refl
 line_feeds_count (byte ∷ bytes) =
-    ap (λ (n : ℕ). cond (byte == 10) 1 0 + n) (line_feeds_count bytes) ∙ sym (sum_by-cons (λ (x : ℕ). cond (x == 10) 1 0) byte bytes)
+    ap (λ (n : ℕ). cond (byte == 10) 1 0 + n) (line_feeds_count bytes)
+    ∙ sym (sum_by-cons (λ (x : ℕ). cond (x == 10) 1 0) byte bytes)

@@ -1,37 +1,16 @@
--- Words and numbers as texts.
-use Rattle.std.proofs.Common.{◌≡◌, ◌≢◌, ℕ, ◌^◌, ◌<◌, Bool, true, false, ◌&&◌, not, List, [], ◌∷◌, length, Option, Result, Ok, Err, ℤ, pos, inl, inr, refl, arith, rules}
-use Rattle.std.specs.Prelude.{IfNone}
-use Rattle.std.specs.Result.{OkIff, result_ok}
+-- Words as texts.
+use Rattle.std.proofs.Common.{◌≡◌, ◌≢◌, ℕ, false, ◌&&◌, not, List, [], ◌∷◌}
+use Rattle.std.proofs.Common.{refl}
 use Rattle.std.specs.List.{list_all, list_any}
-use Rattle.std.specs.Char.{is_ascii_digit}
-use Rattle.std.specs.Str.{IsAscii, IsUtf8, bytes_eq}
-use Rattle.std.specs.Str.Parse.{digits_value, ParsesSigned}
-use Rattle.std.proofs.lemmas.Str.{IsUtf8-from_ascii}
-use Rattle.std.proofs.lemmas.Str.Ascii.{IsAscii-nil, IsAscii-cons}
-use Rattle.std.proofs.lemmas.Str.Parse.{IsNumeralModel, numerals_by_value, parse_signed_digits}
+use Rattle.std.specs.Str.{bytes_eq}
 use Rattle.std.proofs.lemmas.Slice.Eq.{bytes_eq-Decides}
-use Rattle.std.proofs.lemmas.Bool.{and_parts, and_from, or_from, false_from_ne_true, not_from_false, cases_lt}
-use Rattle.std.proofs.lemmas.Bool.Decides.{nat_tests}
-use mir.Syntax.{w64}
+use Rattle.std.proofs.lemmas.Bool.{and_from, or_from, false_from_ne_true, not_from_false}
 use Rattle.js_base.specs.Name.{IsName, starts_name, continues_name, keywords}
 use Rattle.jif_lex.specs.declared.token.Word.{Word}
-use Rattle.jif_lex.specs.declared.token.Word.TheVariants.{Int, Void, If, Else, While, Return, Where, Authority, Declassify, Endorse}
+use Rattle.jif_lex.specs.declared.token.Word.TheVariants.{Int, Void, If, Else, While, Return, Where, Authority}
+use Rattle.jif_lex.specs.declared.token.Word.TheVariants.{Declassify, Endorse}
 use Rattle.jif_lex.specs.Symbols.{word_text}
-use Rattle.jif_lex.specs.Tokens.{IsWordLike, AreDigits}
-use Rattle.jif_lex.proofs.Pieces.{all_digits}
-
-digit_ascii : (byte : ℕ) → is_ascii_digit byte ≡ true → byte < 128
-digit_ascii byte is = grind (arith, nat_tests)
-
-list_ascii : (p : ℕ → Bool) → ((byte : ℕ) → p byte ≡ true → byte < 128) → (text : List ℕ) → list_all p text ≡ true → IsAscii text
-list_ascii p low [] all = IsAscii-nil
-list_ascii p low (byte ∷ bytes) all =
-    let parts = and_parts (p byte) (list_all p bytes) all in
-    IsAscii-cons byte bytes (low byte parts.0) (list_ascii p low bytes parts.1)
-
--- digits are a text
-pub digits_IsUtf8 : (text : List ℕ) → AreDigits text → IsUtf8 text
-digits_IsUtf8 text is = IsUtf8-from_ascii text (list_ascii is_ascii_digit digit_ascii text (all_digits text is))
+use Rattle.jif_lex.specs.Tokens.{IsWordLike}
 
 -- what is like a word and is no keyword is a name
 pub name_from_word : (text : List ℕ) → IsWordLike text → ((word : Word) → text ≢ word_text word) → IsName text
@@ -39,28 +18,14 @@ name_from_word [] is none = absurd is
 name_from_word (byte ∷ bytes) is none =
     let text : List ℕ = byte ∷ bytes in
     let lacks : (word : Word) → bytes_eq text (word_text word) ≡ false =
-    λ word. false_from_ne_true (bytes_eq text (word_text word)) (λ e. none word ((bytes_eq-Decides text (word_text word)).0 e)) in
+    λ word. false_from_ne_true (bytes_eq text (word_text word))
+    (λ e. none word ((bytes_eq-Decides text (word_text word)).0 e)) in
     let no_keyword : list_any (bytes_eq text) keywords ≡ false =
-    or_from _ _ (lacks Int) (or_from _ _ (lacks Void) (or_from _ _ (lacks If) (or_from _ _ (lacks Else) (or_from _ _ (lacks While)
-    (or_from _ _ (lacks Return) (or_from _ _ (lacks Where) (or_from _ _ (lacks Authority) (or_from _ _ (lacks Declassify) (or_from _ _ (lacks Endorse) refl))))))))) in
+    or_from _ _ (lacks Int) (or_from _ _ (lacks Void)
+    (or_from _ _ (lacks If) (or_from _ _ (lacks Else) (or_from _ _ (lacks While)
+    (or_from _ _ (lacks Return)
+    (or_from _ _ (lacks Where)
+    (or_from _ _ (lacks Authority) (or_from _ _ (lacks Declassify) (or_from _ _ (lacks Endorse) refl))))))))) in
     and_from (starts_name byte && list_all continues_name bytes) (not (list_any (bytes_eq text) keywords))
     (and_from (starts_name byte) (list_all continues_name bytes) is.0 is.1)
     (not_from_false (list_any (bytes_eq text) keywords) no_keyword)
-
--- ---- the value of digits
-
-numerals : IsNumeralModel (λ digits. list_all is_ascii_digit digits ≡ true) (digits_value 10)
-numerals = numerals_by_value (λ digits. list_all is_ascii_digit digits ≡ true) (search rules)
-
-digits_some : (text : List ℕ) → AreDigits text → 0 < length text
-digits_some [] is = absurd is
-digits_some (byte ∷ bytes) is = omega arith
-
-too_large : {E : Type 0} (r : Result ℤ E) (o : Option ℤ) (long value : ℕ) → OkIff r ((0 < long) × (value < 2 ^ 63)) (pos value) → 0 < long → o ≡ result_ok r → IfNone o (9223372036854775807 < value)
-too_large (Ok x) o long value is some same = rw same tt
-too_large (Err e) o long value is some same = rw same (elim (cases_lt value (2 ^ 63)) [ inl below ↦ absurd (is (some, below)) | inr above ↦ omega arith ])
-
--- digits that are not read are too large
-pub number_too_large : {E : Type 0} (text : List ℕ) (r : Result ℤ E) (o : Option ℤ) → AreDigits text → ParsesSigned w64 10 text r → o ≡ result_ok r → IfNone o (9223372036854775807 < digits_value 10 text)
-number_too_large text r o digits parses same =
-    too_large r o (length text) (digits_value 10 text) (parse_signed_digits numerals w64 text r parses (all_digits text digits)) (digits_some text digits) same

@@ -2,6 +2,7 @@
 use Rattle.std.specs.Prelude.{◌≡◌, ℕ, ◌<◌, ◌≤◌, ◌⊎◌, List, [], ◌∷◌, ◌++◌, length, take, drop, IsTrue, codes, ⊤}
 use Rattle.std.specs.Char.{is_ascii_digit}
 use Rattle.js_base.specs.Name.{starts_name}
+use Rattle.js_base.specs.declared.limits.TheConstants.{PROGRAM_BYTES}
 use Rattle.jif_lex.specs.declared.token.Token.{Token}
 use Rattle.jif_lex.specs.declared.token.TokenKind.{TokenKind}
 use Rattle.jif_lex.specs.declared.token.Symbol as symbol
@@ -10,7 +11,8 @@ use Rattle.jif_lex.specs.declared.lexer.LexError.TheVariants.{OutOfMemory, BadBy
 use Rattle.jif_lex.specs.declared.lexer.Front.{Front}
 use Rattle.jif_lex.specs.declared.lexer.Front.TheVariants.{Skipped, Lexeme}
 use Rattle.jif_lex.specs.Symbols.{symbol_text}
-use Rattle.jif_lex.specs.Tokens.{line_feeds, IsPieceBefore, skipped, lexeme, IsLexeme, IsSymbol, FirstIs, BeginsBadNumber, BeginsBadByte, ReadsAs, bad_byte, bad_number}
+use Rattle.jif_lex.specs.Tokens.{line_feeds, IsPieceBefore, skipped, lexeme, IsLexeme, IsSymbol, FirstIs}
+use Rattle.jif_lex.specs.Tokens.{BeginsBadNumber, BeginsBadByte, ReadsAs, bad_byte, bad_number}
 
 -- the first bytes, so many, and the others are in the relation
 abbrev pub HasFront : List ℕ → ℕ → (List ℕ → List ℕ → Type 0) → Type 0
@@ -81,6 +83,6 @@ FailsAt text at TooLong = ⊥
 -- why a text has no tokens
 abbrev pub LexFails : List ℕ → LexError → Type 0
 LexFails text OutOfMemory = ⊤
-LexFails text (BadByte at) = (length text ≤ 1048576) × ReadsAs text (bad_byte at)
-LexFails text (BadNumber at) = (length text ≤ 1048576) × ReadsAs text (bad_number at)
-LexFails text TooLong = 1048576 < length text
+LexFails text (BadByte at) = (length text ≤ PROGRAM_BYTES) × ReadsAs text (bad_byte at)
+LexFails text (BadNumber at) = (length text ≤ PROGRAM_BYTES) × ReadsAs text (bad_number at)
+LexFails text TooLong = PROGRAM_BYTES < length text

@@ -1,9 +1,14 @@
 -- How the keywords and the symbols of the language are written.
 use Rattle.std.specs.Prelude.{ℕ, List, codes}
 use Rattle.jif_lex.specs.declared.token.Word.{Word}
-use Rattle.jif_lex.specs.declared.token.Word.TheVariants.{Int, Void, If, Else, While, Return, Where, Authority, Declassify, Endorse}
+use Rattle.jif_lex.specs.declared.token.Word.TheVariants.{Int, Void, If, Else, While, Return, Where, Authority}
+use Rattle.jif_lex.specs.declared.token.Word.TheVariants.{Declassify, Endorse}
 use Rattle.jif_lex.specs.declared.token.Symbol.{Symbol}
-use Rattle.jif_lex.specs.declared.token.Symbol.TheVariants.{LeftBrace, RightBrace, LeftParenthesis, RightParenthesis, LeftBracket, RightBracket, Semicolon, Colon, Comma, Question, Assign, Equal, NotEqual, Less, LessOrEqual, Greater, GreaterOrEqual, Plus, Minus, Star, Slash, Percent, Not, And, Or}
+use Rattle.jif_lex.specs.declared.token.Symbol.TheVariants.{LeftBrace, RightBrace, LeftParenthesis, RightParenthesis}
+use Rattle.jif_lex.specs.declared.token.Symbol.TheVariants.{LeftBracket, RightBracket, Semicolon, Colon, Comma}
+use Rattle.jif_lex.specs.declared.token.Symbol.TheVariants.{Question, Assign, Equal, NotEqual, Less, LessOrEqual}
+use Rattle.jif_lex.specs.declared.token.Symbol.TheVariants.{Greater, GreaterOrEqual, Plus, Minus, Star, Slash, Percent}
+use Rattle.jif_lex.specs.declared.token.Symbol.TheVariants.{Not, And, Or}
 
 abbrev pub word_text : Word → List ℕ
 word_text Int = codes "int"

@@ -1,10 +1,13 @@
 -- Which tokens a text has. The text is cut into pieces: blanks and comments, which are skipped, and lexemes, which make
 -- the tokens. At each place stands the longest lexeme that there is. A text is the list of its bytes.
-use Rattle.std.specs.Prelude.{◌≡◌, ◌≢◌, ℕ, pos, ◌+◌, ◌<◌, ◌≤◌, ◌==◌, ◌⊎◌, List, [], ◌∷◌, ◌++◌, length, Contains, IsTrue, codes, if◌then◌else◌}
+use Rattle.std.specs.Prelude.{◌≡◌, ◌≢◌, ℕ, pos, ◌+◌, ◌≤ℤ◌, ◌<ℤ◌, ◌==◌, ◌⊎◌, List, [], ◌∷◌, ◌++◌, length, Contains}
+use Rattle.std.specs.Prelude.{IsTrue, codes, if◌then◌else◌}
 use Rattle.std.specs.List.{list_all}
 use Rattle.std.specs.Char.{is_ascii_digit}
 use Rattle.std.specs.Str.Parse.{digits_value}
 use Rattle.js_base.specs.Name.{IsName, starts_name, continues_name}
+use Rattle.js_base.specs.declared.limits.TheConstants.{LARGEST_NUMBER}
+use Rattle.js_base.specs.declared.text.TheConstants.{LINE_FEED}
 use Rattle.jif_lex.specs.declared.token.Token.{Token}
 use Rattle.jif_lex.specs.declared.token.TokenKind.{TokenKind}
 use Rattle.jif_lex.specs.declared.token.TokenKind.TheVariants.{Name, Number, Word, Symbol}
@@ -43,7 +46,7 @@ FirstIs P (byte ∷ bytes) = P byte
 -- which token a lexeme is
 abbrev pub IsKind : List ℕ → TokenKind → Type 0
 IsKind text (Name name) = IsName text × (name ≡ text)
-IsKind text (Number value) = AreDigits text × (value ≡ pos (digits_value 10 text)) × (digits_value 10 text ≤ 9223372036854775807)
+IsKind text (Number value) = AreDigits text × (value ≡ pos (digits_value 10 text)) × (value ≤ℤ LARGEST_NUMBER)
 IsKind text (Word word) = text ≡ word_text word
 IsKind text (Symbol kind) = text ≡ symbol_text kind
 
@@ -57,8 +60,8 @@ IsBlank text = (text ≡ codes " ") ⊎ (text ≡ codes "\t") ⊎ (text ≡ code
 pub record IsLineComment (text after : List ℕ) : Type 0 where
   pub body : List ℕ
   pub written : text ≡ codes "//" ++ body
-  pub one_line : ¬ Contains body 10
-  pub to_its_end : (after ≡ []) ⊎ FirstIs (λ byte. byte ≡ 10) after
+  pub one_line : ¬ Contains body LINE_FEED
+  pub to_its_end : (after ≡ []) ⊎ FirstIs (λ byte. byte ≡ LINE_FEED) after
 
 -- `/*`, what follows it, and the first `*/` after the `/*`
 pub record IsBlockComment (text : List ℕ) : Type 0 where
@@ -100,13 +103,14 @@ pieces_length (piece ∷ pieces) = length (piece_text piece) + pieces_length pie
 
 abbrev pub line_feeds : List ℕ → ℕ
 line_feeds [] = 0
-line_feeds (byte ∷ bytes) = (if byte == 10 then 1 else 0) + line_feeds bytes
+line_feeds (byte ∷ bytes) = (if byte == LINE_FEED then 1 else 0) + line_feeds bytes
 
 -- the tokens of the pieces, where the first piece stands at this place, from 0, and on this line, from 1
 abbrev pub tokens_of : ℕ → ℕ → List Piece → List Token
 tokens_of at line [] = []
 tokens_of at line (skipped text ∷ pieces) = tokens_of (at + length text) (line + line_feeds text) pieces
-tokens_of at line (lexeme text kind ∷ pieces) = (record { kind = kind; at = at; line = line }) ∷ tokens_of (at + length text) line pieces
+tokens_of at line (lexeme text kind ∷ pieces) =
+    (record { kind = kind; at = at; line = line }) ∷ tokens_of (at + length text) line pieces
 
 -- ---- the reading of a text
 
@@ -117,7 +121,7 @@ pub record BeginsBadNumber (text : List ℕ) : Type 0 where
   pub written : text ≡ digits ++ after
   pub are_digits : AreDigits digits
   pub whole_run : ¬ FirstIs (λ byte. IsTrue (is_ascii_digit byte)) after
-  pub bad : (9223372036854775807 < digits_value 10 digits) ⊎ FirstIs (λ byte. IsTrue (starts_name byte)) after
+  pub bad : (LARGEST_NUMBER <ℤ pos (digits_value 10 digits)) ⊎ FirstIs (λ byte. IsTrue (starts_name byte)) after
 
 -- There is a next byte, and with it begins neither a piece nor a bad number. So it is a byte that is in no lexeme, or
 -- it opens a comment that has no end.
@@ -137,4 +141,5 @@ ReadsAs text (tokens list) = (pieces : List Piece) × CutsTo text pieces [] × (
 ReadsAs text (bad_byte at) =
     (pieces : List Piece) × (rest : List ℕ) × CutsTo text pieces rest × BeginsBadByte rest × (at ≡ pieces_length pieces)
 ReadsAs text (bad_number at) =
-    (pieces : List Piece) × (rest : List ℕ) × CutsTo text pieces rest × BeginsBadNumber rest × (at ≡ pieces_length pieces)
+    (pieces : List Piece) × (rest : List ℕ) × CutsTo text pieces rest × BeginsBadNumber rest
+    × (at ≡ pieces_length pieces)

@@ -1,7 +1,11 @@
+//! Laws of tokens, for whoever reasons about them. The calls do nothing.
+
 ghost use Rattle.std.specs.Prelude.{◌≡◌, ◌≤◌, ℕ, List, length};
 ghost use Rattle.jif_lex.specs.declared.token.Token.{Token};
 ghost use Rattle.jif_lex.specs.Tokens.{Reading, ReadsAs, tokens};
 ghost use Rattle.jif_lex.specs.TokenLists.{AreTokens};
+
+use js_base::limits::PROGRAM_BYTES;
 
 /// A text has one reading only: the same tokens, or the same fault at the same place.
 pub fn lex_laws()
@@ -10,5 +14,6 @@ pub fn lex_laws()
 
 /// The tokens of a text that is not too long are few, and each is small.
 pub fn token_laws()
-    ensures { (text : List ℕ) (list : List Token) → length text ≤ 1048576 → ReadsAs text (tokens list) → AreTokens list }
+    ensures { (text : List ℕ) (list : List Token) →
+        length text ≤ PROGRAM_BYTES → ReadsAs text (tokens list) → AreTokens list }
 {}

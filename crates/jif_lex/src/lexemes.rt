@@ -18,10 +18,7 @@ pub fn first_lexeme(alloc: Global, text: &[u8], at: u32) -> Result<(TokenKind, u
     ensures { MatchResult result (λ found. HasFront text.now found.1 (IsTokenFront found.0)) (LexemeFails text.now at) }
 {
     if begins_word(text) {
-        return match first_word(alloc, text) {
-            Ok(found) => Ok(found),
-            Err(OutOfMemory) => Err(LexError::OutOfMemory),
-        };
+        return Ok(first_word(alloc, text)?);
     }
     if begins_digits(text) {
         return match first_number(text) {

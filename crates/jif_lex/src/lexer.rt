@@ -1,3 +1,5 @@
+//! The tokens of a text, one after the other.
+
 ghost use Rattle.std.specs.Prelude.{◌≡◌, ◌≢◌, ◌≤◌, length, [], MatchResult};
 ghost use Rattle.jif_lex.specs.Tokens.{ReadsAs, tokens, line_feeds};
 ghost use Rattle.jif_lex.specs.Lexing.{LexFails, IsFront, IsTaken, FailsAt};
@@ -5,8 +7,10 @@ ghost use Rattle.jif_lex.specs.Lexing.{LexFails, IsFront, IsTaken, FailsAt};
 use crate::lexemes::first_lexeme;
 use crate::skipped::{opens_comment, skipped_len};
 use crate::{Token, TokenKind};
+use js_base::OutOfMemory;
 use js_base::limits::PROGRAM_BYTES;
-use std::alloc::Global;
+use js_base::text::LINE_FEED;
+use std::alloc::{AllocFailed, Global};
 use thiserror::Error;
 
 /// Why a text has no tokens.
@@ -17,13 +21,34 @@ pub enum LexError {
     /// The place, from 0, of the first byte that begins no token and is not skipped, or of a `/*` that is never closed.
     #[error("byte {0}: begins no token")]
     BadByte(u32),
-    /// The place, from 0, of a run of digits that is above 9,223,372,036,854,775,807, or that a letter or `_` follows
-    /// at once.
+    /// The place, from 0, of a run of digits that is above `LARGEST_NUMBER`, or that a letter or `_` follows at once.
     #[error("byte {0}: no number")]
     BadNumber(u32),
-    /// It has more than 1,048,576 bytes.
+    /// It has more than `PROGRAM_BYTES` bytes.
     #[error("too long")]
     TooLong,
+}
+
+impl From<OutOfMemory> for LexError {
+    ghost use Rattle.std.specs.Prelude.{◌≡◌};
+    ghost use Rattle.jif_lex.specs.declared.lexer.LexError.TheVariants.{OutOfMemory};
+
+    ghost from_gives = { λ _ error. error ≡ OutOfMemory };
+
+    fn from(_error: OutOfMemory) -> Self {
+        LexError::OutOfMemory
+    }
+}
+
+impl<T: Drop> From<AllocFailed<T>> for LexError {
+    ghost use Rattle.std.specs.Prelude.{◌≡◌};
+    ghost use Rattle.jif_lex.specs.declared.lexer.LexError.TheVariants.{OutOfMemory};
+
+    ghost from_gives = { λ _ error. error ≡ OutOfMemory };
+
+    fn from(_error: AllocFailed<T>) -> Self {
+        LexError::OutOfMemory
+    }
 }
 
 /// What a text begins with, of so many bytes.
@@ -38,7 +63,7 @@ pub enum Front {
 /// The tokens of a program's text.
 pub fn lex(alloc: Global, bytes: &[u8]) -> Result<Vec<Token>, LexError>
     ensures { MatchResult result
-        (λ list. (length bytes.now ≤ 1048576) × ReadsAs bytes.now (tokens list.items))
+        (λ list. (length bytes.now ≤ PROGRAM_BYTES) × ReadsAs bytes.now (tokens list.items))
         (LexFails bytes.now) }
 {
     if bytes.len() > PROGRAM_BYTES {
@@ -67,7 +92,7 @@ fn take_piece(
     found: &mut Vec<Token>,
 ) -> Result<(usize, u32), LexError>
     requires some { text.now ≢ [] }
-    requires short { length text.now ≤ 1048576 }
+    requires short { length text.now ≤ PROGRAM_BYTES }
     ensures { MatchResult result
         (λ taken. IsTaken text.now at line found.old.items found.new.items taken.0 taken.1)
         (FailsAt text.now at) }
@@ -75,9 +100,7 @@ fn take_piece(
     match first_piece(alloc, text, at)? {
         Front::Skipped(len) => Ok((len, line_feeds(&text[..len]))),
         Front::Lexeme(kind, len) => {
-            if found.push(Token { kind, at, line }).is_err() {
-                return Err(LexError::OutOfMemory);
-            }
+            found.push(Token { kind, at, line })?;
             Ok((len, 0))
         }
     }
@@ -100,8 +123,8 @@ fn first_piece(alloc: Global, text: &[u8], at: u32) -> Result<Front, LexError>
 
 /// How many line feeds there are.
 fn line_feeds(bytes: &[u8]) -> u32
-    requires { length bytes.now ≤ 1048576 }
+    requires { length bytes.now ≤ PROGRAM_BYTES }
     ensures { result ≡ line_feeds bytes.now }
 {
-    bytes.iter().filter(|byte| **byte == b'\n').count() as u32
+    bytes.iter().filter(|byte| **byte == LINE_FEED).count() as u32
 }

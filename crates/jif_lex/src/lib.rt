@@ -8,8 +8,6 @@ mod name;
 mod numbers;
 mod skipped;
 mod symbols;
-#[cfg(test)]
-mod tests;
 mod token;
 mod words;
 

@@ -1,11 +1,14 @@
 //! Numbers.
 
-ghost use Rattle.std.specs.Prelude.{◌≡◌, ◌<◌, ◌≤◌, ◌↔◌, length, pos, IfSome, IfNone, IsTrue};
+ghost use Rattle.std.specs.Prelude.{◌≡◌, ◌≤◌, ◌↔◌, ◌≤ℤ◌, ◌<ℤ◌, length, pos, IfSome, IfNone, IsTrue};
 ghost use Rattle.std.specs.Char.{is_ascii_digit};
-ghost use Rattle.std.specs.List.{list_all, prefix_len};
+ghost use Rattle.std.specs.List.{prefix_len};
 ghost use Rattle.std.specs.Str.Parse.{digits_value};
 ghost use Rattle.jif_lex.specs.Tokens.{AreDigits};
 ghost use Rattle.jif_lex.specs.Lexing.{BeginsDigits};
+
+use js_base::digits::digits_value;
+use js_base::limits::LARGEST_NUMBER;
 
 /// Whether a text begins with a digit.
 pub fn begins_digits(text: &[u8]) -> bool
@@ -25,12 +28,11 @@ pub fn digits_len(text: &[u8]) -> usize
     text.iter().take_while(|byte| byte.is_ascii_digit()).count()
 }
 
-/// The number that digits write, where it is at most 9,223,372,036,854,775,807.
+/// The number that digits write, where it is at most `LARGEST_NUMBER`.
 pub fn number(digits: &[u8]) -> Option<i64>
     requires { AreDigits digits.now }
-    ensures some { IfSome result (λ value. (value ≡ pos (digits_value 10 digits.now)) × (digits_value 10 digits.now ≤ 9223372036854775807)) }
-    ensures none { IfNone result (9223372036854775807 < digits_value 10 digits.now) }
+    ensures some { IfSome result (λ value. (value ≡ pos (digits_value 10 digits.now)) × (value ≤ℤ LARGEST_NUMBER)) }
+    ensures none { IfNone result (LARGEST_NUMBER <ℤ pos (digits_value 10 digits.now)) }
 {
-    let text = str::from_utf8(digits).unwrap();
-    text.parse::<i64>().ok()
+    i64::try_from(digits_value(digits)?).ok()
 }

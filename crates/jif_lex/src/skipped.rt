@@ -1,9 +1,11 @@
 //! What is skipped: blanks and comments.
 
-ghost use Rattle.std.specs.Prelude.{◌≡◌, ◌≢◌, ◌==◌, ◌+◌, ◌≤◌, ◌++◌, ◌↔◌, ℕ, List, length, slice_range, codes, IfSome, IfNone, IsTrue};
-ghost use Rattle.std.specs.List.{position_or_len};
+ghost use Rattle.std.specs.Prelude.{◌≡◌, ◌≢◌, ◌==◌, ◌+◌, ◌≤◌, ◌++◌, ◌↔◌, ℕ, List, length, slice_range, codes, IfSome};
+ghost use Rattle.std.specs.Prelude.{IfNone, IsTrue};
 ghost use Rattle.jif_lex.specs.Tokens.{OpensComment};
 ghost use Rattle.jif_lex.specs.Lexing.{IsSkipped, HasFront, LacksFront, EndsFirst};
+
+use js_base::text::line_len;
 
 /// How many bytes the blank or the comment has that a text begins with.
 pub fn skipped_len(text: &[u8]) -> Option<usize>
@@ -27,14 +29,6 @@ pub fn opens_comment(text: &[u8]) -> bool
     ensures { IsTrue result ↔ OpensComment text.now }
 {
     text.starts_with(b"//".as_slice()) || text.starts_with(b"/*".as_slice())
-}
-
-/// How many bytes there are before the first line feed.
-fn line_len(text: &[u8]) -> usize
-    ensures len { result ≡ position_or_len (λ byte. byte == 10) text.now }
-    ensures within { result ≤ length text.now }
-{
-    text.iter().take_while(|byte| **byte != b'\n').count()
 }
 
 /// How many bytes there are up to the first `*/`, which they include.

@@ -1,3 +1,5 @@
+//! Tokens.
+
 ghost use Rattle.std.specs.Prelude.{◌≡◌, ◌↔◌, IsTrue};
 
 use crate::Name;

@@ -18,6 +18,8 @@ same_cut c (h ∷ a) [] x y a_lacks b_lacks is = absurd (a_lacks (Contains-at_he
 same_cut c (h ∷ a) (k ∷ b) x y a_lacks b_lacks is =
     let heads : h ≡ k = cc in
     let tails : a ++ c ∷ x ≡ b ++ c ∷ y = cc in
-    let rest = same_cut c a b x y (λ found. a_lacks (Contains-tail h a c found)) (λ found. b_lacks (Contains-tail k b c found)) tails in
+    let rest =
+    same_cut c a b x y (λ found. a_lacks (Contains-tail h a c found))
+    (λ found. b_lacks (Contains-tail k b c found)) tails in
     let first = rest.0 in
     (cc, rest.1)

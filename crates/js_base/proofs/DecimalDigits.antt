@@ -14,11 +14,14 @@ use Rattle.std.proofs.lemmas.Str.Parse.{digits_value-take-le}
 in_range : (low high c : ℕ) → is_in_range low high c ≡ true → (low ≤ c) × (c ≤ high)
 in_range low high c e = grind (arith, nat_tests)
 
-digit_at : (digits : List ℕ) (i : ℕ) → list_all is_ascii_digit digits ≡ true → i < length digits → is_ascii_digit (get_or digits i 0) ≡ true
-digit_at digits i all lt = true_from_ne_false _ (λ no. false≢true (sym (list_all_at is_ascii_digit digits i 0 lt no) ∙ all))
+digit_at : (digits : List ℕ) (i : ℕ) → list_all is_ascii_digit digits ≡ true → i < length digits →
+    is_ascii_digit (get_or digits i 0) ≡ true
+digit_at digits i all lt =
+    true_from_ne_false _ (λ no. false≢true (sym (list_all_at is_ascii_digit digits i 0 lt no) ∙ all))
 
 -- what one more digit makes of the number
-pub digits_value-next : (digits : List ℕ) (i value : ℕ) → list_all is_ascii_digit digits ≡ true → i < length digits → value ≡ digits_value 10 (take i digits) →
+pub digits_value-next : (digits : List ℕ) (i value : ℕ) → list_all is_ascii_digit digits ≡ true →
+    i < length digits → value ≡ digits_value 10 (take i digits) →
     digits_value 10 (take (i + 1) digits) ≡ value * 10 + (get_or digits i 0 - 48)
 digits_value-next digits i value all lt e =
     let range = in_range 48 57 (get_or digits i 0) (digit_at digits i all lt) in
@@ -27,6 +30,8 @@ digits_value-next digits i value all lt e =
     omega arith
 
 -- and it is no more than that of all digits
-pub digits_value-at_least : (digits : List ℕ) (i value : ℕ) → list_all is_ascii_digit digits ≡ true → i < length digits → value ≡ digits_value 10 (take i digits) →
+pub digits_value-at_least : (digits : List ℕ) (i value : ℕ) → list_all is_ascii_digit digits ≡ true →
+    i < length digits → value ≡ digits_value 10 (take i digits) →
     value * 10 + (get_or digits i 0 - 48) ≤ digits_value 10 digits
-digits_value-at_least digits i value all lt e = omega (arith, digits_value-next digits i value all lt e, digits_value-take-le 10 digits (i + 1) (omega arith))
+digits_value-at_least digits i value all lt e =
+    omega (arith, digits_value-next digits i value all lt e, digits_value-take-le 10 digits (i + 1) (omega arith))

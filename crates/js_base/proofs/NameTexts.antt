@@ -19,12 +19,14 @@ shape_alone false other rest plain is = cc
 pub all_continue : (text : List ℕ) → IsName text → list_all continues_name text ≡ true
 all_continue [] is = cc
 all_continue (byte ∷ bytes) is =
-    shape_alone (starts_name byte) (is_ascii_digit byte) (list_all continues_name bytes) (not (list_any (bytes_eq (byte ∷ bytes)) keywords)) is
+    shape_alone (starts_name byte) (is_ascii_digit byte) (list_all continues_name bytes)
+    (not (list_any (bytes_eq (byte ∷ bytes)) keywords)) is
 
 -- a name holds no byte that continues no name
 pub name_lacks : (byte : ℕ) (text : List ℕ) → continues_name byte ≡ false → IsName text → ¬ Contains text byte
 name_lacks byte text stops is found =
-    both_ways _ (list_all_at continues_name text found.0 byte found.1 (ap continues_name found.2 ∙ stops)) (all_continue text is)
+    both_ways _ (list_all_at continues_name text found.0 byte found.1 (ap continues_name found.2 ∙ stops))
+    (all_continue text is)
 
 continues_ascii : (byte : ℕ) → continues_name byte ≡ true → byte < 128
 continues_ascii byte is = grind (arith, nat_tests)

@@ -71,7 +71,8 @@ repeats f items place earlier item text name within read is there here =
     let found : Contains (map f (take place items)) text =
     (earlier, slice_get_within _ earlier text there, get_or_from_slice_get _ earlier text text there) in
     let own : get_or (map f items) place name ≡ name = get_or_from_slice_get (map f items) place name name here in
-    let at : get_or (map f items) place name ≡ text = get_or-map f items place item name within ∙ sym (is ∙ ap f read) in
+    let at : get_or (map f items) place name ≡ text =
+    get_or-map f items place item name within ∙ sym (is ∙ ap f read) in
     subst R (sym at ∙ own) (subst Q (sym (take-map f place items)) found)
 
 -- the same by what the look-up among the earlier items answers
@@ -82,7 +83,8 @@ pub no_repeat_more : {X : Type 0} (f : X → List ℕ) (items : List X) (place :
     IsDistinct bytes_eq (take place (map f items)) → IsDistinct bytes_eq (take (place + 1) (map f items))
 no_repeat_more f items place None item text within read is none lacks distinct =
     no_repeat f items place item text within read is lacks distinct
-no_repeat_more f items place (Some earlier) item text within read is none lacks distinct = absurd (false≢true (sym none))
+no_repeat_more f items place (Some earlier) item text within read is none lacks distinct =
+    absurd (false≢true (sym none))
 
 pub repeats_earlier : {X : Type 0} (f : X → List ℕ) (items : List X) (place : ℕ) (found : Option ℕ) (item : X)
     (text name : List ℕ) →

@@ -1,6 +1,6 @@
 -- Texts that stand at two places of a list.
 use Rattle.std.proofs.Common.{◌≡◌, ℕ, ◌<◌, ◌≤◌, ◌∙◌, sym, ap, subst, inl, inr, arith}
-use Rattle.std.proofs.Common.{List, [], length, get_or, take, Some, slice_get}
+use Rattle.std.proofs.Common.{List, length, get_or, take, Some, slice_get}
 use Rattle.std.specs.Prelude.{Contains}
 use Rattle.std.specs.List.{IsDistinct}
 use Rattle.std.specs.Str.{bytes_eq}
@@ -46,7 +46,7 @@ not_distinct_past texts text place end before here earlier =
     let within : place < length texts = slice_get_within texts place text here in
     let first : earlier.0 < place = omega (arith, earlier.1, length-take place texts) in
     let there : get_or texts earlier.0 text ≡ text =
-        sym (get_or-take place texts earlier.0 text first) ∙ earlier.2 in
+    sym (get_or-take place texts earlier.0 text first) ∙ earlier.2 in
     let own : get_or texts place text ≡ text = get_or_from_slice_get texts place text text here in
     not_apart (take end texts) text earlier.0 place first (omega (arith, within, length-take end texts))
     (get_or-take end texts earlier.0 text (omega arith) ∙ there) (get_or-take end texts place text before ∙ own)

@@ -14,7 +14,9 @@ use Rattle.std.proofs.lemmas.Str.Ascii.{IsAscii-nil, IsAscii-cons}
 pub bytes_eq_laws : IsEquivalence bytes_eq
 bytes_eq_laws = record {
   refl = λ x. (bytes_eq-Decides x x).1 refl;
-  symm = λ x y. same_from_decides (bytes_eq x y) (bytes_eq y x) (bytes_eq-Decides x y) (λ is. sym ((bytes_eq-Decides y x).0 is), λ same. (bytes_eq-Decides y x).1 (sym same));
+  symm =
+      λ x y. same_from_decides (bytes_eq x y) (bytes_eq y x) (bytes_eq-Decides x y)
+      (λ is. sym ((bytes_eq-Decides y x).0 is), λ same. (bytes_eq-Decides y x).1 (sym same));
   congr = λ x y z is. ap (λ w. bytes_eq w z) ((bytes_eq-Decides x y).0 is);
 }
 
@@ -23,9 +25,11 @@ unfolding IsDistinct
 no_texts = tt
 
 -- one more text, which none is the same as
-pub distinct_more : (texts : List (List ℕ)) (text : List ℕ) → IsDistinct bytes_eq texts → ¬ Contains texts text → IsDistinct bytes_eq (texts ++ text ∷ [])
+pub distinct_more : (texts : List (List ℕ)) (text : List ℕ) → IsDistinct bytes_eq texts → ¬ Contains texts text →
+    IsDistinct bytes_eq (texts ++ text ∷ [])
 distinct_more texts text distinct lacks =
-    IsDistinct-push bytes_eq_laws texts text distinct (false_from_ne_true _ (λ is. lacks (Contains-from_any (λ x y. (bytes_eq-Decides x y).0) text texts is)))
+    IsDistinct-push bytes_eq_laws texts text distinct
+    (false_from_ne_true _ (λ is. lacks (Contains-from_any (λ x y. (bytes_eq-Decides x y).0) text texts is)))
 
 -- bytes of a kind that are all below 128
 pub list_ascii : (p : ℕ → Bool) → ((byte : ℕ) → p byte ≡ true → byte < 128) → (text : List ℕ) →

@@ -20,7 +20,8 @@ continues_name byte = starts_name byte || is_ascii_digit byte
 -- a letter or `_`, then letters, digits and `_`, and no keyword
 abbrev pub is_name : List ℕ → Bool
 is_name [] = false
-is_name (byte ∷ bytes) = starts_name byte && list_all continues_name bytes && not (list_any (bytes_eq (byte ∷ bytes)) keywords)
+is_name (byte ∷ bytes) =
+    starts_name byte && list_all continues_name bytes && not (list_any (bytes_eq (byte ∷ bytes)) keywords)
 
 abbrev pub IsName : List ℕ → Type 0
 IsName text = IsTrue (is_name text)

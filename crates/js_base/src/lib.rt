@@ -20,8 +20,6 @@ mod real_files;
 mod real_sink;
 mod sink;
 mod status;
-#[cfg(test)]
-mod tests;
 pub mod text;
 
 pub use binary_operator::BinOp;

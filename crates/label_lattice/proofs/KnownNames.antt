@@ -8,10 +8,13 @@ use Rattle.jif_lex.specs.declared.token.TokenKind.TheVariants.{Name}
 use Rattle.principals.specs.ActsFor.{Declared}
 use Rattle.label_lattice.specs.Written.{kinds, name_tokens, IsKnown}
 
-pub known_is_held : (principals : Declared) (name : List ℕ) (p : PrincipalId) → IsKnown principals name p → Contains principals.names name
-known_is_held principals name p is = (p.0, slice_get_within principals.names p.0 name is, get_or_from_slice_get principals.names p.0 name name is)
+pub known_is_held : (principals : Declared) (name : List ℕ) (p : PrincipalId) → IsKnown principals name p →
+    Contains principals.names name
+known_is_held principals name p is =
+    (p.0, slice_get_within principals.names p.0 name is, get_or_from_slice_get principals.names p.0 name name is)
 
-same_name : (tokens : List Token) (token : Token) (own name : List ℕ) → token ≡ get_or tokens 0 token → token.kind ≡ Name own → kinds tokens ≡ name_tokens name → own ≡ name
+same_name : (tokens : List Token) (token : Token) (own name : List ℕ) → token ≡ get_or tokens 0 token →
+    token.kind ≡ Name own → kinds tokens ≡ name_tokens name → own ≡ name
 same_name [] token own name read is written = absurd (cc)
 same_name (t ∷ tokens) token own name read is written =
     let kind : t.kind ≡ Name own = ap (λ x. x.kind) (sym read) ∙ is in
@@ -20,7 +23,10 @@ same_name (t ∷ tokens) token own name read is written =
     cc
 
 -- one token, a name that is not declared
-pub unknown_name : (principals : Declared) (tokens : List Token) (token : Token) (own text : List ℕ) (found : Option PrincipalId) → token ≡ get_or tokens 0 token → token.kind ≡ Name own → text ≡ own → IfNone found (¬ Contains principals.names text) → IfNone found ((name : List ℕ) (p : PrincipalId) → kinds tokens ≡ name_tokens name → ¬ IsKnown principals name p)
+pub unknown_name : (principals : Declared) (tokens : List Token) (token : Token) (own text : List ℕ)
+    (found : Option PrincipalId) → token ≡ get_or tokens 0 token → token.kind ≡ Name own → text ≡ own →
+    IfNone found (¬ Contains principals.names text) →
+    IfNone found ((name : List ℕ) (p : PrincipalId) → kinds tokens ≡ name_tokens name → ¬ IsKnown principals name p)
 unknown_name principals tokens token own text (Some p) read is text_is none = tt
 unknown_name principals tokens token own text None read is text_is none =
     λ name p written known.

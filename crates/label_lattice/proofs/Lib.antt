@@ -1,3 +1,4 @@
+pub mod AnyLemmas
 pub mod Joins
 pub mod JoinLaws
 pub mod KnownNames

@@ -1,8 +1,9 @@
 -- The names of a part, looked up one after another.
-use Rattle.std.proofs.Common.{ℕ, zero, suc, ◌≡◌, ◌≢◌, ◌<◌, subst, List, [], ◌∷◌, ◌++◌, length, Option, None, Some, All, arith}
+use Rattle.std.proofs.Common.{ℕ, zero, suc, ◌≡◌, ◌≢◌, ◌<◌, subst, List, [], ◌∷◌, ◌++◌, length, Option, None, Some, All}
+use Rattle.std.proofs.Common.{arith}
 use Rattle.std.specs.Prelude.{Contains}
-use Rattle.std.specs.List.{AllZip}
 use Rattle.std.proofs.lemmas.List.Elements.{All-push}
+use Rattle.js_base.proofs.Lists.{zip_push, zip_at}
 use Rattle.js_base.specs.declared.ids.PrincipalId.{PrincipalId}
 use Rattle.jif_lex.specs.declared.token.TokenKind.{TokenKind}
 use Rattle.jif_lex.specs.declared.token.Symbol.TheVariants.{Comma}
@@ -20,13 +21,15 @@ pub a_name : (name : List ℕ) → name_tokens name ≢ []
 a_name name is = cc
 
 -- The names so far are known, and the whole is written with these and those that are left.
-pub record NamesSoFar (principals : Declared) (whole : List TokenKind) (known : List PrincipalId) (left : Option (List TokenKind)) : Type 0 where
+pub record NamesSoFar (principals : Declared) (whole : List TokenKind) (known : List PrincipalId)
+    (left : Option (List TokenKind)) : Type 0 where
   pub names : List (List ℕ)
   pub are_known : AreKnown principals names known
   pub within : All (λ named. named.0 < length principals.names) known
   pub reads : LeftOf (symbol Comma) name_tokens whole names left
 
-pub names_at_start : (principals : Declared) (whole : List TokenKind) (left : Option (List TokenKind)) → IsAllLeft whole left → NamesSoFar principals whole [] left
+pub names_at_start : (principals : Declared) (whole : List TokenKind) (left : Option (List TokenKind)) →
+    IsAllLeft whole left → NamesSoFar principals whole [] left
 names_at_start principals whole left is = record {
   names = [];
   are_known = tt;
@@ -34,21 +37,10 @@ names_at_start principals whole left is = record {
   reads = left_at_start (symbol Comma) name_tokens whole left a_name is;
 }
 
--- the list of pairs, and one more
-pub zip_push : {X Y : Type 0} (R : X → Y → Type 0) (xs : List X) (ys : List Y) (x : X) (y : Y) → AllZip R xs ys → R x y → AllZip R (xs ++ x ∷ []) (ys ++ y ∷ [])
-zip_push R [] [] x y so_far is = (is, tt)
-zip_push R [] (w ∷ ys) x y so_far is = absurd so_far
-zip_push R (z ∷ xs) [] x y so_far is = absurd so_far
-zip_push R (z ∷ xs) (w ∷ ys) x y so_far is = (so_far.0, zip_push R xs ys x y so_far.1 is)
-
--- each of the first has one of the second
-pub zip_at : {X Y : Type 0} (R : X → Y → Type 0) (before : List X) (x : X) (after : List X) (ys : List Y) → AllZip R (before ++ x ∷ after) ys → (y : Y) × R x y
-zip_at R [] x after [] are = absurd are
-zip_at R [] x after (y ∷ ys) are = (y, are.0)
-zip_at R (z ∷ before) x after [] are = absurd are
-zip_at R (z ∷ before) x after (y ∷ ys) are = zip_at R before x after ys are.1
-
-pub names_more : (principals : Declared) (whole tokens front : List TokenKind) (after : Option (List TokenKind)) (known : List PrincipalId) (name : List ℕ) (p : PrincipalId) → CutsAt (symbol Comma) tokens front after → front ≡ name_tokens name → IsKnown principals name p → p.0 < length principals.names → NamesSoFar principals whole known (Some tokens) → NamesSoFar principals whole (known ++ p ∷ []) after
+pub names_more : (principals : Declared) (whole tokens front : List TokenKind) (after : Option (List TokenKind))
+    (known : List PrincipalId) (name : List ℕ) (p : PrincipalId) → CutsAt (symbol Comma) tokens front after →
+    front ≡ name_tokens name → IsKnown principals name p → p.0 < length principals.names →
+    NamesSoFar principals whole known (Some tokens) → NamesSoFar principals whole (known ++ p ∷ []) after
 names_more principals whole tokens front after known name p cut is known_as p_in so_far = record {
   names = so_far.names ++ name ∷ [];
   are_known = zip_push (IsKnown principals) so_far.names known name p so_far.are_known known_as;
@@ -56,14 +48,22 @@ names_more principals whole tokens front after known name p cut is known_as p_in
   reads = left_more (symbol Comma) name_tokens whole tokens front after so_far.names name no_comma cut is so_far.reads;
 }
 
-pub names_at_end : (principals : Declared) (whole : List TokenKind) (known : List PrincipalId) → NamesSoFar principals whole known None → (names : List (List ℕ)) × (whole ≡ names_tokens names) × AreKnown principals names known
+pub names_at_end : (principals : Declared) (whole : List TokenKind) (known : List PrincipalId) →
+    NamesSoFar principals whole known None →
+    (names : List (List ℕ)) × (whole ≡ names_tokens names) × AreKnown principals names known
 names_at_end principals whole known so_far =
     (so_far.names, left_at_end (symbol Comma) name_tokens whole so_far.names so_far.reads, so_far.are_known)
 
 -- a front that is no known name
-pub not_known : (principals : Declared) (whole tokens front : List TokenKind) (after : Option (List TokenKind)) (known : List PrincipalId) → CutsAt (symbol Comma) tokens front after → ((name : List ℕ) (p : PrincipalId) → front ≡ name_tokens name → ¬ IsKnown principals name p) → NamesSoFar principals whole known (Some tokens) → (names : List (List ℕ)) (all : List PrincipalId) → whole ≡ names_tokens names → ¬ AreKnown principals names all
+pub not_known : (principals : Declared) (whole tokens front : List TokenKind) (after : Option (List TokenKind))
+    (known : List PrincipalId) → CutsAt (symbol Comma) tokens front after →
+    ((name : List ℕ) (p : PrincipalId) → front ≡ name_tokens name → ¬ IsKnown principals name p) →
+    NamesSoFar principals whole known (Some tokens) → (names : List (List ℕ)) (all : List PrincipalId) →
+    whole ≡ names_tokens names → ¬ AreKnown principals names all
 not_known principals whole tokens front after known cut none so_far names all written are =
-    let next : Next (symbol Comma) name_tokens front after names = next_item (symbol Comma) name_tokens whole tokens front after so_far.names names no_comma cut so_far.reads written in
+    let next : Next (symbol Comma) name_tokens front after names =
+    next_item (symbol Comma) name_tokens whole tokens front after so_far.names names no_comma cut so_far.reads
+    written in
     let P : List (List ℕ) → Type 0 = λ ns. AreKnown principals ns all in
     let found = zip_at (IsKnown principals) next.before next.item next.rest all (subst P next.is are) in
     none next.item found.0 next.front_is found.1

@@ -8,27 +8,45 @@ use Rattle.jif_lex.specs.declared.token.Symbol.TheVariants.{Colon, Comma, Semico
 use Rattle.principals.specs.ActsFor.{Declared}
 use Rattle.label_lattice.specs.declared.label.Label.{Label}
 use Rattle.label_lattice.specs.Label.{SameForbidden, SameTrust, AddsPolicy, AddsTrust}
-use Rattle.label_lattice.specs.Written.{symbol, names_tokens, Part, policy, trust, part_tokens, policy_of, trust_of, IsKnown, AreKnown}
+use Rattle.label_lattice.specs.Written.{symbol, names_tokens, Part, policy, trust, part_tokens, policy_of, trust_of}
+use Rattle.label_lattice.specs.Written.{IsKnown, AreKnown}
 use Rattle.label_lattice.specs.Reading.{Adds, AddsPart, IsNoPart}
 use Rattle.label_lattice.proofs.KnownNames.{known_is_held}
 
 -- ---- what a part adds
 
-adds_policy : (principals : Declared) (old new : Label) (owner : PrincipalId) (readers : List PrincipalId) → AddsPolicy old new principals owner readers → SameTrust old new → Adds principals (policy_of owner readers) old new
+adds_policy : (principals : Declared) (old new : Label) (owner : PrincipalId) (readers : List PrincipalId) →
+    AddsPolicy old new principals owner readers → SameTrust old new →
+    Adds principals (policy_of owner readers) old new
 adds_policy principals old new owner readers adds same = record {
   forbids = adds;
-  trusts = λ p within. (λ trusts. inl ((same p within).0 trusts), λ either. elim either [ inl trusts ↦ (same p within).1 trusts | inr none ↦ absurd none ]);
+  trusts = λ p within. (
+    λ trusts. inl ((same p within).0 trusts),
+    λ either. elim either [ inl trusts ↦ (same p within).1 trusts | inr none ↦ absurd none ],
+  );
 }
 
-adds_trust : (principals : Declared) (old new : Label) (members : List PrincipalId) → SameForbidden old new → AddsTrust old new principals members → Adds principals (trust_of members) old new
+adds_trust : (principals : Declared) (old new : Label) (members : List PrincipalId) → SameForbidden old new →
+    AddsTrust old new principals members → Adds principals (trust_of members) old new
 adds_trust principals old new members same adds = record {
-  forbids = λ owner reader owner_in reader_in.
-      (λ forbids. inl ((same owner reader owner_in reader_in).0 forbids), λ either. elim either [ inl forbids ↦ (same owner reader owner_in reader_in).1 forbids | inr none ↦ absurd none ]);
+  forbids = λ owner reader owner_in reader_in. (
+    λ forbids. inl ((same owner reader owner_in reader_in).0 forbids),
+    λ either. elim either [
+      | inl forbids ↦ (same owner reader owner_in reader_in).1 forbids
+      | inr none ↦ absurd
+          none
+    ],
+  );
   trusts = adds;
 }
 
-pub policy_part : (principals : Declared) (tokens names : List TokenKind) (head : TokenKind) (old new : Label) (owner : List ℕ) (text : List ℕ) (known_owner : PrincipalId) (readers : List (List ℕ)) (known : List PrincipalId) → tokens ≡ head ∷ symbol Colon ∷ names → head ≡ Name owner → text ≡ owner → names ≡ names_tokens readers → IsKnown principals text known_owner → AreKnown principals readers known → AddsPolicy old new principals known_owner known → SameTrust old new → AddsPart principals tokens old new
-policy_part principals tokens names head old new owner text known_owner readers known cut head_is text_is names_are is are adds same =
+pub policy_part : (principals : Declared) (tokens names : List TokenKind) (head : TokenKind) (old new : Label)
+    (owner : List ℕ) (text : List ℕ) (known_owner : PrincipalId) (readers : List (List ℕ))
+    (known : List PrincipalId) → tokens ≡ head ∷ symbol Colon ∷ names → head ≡ Name owner → text ≡ owner →
+    names ≡ names_tokens readers → IsKnown principals text known_owner → AreKnown principals readers known →
+    AddsPolicy old new principals known_owner known → SameTrust old new → AddsPart principals tokens old new
+policy_part principals tokens names head old new owner text known_owner readers known cut head_is text_is names_are is
+    are adds same =
     let P : List ℕ → Type 0 = λ n. IsKnown principals n known_owner in
     record {
       part = policy owner readers;
@@ -38,7 +56,10 @@ policy_part principals tokens names head old new owner text known_owner readers 
       adds = adds_policy principals old new known_owner known adds same;
     }
 
-pub trust_part : (principals : Declared) (tokens names : List TokenKind) (head : TokenKind) (old new : Label) (members : List (List ℕ)) (known : List PrincipalId) → tokens ≡ head ∷ symbol Colon ∷ names → head ≡ symbol Question → names ≡ names_tokens members → AreKnown principals members known → SameForbidden old new → AddsTrust old new principals known → AddsPart principals tokens old new
+pub trust_part : (principals : Declared) (tokens names : List TokenKind) (head : TokenKind) (old new : Label)
+    (members : List (List ℕ)) (known : List PrincipalId) → tokens ≡ head ∷ symbol Colon ∷ names →
+    head ≡ symbol Question → names ≡ names_tokens members → AreKnown principals members known →
+    SameForbidden old new → AddsTrust old new principals known → AddsPart principals tokens old new
 trust_part principals tokens names head old new members known cut head_is names_are are same adds = record {
   part = trust members;
   known = trust_of known;
@@ -48,13 +69,17 @@ trust_part principals tokens names head old new members known cut head_is names_
 }
 
 -- an owner that is not declared
-pub unknown_owner : (principals : Declared) (tokens names : List TokenKind) (head : TokenKind) (owner text : List ℕ) → tokens ≡ head ∷ symbol Colon ∷ names → head ≡ Name owner → text ≡ owner → ¬ Contains principals.names text → IsNoPart principals tokens
+pub unknown_owner : (principals : Declared) (tokens names : List TokenKind) (head : TokenKind) (owner text : List ℕ) →
+    tokens ≡ head ∷ symbol Colon ∷ names → head ≡ Name owner → text ≡ owner → ¬ Contains principals.names text →
+    IsNoPart principals tokens
 unknown_owner principals tokens names head owner text cut head_is text_is none (trust members) known written is_known =
     let heads : head ≡ symbol Question = cc in
     let both : Name owner ≡ symbol Question = sym head_is ∙ heads in
     absurd cc
-unknown_owner principals tokens names head owner text cut head_is text_is none (policy other readers) (trust_of members) written is_known = absurd is_known
-unknown_owner principals tokens names head owner text cut head_is text_is none (policy other readers) (policy_of known_owner known) written is_known =
+unknown_owner principals tokens names head owner text cut head_is text_is none (policy other readers)
+    (trust_of members) written is_known = absurd is_known
+unknown_owner principals tokens names head owner text cut head_is text_is none (policy other readers)
+    (policy_of known_owner known) written is_known =
     let heads : head ≡ Name other = cc in
     let both : Name owner ≡ Name other = sym head_is ∙ heads in
     let same : owner ≡ other = cc in
@@ -81,10 +106,12 @@ question_lacks is = cc
 
 names_lack : (names : List (List ℕ)) → ¬ Contains (names_tokens names) (symbol Semicolon)
 names_lack [] found = omega (arith, found.1)
-names_lack (name ∷ []) found = lacks_more (Name name) (symbol Semicolon) [] (name_lacks name) (λ f. omega (arith, f.1)) found
+names_lack (name ∷ []) found =
+    lacks_more (Name name) (symbol Semicolon) [] (name_lacks name) (λ f. omega (arith, f.1)) found
 names_lack (name ∷ next ∷ names) found =
     lacks_more (Name name) (symbol Semicolon) (symbol Comma ∷ names_tokens (next ∷ names)) (name_lacks name)
-    (lacks_more (symbol Comma) (symbol Semicolon) (names_tokens (next ∷ names)) comma_lacks (names_lack (next ∷ names))) found
+    (lacks_more (symbol Comma) (symbol Semicolon) (names_tokens (next ∷ names)) comma_lacks
+    (names_lack (next ∷ names))) found
 
 pub no_semicolon : (part : Part) → ¬ Contains (part_tokens part) (symbol Semicolon)
 no_semicolon (policy owner readers) found =

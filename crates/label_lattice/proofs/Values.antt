@@ -1,5 +1,6 @@
 -- Joins, meets, the empty label and the bottom as values.
-use Rattle.std.proofs.Common.{ℕ, ◌≡◌, ◌<◌, ◌≤◌, ◌-◌, ◌^◌, ◌↔◌, ◌∙◌, sym, ap, refl, inl, inr, min, max, lit<, rules, bit_and, bit_or, List, length, get_or, arith}
+use Rattle.std.proofs.Common.{ℕ, ◌≡◌, ◌<◌, ◌≤◌, ◌-◌, ◌^◌, ◌↔◌, ◌∙◌, sym, ap, refl, inl, inr, min, max, lit<, rules}
+use Rattle.std.proofs.Common.{bit_and, bit_or, List, length, get_or, arith}
 use Rattle.std.specs.Int.{bit_at}
 use Rattle.std.specs.List.{zip}
 use Rattle.std.proofs.Math.Pow.{pow_mono}
@@ -14,35 +15,46 @@ use Rattle.js_base.proofs.BitLemmas.{set_in_ones}
 use Rattle.principals.specs.ActsFor.{Declared, IsDeclared}
 use Rattle.label_lattice.specs.declared.label.Label.{Label}
 use Rattle.label_lattice.specs.Label.{IsLabel, Flows, ForbidsNothing, IsUntrusted, IsBottom}
-use Rattle.label_lattice.specs.Lattice.{IsJoin, IsIntegrityMeet, first_bits, free_rows, common_rows, empty_label, bottom_of, join_of, meet_of}
+use Rattle.label_lattice.specs.Lattice.{IsJoin, IsIntegrityMeet, first_bits, free_rows, common_rows, empty_label}
+use Rattle.label_lattice.specs.Lattice.{bottom_of, join_of, meet_of}
 use Rattle.label_lattice.specs.Over.{IsLabelOver}
 use Rattle.label_lattice.proofs.OverLemmas.{over_empty, over_bottom, over_join, over_meet}
 use Rattle.label_lattice.proofs.PolicyLemmas.{LeadsToDeclared}
-use Rattle.label_lattice.proofs.LatticeLemmas.{JoinedBelow, same_set_bit, least_bit, both_bits, either_bit, one_label, common_word, either_word, join_is_above, join_is_least}
+use Rattle.label_lattice.proofs.LatticeLemmas.{JoinedBelow, same_set_bit, least_bit, both_bits, either_bit, one_label}
+use Rattle.label_lattice.proofs.LatticeLemmas.{common_word, either_word, join_is_above, join_is_least}
 
 -- ---- the rows of a join
 
-common_row : (first second : List ℕ) (q d : ℕ) → q < length first → q < length second → get_or (common_rows first second) q d ≡ bit_and (get_or first q 0) (get_or second q 0)
+common_row : (first second : List ℕ) (q d : ℕ) → q < length first → q < length second →
+    get_or (common_rows first second) q d ≡ bit_and (get_or first q 0) (get_or second q 0)
 common_row first second q d in_first in_second =
     let within : q < length (zip first second) = omega (arith, length-zip first second) in
     get_or-map (λ (rows : ℕ × ℕ). bit_and rows.0 rows.1) (zip first second) q (0, 0) d within
     ∙ ap (λ (rows : ℕ × ℕ). bit_and rows.0 rows.1) (get_or-zip first second q (0, 0) in_first in_second)
 
 length-common : (first second : List ℕ) → length (common_rows first second) ≡ min (length first) (length second)
-length-common first second = length-map (zip first second) (λ (rows : ℕ × ℕ). bit_and rows.0 rows.1) ∙ length-zip first second
+length-common first second = length-map (zip first second) (λ (rows : ℕ × ℕ). bit_and rows.0 rows.1)
+    ∙ length-zip first second
 
-pub rows_joined : (old other rows : List ℕ) (place : ℕ) → length old ≡ 63 → length other ≡ 63 → 63 ≤ place → JoinedBelow old other rows place → rows ≡ common_rows old other
+pub rows_joined : (old other rows : List ℕ) (place : ℕ) → length old ≡ 63 → length other ≡ 63 → 63 ≤ place →
+    JoinedBelow old other rows place → rows ≡ common_rows old other
 rows_joined old other rows place old_long other_long all joined =
     same_number_lists rows (common_rows old other) (omega (arith, joined.long, length-common old other))
-    (λ q within. joined.before q (omega (arith, joined.long)) ∙ sym (common_row old other q 0 (omega (arith, joined.long)) (omega (arith, joined.long))))
+    (λ q within. joined.before q (omega (arith, joined.long))
+    ∙ sym (common_row old other q 0 (omega (arith, joined.long)) (omega (arith, joined.long))))
 
-pub join_is : (first second : Label) → length first.rows ≡ 63 → length second.rows ≡ 63 → IsJoin first second (join_of first second)
+pub join_is : (first second : Label) → length first.rows ≡ 63 → length second.rows ≡ 63 →
+    IsJoin first second (join_of first second)
 unfolding join_of
 join_is first second first_long second_long = record {
   forbids = λ q r q_in r_in.
-      least_bit (bit_at (get_or first.rows q 0) r) (bit_at (get_or second.rows q 0) r) (bit_at (get_or (common_rows first.rows second.rows) q 0) r) (omega arith) (omega arith)
-      (ap (λ row. bit_at row r) (common_row first.rows second.rows q 0 (omega arith) (omega arith)) ∙ bit_at_and (get_or first.rows q 0) (get_or second.rows q 0) r);
-  trusts = λ p p_in. both_bits (bit_at first.trust p) (bit_at second.trust p) (bit_at (bit_and first.trust second.trust) p) (omega arith) (omega arith) (bit_at_and first.trust second.trust p);
+      least_bit (bit_at (get_or first.rows q 0) r) (bit_at (get_or second.rows q 0) r)
+      (bit_at (get_or (common_rows first.rows second.rows) q 0) r) (omega arith) (omega arith)
+      (ap (λ row. bit_at row r) (common_row first.rows second.rows q 0 (omega arith) (omega arith))
+      ∙ bit_at_and (get_or first.rows q 0) (get_or second.rows q 0) r);
+  trusts = λ p p_in. both_bits (bit_at first.trust p) (bit_at second.trust p)
+      (bit_at (bit_and first.trust second.trust) p) (omega arith) (omega arith)
+      (bit_at_and first.trust second.trust p);
 }
 
 pub join_is_label : (first second : Label) → IsLabel first → IsLabel second → IsLabel (join_of first second)
@@ -51,12 +63,19 @@ join_is_label first second one two = record {
   long = omega (arith, length-common first.rows second.rows, one.long, two.long);
   words = λ q d within.
       let in_first : q < length first.rows = omega (arith, length-common first.rows second.rows, one.long, two.long) in
-      let in_second : q < length second.rows = omega (arith, length-common first.rows second.rows, one.long, two.long) in
-      omega (arith, common_row first.rows second.rows q d in_first in_second, and_le_l (get_or first.rows q 0) (get_or second.rows q 0), one.words q 0 in_first);
+      let in_second : q < length second.rows =
+      omega (arith, length-common first.rows second.rows, one.long, two.long) in
+      omega (
+        arith,
+        common_row first.rows second.rows q d in_first in_second,
+        and_le_l (get_or first.rows q 0) (get_or second.rows q 0),
+        one.words q 0 in_first,
+      );
   trust = omega (arith, and_le_l first.trust second.trust, one.trust);
 }
 
-pub join_once : (first second join : Label) → IsLabel first → IsLabel second → IsLabel join → IsJoin first second join → join ≡ join_of first second
+pub join_once : (first second join : Label) → IsLabel first → IsLabel second → IsLabel join →
+    IsJoin first second join → join ≡ join_of first second
 join_once first second join one two is joins =
     let other : IsJoin first second (join_of first second) = join_is first second one.long two.long in
     let above = join_is_above first second join joins in
@@ -65,16 +84,21 @@ join_once first second join one two is joins =
     (join_is_least first second join (join_of first second) joins other_above.0 other_above.1)
     (join_is_least first second (join_of first second) join other above.0 above.1)
 
-pub joined_label : (first second : Label) (rows : List ℕ) (trust place : ℕ) → length first.rows ≡ 63 → length second.rows ≡ 63 → 63 ≤ place → JoinedBelow first.rows second.rows rows place → ((k : ℕ) → bit_at trust k ≡ min (bit_at first.trust k) (bit_at second.trust k)) → record { rows = rows; trust = trust } ≡ join_of first second
+pub joined_label : (first second : Label) (rows : List ℕ) (trust place : ℕ) → length first.rows ≡ 63 →
+    length second.rows ≡ 63 → 63 ≤ place → JoinedBelow first.rows second.rows rows place →
+    ((k : ℕ) → bit_at trust k ≡ min (bit_at first.trust k) (bit_at second.trust k)) →
+    record { rows = rows; trust = trust } ≡ join_of first second
 unfolding join_of
 joined_label first second rows trust place first_long second_long all joined bits =
     let label : List ℕ → ℕ → Label = λ r t. record { rows = r; trust = t } in
     ap (λ r. label r trust) (rows_joined first.rows second.rows rows place first_long second_long all joined)
     ∙ ap (λ t. label (common_rows first.rows second.rows) t) (common_word first.trust second.trust trust bits)
 
-pub join_over : (principals : Declared) (first second : Label) → IsLabelOver principals first → IsLabelOver principals second → IsLabelOver principals (join_of first second)
+pub join_over : (principals : Declared) (first second : Label) → IsLabelOver principals first →
+    IsLabelOver principals second → IsLabelOver principals (join_of first second)
 join_over principals first second one two =
-    over_join principals first second (join_of first second) (join_is_label first second one.is_label two.is_label) (join_is first second one.is_label.long two.is_label.long) one two
+    over_join principals first second (join_of first second) (join_is_label first second one.is_label two.is_label)
+    (join_is first second one.is_label.long two.is_label.long) one two
 
 -- ---- meets
 
@@ -82,7 +106,8 @@ pub meet_is : (first second : Label) → IsIntegrityMeet first second (meet_of f
 unfolding meet_of
 meet_is first second = record {
   forbids = λ q r q_in r_in. (λ forbids. forbids, λ forbids. forbids);
-  trusts = λ p p_in. either_bit (bit_at first.trust p) (bit_at second.trust p) (bit_at (bit_or first.trust second.trust) p) (omega arith) (omega arith) (bit_at_or first.trust second.trust p);
+  trusts = λ p p_in. either_bit (bit_at first.trust p) (bit_at second.trust p)
+      (bit_at (bit_or first.trust second.trust) p) (omega arith) (omega arith) (bit_at_or first.trust second.trust p);
 }
 
 pub meet_is_label : (first second : Label) → IsLabel first → IsLabel second → IsLabel (meet_of first second)
@@ -93,21 +118,29 @@ meet_is_label first second one two = record {
   trust = or_lt 64 first.trust second.trust one.trust two.trust;
 }
 
-pub met_label : (first second : Label) (trust : ℕ) → ((k : ℕ) → bit_at trust k ≡ max (bit_at first.trust k) (bit_at second.trust k)) → record { rows = first.rows; trust = trust } ≡ meet_of first second
+pub met_label : (first second : Label) (trust : ℕ) →
+    ((k : ℕ) → bit_at trust k ≡ max (bit_at first.trust k) (bit_at second.trust k)) →
+    record { rows = first.rows; trust = trust } ≡ meet_of first second
 unfolding meet_of
 met_label first second trust bits =
     let label : ℕ → Label = λ t. record { rows = first.rows; trust = t } in
     ap label (either_word first.trust second.trust trust bits)
 
-pub meet_over : (principals : Declared) (first second : Label) → IsLabelOver principals first → IsLabelOver principals second → IsLabelOver principals (meet_of first second)
+pub meet_over : (principals : Declared) (first second : Label) → IsLabelOver principals first →
+    IsLabelOver principals second → IsLabelOver principals (meet_of first second)
 meet_over principals first second one two =
-    over_meet principals first second (meet_of first second) (meet_is_label first second one.is_label two.is_label) (meet_is first second) one two
+    over_meet principals first second (meet_of first second) (meet_is_label first second one.is_label two.is_label)
+    (meet_is first second) one two
 
-pub meet_once : (first second meet : Label) → IsLabel first → IsLabel second → IsLabel meet → IsIntegrityMeet first second meet → meet ≡ meet_of first second
+pub meet_once : (first second meet : Label) → IsLabel first → IsLabel second → IsLabel meet →
+    IsIntegrityMeet first second meet → meet ≡ meet_of first second
 meet_once first second meet one two is meets =
-    one_label meet (meet_of first second) is (meet_is_label first second one two) (same first second meet (meet_of first second) meets (meet_is first second)) (same first second (meet_of first second) meet (meet_is first second) meets)
+    one_label meet (meet_of first second) is (meet_is_label first second one two)
+    (same first second meet (meet_of first second) meets (meet_is first second))
+    (same first second (meet_of first second) meet (meet_is first second) meets)
   where
-    same : (first second from to : Label) → IsIntegrityMeet first second from → IsIntegrityMeet first second to → Flows from to
+    same : (first second from to : Label) → IsIntegrityMeet first second from → IsIntegrityMeet first second to →
+        Flows from to
     same first second from to one two = (
       λ q r q_in r_in forbids. (two.forbids q r q_in r_in).1 ((one.forbids q r q_in r_in).0 forbids),
       λ p p_in trusts. (one.trusts p p_in).1 ((two.trusts p p_in).0 trusts),
@@ -136,7 +169,8 @@ empty_is_label = record {
 }
 
 free_forbids_nothing : (owner reader : ℕ) → owner < 63 → reader < 64 → bit_at (get_or free_rows owner 0) reader ≡ 0 → ⊥
-free_forbids_nothing owner reader owner_in reader_in forbidden = omega (arith, set_in_ones (2 ^ 64 - 1) owner reader refl owner_in reader_in)
+free_forbids_nothing owner reader owner_in reader_in forbidden =
+    omega (arith, set_in_ones (2 ^ 64 - 1) owner reader refl owner_in reader_in)
 
 pub empty_forbids : ForbidsNothing empty_label
 unfolding empty_label
@@ -164,11 +198,15 @@ bottom_is_label principals few = record {
 pub empty_over : (principals : Declared) → IsLabelOver principals empty_label
 empty_over principals = over_empty principals empty_label empty_is_label empty_forbids empty_untrusted
 
-pub bottom_over : LeadsToDeclared → (principals : Declared) → IsDeclared principals → IsLabelOver principals (bottom_of principals)
+pub bottom_over : LeadsToDeclared → (principals : Declared) → IsDeclared principals →
+    IsLabelOver principals (bottom_of principals)
 bottom_over declared_too principals declared =
-    over_bottom declared_too principals (bottom_of principals) declared (bottom_is_label principals declared.names.few) (bottom_is principals)
+    over_bottom declared_too principals (bottom_of principals) declared
+    (bottom_is_label principals declared.names.few) (bottom_is principals)
 
-pub bottom_label : (principals : Declared) (trust : ℕ) → ((k : ℕ) → (bit_at trust k ≡ 1) ↔ (k < length principals.names)) → record { rows = free_rows; trust = trust } ≡ bottom_of principals
+pub bottom_label : (principals : Declared) (trust : ℕ) →
+    ((k : ℕ) → (bit_at trust k ≡ 1) ↔ (k < length principals.names)) →
+    record { rows = free_rows; trust = trust } ≡ bottom_of principals
 unfolding bottom_of
 bottom_label principals trust bits =
     let label : ℕ → Label = λ t. record { rows = free_rows; trust = t } in

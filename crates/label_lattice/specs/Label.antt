@@ -1,10 +1,11 @@
 -- What a label means, after the decentralized label model of Myers and Liskov: a set of forbidden pairs, an owner and a
--- reader each, and a set of trusting principals. Owners are 0 to 62, readers 0 to 63, where 63 is the outsider
--- (principals, ActsFor). A label is kept as a word for each owner, with a bit set for each reader that the owner allows,
--- and one word with a bit set for each principal that trusts.
+-- reader each, and a set of trusting principals. Owners are the numbers below `PRINCIPALS`, and readers those below
+-- `READERS`, of which the last is the outsider (principals, ActsFor). A label is kept as a word for each owner, with a
+-- bit set for each reader that the owner allows, and one word with a bit set for each principal that trusts.
 use Rattle.std.specs.Prelude.{◌≡◌, ℕ, ◌<◌, ◌↔◌, ◌⊎◌, ◌^◌, List, All, Any, length, slice_index}
 use Rattle.std.specs.Int.{bit_at}
 use Rattle.js_base.specs.declared.ids.PrincipalId.{PrincipalId}
+use Rattle.js_base.specs.declared.bits.TheConstants.{WORD_BITS}
 use Rattle.js_base.specs.declared.limits.TheConstants.{PRINCIPALS}
 use Rattle.principals.specs.ActsFor.{Declared, ActsFor, IsReader}
 use Rattle.label_lattice.specs.declared.label.Label.{Label}
@@ -18,15 +19,16 @@ Forbids label owner reader = bit_at (slice_index label.rows owner) reader ≡ 0
 abbrev pub Trusts : Label → ℕ → Type 0
 Trusts label principal = bit_at label.trust principal ≡ 1
 
--- what every label is: 63 words, and one
+-- what every label is: a word for each owner, and one more
 pub record IsLabel (label : Label) : Type 0 where
   pub long : length label.rows ≡ PRINCIPALS
-  pub words : All (λ row. row < 2 ^ READERS) label.rows
-  pub trust : label.trust < 2 ^ READERS
+  pub words : All (λ row. row < 2 ^ WORD_BITS) label.rows
+  pub trust : label.trust < 2 ^ WORD_BITS
 
 -- confidentiality may flow from the first to the second: every pair that the first forbids, the second forbids
 abbrev pub ConfFlows : Label → Label → Type 0
-ConfFlows from to = (owner reader : ℕ) → owner < PRINCIPALS → reader < READERS → Forbids from owner reader → Forbids to owner reader
+ConfFlows from to = (owner reader : ℕ) → owner < PRINCIPALS → reader < READERS →
+    Forbids from owner reader → Forbids to owner reader
 
 -- integrity may flow from the first to the second: whoever trusts the second trusts the first
 abbrev pub IntegFlows : Label → Label → Type 0
@@ -37,7 +39,8 @@ abbrev pub Flows : Label → Label → Type 0
 Flows from to = ConfFlows from to × IntegFlows from to
 
 abbrev pub SameForbidden : Label → Label → Type 0
-SameForbidden old new = (owner reader : ℕ) → owner < PRINCIPALS → reader < READERS → (Forbids new owner reader ↔ Forbids old owner reader)
+SameForbidden old new = (owner reader : ℕ) → owner < PRINCIPALS → reader < READERS →
+    (Forbids new owner reader ↔ Forbids old owner reader)
 
 abbrev pub SameTrust : Label → Label → Type 0
 SameTrust old new = (principal : ℕ) → principal < READERS → (Trusts new principal ↔ Trusts old principal)
@@ -53,11 +56,13 @@ IsUntrusted label = (principal : ℕ) → principal < READERS → ¬ Trusts labe
 -- it forbids nothing, and every declared principal trusts it
 pub record IsBottom (principals : Declared) (label : Label) : Type 0 where
   pub forbids : ForbidsNothing label
-  pub trusts : (principal : ℕ) → principal < READERS → (Trusts label principal ↔ (principal < length principals.names))
+  pub trusts : (principal : ℕ) → principal < READERS →
+      (Trusts label principal ↔ (principal < length principals.names))
 
 -- The policy of an owner who names some readers keeps out each reader who acts for neither the owner nor one of those.
--- A place past the declared principals is no reader, and no policy clears its bit.
-pub record KeepsOut (principals : Declared) (owner : PrincipalId) (readers : List PrincipalId) (reader : ℕ) : Type 0 where
+-- A place past the declared principals is not a reader, and no policy clears its bit.
+pub record KeepsOut (principals : Declared) (owner : PrincipalId) (readers : List PrincipalId) (reader : ℕ) :
+    Type 0 where
   pub is_reader : IsReader principals reader
   pub not_owner : ¬ ActsFor principals reader owner.0
   pub not_named : All (λ named. ¬ ActsFor principals reader named.0) readers
@@ -75,7 +80,8 @@ IsPolicy label principals owner readers = (principal reader : ℕ) → principal
 -- the new label forbids what the old one or the policy forbids
 abbrev pub AddsPolicy : Label → Label → Declared → PrincipalId → List PrincipalId → Type 0
 AddsPolicy old new principals owner readers = (principal reader : ℕ) → principal < PRINCIPALS → reader < READERS →
-    (Forbids new principal reader ↔ (Forbids old principal reader ⊎ PolicyForbids principals owner readers principal reader))
+    (Forbids new principal reader ↔
+    (Forbids old principal reader ⊎ PolicyForbids principals owner readers principal reader))
 
 -- the new label is also trusted by each principal whom one of these acts for
 abbrev pub AddsTrust : Label → Label → Declared → List PrincipalId → Type 0

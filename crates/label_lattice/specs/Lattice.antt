@@ -1,6 +1,7 @@
 -- Joins and meets of labels, as sets and as values.
 use Rattle.std.specs.Prelude.{ℕ, ◌<◌, ◌-◌, ◌^◌, ◌↔◌, ◌⊎◌, List, map, length, bit_and, bit_or, replicate}
 use Rattle.std.specs.List.{zip}
+use Rattle.js_base.specs.declared.bits.TheConstants.{WORD_BITS}
 use Rattle.js_base.specs.declared.limits.TheConstants.{PRINCIPALS}
 use Rattle.principals.specs.ActsFor.{Declared}
 use Rattle.label_lattice.specs.declared.label.Label.{Label}
@@ -30,7 +31,7 @@ first_bits count = 2 ^ count - 1
 
 -- rows in which every owner allows every reader
 abbrev pub free_rows : List ℕ
-free_rows = replicate PRINCIPALS (first_bits READERS)
+free_rows = replicate PRINCIPALS (first_bits WORD_BITS)
 
 -- the bits that are set in both of two rows
 abbrev pub common_rows : List ℕ → List ℕ → List ℕ

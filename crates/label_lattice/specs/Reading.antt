@@ -28,7 +28,8 @@ MayStand part (Some after) = (rest : List TokenKind) → part ≢ symbol Questio
 pub record Adds (principals : Declared) (part : KnownPart) (old new : Label) : Type 0 where
   pub forbids : (owner reader : ℕ) → owner < PRINCIPALS → reader < READERS →
       (Forbids new owner reader ↔ (Forbids old owner reader ⊎ PartForbids principals owner reader part))
-  pub trusts : (principal : ℕ) → principal < READERS → (Trusts new principal ↔ (Trusts old principal ⊎ PartTrusts principals principal part))
+  pub trusts : (principal : ℕ) → principal < READERS →
+      (Trusts new principal ↔ (Trusts old principal ⊎ PartTrusts principals principal part))
 
 -- the tokens are a part, which is added to the old label
 pub record AddsPart (principals : Declared) (tokens : List TokenKind) (old new : Label) : Type 0 where
@@ -40,4 +41,5 @@ pub record AddsPart (principals : Declared) (tokens : List TokenKind) (old new :
 
 -- no part with declared names is written so
 abbrev pub IsNoPart : Declared → List TokenKind → Type 0
-IsNoPart principals tokens = (part : Part) (known : KnownPart) → tokens ≡ part_tokens part → ¬ IsKnownPart principals part known
+IsNoPart principals tokens = (part : Part) (known : KnownPart) →
+    tokens ≡ part_tokens part → ¬ IsKnownPart principals part known

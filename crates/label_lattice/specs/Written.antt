@@ -24,16 +24,16 @@ abbrev pub symbol : symbols.Symbol → TokenKind
 symbol written = Symbol written
 
 -- the items with the separator between each two
-abbrev pub joined : TokenKind → List (List TokenKind) → List TokenKind
-joined separator [] = []
-joined separator (item ∷ []) = item
-joined separator (item ∷ next ∷ items) = item ++ separator ∷ joined separator (next ∷ items)
+abbrev pub with_separator : TokenKind → List (List TokenKind) → List TokenKind
+with_separator separator [] = []
+with_separator separator (item ∷ []) = item
+with_separator separator (item ∷ next ∷ items) = item ++ separator ∷ with_separator separator (next ∷ items)
 
 abbrev pub name_tokens : List ℕ → List TokenKind
 name_tokens name = Name name ∷ []
 
 abbrev pub names_tokens : List (List ℕ) → List TokenKind
-names_tokens names = joined (symbol Comma) (map name_tokens names)
+names_tokens names = with_separator (symbol Comma) (map name_tokens names)
 
 -- ---- parts
 
@@ -53,7 +53,7 @@ TrustIsLast (policy owner readers ∷ parts) = TrustIsLast parts
 TrustIsLast (trust members ∷ parts) = parts ≡ []
 
 abbrev pub parts_tokens : List Part → List TokenKind
-parts_tokens parts = joined (symbol Semicolon) (map part_tokens parts)
+parts_tokens parts = with_separator (symbol Semicolon) (map part_tokens parts)
 
 -- ---- what the parts mean
 
@@ -83,13 +83,15 @@ PartForbids principals owner reader (trust_of known_members) = ⊥
 
 abbrev pub PartTrusts : Declared → ℕ → KnownPart → Type 0
 PartTrusts principals principal (policy_of known_owner known_readers) = ⊥
-PartTrusts principals principal (trust_of known_members) = Any (λ member. ActsFor principals member.0 principal) known_members
+PartTrusts principals principal (trust_of known_members) =
+    Any (λ member. ActsFor principals member.0 principal) known_members
 
 -- the label forbids what some part forbids, and is trusted by whom some part has as trusting
 pub record IsMadeOf (principals : Declared) (parts : List KnownPart) (label : Label) : Type 0 where
   pub forbids : (owner reader : ℕ) → owner < PRINCIPALS → reader < READERS →
       (Forbids label owner reader ↔ Any (PartForbids principals owner reader) parts)
-  pub trusts : (principal : ℕ) → principal < READERS → (Trusts label principal ↔ Any (PartTrusts principals principal) parts)
+  pub trusts : (principal : ℕ) → principal < READERS →
+      (Trusts label principal ↔ Any (PartTrusts principals principal) parts)
 
 -- the tokens are the parts of this label, written with names of these principals
 pub record IsPartsOf (principals : Declared) (inside : List TokenKind) (label : Label) : Type 0 where

@@ -1,8 +1,7 @@
+//! Labels, and what is made of them.
+
 ghost use Rattle.std.specs.Prelude.{◌≡◌, ℕ, ◌<◌, ◌↔◌, IsTrue, List, All, length};
 ghost use Rattle.label_lattice.specs.Label.{ConfFlows, IntegFlows};
-
-#[cfg(test)]
-mod tests;
 
 use crate::policy::{acted_for, forbidden_readers};
 use js_base::PrincipalId;
@@ -10,13 +9,15 @@ use js_base::bits::{all_bits, bits_within, common_bits, with_bit, without_bits};
 use js_base::limits::PRINCIPALS;
 use principals::{Principals, acts_for_laws};
 
-/// The readers: the declared principals, and the outsider, who is the last.
+/// How many readers there may be: the declared principals, and the outsider, who is the last.
 pub const READERS: usize = PRINCIPALS + 1;
 
-/// Which readers each owner of a value forbids, and which principals trust it. At most 63 principals are owners.
+/// Which readers each owner of a value forbids, and which principals trust it, after the decentralized label model of
+/// Myers and Liskov.
 #[derive(Clone, Copy, Debug, PartialEq, Eq)]
 pub struct Label {
-    /// For each owner a word with a bit for each reader that the owner allows. Bit 63 is that of the outsider.
+    /// For each owner a word with a bit for each reader that the owner allows. The last bit is that
+    /// of the outsider.
     rows: [u64; PRINCIPALS],
     /// A word with a bit for each principal that trusts.
     trust: u64,
@@ -26,7 +27,8 @@ impl Label {
     ghost use Rattle.principals.specs.ActsFor.{Declared};
     ghost use Rattle.label_lattice.specs.Label.{IsUntrusted, IsBottom, ForbidsNothing, AddsPolicy, AddsTrust};
     ghost use Rattle.label_lattice.specs.Label.{SameTrust, SameForbidden};
-    ghost use Rattle.label_lattice.specs.Lattice.{IsJoin, IsIntegrityMeet, empty_label, bottom_of, join_of, meet_of};
+    ghost use Rattle.label_lattice.specs.Lattice.{IsJoin, IsIntegrityMeet, empty_label, bottom_of};
+    ghost use Rattle.label_lattice.specs.Lattice.{join_of, meet_of};
     ghost use Rattle.label_lattice.specs.Over.{IsLabelOver};
 
     /// The label `{}`, which forbids nothing and is trusted by nobody.
@@ -42,7 +44,8 @@ impl Label {
         }
     }
 
-    /// The label that forbids nothing and is trusted by every declared principal. It may flow to every label.
+    /// The label that forbids nothing and is trusted by every declared principal. It may flow to each label that only
+    /// these principals trust.
     pub fn bottom(principals: &Principals) -> Self
         ensures sets { IsBottom principals.now result }
         ensures value { result ≡ bottom_of principals.now }
@@ -59,8 +62,8 @@ impl Label {
         }
     }
 
-    /// The label with one more policy, that of the owner and of the readers whom the owner names. It forbids a reader who
-    /// acts for none of these, on behalf of each principal whom the owner acts for. It is trusted as before.
+    /// The label with one more policy, that of the owner and of the readers whom the owner names. It also forbids each
+    /// reader who acts for none of these, on behalf of each principal whom the owner acts for. It is trusted as before.
     pub fn with_policy(
         self,
         principals: &Principals,

@@ -44,7 +44,8 @@ pub fn label_laws()
 
     // Joins and meets of labels over the same principals are such labels.
     ensures empty_over { (principals : Declared) → IsLabelOver principals empty_label }
-    ensures bottom_over { (principals : Declared) → IsDeclared principals → IsLabelOver principals (bottom_of principals) }
+    ensures bottom_over { (principals : Declared) → IsDeclared principals →
+        IsLabelOver principals (bottom_of principals) }
     ensures join_over { (principals : Declared) (first second : Label) → IsLabelOver principals first →
         IsLabelOver principals second → IsLabelOver principals (join_of first second) }
     ensures meet_over { (principals : Declared) (first second : Label) → IsLabelOver principals first →
@@ -91,8 +92,8 @@ pub fn label_laws()
         (ConfFlows from to ↔ ActsFor principals second.0 first.0) }
 
     // Tokens are one label at most.
-    ensures written_once { (principals : Declared) (tokens : List Token) (first second : Label) → IsDeclared principals →
-        IsLabelOver principals first → IsLabelOver principals second →
+    ensures written_once { (principals : Declared) (tokens : List Token) (first second : Label) →
+        IsDeclared principals → IsLabelOver principals first → IsLabelOver principals second →
         IsLabelOf principals tokens first → IsLabelOf principals tokens second → first ≡ second }
 {
     acts_for_laws();

@@ -4,8 +4,6 @@
 mod label;
 mod laws;
 mod policy;
-#[cfg(test)]
-mod test_principals;
 mod tokens;
 
 pub use label::{Label, READERS};

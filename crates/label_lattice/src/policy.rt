@@ -1,4 +1,5 @@
-// What the policies and the trust of declared principals come to, as words of bits.
+//! What the policies and the trust of declared principals come to, as words of bits.
+
 ghost use Rattle.std.specs.Prelude.{◌≡◌, ℕ, ◌<◌, ◌↔◌, IsTrue, List, All, length};
 ghost use Rattle.std.specs.Int.{bit_at};
 ghost use Rattle.principals.specs.ActsFor.{ActsFor};
@@ -10,7 +11,7 @@ use js_base::bits::with_bit;
 use js_base::limits::PRINCIPALS;
 use principals::{Principals, acts_for_laws};
 
-/// The bit of the reader who stands for everyone that is no declared principal.
+/// The bit of the reader who stands for everyone who is not a declared principal.
 const OUTSIDER: u8 = PRINCIPALS as u8;
 
 /// The readers whom a policy keeps out, a bit for each.

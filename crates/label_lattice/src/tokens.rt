@@ -1,4 +1,5 @@
-// The label that tokens spell.
+//! The label that tokens spell.
+
 ghost use Rattle.std.specs.Prelude.{IfOk, IfSome, IfNone};
 ghost use Rattle.label_lattice.specs.declared.label.Label.{Label};
 ghost use Rattle.label_lattice.specs.Written.{IsLabelOf, IsPartsOf, kinds};
@@ -7,8 +8,6 @@ ghost use Rattle.label_lattice.specs.Reading.{AddsPart, IsNoPart};
 
 mod names;
 mod pieces;
-#[cfg(test)]
-mod tests;
 
 use crate::Label;
 use crate::tokens::names::known_names;
@@ -18,8 +17,8 @@ use js_base::OutOfMemory;
 use principals::Principals;
 use std::alloc::Global;
 
-/// The label that the tokens are, written with names of these principals. `None` where they are no label, or where a
-/// name in it is not declared.
+/// The label that the tokens are, written with names of these principals. `None` where they are not a label, or where
+/// a name in it is not declared.
 pub fn read_label(
     alloc: Global,
     tokens: &[Token],
@@ -43,7 +42,8 @@ fn label_of_parts(
 ) -> Result<Option<Label>, OutOfMemory>
     ensures found { IfOk result (λ read. IfSome read (IsPartsOf principals.now (kinds inside.now))) }
     ensures over { IfOk result (λ read. IfSome read (IsLabelOver principals.now)) }
-    ensures none { IfOk result (λ read. IfNone read ((label : Label) → ¬ IsPartsOf principals.now (kinds inside.now) label)) }
+    ensures none { IfOk result (λ read. IfNone read ((label : Label) →
+        ¬ IsPartsOf principals.now (kinds inside.now) label)) }
 {
     let mut label = Label::empty();
     let mut left = unless_empty(inside);

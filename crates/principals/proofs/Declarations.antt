@@ -1,12 +1,12 @@
 -- Names and pairs are declared in one way, or refused for one cause.
-use Rattle.std.proofs.Common.{◌≡◌, ◌≢◌, ℕ, ◌∙◌, sym, ap, subst, refl, inl, inr, arith}
-use Rattle.std.proofs.Common.{List, [], ◌∷◌, length, slice_get, Some, Contains, string_bytes}
+use Rattle.std.proofs.Common.{◌≡◌, ◌≢◌, ℕ, ◌∙◌, sym, ap, refl, inl, inr, arith}
+use Rattle.std.proofs.Common.{List, [], ◌∷◌, string_bytes}
 use Rattle.std.specs.List.{AllZip, IsDistinct}
 use Rattle.std.specs.Str.{bytes_eq}
 use Rattle.js_base.proofs.Lists.{one_zipped}
 use Rattle.js_base.proofs.Repeats.{one_place, none_repeated, one_repeated}
 use Rattle.principals.specs.ActsFor.{Declared}
-use Rattle.principals.specs.Declaring.{IsNamed, IsPairOf, AreDeclaredAs, Refuses, IsFirstUnknown, mentioned}
+use Rattle.principals.specs.Declaring.{IsPairOf, AreDeclaredAs, Refuses, IsFirstUnknown, mentioned_names}
 use Rattle.principals.specs.declared.principals.PrincipalError.{PrincipalError}
 use Rattle.principals.specs.declared.principals.PrincipalError.TheVariants.{OutOfMemory, TooMany, Twice, Unknown}
 use Rattle.principals.specs.Refusal.{refusal_shape, unknown, twice}
@@ -26,8 +26,8 @@ pub declared_once : (names : List (List ℕ)) (pairs : List (List ℕ × List �
 declared_once names pairs first second one two =
     let same_names : first.names ≡ second.names = one.names_are ∙ sym two.names_are in
     let same_pairs : first.pairs ≡ second.pairs =
-        one_zipped (IsPairOf names) (one_pair names one.declarable.distinct) pairs first.pairs second.pairs
-        one.pairs_are two.pairs_are in
+    one_zipped (IsPairOf names) (one_pair names one.declarable.distinct) pairs first.pairs second.pairs
+    one.pairs_are two.pairs_are in
     let with_names : List (List ℕ) → Declared = λ ns. record { names = ns; pairs = first.pairs } in
     let with_pairs : List (ℕ × ℕ) → Declared = λ ps. record { names = second.names; pairs = ps } in
     ap with_names same_names ∙ ap with_pairs same_pairs
@@ -61,12 +61,12 @@ one_refusal names pairs (Unknown a) TooMany one two no_first no_second = absurd 
 one_refusal names pairs (Unknown a) (Twice b) one two no_first no_second =
     absurd (none_repeated names (string_bytes b) one.0.distinct two.1)
 one_refusal names pairs (Unknown a) (Unknown b) one two no_first no_second =
-    ap unknown (one_unknown names (mentioned pairs) (string_bytes a) (string_bytes b) one.1 two.1)
+    ap unknown (one_unknown names (mentioned_names pairs) (string_bytes a) (string_bytes b) one.1 two.1)
 
 -- ---- never both
 
 all_known : (names : List (List ℕ)) (pairs : List (List ℕ × List ℕ)) (ids : List (ℕ × ℕ)) (name : List ℕ) →
-    AllZip (IsPairOf names) pairs ids → ¬ IsFirstUnknown names (mentioned pairs) name
+    AllZip (IsPairOf names) pairs ids → ¬ IsFirstUnknown names (mentioned_names pairs) name
 all_known names [] ids name known unknown_name = unknown_name
 all_known names (pair ∷ pairs) [] name known unknown_name = absurd known
 all_known names (pair ∷ pairs) (id ∷ ids) name known (inl first) =

@@ -1,5 +1,6 @@
 -- The rows of bits of who acts for whom.
-use Rattle.std.proofs.Common.{ℕ, ◌≡◌, ◌≢◌, ◌<◌, ◌≤◌, ◌+◌, ◌⊎◌, ◌↔◌, ◌∙◌, sym, subst, inl, inr, max, List, [], ◌∷◌, ◌++◌, length, get_or, set, map, take, arith}
+use Rattle.std.proofs.Common.{ℕ, ◌≡◌, ◌≢◌, ◌<◌, ◌≤◌, ◌+◌, ◌⊎◌, ◌↔◌, ◌∙◌, sym, subst, inl, inr, max, List, [], ◌∷◌, ◌++◌}
+use Rattle.std.proofs.Common.{length, get_or, set, map, take, arith}
 use Rattle.std.specs.Int.{bit_at}
 use Rattle.std.proofs.lemmas.Bool.{cases_lt}
 use Rattle.std.proofs.lemmas.List.{get_or-set_same, get_or-set_other, length-set, map_more, take_all}
@@ -9,14 +10,16 @@ use Rattle.principals.proofs.Chains.{OldOrOver, one_more_pair, without_pairs}
 
 -- the row has the bits that the old one had, and where that has the bit of the first, also those that are reached
 abbrev pub RowGains : ℕ → ℕ → ℕ → ℕ → Type 0
-RowGains old first reached new = (q : ℕ) → (bit_at new q ≡ 1) ↔ ((bit_at old q ≡ 1) ⊎ ((bit_at old first ≡ 1) × (bit_at reached q ≡ 1)))
+RowGains old first reached new =
+    (q : ℕ) → (bit_at new q ≡ 1) ↔ ((bit_at old q ≡ 1) ⊎ ((bit_at old first ≡ 1) × (bit_at reached q ≡ 1)))
 
 -- the rows below a place have gained, and those from there on are the old ones
 pub record GainedBelow (old rows : List ℕ) (first reached place : ℕ) : Type 0 where
   pub before : (p : ℕ) → p < place → RowGains (get_or old p 0) first reached (get_or rows p 0)
   pub after : (p : ℕ) → place ≤ p → get_or rows p 0 ≡ get_or old p 0
 
-pub row_gains : (old first reached new : ℕ) → bit_at old first ≡ 1 → ((k : ℕ) → bit_at new k ≡ max (bit_at old k) (bit_at reached k)) → RowGains old first reached new
+pub row_gains : (old first reached new : ℕ) → bit_at old first ≡ 1 →
+    ((k : ℕ) → bit_at new k ≡ max (bit_at old k) (bit_at reached k)) → RowGains old first reached new
 row_gains old first reached new has joined q = (gained, back)
   where
     gained : bit_at new q ≡ 1 → (bit_at old q ≡ 1) ⊎ ((bit_at old first ≡ 1) × (bit_at reached q ≡ 1))
@@ -33,17 +36,22 @@ pub row_stays : (old first reached : ℕ) → ¬ (bit_at old first ≡ 1) → Ro
 row_stays old first reached lacks q =
     (λ set. inl set, λ either. elim either [ inl set ↦ set | inr both ↦ absurd (lacks both.0) ])
 
-pub rows_with_pair : (pairs : List (ℕ × ℕ)) (old rows : List ℕ) (first second place : ℕ) → first < 63 → second < 63 → 63 ≤ place → GainedBelow old rows first (get_or old second 0) place → AreRowsOf pairs old → AreRowsOf (pairs ++ (first, second) ∷ []) rows
+pub rows_with_pair : (pairs : List (ℕ × ℕ)) (old rows : List ℕ) (first second place : ℕ) → first < 63 →
+    second < 63 → 63 ≤ place → GainedBelow old rows first (get_or old second 0) place → AreRowsOf pairs old →
+    AreRowsOf (pairs ++ (first, second) ∷ []) rows
 rows_with_pair pairs old rows first second place first_in second_in all gained are p q p_in q_in = (
   λ set. (one_more_pair pairs first second p q).1 (there ((gained.before p (omega arith) q).0 set)),
   λ leads. (gained.before p (omega arith) q).1 (back ((one_more_pair pairs first second p q).0 leads)),
 )
   where
-    there : (bit_at (get_or old p 0) q ≡ 1) ⊎ ((bit_at (get_or old p 0) first ≡ 1) × (bit_at (get_or old second 0) q ≡ 1)) → OldOrOver pairs first second p q
+    there : (bit_at (get_or old p 0) q ≡ 1)
+        ⊎ ((bit_at (get_or old p 0) first ≡ 1) × (bit_at (get_or old second 0) q ≡ 1)) →
+        OldOrOver pairs first second p q
     there (inl set) = inl ((are p q p_in q_in).0 set)
     there (inr both) = inr ((are p first p_in first_in).0 both.0, (are second q second_in q_in).0 both.1)
 
-    back : OldOrOver pairs first second p q → (bit_at (get_or old p 0) q ≡ 1) ⊎ ((bit_at (get_or old p 0) first ≡ 1) × (bit_at (get_or old second 0) q ≡ 1))
+    back : OldOrOver pairs first second p q →
+        (bit_at (get_or old p 0) q ≡ 1) ⊎ ((bit_at (get_or old p 0) first ≡ 1) × (bit_at (get_or old second 0) q ≡ 1))
     back (inl old_leads) = inl ((are p q p_in q_in).1 old_leads)
     back (inr over) = inr ((are p first p_in first_in).1 over.0, (are second q second_in q_in).1 over.1)
 
@@ -67,7 +75,8 @@ own_row p row set others q = (
   λ same. let P : ℕ → Type 0 = λ n. bit_at row n ≡ 1 in subst P same set,
 )
 
-own_there : (rows : List ℕ) (place row : ℕ) → place < length rows → IsOwnRow place row → OwnBelow rows place → (p : ℕ) → p < place + 1 → IsOwnRow p (get_or (set rows place row) p 0)
+own_there : (rows : List ℕ) (place row : ℕ) → place < length rows → IsOwnRow place row → OwnBelow rows place →
+    (p : ℕ) → p < place + 1 → IsOwnRow p (get_or (set rows place row) p 0)
 own_there rows place row within own so_far p below =
     elim (cases_lt p place) [
       | inl less ↦
@@ -80,7 +89,8 @@ own_there rows place row within own so_far p below =
           subst P is (subst Q (sym (get_or-set_same rows place row 0 within)) own)
     ]
 
-pub own_more : (rows : List ℕ) (place row : ℕ) → place < 63 → IsOwnRow place row → OwnBelow rows place → OwnBelow (set rows place row) (place + 1)
+pub own_more : (rows : List ℕ) (place row : ℕ) → place < 63 → IsOwnRow place row → OwnBelow rows place →
+    OwnBelow (set rows place row) (place + 1)
 own_more rows place row within own so_far = record {
   long = length-set rows place row ∙ so_far.long;
   own = own_there rows place row (omega (arith, so_far.long)) own so_far;
@@ -93,12 +103,15 @@ own_rows_are rows place all below p q p_in q_in =
 
 -- ---- the rows along a list of pairs
 
-pub rows_more : {X : Type 0} (f : X → ℕ × ℕ) (items : List X) (place : ℕ) (d : X) (rows : List ℕ) → place < length items → AreRowsOf (map f (take place items) ++ f (get_or items place d) ∷ []) rows → AreRowsOf (map f (take (place + 1) items)) rows
+pub rows_more : {X : Type 0} (f : X → ℕ × ℕ) (items : List X) (place : ℕ) (d : X) (rows : List ℕ) →
+    place < length items → AreRowsOf (map f (take place items) ++ f (get_or items place d) ∷ []) rows →
+    AreRowsOf (map f (take (place + 1) items)) rows
 rows_more f items place d rows within are =
     let P : List (ℕ × ℕ) → Type 0 = λ pairs. AreRowsOf pairs rows in
     subst P (sym (map_more f items place d within)) are
 
-pub rows_of_all : {X : Type 0} (f : X → ℕ × ℕ) (items : List X) (place : ℕ) (rows : List ℕ) → length items ≤ place → AreRowsOf (map f (take place items)) rows → AreRowsOf (map f items) rows
+pub rows_of_all : {X : Type 0} (f : X → ℕ × ℕ) (items : List X) (place : ℕ) (rows : List ℕ) → length items ≤ place →
+    AreRowsOf (map f (take place items)) rows → AreRowsOf (map f items) rows
 rows_of_all f items place rows all are =
     let P : List _ → Type 0 = λ xs. AreRowsOf (map f xs) rows in
     subst P (take_all place items all) are

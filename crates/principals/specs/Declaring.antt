@@ -1,7 +1,7 @@
 -- What becomes of the names and the pairs that are to be declared.
-use Rattle.std.specs.Prelude.{◌≡◌, ◌≤◌, ◌<◌, ◌⊎◌, ℕ, List, [], ◌∷◌, Contains, length, map, take, Some, slice_get, String, string_bytes, ⊤}
-use Rattle.std.specs.List.{AllZip, IsDistinct}
-use Rattle.std.specs.Str.{bytes_eq}
+use Rattle.std.specs.Prelude.{◌≡◌, ◌≤◌, ◌<◌, ◌⊎◌, ℕ, List, [], ◌∷◌, Contains, length, map, Some, slice_get}
+use Rattle.std.specs.Prelude.{String, string_bytes, ⊤}
+use Rattle.std.specs.List.{AllZip}
 use Rattle.std.specs.declared.alloc.Global.{Global}
 use Rattle.js_base.specs.declared.limits.TheConstants.{PRINCIPALS}
 use Rattle.js_base.specs.Named.{IsFirstRepeated}
@@ -31,9 +31,9 @@ pub record AreDeclaredAs (names : List (List ℕ)) (pairs : List (List ℕ × Li
   pub pairs_are : AllZip (IsPairOf names) pairs principals.pairs
 
 -- the names that pairs mention, in order
-abbrev pub mentioned : List (List ℕ × List ℕ) → List (List ℕ)
-mentioned [] = []
-mentioned (pair ∷ pairs) = pair.0 ∷ pair.1 ∷ mentioned pairs
+abbrev pub mentioned_names : List (List ℕ × List ℕ) → List (List ℕ)
+mentioned_names [] = []
+mentioned_names (pair ∷ pairs) = pair.0 ∷ pair.1 ∷ mentioned_names pairs
 
 -- the first of the mentioned names that none of the names is
 abbrev pub IsFirstUnknown : List (List ℕ) → List (List ℕ) → List ℕ → Type 0
@@ -54,4 +54,5 @@ abbrev pub Refuses : List (List ℕ) → List (List ℕ × List ℕ) → Princip
 Refuses names pairs OutOfMemory = ⊤
 Refuses names pairs TooMany = PRINCIPALS < length names
 Refuses names pairs (Twice name) = (length names ≤ PRINCIPALS) × IsFirstRepeated names (string_bytes name)
-Refuses names pairs (Unknown name) = AreDeclarable names × IsFirstUnknown names (mentioned pairs) (string_bytes name)
+Refuses names pairs (Unknown name) =
+    AreDeclarable names × IsFirstUnknown names (mentioned_names pairs) (string_bytes name)

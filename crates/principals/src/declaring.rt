@@ -2,7 +2,8 @@
 
 ghost use Rattle.std.specs.Prelude.{◌≤◌, length, map, IfOk, IfErr, [], ◌∷◌, string_bytes};
 ghost use Rattle.std.specs.List.{AllZip};
-ghost use Rattle.principals.specs.Declaring.{IsNamed, IsPairOf, IsUnknownIn, mentioned, written_pair, written_pairs};
+ghost use Rattle.principals.specs.Declaring.{IsNamed, IsPairOf, IsUnknownIn, mentioned_names};
+ghost use Rattle.principals.specs.Declaring.{written_pair, written_pairs};
 ghost use Rattle.principals.specs.Pairs.{pair_of, pairs_of};
 
 use crate::PrincipalError;
@@ -33,7 +34,8 @@ fn known_pair(
     requires { length names.now ≤ PRINCIPALS }
     ensures known { IfOk result (λ ids.
         IsPairOf (map string_bytes names.now) (written_pair pair.now) (pair_of ids)) }
-    ensures unknown { IfErr result (IsUnknownIn (map string_bytes names.now) (mentioned (written_pair pair.now ∷ []))) }
+    ensures unknown { IfErr result
+        (IsUnknownIn (map string_bytes names.now) (mentioned_names (written_pair pair.now ∷ []))) }
 {
     let first = known(alloc, names, pair.0.as_str())?;
     let second = known(alloc, names, pair.1.as_str())?;
@@ -49,7 +51,8 @@ pub fn pair_ids(
     requires { length names.now ≤ PRINCIPALS }
     ensures known { IfOk result (λ ids.
         AllZip (IsPairOf (map string_bytes names.now)) (written_pairs pairs.now) (pairs_of ids.items)) }
-    ensures unknown { IfErr result (IsUnknownIn (map string_bytes names.now) (mentioned (written_pairs pairs.now))) }
+    ensures unknown { IfErr result
+        (IsUnknownIn (map string_bytes names.now) (mentioned_names (written_pairs pairs.now))) }
 {
     let mut ids = Vec::new(alloc);
     for pair in pairs {

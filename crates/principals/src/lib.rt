@@ -5,8 +5,6 @@ mod closure;
 mod declaring;
 mod laws;
 mod principals;
-#[cfg(test)]
-mod tests;
 
 pub use laws::{acts_for_laws, principals_laws};
 pub use principals::{PrincipalError, Principals};

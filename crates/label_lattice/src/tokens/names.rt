@@ -1,4 +1,5 @@
-// The principals that names stand for.
+//! The principals that names stand for.
+
 ghost use Rattle.std.specs.Prelude.{◌≡◌, ℕ, ◌<◌, List, All, IfOk, IfSome, IfNone, length};
 ghost use Rattle.js_base.specs.declared.ids.PrincipalId.{PrincipalId};
 ghost use Rattle.label_lattice.specs.Written.{IsKnown, AreKnown, kinds, name_tokens, names_tokens};
@@ -29,9 +30,7 @@ pub fn known_names(
         let Some(principal) = known_name(name, principals) else {
             return Ok(None);
         };
-        if known.push(principal).is_err() {
-            return Err(OutOfMemory);
-        }
+        known.push(principal)?;
         left = after;
     }
     Ok(Some(known))

@@ -1,4 +1,5 @@
-// Cuts of lists of tokens.
+//! Cuts of lists of tokens.
+
 ghost use Rattle.std.specs.Prelude.{◌≡◌, ◌≢◌, ◌↔◌, List, [], ◌∷◌, ◌++◌, IfSome, IfNone, IsTrue};
 ghost use Rattle.std.specs.Option.{option_map};
 ghost use Rattle.jif_lex.specs.declared.token.TokenKind.{TokenKind};
@@ -37,7 +38,8 @@ pub fn unless_empty(tokens: &[Token]) -> Option<&[Token]>
 
 /// The tokens before the first of these symbols, and those after it where there is one.
 pub fn cut_at(tokens: &[Token], separator: Symbol) -> (&[Token], Option<&[Token]>)
-    ensures { CutsAt (symbol separator) (kinds tokens.now) (kinds result.0.now) (option_map (λ rest. kinds rest.now) result.1) }
+    ensures { CutsAt (symbol separator) (kinds tokens.now) (kinds result.0.now)
+        (option_map (λ rest. kinds rest.now) result.1) }
 {
     for (place, token) in tokens.iter().enumerate() {
         if token.kind.is_symbol(separator) {

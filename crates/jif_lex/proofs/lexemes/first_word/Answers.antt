@@ -6,4 +6,5 @@ word_kind-requires c = word_like c.args.text.now c.word_len-len.result c.word_le
 
 pub returns : goal.returns
 returns c =
-    word_front c.args.text.now c.word_len-len.result c.in_ok-word_kind.field-0 c.word_len-len.ensures.len c.word_len-len.ensures.within c.requires.begins c.requires.plain c.in_ok-word_kind.ensures
+    word_front c.args.text.now c.word_len-len.result c.in_ok-word_kind.field-0 c.word_len-len.ensures.len
+    c.word_len-len.ensures.within c.requires.begins c.requires.plain c.in_ok-word_kind.ensures

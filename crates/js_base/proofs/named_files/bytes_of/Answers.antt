@@ -4,7 +4,9 @@ use Rattle.js_base.proofs.named_files.bytes_of.Goals as goal
 
 pub returns-in-Some : goal.returns-in-Some
 returns-in-Some c =
-    let found = held_in-from_position c.args.name.now c.args.files.now c.in-Some.place c.index-files-place.result c.in-Some.ensures in
+    let found =
+    held_in-from_position c.args.name.now c.args.files.now c.in-Some.place c.index-files-place.result
+    c.in-Some.ensures in
     grind arith
 
 pub returns-in-None : goal.returns-in-None

@@ -1,4 +1,5 @@
-use Rattle.label_lattice.proofs.LatticeLemmas.{one_label, join_is_above, join_is_least, meet_is_below, meet_is_greatest, bottom_flows}
+use Rattle.label_lattice.proofs.LatticeLemmas.{one_label, join_is_above, join_is_least, meet_is_below, meet_is_greatest}
+use Rattle.label_lattice.proofs.LatticeLemmas.{bottom_flows}
 use Rattle.label_lattice.proofs.OneLabel.{written_once}
 use Rattle.label_lattice.proofs.PolicyLemmas.{policy_not_free, acts_from_flow, flow_from_acts, only_policy}
 use Rattle.label_lattice.proofs.Values as values

@@ -5,7 +5,8 @@ use Rattle.principals.proofs.closure.own_rows.Goals as goal
 pub loop-place-preserved : goal.loop-place-preserved
 loop-place-preserved c =
     own_more c.loop-place.rows c.loop-place.place c.with_bit.result (omega arith)
-    (own_row c.loop-place.place c.with_bit.result c.with_bit.ensures.set c.with_bit.ensures.others) c.loop-place.invariant
+    (own_row c.loop-place.place c.with_bit.result c.with_bit.ensures.set c.with_bit.ensures.others)
+    c.loop-place.invariant
 
 pub returns : goal.returns
 returns c = own_rows_are c.loop-place.rows c.loop-place.place (omega arith) c.loop-place.invariant

@@ -9,4 +9,5 @@ loop-pair-preserved c =
     (c.add_pair.ensures (pairs_of (take c.loop-pair.pair-index c.args.pairs.now)) c.loop-pair.invariant)
 
 pub returns : goal.returns
-returns c = rows_of_all pair_of c.args.pairs.now c.loop-pair.pair-index c.loop-pair.rows (omega arith) c.loop-pair.invariant
+returns c =
+    rows_of_all pair_of c.args.pairs.now c.loop-pair.pair-index c.loop-pair.rows (omega arith) c.loop-pair.invariant

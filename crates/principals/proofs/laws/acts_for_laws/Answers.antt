@@ -1,4 +1,5 @@
-use Rattle.principals.proofs.Chains.{goes_on, to_itself, over_pair, smallest, of_outsider, for_outsider, of_declared, for_declared}
+use Rattle.principals.proofs.Chains.{goes_on, to_itself, over_pair, smallest, of_outsider, for_outsider, of_declared}
+use Rattle.principals.proofs.Chains.{for_declared}
 use Rattle.principals.proofs.laws.acts_for_laws.Goals as goal
 
 pub returns-clause-transitive : goal.returns-clause-transitive

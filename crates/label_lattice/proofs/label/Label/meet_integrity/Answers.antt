@@ -11,9 +11,11 @@ returns-clause-value c = met_label c.args.self c.args.other c.all_bits-trust.res
 pub returns-clause-sets : goal.returns-clause-sets
 returns-clause-sets c =
     let P : Label → Type 0 = λ meet. IsIntegrityMeet c.args.self c.args.other meet in
-    subst P (sym (met_label c.args.self c.args.other c.all_bits-trust.result c.all_bits-trust.ensures)) (meet_is c.args.self c.args.other)
+    subst P (sym (met_label c.args.self c.args.other c.all_bits-trust.result c.all_bits-trust.ensures))
+    (meet_is c.args.self c.args.other)
 
 pub returns-clause-over : goal.returns-clause-over
 returns-clause-over c principals one two =
     let P : Label → Type 0 = λ meet. IsLabelOver principals meet in
-    subst P (sym (met_label c.args.self c.args.other c.all_bits-trust.result c.all_bits-trust.ensures)) (meet_over principals c.args.self c.args.other one two)
+    subst P (sym (met_label c.args.self c.args.other c.all_bits-trust.result c.all_bits-trust.ensures))
+    (meet_over principals c.args.self c.args.other one two)

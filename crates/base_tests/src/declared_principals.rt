@@ -1,13 +1,15 @@
+//! Principals by their names, and who acts for whom.
+
 ghost use Rattle.std.specs.Prelude.{◌≡◌, IfOk, All};
 ghost use Rattle.std.specs.String.{string_bytes};
 ghost use Rattle.js_base.specs.Name.{IsName};
 
-use crate::{PrincipalError, Principals};
 use js_base::PrincipalId;
+use principals::{PrincipalError, Principals};
 use std::alloc::{AllocError, Global};
 use std::test::Fail;
 
-/// Texts of one's own.
+/// Owned copies of texts.
 fn names(alloc: Global, texts: &[&str]) -> Result<Vec<String>, AllocError>
     requires { All (λ text. IsName text.now) texts.now }
     ensures { IfOk result (λ names. All (λ name. IsName (string_bytes name)) names.items) }
@@ -19,7 +21,7 @@ fn names(alloc: Global, texts: &[&str]) -> Result<Vec<String>, AllocError>
     Ok(names)
 }
 
-/// Pairs of texts of one's own.
+/// Owned copies of pairs of texts.
 fn pairs(alloc: Global, texts: &[(&str, &str)]) -> Result<Vec<(String, String)>, AllocError> {
     let mut pairs = Vec::new(alloc);
     for (first, second) in texts {
