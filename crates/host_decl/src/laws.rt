@@ -11,7 +11,7 @@ use jif_lex::lex_laws;
 use label_lattice::label_laws;
 use principals::principals_laws;
 
-/// Laws of host files, for who reasons about them. The call does nothing.
+/// Laws of host files, for whoever reasons about them. The call does nothing.
 pub fn host_file_laws()
     // A host file that has a meaning has one.
     ensures one_meaning { (bytes : List ℕ) (first second : HostsShape) → ReadsHosts bytes first →

@@ -11,12 +11,14 @@ use host_decl::host_file_laws;
 /// Laws of what is due, for who reasons about answers. The call does nothing.
 pub fn due_laws()
     // For words and files that tell what they hold one verdict is due, after one number of loads.
-    ensures one_verdict { (words : List (List ℕ)) (holds : List ℕ → Option (List ℕ)) (number other : ℕ) (first second : VerdictShape) →
+    ensures one_verdict { (words : List (List ℕ)) (holds : List ℕ → Option (List ℕ))
+        (number other : ℕ) (first second : VerdictShape) →
         Due words (Some holds) number first → Due words (Some holds) other second →
         (number ≡ other) × (first ≡ second) }
 
     // So it is too where a load may have failed, as long as the count of faults tells whether one did.
-    ensures one_answer { (words : List (List ℕ)) (files : FilesChange) (holds : List ℕ → Option (List ℕ)) (first second : VerdictShape) →
+    ensures one_answer { (words : List (List ℕ)) (files : FilesChange)
+        (holds : List ℕ → Option (List ℕ)) (first second : VerdictShape) →
         files.held ≡ Some holds → files.faults_before < last_count →
         IsDue words files first → IsDue words files second → first ≡ second }
 
