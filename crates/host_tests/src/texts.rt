@@ -2,10 +2,11 @@
 
 use crate::small_code::{A, B, small_code};
 use capability::{TAG_BYTES, Token};
-use host_code::{CodeExpr, Message, Node, Op, instruction_text, message_text};
+use host_code::{Code, CodeExpr, Message, Node, Op, instruction_text, message_text};
 use js_base::{EntryId, FieldId, FrameId, OutOfMemory, RequestId, SiteId, VarId};
 use label_lattice::Label;
 use std::alloc::Global;
+use std::process::Abort;
 use std::test::Fail;
 
 const REQUEST: RequestId = RequestId { at: 1, count: 12 };
@@ -110,29 +111,66 @@ fn a_message_of_what_is_not_there_does_not_fit(rt: HostRuntime) -> Result<(), Fa
 }
 
 #[test]
-fn instructions_are_printed(rt: HostRuntime) -> Result<(), Fail> {
+fn instructions_on_values_are_printed(rt: HostRuntime) -> Result<(), Fail> {
     let alloc = rt.alloc();
     let code = small_code(alloc, Label::empty(), Label::empty())?;
-    let instructions = vec![in alloc;
-        (Op::Read(FieldId(0), one(alloc)?), "read x"),
-        (Op::Let(VarId(0), one(alloc)?), "let main.v"),
-        (Op::Put(FieldId(1), one(alloc)?, one(alloc)?), "store y"),
-        (Op::Send(VarId(0), B), "send main.v B"),
-        (Op::Frame(SiteId(4)), "frame 4"),
-        (Op::Arg(VarId(0), one(alloc)?), "arg main.v"),
-        (Op::Pass(VarId(0), B), "pass main.v B"),
-        (Op::Push(EntryId(1)), "push e1"),
-        (Op::Ask(EntryId(2), B), "ask e2 B"),
-        (Op::Go(EntryId(2), B), "go e2 B"),
-        (Op::Call(EntryId(1), A), "call e1 A"),
-        (Op::Ret(VarId(0), one(alloc)?), "ret main.v"),
-        (Op::Back, "back"),
-        (Op::Branch(one(alloc)?, 17), "branch 17"),
-    ]?;
-    for (op, text) in &instructions {
-        let printed = instruction_text(alloc, &code, op)?;
-        assert_eq!(rt; printed.as_str(), *text);
-    }
+    let value = one(alloc)?;
+    assert_text(&rt, alloc, &code, &Op::Let(VarId(0), value), "let main.v")?;
+    let value = one(alloc)?;
+    assert_text(&rt, alloc, &code, &Op::Arg(VarId(0), value), "arg main.v")?;
+    let value = one(alloc)?;
+    assert_text(&rt, alloc, &code, &Op::Ret(VarId(0), value), "ret main.v")?;
+    let value = one(alloc)?;
+    assert_text(&rt, alloc, &code, &Op::Branch(value, 17), "branch 17")
+}
+
+#[test]
+fn instructions_on_fields_are_printed(rt: HostRuntime) -> Result<(), Fail> {
+    let alloc = rt.alloc();
+    let code = small_code(alloc, Label::empty(), Label::empty())?;
+    let index = one(alloc)?;
+    assert_text(&rt, alloc, &code, &Op::Read(FieldId(0), index), "read x")?;
+    let index = one(alloc)?;
+    let value = one(alloc)?;
+    assert_text(
+        &rt,
+        alloc,
+        &code,
+        &Op::Put(FieldId(1), index, value),
+        "store y",
+    )
+}
+
+#[test]
+fn instructions_between_hosts_are_printed(rt: HostRuntime) -> Result<(), Fail> {
+    let alloc = rt.alloc();
+    let code = small_code(alloc, Label::empty(), Label::empty())?;
+    assert_text(&rt, alloc, &code, &Op::Send(VarId(0), B), "send main.v B")?;
+    assert_text(&rt, alloc, &code, &Op::Pass(VarId(0), B), "pass main.v B")?;
+    assert_text(&rt, alloc, &code, &Op::Ask(EntryId(2), B), "ask e2 B")?;
+    assert_text(&rt, alloc, &code, &Op::Go(EntryId(2), B), "go e2 B")?;
+    assert_text(&rt, alloc, &code, &Op::Call(EntryId(1), A), "call e1 A")
+}
+
+#[test]
+fn instructions_on_threads_are_printed(rt: HostRuntime) -> Result<(), Fail> {
+    let alloc = rt.alloc();
+    let code = small_code(alloc, Label::empty(), Label::empty())?;
+    assert_text(&rt, alloc, &code, &Op::Frame(SiteId(4)), "frame 4")?;
+    assert_text(&rt, alloc, &code, &Op::Push(EntryId(1)), "push e1")?;
+    assert_text(&rt, alloc, &code, &Op::Back, "back")
+}
+
+/// The instruction is printed so.
+fn assert_text(
+    rt: &impl Abort,
+    alloc: Global,
+    code: &Code,
+    op: &Op,
+    text: &str,
+) -> Result<(), Fail> {
+    let printed = instruction_text(alloc, code, op)?;
+    assert_eq!(rt; printed.as_str(), text);
     Ok(())
 }
 
