@@ -19,8 +19,8 @@ each_host : (P : HostId → Type 0) → P (record { 0 = 0 }) → P (record { 0 =
 each_host P first second host small_number =
     let at : ℕ → Type 0 = λ n. P (record { 0 = n }) in
     elim (cases_lt host.0 1) as (λ _. P host) [
-      inl below ↦ (let is : 0 ≡ host.0 = omega arith in subst at is first)
-    | inr above ↦ (let is : 1 ≡ host.0 = omega arith in subst at is second)
+      | inl below ↦ (let is : 0 ≡ host.0 = omega arith in subst at is first)
+      | inr above ↦ (let is : 1 ≡ host.0 = omega arith in subst at is second)
     ]
 
 only_one : (only found : Instr) (at : ℕ) → slice_get (only ∷ []) at ≡ Some found → (at ≡ 0) × (found ≡ only)
@@ -77,8 +77,8 @@ sound a b label =
       variables = All-cons (VariableFits code) variable_v [] v (All-nil (VariableFits code));
       few_entries = omega arith;
       entries = All-cons (EntryFits code) (entry_on 0 0) (entry_on 0 0 ∷ entry_on 1 1 ∷ []) at_a
-        (All-cons (EntryFits code) (entry_on 0 0) (entry_on 1 1 ∷ []) at_a
-        (All-cons (EntryFits code) (entry_on 1 1) [] at_b (All-nil (EntryFits code))));
+          (All-cons (EntryFits code) (entry_on 0 0) (entry_on 1 1 ∷ []) at_a
+          (All-cons (EntryFits code) (entry_on 1 1) [] at_b (All-nil (EntryFits code))));
       few_sites = omega arith;
       sites = All-cons (IsHost code) (record { 0 = 0 }) [] site (All-nil (IsHost code));
       a_part_each = refl;
