@@ -12,8 +12,8 @@ pub const TAG_BYTES: usize = 16;
 /// The bytes of a host's key.
 pub const KEY_BYTES: usize = 32;
 
-/// The tag of a token of these parts under the key of its host: the first 16 bytes of the SHA-256 digest (FIPS 180-4) of the
-/// key and the parts.
+/// The tag of a token of these parts under the key of its host: the first 16 bytes of the SHA-256 digest (FIPS 180-4)
+/// of the key and the parts.
 pub fn tag(
     key: &[u8; KEY_BYTES],
     host: HostId,

@@ -7,8 +7,8 @@ use js_base::{EntryId, FrameId, HostId};
 
 /// The right to enter once, at an entry of a host and in a frame, what was pushed on that host's control stack.
 ///
-/// Two tokens are the same only where all their parts are. The tag is made with the host's key, so that no other host can
-/// make up a token of it.
+/// Two tokens are the same only where all their parts are. The tag is made with the host's key, so that no other host
+/// can make up a token of it.
 #[derive(Clone, Copy, Debug, PartialEq, Eq)]
 pub struct Token {
     /// The host on whose control stack the entry was pushed.

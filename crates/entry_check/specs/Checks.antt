@@ -44,10 +44,10 @@ IsTrustedFor None need = ⊥
 
 -- ---- the checks
 
--- The host may read a field of this host where what the field's label forbids, its own label forbids. It may write one where
--- who trusts the field trusts it, and forward a variable in the same way. It may enter at an entry of this host, by rgoto or
--- sync, where who is in the entry's need trusts it, and it may see the entry's program label. Nobody enters at the entry that
--- ends the program.
+-- The host may read a field of this host where what the field's label forbids, its own label forbids. It may write one
+-- where who trusts the field trusts it, and forward a variable in the same way. It may enter at an entry of this host,
+-- by rgoto or sync, where who is in the entry's need trusts it, and it may see the entry's program label. Nobody enters
+-- at the entry that ends the program.
 abbrev pub MayEnter : CodeShape → HostId → EntryId → Option Label → Type 0
 MayEnter code me entry host =
     (entry ≢ halt) × IsSomeAnd (entry_at code entry) (λ there.
@@ -55,7 +55,8 @@ MayEnter code me entry host =
 
 abbrev pub May : CodeShape → HostId → Ask → HostId → Type 0
 May code me (ask.Get field) from =
-    IsSomeAnd (field_at code field) (λ there. (there.host ≡ me) × MaySee (label_at code there.label) (label_of_host code from))
+    IsSomeAnd (field_at code field) (λ there.
+      (there.host ≡ me) × MaySee (label_at code there.label) (label_of_host code from))
 May code me (ask.Set field) from =
     IsSomeAnd (field_at code field) (λ there.
     (there.host ≡ me) × MayAffect (label_of_host code from) (label_at code there.label))

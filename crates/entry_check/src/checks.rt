@@ -23,7 +23,8 @@ pub enum Kind {
     Enter,
 }
 
-/// What each host may ask of one host. For each field, variable and entry it has a word with a bit for each host that may.
+/// What each host may ask of one host. For each field, variable and entry it has a word with a bit for each host that
+/// may.
 #[derive(Debug, Drop)]
 pub struct Checks {
     gets: Vec<u64>,
@@ -61,8 +62,8 @@ impl Checks {
         })
     }
 
-    /// Whether host `from` may ask this of the host whose checks they are. What is not there may not be asked for, nor what is
-    /// not on the host.
+    /// Whether host `from` may ask this of the host whose checks they are. What is not there may not be asked for, nor
+    /// what is not on the host.
     pub fn may(&self, ask: Ask, from: HostId) -> bool
         requires { from.0 < HOSTS }
         ensures { (code : CodeShape) (me : HostId) → AreChecksOf code me self.now →

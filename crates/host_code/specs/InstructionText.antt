@@ -10,10 +10,12 @@ abbrev pub instruction_text : CodeShape → Op → List ℕ
 instruction_text code (op.Read field index) = codes "read " ++ field_text code field
 instruction_text code (op.Let variable value) = codes "let " ++ variable_text code variable
 instruction_text code (op.Put field index value) = codes "store " ++ field_text code field
-instruction_text code (op.Send variable to) = codes "send " ++ variable_text code variable ++ codes " " ++ host_text code to
+instruction_text code (op.Send variable to) =
+    codes "send " ++ variable_text code variable ++ codes " " ++ host_text code to
 instruction_text code (op.Frame site) = codes "frame " ++ decimal site.0
 instruction_text code (op.Arg variable value) = codes "arg " ++ variable_text code variable
-instruction_text code (op.Pass variable to) = codes "pass " ++ variable_text code variable ++ codes " " ++ host_text code to
+instruction_text code (op.Pass variable to) =
+    codes "pass " ++ variable_text code variable ++ codes " " ++ host_text code to
 instruction_text code (op.Push entry) = codes "push " ++ entry_text entry
 instruction_text code (op.Ask entry on) = codes "ask " ++ entry_text entry ++ codes " " ++ host_text code on
 instruction_text code (op.Go entry on) = codes "go " ++ entry_text entry ++ codes " " ++ host_text code on

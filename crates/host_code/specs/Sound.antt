@@ -1,6 +1,8 @@
 -- What every code keeps: all that it names is there and where it has to be, so that a host can run its part of it.
-use Rattle.std.specs.Prelude.{◌≡◌, ◌≢◌, ℕ, ◌+◌, ◌-◌, ◌<◌, ◌≤◌, ◌^◌, ◌⊎◌, zero, suc, Bool, false, ◌==◌, ◌&&◌, if◌then◌else◌}
-use Rattle.std.specs.Prelude.{List, [], ◌∷◌, ◌++◌, All, length, Option, Some, None, IsSomeAnd, slice_get, codes, ⊤, sum_by}
+use Rattle.std.specs.Prelude.{◌≡◌, ◌≢◌, ℕ, ◌+◌, ◌-◌, ◌<◌, ◌≤◌, ◌^◌, ◌⊎◌, zero, suc, Bool, false, ◌==◌, ◌&&◌}
+use Rattle.std.specs.Prelude.{if◌then◌else◌}
+use Rattle.std.specs.Prelude.{List, [], ◌∷◌, ◌++◌, All, length, Option, Some, None, IsSomeAnd, slice_get, codes, ⊤}
+use Rattle.std.specs.Prelude.{sum_by}
 use Rattle.std.specs.List.{list_any}
 use Rattle.js_base.specs.declared.ids.HostId.{HostId}
 use Rattle.js_base.specs.declared.ids.FieldId.{FieldId}
@@ -60,8 +62,8 @@ temporaries_past (Some instruction) count = temporaries_after instruction.op cou
 abbrev pub is_entrance : List Entry → HostId → ℕ → Bool
 is_entrance entries host at = list_any (λ entry. entry.host.0 == host.0 && entry.at == at) entries
 
--- how many temporaries a thread has at a place at the least: what was read since the last instruction that drops them, in
--- the order of the list, and not before the last place where a thread may start
+-- how many temporaries a thread has at a place at the least: what was read since the last instruction that drops them,
+-- in the order of the list, and not before the last place where a thread may start
 abbrev pub temporaries_at : List Entry → HostId → List Instr → ℕ → ℕ
 temporaries_at entries host part zero = 0
 temporaries_at entries host part (suc at) =
@@ -96,7 +98,8 @@ OperationFits code me count (op.Go entry on) = IsEntryOn code on entry × IsOthe
 OperationFits code me count (op.Call entry on) = IsEntryOn code on entry × IsHost code on
 OperationFits code me count (op.Ret variable value) = IsVariable code variable × ExpressionFits code count value
 OperationFits code me count op.Back = ⊤
-OperationFits code me count (op.Branch guard target) = ExpressionFits code count guard × (target < length (part_of code me))
+OperationFits code me count (op.Branch guard target) =
+    ExpressionFits code count guard × (target < length (part_of code me))
 
 pub record InstructionFits (code : CodeShape) (me : HostId) (at : ℕ) (instruction : Instr) : Type 0 where
   pub label : IsLabel code instruction.label

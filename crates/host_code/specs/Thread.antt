@@ -5,9 +5,9 @@ use Rattle.js_base.specs.declared.ids.FrameId.{FrameId}
 use Rattle.js_base.specs.declared.ids.RequestId.{RequestId}
 use Rattle.capability.specs.declared.token.Token.{Token}
 
--- A thread: the number of its next instruction, its frame, the frame that it made last for a call (its own where it made
--- none), its temporaries in the order in which they were read, and the token that it holds. A thread that has sent its token
--- with a request holds none until the answer comes.
+-- A thread: the number of its next instruction, its frame, the frame that it made last for a call (its own where it
+-- made none), its temporaries in the order in which they were read, and the token that it holds. A thread that has sent
+-- its token with a request holds none until the answer comes.
 pub record ThreadShape : Type 0 where
   pub at : ℕ
   pub frame : FrameId

@@ -80,8 +80,8 @@ impl Model for CodeField {
 }
 
 impl CodeField {
-    /// A field with the place of its label among the code's labels, of so many elements (1 for a plain field), each of which
-    /// starts with `first`, on a host.
+    /// A field with the place of its label among the code's labels, of so many elements (1 for a plain field), each of
+    /// which starts with `first`, on a host.
     pub fn new(name: String, label: u32, size: u32, array: bool, first: i64, host: HostId) -> Self
         ensures { result ≡ record {
           name = string_bytes name;
@@ -227,8 +227,9 @@ impl Part {
     }
 }
 
-/// What code is made of: the hosts, the labels that the rest names by their places, the fields and variables, the entries,
-/// the host of each call site, and each host's instructions. The program starts on the root host, at the entry of `main`.
+/// What code is made of: the hosts, the labels that the rest names by their places, the fields and variables, the
+/// entries, the host of each call site, and each host's instructions. The program starts on the root host, at the entry
+/// of `main`.
 #[derive(Debug, Drop)]
 pub struct CodeParts {
     pub hosts: Vec<CodeHost>,

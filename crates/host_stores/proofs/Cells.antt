@@ -1,5 +1,6 @@
 -- Cells of variables: what a cell that is changed or added does to the values.
-use Rattle.std.proofs.Common.{◌≡◌, ℕ, ◌+◌, suc, zero, Bool, true, false, List, [], ◌∷◌, ◌++◌, Option, Some, None, refl, sym, ap, ◌∙◌, ℤ, pos}
+use Rattle.std.proofs.Common.{◌≡◌, ℕ, ◌+◌, suc, zero, Bool, true, false, List, [], ◌∷◌, ◌++◌, Option, Some, None, refl}
+use Rattle.std.proofs.Common.{sym, ap, ◌∙◌, ℤ, pos}
 use Rattle.std.proofs.Common.{subst, arith, inl, inr}
 use Rattle.std.specs.Prelude.{if◌then◌else◌, slice_set}
 use Rattle.std.specs.Option.{option_map}
@@ -74,18 +75,23 @@ value_in-set [] frame x place changed other y at is = absurd (let e : None ≡ S
 value_in-set (cell ∷ cells) frame x place changed other y at is =
     let after : ℕ → Type 0 = λ n. value_in (slice_set (cell ∷ cells) n changed) other y
     ≡ with_variable (value_in (cell ∷ cells)) frame x changed.value other y in
-    let at_test : Bool → Type 0 = λ b. (if b then Some 0 else option_map (λ p. suc p) (place_in cells frame x)) ≡ Some place in
+    let at_test : Bool → Type 0 =
+    λ b. (if b then Some 0 else option_map (λ p. suc p) (place_in cells frame x)) ≡ Some place in
     elim (cases_Bool (is_same_variable cell.frame cell.var frame x)) as (λ _. after place) [
       | inl same ↦ subst after (sym (at_head place (subst at_test same at)))
           (let first = same_as changed.frame changed.var frame x other y is in
           let old = same_as cell.frame cell.var frame x other y same in
-          rw (first, old) (found_head (is_same_variable frame x other y) changed.value cell.value (value_in cells other y)))
+          rw (first, old) (found_head (is_same_variable frame x other y) changed.value cell.value
+          (value_in cells other y)))
       | inr differs ↦
           let found = past_head (place_in cells frame x) place (subst at_test differs at) in
           subst after (sym found.2)
           (rw (value_in-set cells frame x found.0 changed other y found.1 is)
-          (found_later (is_same_variable cell.frame cell.var other y) (is_same_variable frame x other y) changed.value cell.value (value_in cells other y)
-          (λ head_is_other it_is_other. false≢true (sym differs ∙ same_as cell.frame cell.var other y frame x head_is_other ∙ reversed frame x other y it_is_other))))
+          (found_later (is_same_variable cell.frame cell.var other y) (is_same_variable frame x other y)
+          changed.value cell.value (value_in cells other y)
+          (λ head_is_other it_is_other. false≢true
+          (sym differs ∙ same_as cell.frame cell.var other y frame x head_is_other
+          ∙ reversed frame x other y it_is_other))))
     ]
 
 -- ---- a cell that is added
@@ -99,14 +105,19 @@ pub value_in-push : (cells : List VarCell) (added : VarCell) (other : FrameId) (
     → value_in (cells ++ added ∷ []) other y ≡ with_variable (value_in cells) added.frame added.var added.value other y
 value_in-push [] added other y none = refl
 value_in-push (cell ∷ cells) added other y none =
-    let at_test : Bool → Type 0 = λ b. (if b then Some 0 else option_map (λ p. suc p) (place_in cells added.frame added.var)) ≡ None in
+    let at_test : Bool → Type 0 =
+    λ b. (if b then Some 0 else option_map (λ p. suc p) (place_in cells added.frame added.var)) ≡ None in
     elim (cases_Bool (is_same_variable cell.frame cell.var added.frame added.var)) as (λ _.
-    value_in ((cell ∷ cells) ++ added ∷ []) other y ≡ with_variable (value_in (cell ∷ cells)) added.frame added.var added.value other y) [
+    value_in ((cell ∷ cells) ++ added ∷ []) other y
+    ≡ with_variable (value_in (cell ∷ cells)) added.frame added.var added.value other y) [
       | inl same ↦ absurd (let e : Some 0 ≡ None = subst at_test same none in cc)
       | inr differs ↦
-          rw (value_in-push cells added other y (none_found (place_in cells added.frame added.var) (subst at_test differs none)))
-          (found_later (is_same_variable cell.frame cell.var other y) (is_same_variable added.frame added.var other y) added.value cell.value
+          rw (value_in-push cells added other y
+          (none_found (place_in cells added.frame added.var) (subst at_test differs none)))
+          (found_later (is_same_variable cell.frame cell.var other y)
+          (is_same_variable added.frame added.var other y) added.value cell.value
           (value_in cells other y)
-          (λ head_is_other it_is_other. false≢true (sym differs ∙ same_as cell.frame cell.var other y added.frame added.var head_is_other
+          (λ head_is_other it_is_other. false≢true
+          (sym differs ∙ same_as cell.frame cell.var other y added.frame added.var head_is_other
           ∙ reversed added.frame added.var other y it_is_other)))
     ]

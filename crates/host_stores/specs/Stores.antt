@@ -1,5 +1,6 @@
 -- What a host keeps of fields and of variables, as two maps.
-use Rattle.std.specs.Prelude.{◌≡◌, ℕ, ◌+◌, ◌==◌, ◌&&◌, Bool, if◌then◌else◌, ℤ, pos, List, [], ◌∷◌, Option, Some, None, suc}
+use Rattle.std.specs.Prelude.{◌≡◌, ℕ, ◌+◌, ◌==◌, ◌&&◌, Bool, if◌then◌else◌, ℤ, pos, List, [], ◌∷◌, Option, Some, None}
+use Rattle.std.specs.Prelude.{suc}
 use Rattle.std.specs.Option.{option_map}
 use Rattle.js_base.specs.declared.ids.HostId.{HostId}
 use Rattle.js_base.specs.declared.ids.FrameId.{FrameId}
@@ -8,9 +9,9 @@ use Rattle.jif_tree.specs.Store.{row_of}
 use Rattle.host_code.specs.Code.{CodeFieldShape}
 use Rattle.host_stores.specs.declared.variables.VarCell.{VarCell}
 
--- A row of elements for each field of the code, which is empty where the field is on another host; a cell for each variable
--- of a frame that was set, in any order; and for how many more variables there is room. Contracts read the cells by
--- `variable_of` alone.
+-- A row of elements for each field of the code, which is empty where the field is on another host; a cell for each
+-- variable of a frame that was set, in any order; and for how many more variables there is room. Contracts read the
+-- cells by `variable_of` alone.
 pub record StoresShape : Type 0 where
   pub rows : List (List ℤ)
   pub cells : List VarCell

@@ -63,8 +63,8 @@ impl Stores {
         }
     }
 
-    /// Writes the element of a field at an index. Where the field is on another host or the index is out of range nothing
-    /// changes.
+    /// Writes the element of a field at an index. Where the field is on another host or the index is out of range
+    /// nothing changes.
     pub fn set_field(&mut self, field: FieldId, index: i64, value: i64)
         ensures rows { self.new.rows ≡ store_after_write self.old.rows field.0 index value }
         ensures cells { self.new.cells ≡ self.old.cells }

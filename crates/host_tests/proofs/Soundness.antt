@@ -1,5 +1,6 @@
 -- The small code is sound.
-use Rattle.std.proofs.Common.{◌≡◌, ℕ, ◌+◌, ◌<◌, ◌≤◌, zero, suc, List, [], ◌∷◌, Some, None, refl, arith, inl, inr, subst, sym, ap, codes, true, false, length}
+use Rattle.std.proofs.Common.{◌≡◌, ℕ, ◌+◌, ◌<◌, ◌≤◌, zero, suc, List, [], ◌∷◌, Some, None, refl, arith, inl, inr, subst}
+use Rattle.std.proofs.Common.{sym, ap, codes, true, false, length}
 use Rattle.std.specs.Prelude.{All, slice_get}
 use Rattle.std.proofs.lemmas.Bool.{cases_lt}
 use Rattle.std.proofs.lemmas.List.Elements.{All-cons, All-nil}
@@ -57,9 +58,23 @@ sound a b label =
     let first_name : named (host_a a) = (refl, omega arith) in
     let second_name : named (host_b b) = (refl, omega arith) in
     let x : FieldFits code field_x =
-    record { name = refl; short = omega arith; label = omega arith; size = (omega arith, omega arith, λ plain. absurd (true_is_not_false plain)); host = omega arith } in
+    record {
+      name = refl;
+      short = omega arith;
+      label = omega arith;
+      size =
+          (omega arith, omega arith, λ plain. absurd (true_is_not_false plain));
+      host = omega arith;
+    } in
     let y : FieldFits code field_y =
-    record { name = refl; short = omega arith; label = omega arith; size = (omega arith, omega arith, λ plain. refl); host = omega arith } in
+    record {
+      name = refl;
+      short = omega arith;
+      label = omega arith;
+      size =
+          (omega arith, omega arith, λ plain. refl);
+      host = omega arith;
+    } in
     let v : VariableFits code variable_v =
     record { name = (codes "main", codes "v", refl, inl refl, refl); short = omega arith; label = omega arith } in
     let at_a : EntryFits code (entry_on 0 0) = record { host = omega arith; at = omega arith; label = omega arith } in
@@ -68,10 +83,14 @@ sound a b label =
     record {
       some_host = omega arith;
       few_hosts = omega arith;
-      host_names = All-cons named (host_a a) (host_b b ∷ []) first_name (All-cons named (host_b b) [] second_name (All-nil named));
+      host_names =
+          All-cons named (host_a a) (host_b b ∷ []) first_name
+          (All-cons named (host_b b) [] second_name (All-nil named));
       few_labels = omega arith;
       few_fields = omega arith;
-      fields = All-cons (FieldFits code) field_x (field_y ∷ []) x (All-cons (FieldFits code) field_y [] y (All-nil (FieldFits code)));
+      fields =
+          All-cons (FieldFits code) field_x (field_y ∷ []) x
+          (All-cons (FieldFits code) field_y [] y (All-nil (FieldFits code)));
       elements = omega arith;
       few_variables = omega arith;
       variables = All-cons (VariableFits code) variable_v [] v (All-nil (VariableFits code));

@@ -31,7 +31,8 @@ entry_on host need = record { host = record { 0 = host }; at = 0; label = 0; nee
 abbrev pub only_back : List Instr
 only_back = record { label = 0; statement = record { 0 = 0 }; op = Back } ∷ []
 
--- The program starts on A. Each host has an entry beside the one that ends the program, and ends the thread that starts there.
+-- The program starts on A. Each host has an entry beside the one that ends the program, and ends the thread that starts
+-- there.
 abbrev pub small : Label → Label → Label → CodeShape
 small a b label =
     record {

@@ -8,8 +8,8 @@ use Rattle.capability.specs.Pending.{PendingShape}
 use Rattle.capability.specs.Tag.{tag_of}
 use Rattle.ics_stack.specs.declared.stack.StackEntry.{StackEntry}
 
--- The stack of a host with a key. The top stands first. There is for each entry how many times it was pushed, and beside
--- these how many pushes there were in all, and for how many more there is room.
+-- The stack of a host with a key. The top stands first. There is for each entry how many times it was pushed, and
+-- beside these how many pushes there were in all, and for how many more there is room.
 pub record StackShape : Type 0 where
   pub host : HostId
   pub key : List ℕ

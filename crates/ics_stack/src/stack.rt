@@ -26,8 +26,8 @@ pub struct NotTop {
     pub top: Option<Token>,
 }
 
-/// The control stack of a host. It makes a token for each entry that is pushed, and gives the entry up once, for that token,
-/// and only while it is on top.
+/// The control stack of a host. It makes a token for each entry that is pushed, and gives the entry up once, for that
+/// token, and only while it is on top.
 #[derive(Debug, Drop)]
 pub struct IcsStack {
     host: HostId,
@@ -98,8 +98,8 @@ impl IcsStack {
         }
     }
 
-    /// Pushes an entry in its frame, with the token that is kept for its thread, and gives the token that takes it off. There
-    /// has to be room.
+    /// Pushes an entry in its frame, with the token that is kept for its thread, and gives the token that takes it off.
+    /// There has to be room.
     pub fn push(&mut self, entry: EntryId, frame: FrameId, held: Held) -> Token
         requires room { 0 < self.old.room }
         requires entry { entry.0 < length self.old.serials }

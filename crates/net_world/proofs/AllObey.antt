@@ -1,5 +1,6 @@
 -- The laws of hosts that all obey: every event keeps the agreement with the plain run, and what agrees has them.
-use Rattle.std.proofs.Common.{◌≡◌, ℕ, suc, ◌<◌, ◌≤◌, inl, inr, ℤ, pos, true, false, List, length, Ok, ap, sym, subst, ◌∙◌, arith, Some, None}
+use Rattle.std.proofs.Common.{◌≡◌, ℕ, suc, ◌<◌, ◌≤◌, inl, inr, ℤ, pos, true, false, List, length, Ok, ap, sym, subst}
+use Rattle.std.proofs.Common.{◌∙◌, arith, Some, None}
 use Rattle.std.specs.Prelude.{slice_get, All}
 use Rattle.std.proofs.lemmas.Bool.{cases_eq}
 use Rattle.js_base.specs.declared.ids.HostId.{HostId}
@@ -20,14 +21,16 @@ use Rattle.net_world.proofs.AllObeyRun.{has_length}
 use Rattle.net_world.proofs.AllObeyTracks.{IsKept, Tracks, track, track_end}
 use Rattle.net_world.proofs.AllObeyCode.{few_hosts, root_within, field_host}
 use Rattle.net_world.proofs.AllObeyEvents.{IsTurn, IsTake, turn_accepted, take_accepted}
-use Rattle.net_world.proofs.AllObeyAgrees.{IsOrderly, HasOneFlight, Runs, Phase, Running, Asking, Answering, Halting, Agrees}
+use Rattle.net_world.proofs.AllObeyAgrees.{IsOrderly, HasOneFlight, Runs, Phase, Running, Asking, Answering, Halting}
+use Rattle.net_world.proofs.AllObeyAgrees.{Agrees}
 use Rattle.net_world.proofs.AllObeyChanges.{the_one, none_taken}
 use Rattle.net_world.proofs.AllObeyKept.{turn_kept, set_kept, ack_kept}
 use Rattle.net_world.proofs.AllObeyStart.{agrees_at_start}
 
 -- WHAT MAY HAPPEN TO AN ORDERLY WORLD
 
-module _ {code : CodeShape} {w : World} (orderly : IsOrderly code w) (h : HostState) (there : slice_get w.hosts code.root.0 ≡ Some h) where
+module _ {code : CodeShape} {w : World} (orderly : IsOrderly code w) (h : HostState)
+    (there : slice_get w.hosts code.root.0 ≡ Some h) where
   -- the state at the place of the root is the root's
   root_is : (k : ℕ) (x : HostState) → k ≡ code.root.0 → slice_get w.hosts k ≡ Some x → h ≡ x
   root_is k x same at =
@@ -58,13 +61,16 @@ module _ {code : CodeShape} {w : World} (orderly : IsOrderly code w) (h : HostSt
       ])
 
 -- the event takes the one message in flight
-take_at : {code : CodeShape} {w v : World} {from to : HostId} {place : ℕ} (from' to' : HostId) → from' ≡ from → to' ≡ to → place ≡ 0 → IsTake code w from to place v → IsTake code w from' to' 0 v
+take_at : {code : CodeShape} {w v : World} {from to : HostId} {place : ℕ} (from' to' : HostId) → from' ≡ from →
+    to' ≡ to → place ≡ 0 → IsTake code w from to place v → IsTake code w from' to' 0 v
 take_at {code = code} {w = w} {v = v} {from = from} {to = to} from' to' from_is to_is place_is t =
-    subst (λ f. IsTake code w f to' 0 v) (sym from_is) (subst (λ k. IsTake code w from k 0 v) (sym to_is) (subst (λ p. IsTake code w from to p v) place_is t))
+    subst (λ f. IsTake code w f to' 0 v) (sym from_is)
+    (subst (λ k. IsTake code w from k 0 v) (sym to_is) (subst (λ p. IsTake code w from to p v) place_is t))
 
 -- EVERY EVENT KEEPS THE AGREEMENT
 
-module _ {program : Program} {file : HostsShape} {code : CodeShape} {store : List (List ℤ)} {w : World} {n : ℕ} (set : IsSet program file code store) (agrees : Agrees program code store w n) where
+module _ {program : Program} {file : HostsShape} {code : CodeShape} {store : List (List ℤ)} {w : World} {n : ℕ}
+    (set : IsSet program file code store) (agrees : Agrees program code store w n) where
   -- as many steps are done, or more
   abbrev Goes : World → Type 0
   Goes v = (m : ℕ) × (n ≤ m) × Agrees program code store v m
@@ -76,7 +82,9 @@ module _ {program : Program} {file : HostsShape} {code : CodeShape} {store : Lis
             let host_of : ℕ → HostId = λ k. record { 0 = k } in
             let root : host ≡ code.root = ap host_of same in
             let leaves : v ≡ after_step w code.root (after_turn code code.root r.h) =
-            t.after ∙ ap (λ k. after_step w k (after_turn code k t.h)) root ∙ ap (λ h. after_step w code.root (after_turn code code.root h)) (sym (root_is agrees.orderly r.h r.root.there host.0 t.h same t.there)) in
+            t.after ∙ ap (λ k. after_step w k (after_turn code k t.h)) root
+            ∙ ap (λ h. after_step w code.root (after_turn code code.root h))
+            (sym (root_is agrees.orderly r.h r.root.there host.0 t.h same t.there)) in
             subst Goes (sym leaves) (turn_kept set agrees r)
         | inr other ↦
             let none = (agrees.orderly.others host.0 t.h t.there other).running in
@@ -90,36 +98,52 @@ module _ {program : Program} {file : HostsShape} {code : CodeShape} {store : Lis
   turn_event (Answering a) t = absurd (no_turn agrees.orderly a.h a.waits.root.there a.waits.running t)
   turn_event (Halting h) t = absurd (no_turn agrees.orderly h.h h.there h.rests t)
 
-  only_take : {v : World} {from to : HostId} {place : ℕ} (from' to' : HostId) (message : Message) → HasOneFlight w from' to' message → to'.0 < length code.hosts → IsTake code w from to place v →
+  only_take : {v : World} {from to : HostId} {place : ℕ} (from' to' : HostId) (message : Message) →
+      HasOneFlight w from' to' message → to'.0 < length code.hosts → IsTake code w from to place v →
       (t : IsTake code w from' to' 0 v) × (message ≡ t.message)
   only_take {v = v} {from = from} {to = to} {place = place} from' to' message one within t =
       let few = few_hosts set in
       let count = agrees.orderly.count in
       let is = the_one w from' to' message from to place t.message one (omega arith) (omega arith) t.flight in
-      let here : IsTake code w from' to' 0 v = take_at from' to' is.from_is is.to_is is.place_is t in
-      (here, (the_one w from' to' message from' to' 0 here.message one (omega arith) (omega arith) here.flight).message_is)
+      let here : IsTake code w from' to' 0 v = take_at from' to' is.from_is is.to_is is.place_is t in (
+        here,
+        (the_one w from' to' message from' to' 0 here.message one (omega arith) (omega arith)
+            here.flight).message_is,
+      )
 
-  take_event : {v : World} {from to : HostId} {place : ℕ} → Phase program code w n → IsTake code w from to place v → Goes v
-  take_event {from = from} {to = to} {place = place} (Running r) t = absurd (none_taken w from to place t.message r.flights t.flight)
+  take_event : {v : World} {from to : HostId} {place : ℕ} → Phase program code w n → IsTake code w from to place v →
+      Goes v
+  take_event {from = from} {to = to} {place = place} (Running r) t =
+      absurd (none_taken w from to place t.message r.flights t.flight)
   take_event (Asking a) t =
-      let one = only_take code.root a.place.host (Set a.request a.field (pos 0) a.value) a.flights (field_host set a.field.0 a.place a.place_is) t in
+      let one =
+      only_take code.root a.place.host (Set a.request a.field (pos 0) a.value) a.flights
+      (field_host set a.field.0 a.place a.place_is) t in
       (suc n, omega arith, set_kept set agrees a one.0 one.1)
   take_event (Answering a) t =
       let one = only_take a.asked code.root (Ack a.request) a.flights (root_within set) t in
       (n, omega arith, ack_kept set agrees a one.0 one.1)
-  take_event {from = from} {to = to} {place = place} (Halting h) t = absurd (none_taken w from to place t.message h.flights t.flight)
+  take_event {from = from} {to = to} {place = place} (Halting h) t =
+      absurd (none_taken w from to place t.message h.flights t.flight)
 
-pub event_kept : {program : Program} {file : HostsShape} {code : CodeShape} {store : List (List ℤ)} → IsSet program file code store → IsKept code (Agrees program code store)
-event_kept {code = code} set w v n (Take from to place) agrees is = take_event set agrees agrees.phase (take_accepted code w v from to place agrees.orderly.obeying is)
-event_kept {code = code} set w v n (Turn host) agrees is = turn_event set agrees agrees.phase (turn_accepted code w v host agrees.orderly.obeying is)
+pub event_kept : {program : Program} {file : HostsShape} {code : CodeShape} {store : List (List ℤ)} →
+    IsSet program file code store → IsKept code (Agrees program code store)
+event_kept {code = code} set w v n (Take from to place) agrees is =
+    take_event set agrees agrees.phase (take_accepted code w v from to place agrees.orderly.obeying is)
+event_kept {code = code} set w v n (Turn host) agrees is =
+    turn_event set agrees agrees.phase (turn_accepted code w v host agrees.orderly.obeying is)
 
 -- WHAT A WORLD HAS THAT AGREES
 
 -- where the program has halted the plain run is at its end
-halted_at_end : {program : Program} {code : CodeShape} {w : World} {n : ℕ} (store : List (List ℤ)) → IsOrderly code w → Phase program code w n → has_halted w ≡ true → HasLength program store n
-halted_at_end store orderly (Running r) halted = let none = none_halted orderly r.h r.root.there r.root.halted in absurd (cc)
-halted_at_end store orderly (Asking a) halted = let none = none_halted orderly a.h a.waits.root.there a.waits.root.halted in absurd (cc)
-halted_at_end store orderly (Answering a) halted = let none = none_halted orderly a.h a.waits.root.there a.waits.root.halted in absurd (cc)
+halted_at_end : {program : Program} {code : CodeShape} {w : World} {n : ℕ} (store : List (List ℤ)) →
+    IsOrderly code w → Phase program code w n → has_halted w ≡ true → HasLength program store n
+halted_at_end store orderly (Running r) halted = let none =
+    none_halted orderly r.h r.root.there r.root.halted in absurd (cc)
+halted_at_end store orderly (Asking a) halted = let none =
+    none_halted orderly a.h a.waits.root.there a.waits.root.halted in absurd (cc)
+halted_at_end store orderly (Answering a) halted = let none =
+    none_halted orderly a.h a.waits.root.there a.waits.root.halted in absurd (cc)
 halted_at_end {program = program} {n = n} store orderly (Halting h) halted = has_length program store n h.end
 
 nothing_flies : {w : World} {from to : HostId} {message : Message} → HasOneFlight w from to message → IsIdle w → ⊥
@@ -129,20 +153,26 @@ nothing_flies {w = w} {from = from} {to = to} one idle =
     cc
 
 -- where nothing is left to happen the program has halted
-idle_has_halted : {program : Program} {code : CodeShape} {w : World} {n : ℕ} → Phase program code w n → IsIdle w → has_halted w ≡ true
+idle_has_halted : {program : Program} {code : CodeShape} {w : World} {n : ℕ} → Phase program code w n → IsIdle w →
+    has_halted w ≡ true
 idle_has_halted {code = code} {w = w} (Running r) idle =
     let none = get-from_All (λ (x : HostState). x.running ≡ None) w.hosts code.root.0 r.h idle.hosts r.root.there in
     let some = r.running in
     absurd (cc)
 idle_has_halted (Asking a) idle = absurd (nothing_flies a.flights idle)
 idle_has_halted (Answering a) idle = absurd (nothing_flies a.flights idle)
-idle_has_halted {code = code} {w = w} (Halting h) idle = one_passes (λ (x : HostState). x.halted) w.hosts code.root.0 h.h h.there h.halted
+idle_has_halted {code = code} {w = w} (Halting h) idle =
+    one_passes (λ (x : HostState). x.halted) w.hosts code.root.0 h.h h.there h.halted
 
 -- THE LAWS
 
-module _ {program : Program} {file : HostsShape} {code : CodeShape} {store : List (List ℤ)} (set : IsSet program file code store) (events : List (ℕ × Event)) (w : World) (accepted : run code (world_at_start code store) events ≡ Ok w) where
+module _ {program : Program} {file : HostsShape} {code : CodeShape} {store : List (List ℤ)}
+    (set : IsSet program file code store) (events : List (ℕ × Event)) (w : World)
+    (accepted : run code (world_at_start code store) events ≡ Ok w) where
   tracked : Tracks code (Agrees program code store) (world_at_start code store) 0 events
-  tracked = track code (Agrees program code store) (event_kept set) events (world_at_start code store) w 0 (agrees_at_start set) accepted
+  tracked =
+      track code (Agrees program code store) (event_kept set) events (world_at_start code store) w 0
+      (agrees_at_start set) accepted
 
   -- the world after a script agrees with the plain run after some steps
   pub agrees_at_end : (n : ℕ) × Agrees program code store w n
@@ -156,11 +186,15 @@ module _ {program : Program} {file : HostsShape} {code : CodeShape} {store : Lis
         first = tracked.first;
         rising = tracked.rising;
         fields = λ moment v within is. (tracked.holds moment v within is).fields;
-        halted = λ moment v within is halted. halted_at_end store (tracked.holds moment v within is).orderly (tracked.holds moment v within is).phase halted;
+        halted =
+            λ moment v within is halted. halted_at_end store (tracked.holds moment v within is).orderly
+            (tracked.holds moment v within is).phase halted;
       }
 
   pub idle_halted : IsIdle w → has_halted w ≡ true
   idle_halted idle = idle_has_halted agrees_at_end.1.phase idle
 
   pub none_ignored : All (λ host. host.ignored ≡ 0) w.hosts
-  none_ignored = All-from_get (λ (host : HostState). host.ignored ≡ 0) w.hosts (λ k h there. agrees_at_end.1.orderly.ignored k h there)
+  none_ignored =
+      All-from_get (λ (host : HostState). host.ignored ≡ 0) w.hosts
+      (λ k h there. agrees_at_end.1.orderly.ignored k h there)

@@ -53,7 +53,8 @@ pub record IsRoot (code : CodeShape) (w : World) (h : HostState) : Type 0 where
   pub halted : h.halted ≡ false
 
 -- the thread waits before an instruction for the answer to its request
-pub record IsWaiting (code : CodeShape) (w : World) (h : HostState) (n : ℕ) (request : RequestId) (asked : HostId) : Type 0 where
+pub record IsWaiting (code : CodeShape) (w : World) (h : HostState) (n : ℕ) (request : RequestId) (asked : HostId) :
+    Type 0 where
   pub root : IsRoot code w h
   pub running : h.running ≡ None
   pub waiting : h.waiting ≡ record { thread = thread_at code.root n; request = request; asked = asked } ∷ []

@@ -127,7 +127,7 @@ impl Flying {
         self.queues[place].messages()
     }
 
-    #[tactic(auto, using(crate::proofs::Queues::flights_of_same, crate::proofs::Queues::has_room, crate::proofs::Queues::keeps_room))]
+    #[tactic(auto, using(crate::proofs::Queues::reserving))]
     /// Makes room for one more message from a host to a host, and changes nothing else, also after an error.
     pub fn reserve(&mut self, from: HostId, to: HostId) -> Result<(), OutOfMemory>
         requires from { from.0 < HOSTS }
@@ -152,7 +152,7 @@ impl Flying {
         Ok(())
     }
 
-    #[tactic(auto, using(crate::proofs::Queues::flights_of_set, crate::proofs::Queues::flights_at_queue, crate::proofs::Queues::room_of))]
+    #[tactic(auto, using(crate::proofs::Queues::pushing))]
     /// Adds a message, for which there is room.
     pub fn push(&mut self, from: HostId, to: HostId, message: Message)
         requires from { from.0 < HOSTS }
@@ -176,7 +176,7 @@ impl Flying {
         }
     }
 
-    #[tactic(auto, using(crate::proofs::Queues::flights_of_set, crate::proofs::Queues::flights_at_queue, crate::proofs::Queues::keeps_room))]
+    #[tactic(auto, using(crate::proofs::Queues::removing))]
     /// Takes a message out.
     pub fn remove(&mut self, from: HostId, to: HostId, at: usize)
         requires from { from.0 < HOSTS }

@@ -239,7 +239,7 @@ fn start_hosts(alloc: Global, code: &Code, store: &Store) -> Result<Vec<Host>, O
 }
 
 /// A host that is ready takes a message. After want of memory it answers no more.
-#[tactic(auto, using(crate::proofs::Hosts::states_of_same, crate::proofs::Hosts::AreNumbered_set, crate::proofs::Hosts::is_there, crate::proofs::Hosts::has_property))]
+#[tactic(auto, using(crate::proofs::Hosts::stepping))]
 fn deliver_at(
     hosts: &mut Vec<Host>,
     code: &Code,
@@ -269,7 +269,7 @@ fn deliver_at(
 }
 
 /// A host whose thread runs makes a turn. After want of memory it answers no more.
-#[tactic(auto, using(crate::proofs::Hosts::states_of_same, crate::proofs::Hosts::AreNumbered_set, crate::proofs::Hosts::is_there, crate::proofs::Hosts::has_property))]
+#[tactic(auto, using(crate::proofs::Hosts::stepping))]
 fn turn_at(hosts: &mut Vec<Host>, code: &Code, host: HostId) -> Result<Sent, OutOfMemory>
     requires numbered { AreNumbered hosts.old.items }
     requires active { IsSomeAnd (slice_get hosts.old.items host.0) IsActive }

@@ -31,5 +31,6 @@ returns c =
       c.to_be_bytes-3.ensures,
       c.to_be_bytes-4.ensures,
     )
-    (regrouped c.args.key.now (c.args.host.0 ∷ []) (to_be_bytes w32 c.args.frame.site.0) (to_be_bytes w64 c.args.frame.count)
+    (regrouped c.args.key.now (c.args.host.0 ∷ []) (to_be_bytes w32 c.args.frame.site.0)
+    (to_be_bytes w64 c.args.frame.count)
     (to_be_bytes w32 c.args.entry.0) (to_be_bytes w64 c.args.serial)))

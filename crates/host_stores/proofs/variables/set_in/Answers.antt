@@ -12,7 +12,8 @@ returns-in-Some-clause-variables c = λ other another.
     let a = c.args in
     let P : List VarCell → Type 0 = λ cells. place_in cells a.frame a.var ≡ Some (c.in-Some.place) in
     rw (to_z-of_z w64 a.value c.ranges.value)
-    (value_in-set a.cells.now.items a.frame a.var c.in-Some.place (record { frame = a.frame; var = a.var; value = a.value }) other another
+    (value_in-set a.cells.now.items a.frame a.var c.in-Some.place
+    (record { frame = a.frame; var = a.var; value = a.value }) other another
     (subst P c.deref.ensures.value (sym c.in-Some.ensures.place)) (itself a.frame a.var))
 
 pub returns-in-None-clause-variables : goal.returns-in-None-clause-variables

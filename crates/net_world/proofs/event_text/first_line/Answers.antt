@@ -6,7 +6,8 @@ use Rattle.net_world.proofs.event_text.first_line.Goals as goal
 
 pub returns-then-end-bytes-clause-some : goal.returns-then-end-bytes-clause-some
 returns-then-end-bytes-clause-some c =
-    lines-last c.args.bytes.now c.line_len-end.result c.line_len-end.ensures.len (omega arith) (grind (arith, nat_tests))
+    lines-last c.args.bytes.now c.line_len-end.result c.line_len-end.ensures.len (omega arith)
+    (grind (arith, nat_tests))
 
 pub returns-clause-some : goal.returns-clause-some
 returns-clause-some c =

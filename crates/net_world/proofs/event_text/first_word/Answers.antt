@@ -13,4 +13,5 @@ pub returns-clause-some : goal.returns-clause-some
 returns-clause-some c =
     let rest = take_rest c.args.line.now c.blanks_before.result in
     rw (c.split_at.ensures.front, c.split_at.ensures.back)
-    (words-first c.args.line.now _ c.blanks_before.result c.word_len.result c.blanks_before.ensures.count rest c.word_len.ensures.len (grind (arith, nat_tests)))
+    (words-first c.args.line.now _ c.blanks_before.result c.word_len.result c.blanks_before.ensures.count rest
+    c.word_len.ensures.len (grind (arith, nat_tests)))

@@ -7,10 +7,12 @@ use Rattle.net_world.proofs.world.World.run.Goals as goal
 
 pub returns-in-Err-clause-err : goal.returns-in-Err-clause-err
 returns-in-Err-clause-err c =
-    run_fails c.args.code.now (world_of c.args.self.now) (world_of c.loop-line.self) c.args.events.now c.loop-line.line-index _ c.in-Err.error c.loop-line-test.true c.loop-line.invariant.rest
+    run_fails c.args.code.now (world_of c.args.self.now) (world_of c.loop-line.self) c.args.events.now
+    c.loop-line.line-index _ c.in-Err.error c.loop-line-test.true c.loop-line.invariant.rest
     (λ same. c.in-Err.ensures.not_there.0 (ap Err same)) (λ same. c.in-Err.ensures.busy.0 (ap Err same))
     (λ same. let few : length c.args.events.now < 2 ^ 62 = omega arith in
-    none_stopped c.loop-line.self.hosts c.loop-line.line-index _ (omega arith) c.loop-line.invariant.made (c.in-Err.ensures.stopped.0 (ap Err same)).stopped)
+    none_stopped c.loop-line.self.hosts c.loop-line.line-index _ (omega arith) c.loop-line.invariant.made
+    (c.in-Err.ensures.stopped.0 (ap Err same)).stopped)
 
 pub loop-line-preserved : goal.loop-line-preserved
 loop-line-preserved c = record {

@@ -11,10 +11,14 @@ returns-clause-answer c =
     let a = c.args in
     let before : WorldModel = record { hosts = c.self.inside.hosts.items; queues = c.self.inside.flying } in
     let after : WorldModel = record { hosts = c.deliver_at.new.hosts.items; queues = c.post.new.self } in
-    let takeable = subst (λ w. IsTakeable w a.from a.to a.place c.in_ok-message.message) (sym c.self.view_is) c.in_ok-message.ensures.ok in
+    let takeable =
+    subst (λ w. IsTakeable w a.from a.to a.place c.in_ok-message.message) (sym c.self.view_is)
+    c.in_ok-message.ensures.ok in
     subst (λ w. IsAnswer a.code.now w (Take a.from a.to a.place) (Ok tt) after) c.self.view_is
-    (taken_answer a.code.now before after a.from a.to a.place c.in_ok-message.message c.in-Ok.sent c.reserve.new.self c.remove.new.self
-    takeable c.in-Ok.ensures.ok c.in-Ok.ensures.to_sender c.reserve.ensures.flights c.remove.ensures.flights c.post.ensures)
+    (taken_answer a.code.now before after a.from a.to a.place c.in_ok-message.message c.in-Ok.sent
+    c.reserve.new.self c.remove.new.self
+    takeable c.in-Ok.ensures.ok c.in-Ok.ensures.to_sender c.reserve.ensures.flights c.remove.ensures.flights
+    c.post.ensures)
 
 pub returns-clause-made : goal.returns-clause-made
 returns-clause-made c = λ n made.
