@@ -52,7 +52,14 @@ pub record Tally : Type 0 where
 
 abbrev pub tally_at_start : Tally
 tally_at_start = record {
-  nesting = 0; methods = 0; statements = 0; parameters = 0; variables = 0; nodes = 0; fields = 0; size = 0;
+  nesting = 0;
+  methods = 0;
+  statements = 0;
+  parameters = 0;
+  variables = 0;
+  nodes = 0;
+  fields = 0;
+  size = 0;
   elements = 0;
 }
 
@@ -62,7 +69,11 @@ after_beginning t plain_field = record t { fields = t.fields + 1; elements = t.e
 after_beginning t array = record t { fields = t.fields + 1 }
 after_beginning t (elements size) = record t { size = size; elements = t.elements + size }
 after_beginning t method = record t {
-  methods = t.methods + 1; statements = t.statements + 1; parameters = 0; variables = 0; nodes = 0;
+  methods = t.methods + 1;
+  statements = t.statements + 1;
+  parameters = 0;
+  variables = 0;
+  nodes = 0;
 }
 after_beginning t parameter = record t { parameters = t.parameters + 1; variables = t.variables + 1 }
 after_beginning t local = record t { statements = t.statements + 1; variables = t.variables + 1; nodes = 0 }
