@@ -1,3 +1,4 @@
 pub mod Continued
 pub mod OneJoined
 pub mod Groups
+pub mod OneExpr
