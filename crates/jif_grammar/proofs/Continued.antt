@@ -15,6 +15,12 @@ use Rattle.jif_grammar.specs.Phrases.{relabelled, BlockPhrase, end, declaration,
 use Rattle.jif_grammar.specs.Phrases.{call_into, branch, branch_else, loop, FieldEnd, unset, sized, set}
 use Rattle.jif_grammar.specs.Phrases.{ParamPhrase, MethodPhrase, ItemPhrase, field, method, ProgramPhrase}
 use Rattle.jif_grammar.specs.Operators.{operator_symbol, sign_symbol, change_word}
+use Rattle.std.proofs.Common.{sym}
+use Rattle.jif_grammar.specs.Marks as marks
+use Rattle.jif_grammar.specs.Spelling.{args_spelling, optional_label_spelling, block_spelling, field_end_spelling}
+use Rattle.jif_grammar.specs.Spelling.{param_spelling, params_spelling, authority_spelling, result_spelling}
+use Rattle.jif_grammar.specs.Spelling.{head_spelling, method_spelling, item_spelling, spelling}
+use Rattle.std.proofs.lemmas.List.{append-nil}
 use Rattle.jif_grammar.specs.Marks.{Beginning, Marked, plain, nothing}
 use Rattle.jif_grammar.specs.Spelling.{separated, label_spelling, expr_spelling}
 use Rattle.jif_grammar.specs.Programs.{unmarked}
@@ -221,3 +227,218 @@ expr_continued depth (relabelled change inner label) rest =
       label_continued nothing (suc depth) label (symbol RightParenthesis ∷ rest),
       expr_continued (suc depth) inner (symbol Comma ∷ label_then label (symbol RightParenthesis ∷ rest)),
     ) refl
+
+args_continued : (depth : ℕ) (args : List ExprPhrase) (rest : List TokenKind) →
+    marked_then (args_spelling depth args) rest ≡ args_then args rest
+args_continued depth args rest =
+    separated_continued (plain depth (symbol Comma)) (expr_spelling depth) expr_then (expr_continued depth) args rest
+
+-- an expression before marked tokens
+expr_before : (depth : ℕ) (e : ExprPhrase) (tokens : List Marked) (rest : List TokenKind) →
+    marked_then (expr_spelling depth e ++ tokens) rest ≡ expr_then e (marked_then tokens rest)
+expr_before depth e tokens rest =
+    marked_append (expr_spelling depth e) tokens rest ∙ expr_continued depth e (marked_then tokens rest)
+
+args_before : (depth : ℕ) (args : List ExprPhrase) (tokens : List Marked) (rest : List TokenKind) →
+    marked_then (args_spelling depth args ++ tokens) rest ≡ args_then args (marked_then tokens rest)
+args_before depth args tokens rest =
+    marked_append (args_spelling depth args) tokens rest ∙ args_continued depth args (marked_then tokens rest)
+
+label_before : (begins : Beginning) (depth : ℕ) (label : LabelPhrase) (tokens : List Marked) (rest : List TokenKind) →
+    marked_then (label_spelling begins depth label ++ tokens) rest ≡ label_then label (marked_then tokens rest)
+label_before begins depth label tokens rest =
+    marked_append (label_spelling begins depth label) tokens rest
+    ∙ label_continued begins depth label (marked_then tokens rest)
+
+optional_label_before : (depth : ℕ) (label : Option LabelPhrase) (tokens : List Marked) (rest : List TokenKind) →
+    marked_then (optional_label_spelling depth label ++ tokens) rest
+    ≡ optional_label_then label (marked_then tokens rest)
+optional_label_before depth None tokens rest = refl
+optional_label_before depth (Some label) tokens rest = label_before nothing depth label tokens rest
+
+regrouped : (first second third : List Marked) (rest : List TokenKind) →
+    marked_then (first ++ second ++ third) rest ≡ marked_then (first ++ (second ++ third)) rest
+regrouped first second third rest = ap (λ ts. marked_then ts rest) (append_assoc first second third)
+
+-- a value and its semicolon, before what is spelled as these tokens
+value_continued : (depth : ℕ) (value : ExprPhrase) (tokens : List Marked) (more rest : List TokenKind) →
+    marked_then tokens more ≡ rest →
+    marked_then (expr_spelling depth value ++ plain depth (symbol Semicolon) ∷ tokens) more
+    ≡ expr_then value (symbol Semicolon ∷ rest)
+value_continued depth value tokens more rest is =
+    expr_before depth value (plain depth (symbol Semicolon) ∷ tokens) more
+    ∙ ap (λ ts. expr_then value (symbol Semicolon ∷ ts)) is
+
+-- a nested block in its braces, before other tokens
+abbrev nested_spelling : ℕ → BlockPhrase → List Marked → List Marked
+nested_spelling depth block tokens =
+    plain (suc depth) (symbol LeftBrace) ∷ block_spelling (suc depth) block
+    ++ plain (suc depth) (symbol RightBrace) ∷ tokens
+
+-- from the end of a guard to that of the first block, without its brace
+abbrev then_spelling : ℕ → BlockPhrase → List Marked
+then_spelling depth first =
+    plain depth (symbol RightParenthesis) ∷ plain (suc depth) (symbol LeftBrace) ∷ block_spelling (suc depth) first
+
+nested_continued : (depth : ℕ) (block : BlockPhrase) (tokens : List Marked) (more rest : List TokenKind) →
+    ((r : List TokenKind) → marked_then (block_spelling (suc depth) block) r ≡ block_then block r) →
+    marked_then tokens more ≡ rest →
+    marked_then (block_spelling (suc depth) block ++ plain (suc depth) (symbol RightBrace) ∷ tokens) more
+    ≡ block_then block (symbol RightBrace ∷ rest)
+nested_continued depth block tokens more rest each is =
+    marked_append (block_spelling (suc depth) block) (plain (suc depth) (symbol RightBrace) ∷ tokens) more
+    ∙ each (symbol RightBrace ∷ marked_then tokens more) ∙ ap (λ ts. block_then block (symbol RightBrace ∷ ts)) is
+
+block_continued : (depth : ℕ) (block : BlockPhrase) (rest : List TokenKind) →
+    marked_then (block_spelling depth block) rest ≡ block_then block rest
+block_continued depth end more = refl
+block_continued depth (declaration label name value rest) more =
+    ap (λ ts. Word Int ∷ ts) (regrouped (optional_label_spelling depth label)
+    (plain depth (Name name) ∷ plain depth (symbol Assign) ∷ expr_spelling depth value)
+    (plain depth (symbol Semicolon) ∷ block_spelling depth rest) more
+    ∙ optional_label_before depth label (plain depth (Name name) ∷ plain depth (symbol Assign)
+    ∷ (expr_spelling depth value ++ plain depth (symbol Semicolon) ∷ block_spelling depth rest)) more
+    ∙ ap (λ ts. optional_label_then label (Name name ∷ symbol Assign ∷ ts)) (value_continued depth value
+    (block_spelling depth rest) more (block_then rest more) (block_continued depth rest more)))
+block_continued depth (assignment name value rest) more =
+    ap (λ ts. Name name ∷ symbol Assign ∷ ts) (value_continued depth value (block_spelling depth rest) more
+    (block_then rest more) (block_continued depth rest more))
+block_continued depth (element_assignment name index value rest) more =
+    ap (λ ts. Name name ∷ symbol LeftBracket ∷ ts) (regrouped (expr_spelling depth index)
+    (plain depth (symbol RightBracket) ∷ plain depth (symbol Assign) ∷ expr_spelling depth value)
+    (plain depth (symbol Semicolon) ∷ block_spelling depth rest) more
+    ∙ expr_before depth index (plain depth (symbol RightBracket) ∷ plain depth (symbol Assign)
+    ∷ (expr_spelling depth value ++ plain depth (symbol Semicolon) ∷ block_spelling depth rest)) more
+    ∙ ap (λ ts. expr_then index (symbol RightBracket ∷ symbol Assign ∷ ts)) (value_continued depth value
+    (block_spelling depth rest) more (block_then rest more) (block_continued depth rest more)))
+block_continued depth (call name args rest) more =
+    ap (λ ts. Name name ∷ symbol LeftParenthesis ∷ ts) (args_before depth args (plain depth (symbol RightParenthesis)
+    ∷ plain depth (symbol Semicolon) ∷ block_spelling depth rest) more
+    ∙ ap (λ ts. args_then args (symbol RightParenthesis ∷ symbol Semicolon ∷ ts)) (block_continued depth rest more))
+block_continued depth (call_into into name args rest) more =
+    ap (λ ts. Name into ∷ symbol Assign ∷ Name name ∷ symbol LeftParenthesis ∷ ts) (args_before depth args
+    (plain depth (symbol RightParenthesis) ∷ plain depth (symbol Semicolon) ∷ block_spelling depth rest) more
+    ∙ ap (λ ts. args_then args (symbol RightParenthesis ∷ symbol Semicolon ∷ ts)) (block_continued depth rest more))
+block_continued depth (branch guard first rest) more =
+    ap (λ ts. Word If ∷ symbol LeftParenthesis ∷ ts) (regrouped (expr_spelling depth guard)
+    (plain depth (symbol RightParenthesis) ∷ plain (suc depth) (symbol LeftBrace) ∷ block_spelling (suc depth) first)
+    (plain (suc depth) (symbol RightBrace) ∷ block_spelling depth rest) more
+    ∙ expr_before depth guard (plain depth (symbol RightParenthesis)
+    ∷ nested_spelling depth first (block_spelling depth rest)) more
+    ∙ ap (λ ts. expr_then guard (symbol RightParenthesis ∷ symbol LeftBrace ∷ ts)) (nested_continued depth first
+    (block_spelling depth rest) more (block_then rest more) (block_continued (suc depth) first)
+    (block_continued depth rest more)))
+block_continued depth (branch_else guard first second rest) more =
+    ap (λ ts. Word If ∷ symbol LeftParenthesis ∷ ts) (regrouped (expr_spelling depth guard ++ then_spelling depth first)
+    (plain (suc depth) (symbol RightBrace) ∷ plain depth (Word Else) ∷ plain (suc depth) (symbol LeftBrace)
+    ∷ block_spelling (suc depth) second)
+    (plain (suc depth) (symbol RightBrace) ∷ block_spelling depth rest) more
+    ∙ regrouped (expr_spelling depth guard) (then_spelling depth first)
+    (plain (suc depth) (symbol RightBrace) ∷ plain depth (Word Else)
+    ∷ nested_spelling depth second (block_spelling depth rest)) more
+    ∙ expr_before depth guard (plain depth (symbol RightParenthesis)
+    ∷ nested_spelling depth first (plain depth (Word Else) ∷ nested_spelling depth second
+    (block_spelling depth rest))) more
+    ∙ ap (λ ts. expr_then guard (symbol RightParenthesis ∷ symbol LeftBrace ∷ ts)) (nested_continued depth first
+    (plain depth (Word Else) ∷ nested_spelling depth second (block_spelling depth rest)) more
+    (Word Else ∷ symbol LeftBrace ∷ block_then second (symbol RightBrace ∷ block_then rest more))
+    (block_continued (suc depth) first)
+    (ap (λ ts. Word Else ∷ symbol LeftBrace ∷ ts) (nested_continued depth second (block_spelling depth rest) more
+    (block_then rest more) (block_continued (suc depth) second) (block_continued depth rest more)))))
+block_continued depth (loop guard body rest) more =
+    ap (λ ts. Word While ∷ symbol LeftParenthesis ∷ ts) (regrouped (expr_spelling depth guard)
+    (plain depth (symbol RightParenthesis) ∷ plain (suc depth) (symbol LeftBrace) ∷ block_spelling (suc depth) body)
+    (plain (suc depth) (symbol RightBrace) ∷ block_spelling depth rest) more
+    ∙ expr_before depth guard (plain depth (symbol RightParenthesis)
+    ∷ nested_spelling depth body (block_spelling depth rest)) more
+    ∙ ap (λ ts. expr_then guard (symbol RightParenthesis ∷ symbol LeftBrace ∷ ts)) (nested_continued depth body
+    (block_spelling depth rest) more (block_then rest more) (block_continued (suc depth) body)
+    (block_continued depth rest more)))
+
+field_end_continued : (ending : FieldEnd) (rest : List TokenKind) →
+    marked_then (field_end_spelling ending) rest ≡ field_end_then ending rest
+field_end_continued unset rest = refl
+field_end_continued (sized size) rest = refl
+field_end_continued (set false first) rest = refl
+field_end_continued (set true first) rest = refl
+
+param_continued : (param : ParamPhrase) (rest : List TokenKind) →
+    marked_then (param_spelling param) rest ≡ param_then param rest
+param_continued param rest = rw label_before refl
+
+params_continued : (params : List ParamPhrase) (rest : List TokenKind) →
+    marked_then (params_spelling params) rest ≡ params_then params rest
+params_continued params rest =
+    separated_continued (plain 0 (symbol Comma)) param_spelling param_then param_continued params rest
+
+authority_continued : (authority : List (List ℕ)) (rest : List TokenKind) →
+    marked_then (authority_spelling authority) rest ≡ authority_then authority rest
+authority_continued [] rest = refl
+authority_continued (name ∷ names) rest =
+    ap (λ ts. Word Where ∷ Word Authority ∷ symbol LeftParenthesis ∷ ts)
+    (marked_append (map (plain 0) (names_tokens (name ∷ names))) (plain 0 (symbol RightParenthesis) ∷ []) rest
+    ∙ marked_plain 0 (names_tokens (name ∷ names)) (symbol RightParenthesis ∷ rest)
+    ∙ names_continued (name ∷ names) (symbol RightParenthesis ∷ rest))
+
+result_continued : (result : Option ExprPhrase) (rest : List TokenKind) →
+    marked_then (result_spelling result) rest ≡ result_then result rest
+result_continued None rest = refl
+result_continued (Some value) rest =
+    ap (λ ts. Word Return ∷ ts) (expr_before 0 value (plain 0 (symbol Semicolon) ∷ []) rest)
+
+head_continued : (kind : Option LabelPhrase) (name : List ℕ) (begin : LabelPhrase) (rest : List TokenKind) →
+    marked_then (head_spelling kind name begin) rest ≡ head_then kind name begin rest
+head_continued None name begin rest = ap (λ ts. Word Void ∷ Name name ∷ ts) (label_continued nothing 0 begin rest)
+head_continued (Some label) name begin rest =
+    ap (λ ts. Word Int ∷ ts) (label_before nothing 0 label (plain 0 (Name name) ∷ label_spelling marks.method 0 begin)
+    rest
+    ∙ ap (λ ts. label_then label (Name name ∷ ts)) (label_continued marks.method 0 begin rest))
+
+method_continued : (phrase : MethodPhrase) (rest : List TokenKind) →
+    marked_then (method_spelling phrase) rest ≡ head_then phrase.kind phrase.name phrase.begin (tail_then phrase rest)
+method_continued phrase rest =
+    let head = head_spelling phrase.kind phrase.name phrase.begin in
+    let params = plain 0 (symbol LeftParenthesis) ∷ params_spelling phrase.params in
+    let authority = plain 0 (symbol RightParenthesis) ∷ authority_spelling phrase.authority in
+    let body = plain 0 (symbol LeftBrace) ∷ block_spelling 0 phrase.body in
+    let result = result_spelling phrase.result in
+    let at_end = symbol RightBrace ∷ rest in
+    let after_body : List TokenKind = result_then phrase.result at_end in
+    let after_authority : List TokenKind = symbol LeftBrace ∷ block_then phrase.body after_body in
+    let after_params : List TokenKind =
+    symbol RightParenthesis ∷ authority_then phrase.authority after_authority in
+    marked_append (head ++ params ++ authority ++ body ++ result) (plain 0 (symbol RightBrace) ∷ []) rest
+    ∙ marked_append (head ++ params ++ authority ++ body) result at_end
+    ∙ ap (marked_then (head ++ params ++ authority ++ body)) (result_continued phrase.result at_end)
+    ∙ marked_append (head ++ params ++ authority) body after_body
+    ∙ ap (λ ts. marked_then (head ++ params ++ authority) (symbol LeftBrace ∷ ts))
+    (block_continued 0 phrase.body after_body)
+    ∙ marked_append (head ++ params) authority after_authority
+    ∙ ap (λ ts. marked_then (head ++ params) (symbol RightParenthesis ∷ ts))
+    (authority_continued phrase.authority after_authority)
+    ∙ marked_append head params after_params
+    ∙ ap (λ ts. marked_then head (symbol LeftParenthesis ∷ ts)) (params_continued phrase.params after_params)
+    ∙ head_continued phrase.kind phrase.name phrase.begin (tail_then phrase rest)
+
+item_continued : (item : ItemPhrase) (rest : List TokenKind) →
+    marked_then (item_spelling item) rest ≡ item_then item rest
+item_continued (field phrase) rest =
+    ap (λ ts. Word Int ∷ ts) (label_before nothing 0 phrase.label
+    (plain 0 (Name phrase.name) ∷ field_end_spelling phrase.ending) rest
+    ∙ ap (λ ts. label_then phrase.label (Name phrase.name ∷ ts)) (field_end_continued phrase.ending rest))
+item_continued (method phrase) rest =
+    method_continued phrase rest
+
+pub program_continued : (program : ProgramPhrase) (rest : List TokenKind) →
+    marked_then (spelling program) rest ≡ program_then program rest
+program_continued [] rest = refl
+program_continued (item ∷ items) rest =
+    marked_append (item_spelling item) (spelling items) rest
+    ∙ ap (marked_then (item_spelling item)) (program_continued items rest)
+    ∙ item_continued item (program_then items rest)
+
+-- the tokens of a program
+pub program_unmarked : (program : ProgramPhrase) → unmarked (spelling program) ≡ program_then program []
+program_unmarked program =
+    sym (append-nil (unmarked (spelling program))) ∙ sym (marked_then-unmarked (spelling program) [])
+    ∙ program_continued program []

@@ -2,3 +2,4 @@ pub mod Continued
 pub mod OneJoined
 pub mod Groups
 pub mod OneExpr
+pub mod OneBlock

@@ -1,19 +1,16 @@
 -- An expression is read in one way, before what continues no expression.
-use Rattle.std.proofs.Common.{◌≡◌, ◌≢◌, ℕ, ◌<◌, ◌≤◌, Bool, true, false, List, [], ◌∷◌, ◌++◌, refl, ap, sym, ◌∙◌, subst}
+use Rattle.std.proofs.Common.{◌≡◌, ◌≢◌, ℕ, ◌≤◌, List, [], ◌∷◌, ◌++◌, refl, ap, sym, ◌∙◌, subst}
 use Rattle.std.proofs.Common.{Option, Some, None, arith}
-use Rattle.std.specs.Prelude.{⊤}
 use Rattle.js_base.specs.declared.binary_operator.BinOp.{BinOp}
 use Rattle.js_base.specs.declared.binary_operator.BinOp.TheVariants as operator
 use Rattle.jif_lex.specs.declared.token.TokenKind.{TokenKind}
-use Rattle.jif_lex.specs.declared.token.TokenKind.TheVariants.{Name, Number, Word}
-use Rattle.jif_lex.specs.declared.token.TokenKind.TheVariants as token
 use Rattle.jif_lex.specs.declared.token.Symbol.{Symbol}
 use Rattle.jif_lex.specs.declared.token.Symbol.TheVariants as symbols
 use Rattle.label_lattice.specs.Written.{symbol}
 use Rattle.jif_grammar.specs.Phrases.{Sign, complement, minus, Change, release, acceptance}
 use Rattle.jif_grammar.specs.Phrases.{LabelPhrase, ExprPhrase, number, variable, element, parenthesized, signed, binary}
 use Rattle.jif_grammar.specs.Phrases.{relabelled}
-use Rattle.jif_grammar.specs.Operators.{operator_symbol, operator_level, tightest_level, sign_symbol, change_word}
+use Rattle.jif_grammar.specs.Operators.{operator_symbol, tightest_level}
 use Rattle.jif_grammar.specs.Grouping.{level, IsGrouped}
 use Rattle.jif_grammar.proofs.Continued.{expr_then, label_then}
 use Rattle.jif_grammar.proofs.OneJoined.{Each, one_label}
@@ -38,7 +35,7 @@ operator_of symbols.Slash = Some operator.Divide
 operator_of symbols.Percent = Some operator.Remainder
 operator_of _ = None
 
-operator_back : (o : BinOp) → operator_of (operator_symbol o) ≡ Some o
+pub operator_back : (o : BinOp) → operator_of (operator_symbol o) ≡ Some o
 operator_back operator.Or = refl
 operator_back operator.And = refl
 operator_back operator.Equal = refl
@@ -53,7 +50,7 @@ operator_back operator.Multiply = refl
 operator_back operator.Divide = refl
 operator_back operator.Remainder = refl
 
-one_operator : (o p : BinOp) → operator_symbol o ≡ operator_symbol p → o ≡ p
+pub one_operator : (o p : BinOp) → operator_symbol o ≡ operator_symbol p → o ≡ p
 one_operator o p same =
     let both : Some o ≡ Some p = sym (operator_back o) ∙ ap operator_of same ∙ operator_back p in
     cc
