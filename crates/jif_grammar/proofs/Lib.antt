@@ -3,3 +3,5 @@ pub mod OneJoined
 pub mod Groups
 pub mod OneExpr
 pub mod OneBlock
+pub mod OneProgram
+pub mod OneRefusal
