@@ -6,11 +6,16 @@ use Rattle.jif_grammar.specs.declared.what.What.{What}
 use Rattle.jif_grammar.specs.declared.what.What.TheVariants as counted
 use Rattle.jif_grammar.specs.Programs.{Refusal, unexpected, too_deep, too_many, place, rank, rank_of_what, ComesBefore}
 use Rattle.jif_grammar.specs.Programs.{IsRefused}
+use Rattle.std.proofs.Common.{length, take, drop, [], ◌∷◌, suc, ◌+◌}
+use Rattle.jif_grammar.specs.Marks.{Marked}
+use Rattle.std.proofs.lemmas.Bool.{cases_lt}
+use Rattle.std.proofs.lemmas.List.{map-append, take-append-drop}
+use Rattle.label_lattice.specs.Written.{kinds}
+use Rattle.jif_grammar.specs.Phrases.{ProgramPhrase}
+use Rattle.jif_grammar.specs.Spelling.{spelling}
+use Rattle.jif_grammar.specs.Programs.{unmarked, Spells, GoesOn, IsProgramText, IsFault}
 
 -- ---- places and ranks determine refusals
-
-abbrev what_of : ℕ → What → What
-what_of n w = w
 
 one_rank : (first second : What) → rank_of_what first ≡ rank_of_what second → first ≡ second
 one_rank counted.Fields counted.Fields same = refl
@@ -50,3 +55,48 @@ one_refusal tokens first second one other =
     let no_higher : ¬ (rank second < rank first) = λ less. not_first (inr (sym places, less)) in
     let ranks : rank first ≡ rank second = omega arith in
     same_refusal first second places ranks
+
+-- ---- a program is not refused
+
+kinds_length : (tokens : List Token) → length (kinds tokens) ≡ length tokens
+kinds_length [] = refl
+kinds_length (token ∷ tokens) = ap suc (kinds_length tokens)
+
+unmarked_length : (tokens : List Marked) → length (unmarked tokens) ≡ length tokens
+unmarked_length [] = refl
+unmarked_length (token ∷ tokens) = ap suc (unmarked_length tokens)
+
+same_length : (tokens : List Token) (program : ProgramPhrase) → Spells tokens program →
+    length tokens ≡ length (spelling program)
+same_length tokens program spells =
+    sym (kinds_length tokens) ∙ ap length spells.written ∙ unmarked_length (spelling program)
+
+-- a program goes on from each beginning of its tokens
+goes_on : (tokens : List Token) (program : ProgramPhrase) (n : ℕ) → Spells tokens program →
+    GoesOn (take n tokens) program
+goes_on tokens program n spells = record {
+  is_program = spells.is_program;
+  rest = kinds (drop n tokens);
+  written = sym (map-append (λ token. token.kind) (take n tokens) (drop n tokens))
+      ∙ ap kinds (take-append-drop n tokens) ∙ spells.written;
+}
+
+no_fault : (tokens : List Token) (program : ProgramPhrase) (refusal : Refusal) → IsProgramText tokens program →
+    ¬ IsFault tokens refusal
+no_fault tokens program (unexpected n) is fault =
+    elim (cases_lt n (length tokens)) [
+      | inl less ↦ fault.no_further less (program, goes_on tokens program (n + 1) is.spells)
+      | inr least ↦ fault.not_whole program (let e : n ≡ length tokens = omega (arith, fault.within, least) in e) is.spells
+    ]
+no_fault tokens program (too_deep n) is fault =
+    is.limits.nesting n (let e : n < length (spelling program) =
+    omega (arith, fault.there, same_length tokens program is.spells) in e)
+    (fault.certain program (goes_on tokens program (n + 1) is.spells))
+no_fault tokens program (too_many what n) is fault =
+    is.limits.counts what n (let e : n < length (spelling program) =
+    omega (arith, fault.there, same_length tokens program is.spells) in e)
+    (fault.certain program (goes_on tokens program (n + 1) is.spells))
+
+pub never_both : (tokens : List Token) (program : ProgramPhrase) (refusal : Refusal) → IsProgramText tokens program →
+    ¬ IsRefused tokens refusal
+never_both tokens program refusal is refused = no_fault tokens program refusal is refused.fault
