@@ -1,0 +1,16 @@
+//! Laws of the grammar, for whoever reads programs. The call does nothing.
+
+ghost use Rattle.std.specs.Prelude.{◌≡◌, List};
+ghost use Rattle.jif_lex.specs.declared.token.Token.{Token};
+ghost use Rattle.jif_grammar.specs.Phrases.{ProgramPhrase};
+ghost use Rattle.jif_grammar.specs.Programs.{Spells, IsProgramText, Refusal, IsRefused};
+
+/// Tokens are a program in one way only, or are refused for one cause only, and never both.
+pub fn grammar_laws()
+    ensures one_reading { (tokens : List Token) (first second : ProgramPhrase) →
+        Spells tokens first → Spells tokens second → first ≡ second }
+    ensures one_refusal { (tokens : List Token) (first second : Refusal) →
+        IsRefused tokens first → IsRefused tokens second → first ≡ second }
+    ensures never_both { (tokens : List Token) (program : ProgramPhrase) (refusal : Refusal) →
+        IsProgramText tokens program → ¬ IsRefused tokens refusal }
+{}

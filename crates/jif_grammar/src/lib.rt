@@ -1,0 +1,8 @@
+//! The grammar of programs: which tokens are a program, and at which token others are refused.
+#![tactic(auto)]
+
+mod laws;
+mod what;
+
+pub use laws::grammar_laws;
+pub use what::What;
