@@ -1,3 +1,4 @@
+pub mod Operators
 pub mod SourceRun
 pub mod Store
 pub mod Validity

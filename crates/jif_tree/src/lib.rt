@@ -1,7 +1,8 @@
-//! Programs as trees, and what a plain run of one does to its fields.
+//! Programs as trees, drafts of them, the values of operators, and what a plain run of a program does to its fields.
 #![tactic(auto)]
 
 mod draft;
+mod operators;
 mod program;
 mod store;
 
@@ -9,5 +10,6 @@ pub use draft::{
     Draft, ExprDraft, FieldDraft, LabelDraft, MethodDraft, NameDraft, ParamDraft, PolicyDraft,
     StmtDraft, StmtKindDraft,
 };
+pub use operators::{binary_value, inverted, negated};
 pub use program::{Expr, Field, Method, Program, Stmt, StmtKind};
 pub use store::{Row, Store};
