@@ -1,7 +1,6 @@
 //! Whether a host may ask, by the code.
 
-ghost use Rattle.std.specs.Prelude.{◌≡◌, ◌↔◌, IsTrue, option_copied, slice_get};
-ghost use Rattle.std.specs.Option.{option_map};
+ghost use Rattle.std.specs.Prelude.{◌≡◌, ◌↔◌, IsTrue, option_copied};
 ghost use Rattle.entry_check.specs.Checks.{May, MaySee, MayAffect, MayEnter, IsTrustedFor, label_of_host};
 
 use crate::ask::Ask;

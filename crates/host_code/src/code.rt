@@ -1,6 +1,6 @@
 //! The code of all hosts.
 
-ghost use Rattle.std.specs.Prelude.{◌≡◌, ◌≤◌, ◌<◌, length, map, Some, None, IfSome, IfNone, option_copied, slice_get};
+ghost use Rattle.std.specs.Prelude.{◌≡◌, ◌<◌, Some, None, option_copied, slice_get};
 ghost use Rattle.std.specs.String.{string_bytes};
 ghost use Rattle.host_code.specs.Code.{part_of, instruction_at, field_at, variable_at, entry_at, site_at};
 ghost use Rattle.host_code.specs.Sound.{IsSoundCode};

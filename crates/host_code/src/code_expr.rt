@@ -1,7 +1,6 @@
 //! Expressions in instructions.
 
-ghost use Rattle.std.specs.Prelude.{◌≡◌, ◌≤◌, ◌<◌, ◌+◌, ◌^◌, ◌↔◌, ◌∷◌, length, Some, None, IfSome, IfNone};
-ghost use Rattle.std.specs.Prelude.{option_copied};
+ghost use Rattle.std.specs.Prelude.{◌≡◌, ◌≤◌, ◌<◌, ◌+◌, ◌^◌, Some, None, IfSome};
 ghost use Rattle.host_code.specs.CodeExpr.{IsExpression, depth_after, depth_after_node};
 
 use js_base::{BinOp, VarId};
