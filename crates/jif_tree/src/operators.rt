@@ -5,8 +5,9 @@ ghost use Rattle.jif_tree.specs.Operators.{number_of, quotient, remainder, binar
 
 use js_base::BinOp;
 
-/// The value of a binary operator. `+`, `-` and `*` wrap, `/` truncates towards zero and `%` has the sign of the dividend.
-/// Where the divisor is 0, both give 0. Comparisons, `&&` and `||` give 1 or 0, and every number but 0 counts as true.
+/// The value of a binary operator. `+`, `-` and `*` wrap, `/` truncates towards zero and `%` has the sign of the
+/// dividend. Where the divisor is 0, both give 0. Comparisons, `&&` and `||` give 1 or 0, and every number but 0 counts
+/// as true.
 pub fn binary_value(op: BinOp, left: i64, right: i64) -> i64
     ensures { result ≡ binary_value op left right }
 {
