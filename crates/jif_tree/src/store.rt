@@ -111,6 +111,3 @@ impl Store {
         &self.rows
     }
 }
-
-#[cfg(test)]
-mod tests;

@@ -1,5 +1,6 @@
-use super::{Row, Store};
-use crate::program::{Field, Program};
+//! The stores with which programs start.
+
+use jif_tree::{Field, Program, Row, Store};
 use js_base::MethodId;
 use label_lattice::Label;
 use std::test::Fail;

@@ -1,0 +1,9 @@
+//! Tests of stores, of scripts and of the world, through the public calls of their crates.
+#![tactic(auto)]
+
+#[cfg(test)]
+mod scripts;
+#[cfg(test)]
+mod starting_values;
+#[cfg(test)]
+mod worlds;
