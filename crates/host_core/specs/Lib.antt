@@ -1,0 +1,7 @@
+pub mod Awaiting
+pub mod Fits
+pub mod Host
+pub mod Start
+pub mod Taking
+pub mod Turn
+pub mod Values

@@ -1,0 +1,205 @@
+//! The calls that change a host: its start, a message and a turn.
+
+ghost use Rattle.std.specs.Prelude.{◌≡◌, ◌<◌, ◌↔◌, ◌+◌, ◌^◌, OnOk, OnErr, IsErrOf, IsSome, IsTrue, IfOk, None, Some, length};
+ghost use Rattle.host_code.specs.Code.{instruction_at};
+ghost use Rattle.host_code.specs.Sound.{IsHost, IsOther, IsSoundCode};
+ghost use Rattle.entry_check.specs.Checks.{AreChecksOf};
+ghost use Rattle.host_core.specs.Fits.{HostFits, SentFits, TokensFit};
+ghost use Rattle.host_core.specs.Host.{state_of, IsStopped, IsReady, IsSameHost, with_running};
+ghost use Rattle.host_core.specs.Taking.{IsTaking};
+ghost use Rattle.host_core.specs.Turn.{IsTurn, IsRunning, IsOperation, PushesWithin};
+
+use crate::host::{Host, HostError, Sent};
+use crate::thread::Thread;
+use host_code::{Code, Message, Op};
+use js_base::limits::HOSTS;
+use js_base::{HostId, OutOfMemory};
+
+impl Host {
+    /// What the host does with a message from another host, while no thread runs.
+    ///
+    /// # Errors
+    /// `Stopped` exactly where an earlier call had no memory or 2^62 calls were made; nothing changes then. After
+    /// `OutOfMemory` the state is as before, and the host is stopped.
+    pub fn deliver(
+        &mut self,
+        code: &Code,
+        from: HostId,
+        message: Message,
+    ) -> Result<Sent, HostError>
+        requires rest { self.old.running ≡ None }
+        requires fits { HostFits code.now self.old }
+        requires from { IsOther code.now self.old.me from }
+        requires tokens { TokensFit code.now message }
+        ensures ok { IfOk result (λ sent.
+            IsTaking code.now (state_of self.old) from message (record { state = state_of self.new; sent = sent })) }
+        ensures err { OnErr result (state_of self.new ≡ state_of self.old) }
+        ensures stopped { IsErrOf result HostError.Stopped ↔ IsStopped self.old }
+        ensures kept { IsErrOf result HostError.Stopped → self.new ≡ self.old }
+        ensures out_of_memory { IsErrOf result HostError.OutOfMemory → IsTrue self.new.stopped }
+        ensures counted { OnOk result ((self.new.calls ≡ self.old.calls + 1) × (self.new.stopped ≡ self.old.stopped)) }
+        ensures fits { HostFits code.now self.new }
+        ensures sent { IfOk result (λ sent. SentFits code.now self.old.me sent) }
+    {
+        code_laws(code);
+        self.begin()?;
+        match self.take(code, from, message) {
+            Ok(sent) => Ok(sent),
+            Err(OutOfMemory) => {
+                self.stopped = true;
+                Err(HostError::OutOfMemory)
+            }
+        }
+    }
+
+    /// What the host does at a turn of its running thread.
+    ///
+    /// # Errors
+    /// As of `deliver`.
+    pub fn turn(&mut self, code: &Code) -> Result<Sent, HostError>
+        requires runs { IsSome self.old.running }
+        requires fits { HostFits code.now self.old }
+        ensures ok { IfOk result (λ sent.
+            IsTurn code.now (state_of self.old) (record { state = state_of self.new; sent = sent })) }
+        ensures err { OnErr result (state_of self.new ≡ state_of self.old) }
+        ensures stopped { IsErrOf result HostError.Stopped ↔ IsStopped self.old }
+        ensures kept { IsErrOf result HostError.Stopped → self.new ≡ self.old }
+        ensures out_of_memory { IsErrOf result HostError.OutOfMemory → IsTrue self.new.stopped }
+        ensures counted { OnOk result ((self.new.calls ≡ self.old.calls + 1) × (self.new.stopped ≡ self.old.stopped)) }
+        ensures fits { HostFits code.now self.new }
+        ensures sent { IfOk result (λ sent. SentFits code.now self.old.me sent) }
+    {
+        code_laws(code);
+        self.begin()?;
+        let Some(thread) = self.running.take() else {
+            return Ok(None);
+        };
+        match self.run(code, thread) {
+            Ok(sent) => Ok(sent),
+            Err(OutOfMemory) => {
+                self.stopped = true;
+                Err(HostError::OutOfMemory)
+            }
+        }
+    }
+
+    /// What the host does with a message, once the call was counted and there is room.
+    fn take(&mut self, code: &Code, from: HostId, message: Message) -> Result<Sent, OutOfMemory>
+        requires ready { IsReady self.old }
+        requires checks { AreChecksOf code.now self.old.me self.old.checks }
+        requires from { from.0 < HOSTS }
+        requires serials { length self.old.stack.serials ≡ length code.now.entries }
+        ensures ok { IfOk result (λ sent.
+            IsTaking code.now (state_of self.old) from message (record { state = state_of self.new; sent = sent })) }
+        ensures err { OnErr result (state_of self.new ≡ state_of self.old) }
+        ensures same { IsSameHost self.old self.new }
+    {
+        match message {
+            Message::Get {
+                request,
+                field,
+                index,
+            } => Ok(self.take_get(code, from, request, field, index)),
+            Message::Set {
+                request,
+                field,
+                index,
+                value,
+            } => Ok(self.take_set(code, from, request, field, index, value)),
+            Message::Forward {
+                request,
+                frame,
+                var,
+                value,
+            } => Ok(self.take_forward(code, from, request, frame, var, value)),
+            Message::Sync {
+                request,
+                frame,
+                entry,
+                token,
+            } => Ok(self.take_sync(code, from, request, frame, entry, token)),
+            Message::Rgoto {
+                frame,
+                entry,
+                token,
+            } => {
+                self.take_rgoto(code, from, frame, entry, token);
+                Ok(None)
+            }
+            Message::Lgoto { token } => {
+                self.take_lgoto(code, from, token);
+                Ok(None)
+            }
+            Message::Value { request, value } => {
+                self.take_value(code, from, request, value)?;
+                Ok(None)
+            }
+            Message::Ack { request } => {
+                self.take_ack(code, from, request);
+                Ok(None)
+            }
+            Message::Token { request, token } => {
+                self.take_token(code, from, request, token);
+                Ok(None)
+            }
+        }
+    }
+
+    /// The thread runs its instruction.
+    fn run(&mut self, code: &Code, thread: Thread) -> Result<Sent, OutOfMemory>
+        requires ready { IsReady self.old }
+        requires serials { length self.old.stack.serials ≡ length code.now.entries }
+        requires sound { IsSoundCode code.now }
+        requires me { IsHost code.now self.old.me }
+        ensures ok { IfOk result (λ sent.
+            IsRunning code.now (state_of self.old) thread (instruction_at code.now self.old.me thread.at)
+            (record { state = state_of self.new; sent = sent })) }
+        ensures err { OnErr result (state_of self.new ≡ with_running (state_of self.old) (Some thread)) }
+        ensures same { IsSameHost self.old self.new }
+    {
+        match code.instruction(self.me, thread.at()) {
+            Some(instruction) => self.run_operation(code, thread, &instruction.op),
+            None => {
+                self.running = Some(thread);
+                Ok(None)
+            }
+        }
+    }
+
+    /// The thread runs an instruction.
+    fn run_operation(&mut self, code: &Code, thread: Thread, op: &Op) -> Result<Sent, OutOfMemory>
+        requires ready { IsReady self.old }
+        requires next { thread.at + 1 < 2 ^ 32 }
+        requires entry { PushesWithin (length self.old.stack.serials) op.now }
+        ensures ok { IfOk result (λ sent.
+            IsOperation code.now (state_of self.old) thread op.now (record { state = state_of self.new; sent = sent })) }
+        ensures err { OnErr result (state_of self.new ≡ with_running (state_of self.old) (Some thread)) }
+        ensures same { IsSameHost self.old self.new }
+    {
+        let frame = thread.frame();
+        let new_frame = thread.new_frame();
+        match op {
+            Op::Read(field, index) => self.read(code, thread, *field, index),
+            Op::Let(var, value) => Ok(self.assign(thread, frame, *var, value)),
+            Op::Put(field, index, value) => Ok(self.put(code, thread, *field, index, value)),
+            Op::Send(var, to) => Ok(self.send(thread, frame, *var, *to)),
+            Op::Frame(site) => Ok(self.make_frame(thread, *site)),
+            Op::Arg(var, value) => Ok(self.assign(thread, new_frame, *var, value)),
+            Op::Pass(var, to) => Ok(self.send(thread, new_frame, *var, *to)),
+            Op::Push(entry) => Ok(self.push(thread, *entry)),
+            Op::Ask(entry, on) => Ok(self.ask(thread, *entry, *on)),
+            Op::Go(entry, on) => Ok(self.go(thread, frame, *entry, *on)),
+            Op::Call(entry, on) => Ok(self.call(code, thread, *entry, *on)),
+            Op::Ret(var, value) => Ok(self.return_value(code, thread, *var, value)),
+            Op::Back => Ok(self.give_back(code, thread)),
+            Op::Branch(guard, target) => Ok(self.branch(thread, guard, *target)),
+        }
+    }
+}
+
+/// A code is sound.
+fn code_laws(code: &Code)
+    ensures { IsSoundCode code.now }
+{
+    let _hosts = code.hosts();
+}

@@ -1,0 +1,15 @@
+//! One host: its state, and what it does with a message and at a turn, by the host table.
+#![tactic(auto)]
+
+mod calls;
+mod changes;
+mod host;
+mod starts;
+mod take_answers;
+mod take_requests;
+mod thread;
+mod turn_transfers;
+mod turn_values;
+mod values;
+
+pub use host::{Host, HostError, Sent};

@@ -1,0 +1,148 @@
+//! Requests that a host takes: each is checked, done and answered.
+
+ghost use Rattle.std.specs.Prelude.{◌≡◌, ◌<◌, length};
+ghost use Rattle.entry_check.specs.Checks.{AreChecksOf};
+ghost use Rattle.host_core.specs.Host.{state_of, IsReady, IsSameHost};
+ghost use Rattle.host_core.specs.Taking.{IsTaking};
+
+use crate::host::{Host, Sent};
+use capability::{Held, Token};
+use entry_check::Ask;
+use host_code::{Code, Message};
+use js_base::limits::HOSTS;
+use js_base::{EntryId, FieldId, FrameId, HostId, RequestId, VarId};
+
+impl Host {
+    /// The element of a field is asked for.
+    pub(crate) fn take_get(
+        &mut self,
+        code: &Code,
+        from: HostId,
+        request: RequestId,
+        field: FieldId,
+        index: i64,
+    ) -> Sent
+        requires ready { IsReady self.old }
+        requires checks { AreChecksOf code.now self.old.me self.old.checks }
+        requires from { from.0 < HOSTS }
+        ensures state { IsTaking code.now (state_of self.old) from (Message.Get request field index)
+            (record { state = state_of self.new; sent = result }) }
+        ensures same { IsSameHost self.old self.new }
+    {
+        if !self.checks.may(Ask::Get(field), from) {
+            self.ignore();
+            return None;
+        }
+        let value = self.stores.field(field, index);
+        Some((from, Message::Value { request, value }))
+    }
+
+    /// The element of a field is to become a value.
+    pub(crate) fn take_set(
+        &mut self,
+        code: &Code,
+        from: HostId,
+        request: RequestId,
+        field: FieldId,
+        index: i64,
+        value: i64,
+    ) -> Sent
+        requires ready { IsReady self.old }
+        requires checks { AreChecksOf code.now self.old.me self.old.checks }
+        requires from { from.0 < HOSTS }
+        ensures state { IsTaking code.now (state_of self.old) from (Message.Set request field index value)
+            (record { state = state_of self.new; sent = result }) }
+        ensures same { IsSameHost self.old self.new }
+    {
+        if !self.checks.may(Ask::Set(field), from) {
+            self.ignore();
+            return None;
+        }
+        self.write_element(field, index, value);
+        Some((from, Message::Ack { request }))
+    }
+
+    /// A variable of a frame is to become a value.
+    pub(crate) fn take_forward(
+        &mut self,
+        code: &Code,
+        from: HostId,
+        request: RequestId,
+        frame: FrameId,
+        var: VarId,
+        value: i64,
+    ) -> Sent
+        requires ready { IsReady self.old }
+        requires checks { AreChecksOf code.now self.old.me self.old.checks }
+        requires from { from.0 < HOSTS }
+        ensures state { IsTaking code.now (state_of self.old) from (Message.Forward request frame var value)
+            (record { state = state_of self.new; sent = result }) }
+        ensures same { IsSameHost self.old self.new }
+    {
+        if !self.checks.may(Ask::Forward(var), from) {
+            self.ignore();
+            return None;
+        }
+        self.set_variable(frame, var, value);
+        Some((from, Message::Ack { request }))
+    }
+
+    /// An entry is to be pushed in a frame, and the token kept with it.
+    pub(crate) fn take_sync(
+        &mut self,
+        code: &Code,
+        from: HostId,
+        request: RequestId,
+        frame: FrameId,
+        entry: EntryId,
+        token: Token,
+    ) -> Sent
+        requires ready { IsReady self.old }
+        requires checks { AreChecksOf code.now self.old.me self.old.checks }
+        requires from { from.0 < HOSTS }
+        requires serials { length self.old.stack.serials ≡ length code.now.entries }
+        ensures state { IsTaking code.now (state_of self.old) from (Message.Sync request frame entry token)
+            (record { state = state_of self.new; sent = result }) }
+        ensures same { IsSameHost self.old self.new }
+    {
+        if !self.checks.may(Ask::Enter(entry), from) {
+            self.ignore();
+            return None;
+        }
+        let token = self.push_entry(entry, frame, Held::of(token));
+        Some((from, Message::Token { request, token }))
+    }
+
+    /// A thread is to start at an entry in a frame, and holds the token.
+    pub(crate) fn take_rgoto(
+        &mut self,
+        code: &Code,
+        from: HostId,
+        frame: FrameId,
+        entry: EntryId,
+        token: Token,
+    )
+        requires ready { IsReady self.old }
+        requires checks { AreChecksOf code.now self.old.me self.old.checks }
+        requires from { from.0 < HOSTS }
+        ensures state { IsTaking code.now (state_of self.old) from (Message.Rgoto frame entry token)
+            (record { state = state_of self.new; sent = None }) }
+        ensures same { IsSameHost self.old self.new }
+    {
+        if self.checks.may(Ask::Enter(entry), from) {
+            self.enter(code, entry, frame, Held::of(token));
+        } else {
+            self.ignore();
+        }
+    }
+
+    /// The thread of the entry that the token takes off is to start.
+    pub(crate) fn take_lgoto(&mut self, code: &Code, from: HostId, token: Token)
+        requires ready { IsReady self.old }
+        ensures state { IsTaking code.now (state_of self.old) from (Message.Lgoto token)
+            (record { state = state_of self.new; sent = None }) }
+        ensures same { IsSameHost self.old self.new }
+    {
+        let _ = self.pop_or_ignore(code, token);
+    }
+}
