@@ -20,7 +20,8 @@ use Rattle.host_code.specs.Code.{CodeShape, part_of, entry_at, halt}
 use Rattle.host_code.specs.Sound.{IsOther, IsSoundCode}
 use Rattle.host_core.specs.Host.{HostShape, with_one_ignored, with_row_written, with_variable_set, with_running}
 use Rattle.host_core.specs.Host.{after_push, after_entering, after_pop, after_asking, thread_at}
-use Rattle.host_core.specs.Fits.{StateFits, RunningFits, WaitingFits, EntryFits, HeldFits, IsEntryOf, IsPlace, TokenFits}
+use Rattle.host_core.specs.Fits.{StateFits, RunningFits, WaitingFits, EntryFits, HeldFits, IsEntryOf, IsPlace}
+use Rattle.host_core.specs.Fits.{TokenFits}
 
 pub kept_ignored : (code : CodeShape) (host : HostShape) → StateFits code host → StateFits code (with_one_ignored host)
 kept_ignored code host fits = record {

@@ -1,5 +1,6 @@
 -- A turn keeps what holds of a host of the code, and what it sends fits.
-use Rattle.std.proofs.Common.{◌≡◌, ◌≢◌, ℕ, ◌+◌, ◌-◌, ◌<◌, ◌≤◌, ◌⊎◌, ℤ, pos, Bool, true, false, List, [], length, get_or, ap, subst, refl, arith, inl, inr}
+use Rattle.std.proofs.Common.{◌≡◌, ◌≢◌, ℕ, ◌+◌, ◌-◌, ◌<◌, ◌≤◌, ◌⊎◌, ℤ, pos, Bool, true, false, List, [], length, get_or}
+use Rattle.std.proofs.Common.{ap, subst, refl, arith, inl, inr}
 use Rattle.std.specs.Prelude.{Option, Some, None, IfSome, IsSomeAnd, slice_get, slice_index, ◌==◌, if◌then◌else◌}
 use Rattle.std.specs.Ordering.{int_eq}
 use Rattle.std.proofs.lemmas.Bool.{eqb-false, cases_lt}
@@ -25,13 +26,17 @@ use Rattle.host_code.specs.Thread.Awaited.{value_of_field, acknowledgement, toke
 use Rattle.host_code.specs.Code.{CodeShape, CodeFieldShape, field_at, entry_at, instruction_at, part_of}
 use Rattle.host_code.specs.Sound.{IsHost, IsOther, IsField, IsVariable, IsSoundCode, FieldFits, IsLeaving, PartFits}
 use Rattle.host_code.specs.Sound.{OperationFits, temporaries_at}
-use Rattle.host_core.specs.Host.{HostShape, Outcome, silent, sending, with_running, with_token, with_temporary, stepped, cleared}
-use Rattle.host_core.specs.Host.{value_in_thread, next_request, after_push, after_asking, after_pop, with_variable_set, with_row_written, with_one_ignored}
+use Rattle.host_core.specs.Host.{HostShape, Outcome, silent, sending, with_running, with_token, with_temporary}
+use Rattle.host_core.specs.Host.{after_step, after_clearing}
+use Rattle.host_core.specs.Host.{value_in_thread, next_request, after_push, after_asking, after_pop, with_variable_set}
+use Rattle.host_core.specs.Host.{with_row_written, with_one_ignored}
 use Rattle.host_core.specs.Turn.{going_on, after_read, after_put, after_let, after_forward, after_frame}
-use Rattle.host_core.specs.Turn.{after_own_push, after_ask, after_go, after_own_call, after_return, after_back, after_operation}
+use Rattle.host_core.specs.Turn.{after_own_push, after_ask, after_go, after_own_call, after_return, after_back}
+use Rattle.host_core.specs.Turn.{after_operation}
 use Rattle.host_core.specs.Turn.{IsTurn, IsRunning, IsTurnOf}
 use Rattle.host_core.specs.Fits.{StateFits, RunningFits, SentFits, IsEntryOf, TokenFits}
-use Rattle.host_core.proofs.Kept.{kept_ignored, kept_row, kept_variable, kept_running, kept_at_rest, kept_push, kept_frames}
+use Rattle.host_core.proofs.Kept.{kept_ignored, kept_row, kept_variable, kept_running, kept_at_rest, kept_push}
+use Rattle.host_core.proofs.Kept.{kept_frames}
 use Rattle.host_core.proofs.Kept.{kept_asking, kept_pop, place_of_entry}
 
 abbrev OutcomeFits : CodeShape → HostId → Outcome → Type 0
@@ -100,15 +105,15 @@ read_on : (code : CodeShape) (host : HostShape) (thread : ThreadShape) (field : 
     (here : Bool) → Given code host thread → IsField code field → IsHost code there.host
     → (there.host.0 == host.me.0) ≡ here
     → OutcomeFits code host.me (if here
-    then going_on host (with_temporary (element_at (row_of host.rows field.0) place) (stepped thread))
-    else sending (after_asking host thread.at (stepped thread) value_of_field there.host) there.host
+    then going_on host (with_temporary (element_at (row_of host.rows field.0) place) (after_step thread))
+    else sending (after_asking host thread.at (after_step thread) value_of_field there.host) there.host
     (message.Get (next_request host thread.at) field place))
 read_on code host thread field place there true given is_field is_host here =
-    goes_on code host (with_temporary (element_at (row_of host.rows field.0) place) (stepped thread)) given.fits
+    goes_on code host (with_temporary (element_at (row_of host.rows field.0) place) (after_step thread)) given.fits
     (record { place = given.next; held = given.runs.held })
 read_on code host thread field place there false given is_field is_host here =
     let other = other_host code there.host host.me is_host here in (
-      kept_asking code host thread.at (stepped thread) value_of_field there.host given.fits given.next given.runs.held other,
+      kept_asking code host thread.at (after_step thread) value_of_field there.host given.fits given.next given.runs.held other,
       (other, is_field),
     )
 
@@ -124,15 +129,15 @@ put_on : (code : CodeShape) (host : HostShape) (thread : ThreadShape) (field : F
     (there : CodeFieldShape) (here : Bool) → Given code host thread → IsField code field → IsHost code there.host
     → (there.host.0 == host.me.0) ≡ here
     → OutcomeFits code host.me (if here
-    then going_on (with_row_written host field place number) (cleared thread)
-    else sending (after_asking host thread.at (cleared thread) acknowledgement there.host) there.host
+    then going_on (with_row_written host field place number) (after_clearing thread)
+    else sending (after_asking host thread.at (after_clearing thread) acknowledgement there.host) there.host
     (message.Set (next_request host thread.at) field place number))
 put_on code host thread field place number there true given is_field is_host here =
-    goes_on code (with_row_written host field place number) (cleared thread) (kept_row code host field place number given.fits)
+    goes_on code (with_row_written host field place number) (after_clearing thread) (kept_row code host field place number given.fits)
     (record { place = given.next; held = given.runs.held })
 put_on code host thread field place number there false given is_field is_host here =
     let other = other_host code there.host host.me is_host here in (
-      kept_asking code host thread.at (cleared thread) acknowledgement there.host given.fits given.next given.runs.held other,
+      kept_asking code host thread.at (after_clearing thread) acknowledgement there.host given.fits given.next given.runs.held other,
       (other, is_field),
     )
 
@@ -149,7 +154,7 @@ let_kept : (code : CodeShape) (host : HostShape) (thread : ThreadShape) (frame :
     (value : List Node) → Given code host thread → OutcomeFits code host.me (after_let host thread frame variable value)
 let_kept code host thread frame variable value given =
     let number = value_in_thread host thread value in
-    goes_on code (with_variable_set host frame variable number) (cleared thread)
+    goes_on code (with_variable_set host frame variable number) (after_clearing thread)
     (kept_variable code host frame variable number given.fits) (record { place = given.next; held = given.runs.held })
 
 forward_kept : (code : CodeShape) (host : HostShape) (at : ℕ) (later : ThreadShape) (frame : FrameId) (variable : VarId)
@@ -169,8 +174,8 @@ frame_kept code host thread site given = (
 branch_on : (code : CodeShape) (host : HostShape) (thread : ThreadShape) (target : ℕ) (zero_guard : Bool)
     → Given code host thread → target < length (part_of code host.me)
     → OutcomeFits code host.me (if zero_guard
-    then going_on host (record (cleared thread) { at = target })
-    else going_on host (cleared thread))
+    then going_on host (record (after_clearing thread) { at = target })
+    else going_on host (after_clearing thread))
 branch_on code host thread target true given there =
     (kept_running code host _ given.fits (record { place = there; held = given.runs.held }), tt)
 branch_on code host thread target false given there =
@@ -192,7 +197,7 @@ ask_kept : (code : CodeShape) (host : HostShape) (thread : ThreadShape) (entry :
     → OutcomeFits code host.me (after_ask host thread entry on held)
 ask_kept code host thread entry on None given holds other = absurd holds
 ask_kept code host thread entry on (Some held) given holds other = (
-  kept_asking code host thread.at (with_token None (stepped thread)) token_of_entry on given.fits given.next refl other,
+  kept_asking code host thread.at (with_token None (after_step thread)) token_of_entry on given.fits given.next refl other,
   (other, holds),
 )
 
@@ -228,18 +233,18 @@ return_on : (code : CodeShape) (host : HostShape) (thread : ThreadShape) (variab
     (here passes : Bool) → Given code host thread → TokenFits code held → IsVariable code variable
     → (held.host.0 == host.me.0) ≡ here
     → OutcomeFits code host.me (if here
-    then going_on (with_variable_set host held.frame variable number) (cleared thread)
+    then going_on (with_variable_set host held.frame variable number) (after_clearing thread)
     else (if passes
-    then after_forward host thread.at (cleared thread) held.frame variable number held.host
-    else going_on host (cleared thread)))
+    then after_forward host thread.at (after_clearing thread) held.frame variable number held.host
+    else going_on host (after_clearing thread)))
 return_on code host thread variable number held true passes given holds is_variable here =
-    goes_on code (with_variable_set host held.frame variable number) (cleared thread)
+    goes_on code (with_variable_set host held.frame variable number) (after_clearing thread)
     (kept_variable code host held.frame variable number given.fits) (record { place = given.next; held = given.runs.held })
 return_on code host thread variable number held false true given holds is_variable here =
-    forward_kept code host thread.at (cleared thread) held.frame variable number held.host given.fits
+    forward_kept code host thread.at (after_clearing thread) held.frame variable number held.host given.fits
     (record { place = given.next; held = given.runs.held }) (other_host code held.host host.me holds here) is_variable
 return_on code host thread variable number held false false given holds is_variable here =
-    goes_on code host (cleared thread) given.fits (record { place = given.next; held = given.runs.held })
+    goes_on code host (after_clearing thread) given.fits (record { place = given.next; held = given.runs.held })
 
 return_kept : (code : CodeShape) (host : HostShape) (thread : ThreadShape) (variable : VarId) (value : List Node)
     (held : Option Token) (passes : Bool) → Given code host thread → IsSomeAnd held (TokenFits code)
@@ -295,14 +300,14 @@ operated code host thread (op.Let variable value) count passes sound fits runs n
 operated code host thread (op.Put field index value) count passes sound fits runs names given =
     put_kept code host thread field index value (field_at code field) (given (λ leaves. leaves)) refl
 operated code host thread (op.Send variable to) count passes sound fits runs names given =
-    forward_kept code host thread.at (stepped thread) thread.frame variable (host.variables thread.frame variable) to fits
+    forward_kept code host thread.at (after_step thread) thread.frame variable (host.variables thread.frame variable) to fits
     (record { place = (given (λ leaves. leaves)).next; held = runs.held }) names.1 names.0
 operated code host thread (op.Frame site) count passes sound fits runs names given =
     frame_kept code host thread site (given (λ leaves. leaves))
 operated code host thread (op.Arg variable value) count passes sound fits runs names given =
     let_kept code host thread thread.new_frame variable value (given (λ leaves. leaves))
 operated code host thread (op.Pass variable to) count passes sound fits runs names given =
-    forward_kept code host thread.at (stepped thread) thread.new_frame variable (host.variables thread.new_frame variable) to
+    forward_kept code host thread.at (after_step thread) thread.new_frame variable (host.variables thread.new_frame variable) to
     fits (record { place = (given (λ leaves. leaves)).next; held = runs.held }) names.1 names.0
 operated code host thread (op.Push entry) count passes sound fits runs names given =
     push_kept code host thread entry thread.held (given (λ leaves. leaves)) runs.held names.1

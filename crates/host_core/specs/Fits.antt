@@ -1,6 +1,6 @@
--- What holds of a host of the code from the start on: it has the code's hosts, fields, variables, entries and sites. Each place
--- of a thread and each entry on the stack is one of the host's in the code, and each token names a host of the code. A frame's
--- site and a token's entry may be any number.
+-- What holds of a host of the code from the start on: it has the code's hosts, fields, variables, entries and sites.
+-- Each place of a thread and each entry on the stack is one of the host's in the code, and each token names a host of
+-- the code. A frame's site and a token's entry may be any number.
 use Rattle.std.specs.Prelude.{◌≡◌, ◌+◌, ◌<◌, ⊤, All, length, Option, None, IfSome, IsSomeAnd}
 use Rattle.js_base.specs.declared.ids.HostId.{HostId}
 use Rattle.js_base.specs.declared.ids.EntryId.{EntryId}

@@ -21,9 +21,10 @@ use Rattle.entry_check.specs.Checks.{ChecksShape}
 use Rattle.host_core.specs.declared.host.TheConstants.{MOST_CALLS}
 use Rattle.host_core.specs.Values.{value_of_nodes}
 
--- The state of a host with a number and a key. It has a row of elements for each field of the code, which is empty where the
--- field is elsewhere, and a value for each variable of a frame. The top of the control stack stands first. Beside it are
--- counted: for each entry its pushes, for each call site (by its number) its frames, and for each instruction its requests.
+-- The state of a host with a number and a key. It has a row of elements for each field of the code, which is empty
+-- where the field is elsewhere, and a value for each variable of a frame. The top of the control stack stands first.
+-- Beside it are counted: for each entry its pushes, for each call site (by its number) its frames, and for each
+-- instruction its requests.
 pub record HostShape : Type 0 where
   pub me : HostId
   pub key : List ℕ
@@ -49,8 +50,8 @@ silent host = record { state = host; sent = None }
 abbrev pub sending : HostShape → HostId → Message → Outcome
 sending host to message = record { state = host; sent = Some (to, message) }
 
--- What is sent carries the place of a label among the code's labels: for what a turn sends that of the instruction that ran,
--- and for an answer that of the request, which is the label of the instruction that asked.
+-- What is sent carries the place of a label among the code's labels: for what a turn sends that of the instruction that
+-- ran, and for an answer that of the request, which is the label of the instruction that asked.
 pub record Letter : Type 0 where
   pub to : HostId
   pub message : Message
@@ -118,12 +119,12 @@ after_pop code host (top ∷ below) = after_popped code (record host { entries =
 -- ---- threads
 
 -- the thread goes on at the next instruction
-abbrev pub stepped : ThreadShape → ThreadShape
-stepped thread = record thread { at = thread.at + 1 }
+abbrev pub after_step : ThreadShape → ThreadShape
+after_step thread = record thread { at = thread.at + 1 }
 
 -- it goes on at the next instruction, and drops its temporaries
-abbrev pub cleared : ThreadShape → ThreadShape
-cleared thread = record thread { at = thread.at + 1; temporaries = [] }
+abbrev pub after_clearing : ThreadShape → ThreadShape
+after_clearing thread = record thread { at = thread.at + 1; temporaries = [] }
 
 abbrev pub with_temporary : ℤ → ThreadShape → ThreadShape
 with_temporary value thread = record thread { temporaries = thread.temporaries ++ value ∷ [] }
@@ -144,8 +145,8 @@ value_in_running host (Some thread) nodes = value_in_thread host thread nodes
 abbrev pub next_request : HostShape → ℕ → RequestId
 next_request host at = record { at = at; count = slice_index host.requests at }
 
--- A thread waits for the answer to the next request of an instruction, from the host that was asked. It is kept as it goes on
--- when the answer comes.
+-- A thread waits for the answer to the next request of an instruction, from the host that was asked. It is kept as it
+-- goes on when the answer comes.
 abbrev pub after_asking : HostShape → ℕ → ThreadShape → Awaited → HostId → HostShape
 after_asking host at thread awaited asked =
     record host {
@@ -157,8 +158,8 @@ after_asking host at thread awaited asked =
 
 -- ---- a host in the program
 
--- A host as the program has it: what it is made of, its checks, for how many more threads that wait there is room, how many
--- calls it has answered, and whether it stopped for want of memory.
+-- A host as the program has it: what it is made of, its checks, for how many more threads that wait there is room, how
+-- many calls it has answered, and whether it stopped for want of memory.
 pub record HostModel : Type 0 where
   pub me : HostId
   pub stores : StoresShape

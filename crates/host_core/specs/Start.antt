@@ -18,8 +18,8 @@ abbrev pub last_token : HostId → Token
 last_token root =
     record { host = root; frame = main_frame; entry = halt; serial = last_count; tag = replicate TAG_BYTES 0 }
 
--- A host on which nothing was started: its fields have the values of the store, and all else is empty. Sites count from 1,
--- and so the first count of frames stands for no call.
+-- A host on which nothing was started: its fields have the values of the store, and all else is empty. Sites count from
+-- 1, and so the first count of frames stands for no call.
 abbrev pub idle_host : CodeShape → List (List ℤ) → List ℕ → HostId → HostShape
 idle_host code store key me =
     record {

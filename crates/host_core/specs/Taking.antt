@@ -1,4 +1,5 @@
--- What a host does with a message from another host, while no thread runs: a check, a change and an answer for each message.
+-- What a host does with a message from another host, while no thread runs: a check, a change and an answer for each
+-- message.
 use Rattle.std.specs.Prelude.{◌≡◌, ℕ, ◌↔◌, Bool, if◌then◌else◌, IsTrue}
 use Rattle.std.specs.Prelude.{Option, Some, None, IsSome, slice_get, position, remove}
 use Rattle.std.specs.Option.{option_map}
@@ -14,7 +15,8 @@ use Rattle.host_code.specs.Code.{CodeShape, entry_at}
 use Rattle.entry_check.specs.declared.ask.Ask.TheVariants as ask
 use Rattle.entry_check.specs.Checks.{May}
 use Rattle.host_core.specs.Awaiting.{awaits}
-use Rattle.host_core.specs.Host.{HostShape, Outcome, silent, sending, with_one_ignored, with_row_written, with_variable_set}
+use Rattle.host_core.specs.Host.{HostShape, Outcome, silent, sending, with_one_ignored, with_row_written}
+use Rattle.host_core.specs.Host.{with_variable_set}
 use Rattle.host_core.specs.Host.{new_token, after_push, after_entering, after_pop, with_temporary, with_token}
 
 -- ---- the checks
@@ -65,8 +67,8 @@ after_passing code host from (message.Ack request) =
 after_passing code host from (message.Token request token) =
     silent (after_answer host (place_of_awaiting host token_of_entry request from) (with_token (Some token)))
 
--- What taking a message leaves, where its check passes or fails. A failed check counts one more message as ignored, and does
--- nothing else.
+-- What taking a message leaves, where its check passes or fails. A failed check counts one more message as ignored, and
+-- does nothing else.
 abbrev pub after_taking : CodeShape → HostShape → HostId → Message → Bool → Outcome
 after_taking code host from message passes =
     if passes then after_passing code host from message else silent (with_one_ignored host)

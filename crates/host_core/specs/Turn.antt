@@ -1,5 +1,6 @@
 -- What a host does at a turn: its running thread runs one instruction.
-use Rattle.std.specs.Prelude.{◌≡◌, ◌≢◌, ℕ, ◌+◌, ◌<◌, ◌↔◌, ⊤, ℤ, pos, Bool, ◌==◌, if◌then◌else◌, IsTrue, List, Option, Some, None}
+use Rattle.std.specs.Prelude.{◌≡◌, ◌≢◌, ℕ, ◌+◌, ◌<◌, ◌↔◌, ⊤, ℤ, pos, Bool, ◌==◌, if◌then◌else◌, IsTrue, List, Option}
+use Rattle.std.specs.Prelude.{Some, None}
 use Rattle.std.specs.Prelude.{slice_index, slice_set}
 use Rattle.std.specs.Option.{option_and_then}
 use Rattle.std.specs.Ordering.{int_eq}
@@ -20,10 +21,13 @@ use Rattle.host_code.specs.declared.instruction.Op.TheVariants as op
 use Rattle.host_code.specs.declared.message.Message.TheVariants as message
 use Rattle.host_code.specs.Thread.{ThreadShape}
 use Rattle.host_code.specs.Thread.Awaited.{value_of_field, acknowledgement, token_of_entry}
-use Rattle.host_code.specs.Code.{CodeShape, CodeFieldShape, CodeVariableShape, field_at, variable_at, entry_at, instruction_at}
+use Rattle.host_code.specs.Code.{CodeShape, CodeFieldShape, CodeVariableShape, field_at, variable_at, entry_at}
+use Rattle.host_code.specs.Code.{instruction_at}
 use Rattle.entry_check.specs.Checks.{MaySee, label_at, label_of_host}
-use Rattle.host_core.specs.Host.{HostShape, Outcome, silent, sending, with_one_ignored, with_row_written, with_variable_set}
-use Rattle.host_core.specs.Host.{with_running, new_token, after_push, after_pop, stepped, cleared, with_temporary, with_token}
+use Rattle.host_core.specs.Host.{HostShape, Outcome, silent, sending, with_one_ignored, with_row_written}
+use Rattle.host_core.specs.Host.{with_variable_set}
+use Rattle.host_core.specs.Host.{with_running, new_token, after_push, after_pop, after_step, after_clearing}
+use Rattle.host_core.specs.Host.{with_temporary, with_token}
 use Rattle.host_core.specs.Host.{value_in_thread, next_request, after_asking}
 
 -- the thread goes on as this one, and nothing is sent
@@ -38,8 +42,8 @@ after_read host thread field index None = going_on host thread
 after_read host thread field index (Some there) =
     let place = value_in_thread host thread index in
     if there.host.0 == host.me.0
-    then going_on host (with_temporary (element_at (row_of host.rows field.0) place) (stepped thread))
-    else sending (after_asking host thread.at (stepped thread) value_of_field there.host) there.host
+    then going_on host (with_temporary (element_at (row_of host.rows field.0) place) (after_step thread))
+    else sending (after_asking host thread.at (after_step thread) value_of_field there.host) there.host
     (message.Get (next_request host thread.at) field place)
 
 -- the element of a field of this host becomes a value, or a set to the field's host
@@ -49,8 +53,8 @@ after_put host thread field index value (Some there) =
     let place = value_in_thread host thread index in
     let number = value_in_thread host thread value in
     if there.host.0 == host.me.0
-    then going_on (with_row_written host field place number) (cleared thread)
-    else sending (after_asking host thread.at (cleared thread) acknowledgement there.host) there.host
+    then going_on (with_row_written host field place number) (after_clearing thread)
+    else sending (after_asking host thread.at (after_clearing thread) acknowledgement there.host) there.host
     (message.Set (next_request host thread.at) field place number)
 
 -- ---- variables
@@ -58,7 +62,7 @@ after_put host thread field index value (Some there) =
 -- a variable of a frame becomes a value
 abbrev pub after_let : HostShape → ThreadShape → FrameId → VarId → List Node → Outcome
 after_let host thread frame variable value =
-    going_on (with_variable_set host frame variable (value_in_thread host thread value)) (cleared thread)
+    going_on (with_variable_set host frame variable (value_in_thread host thread value)) (after_clearing thread)
 
 -- An instruction forwards a value to a host for a variable of a frame. The thread is kept as it goes on when that is
 -- acknowledged.
@@ -70,7 +74,7 @@ after_forward host at later frame variable value to =
 -- a variable of a frame is forwarded to a host
 abbrev pub after_send : HostShape → ThreadShape → FrameId → VarId → HostId → Outcome
 after_send host thread frame variable to =
-    after_forward host thread.at (stepped thread) frame variable (host.variables frame variable) to
+    after_forward host thread.at (after_step thread) frame variable (host.variables frame variable) to
 
 -- ---- frames and branches
 
@@ -78,14 +82,14 @@ after_send host thread frame variable to =
 abbrev pub after_frame : HostShape → ThreadShape → SiteId → Outcome
 after_frame host thread site =
     going_on (record host { frames = slice_set host.frames site.0 (slice_index host.frames site.0 + 1) })
-    (record (stepped thread) { new_frame = record { site = site; count = slice_index host.frames site.0 } })
+    (record (after_step thread) { new_frame = record { site = site; count = slice_index host.frames site.0 } })
 
 -- the thread goes on at the target where the guard is 0
 abbrev pub after_branch : HostShape → ThreadShape → List Node → ℕ → Outcome
 after_branch host thread guard target =
     if int_eq (value_in_thread host thread guard) (pos 0)
-    then going_on host (record (cleared thread) { at = target })
-    else going_on host (cleared thread)
+    then going_on host (record (after_clearing thread) { at = target })
+    else going_on host (after_clearing thread)
 
 -- ---- the token of the thread, without which it stays where it is
 
@@ -94,13 +98,13 @@ abbrev pub after_own_push : HostShape → ThreadShape → EntryId → Option Tok
 after_own_push host thread entry None = going_on host thread
 after_own_push host thread entry (Some held) =
     going_on (after_push host entry thread.frame held)
-    (with_token (Some (new_token host entry thread.frame)) (stepped thread))
+    (with_token (Some (new_token host entry thread.frame)) (after_step thread))
 
 -- a host is asked to push an entry, and keeps the token that the thread held
 abbrev pub after_ask : HostShape → ThreadShape → EntryId → HostId → Option Token → Outcome
 after_ask host thread entry on None = going_on host thread
 after_ask host thread entry on (Some held) =
-    sending (after_asking host thread.at (with_token None (stepped thread)) token_of_entry on) on
+    sending (after_asking host thread.at (with_token None (after_step thread)) token_of_entry on) on
     (message.Sync (next_request host thread.at) thread.frame entry held)
 
 -- the thread ends, and is handed over to a host at an entry and in a frame
@@ -119,20 +123,20 @@ after_call code host thread entry on =
     then after_own_call host thread (entry_at code entry)
     else after_go host thread thread.new_frame entry on thread.held
 
--- The result goes to the host and the frame that the token names. To another host it is forwarded where its label may flow
--- there; otherwise nothing is sent, and the thread goes on.
+-- The result goes to the host and the frame that the token names. To another host it is forwarded where its label may
+-- flow there; otherwise nothing is sent, and the thread goes on.
 abbrev pub after_return : HostShape → ThreadShape → VarId → List Node → Option Token → Bool → Outcome
 after_return host thread variable value None passes = going_on host thread
 after_return host thread variable value (Some held) passes =
     let number = value_in_thread host thread value in
     if held.host.0 == host.me.0
-    then going_on (with_variable_set host held.frame variable number) (cleared thread)
+    then going_on (with_variable_set host held.frame variable number) (after_clearing thread)
     else (if passes
-    then after_forward host thread.at (cleared thread) held.frame variable number held.host
-    else going_on host (cleared thread))
+    then after_forward host thread.at (after_clearing thread) held.frame variable number held.host
+    else going_on host (after_clearing thread))
 
--- The thread ends, and gives its token back to the host that the token names. On this host that is what taking an lgoto with
--- it would do.
+-- The thread ends, and gives its token back to the host that the token names. On this host that is what taking an lgoto
+-- with it would do.
 abbrev pub after_back : CodeShape → HostShape → ThreadShape → Option Token → Bool → Outcome
 after_back code host thread None passes = going_on host thread
 after_back code host thread (Some held) passes =
@@ -170,8 +174,8 @@ abbrev pub MayReturn : CodeShape → Option CodeVariableShape → HostId → Typ
 MayReturn code None to = ⊥
 MayReturn code (Some variable) to = MaySee (label_at code variable.label) (label_of_host code to)
 
--- A result that goes to another host may be seen there, and a token that is given back on its own host is that of the top
--- entry.
+-- A result that goes to another host may be seen there, and a token that is given back on its own host is that of the
+-- top entry.
 abbrev pub PassesWith : CodeShape → HostShape → Op → Option Token → Type 0
 PassesWith code host (op.Ret variable value) (Some held) =
     held.host.0 ≢ host.me.0 → MayReturn code (variable_at code variable) held.host

@@ -1,5 +1,5 @@
--- The value of an expression in a thread. Its nodes are gone through in order, over a list of values of which the first is
--- the one that was made last.
+-- The value of an expression in a thread. Its nodes are gone through in order, over a list of values of which the first
+-- is the one that was made last.
 use Rattle.std.specs.Prelude.{ℕ, ℤ, pos, List, [], ◌∷◌, slice_get, unwrap_or}
 use Rattle.js_base.specs.declared.ids.VarId.{VarId}
 use Rattle.js_base.specs.declared.binary_operator.BinOp.{BinOp}
@@ -16,8 +16,8 @@ abbrev pub after_binary : BinOp → List ℤ → List ℤ
 after_binary op (right ∷ left ∷ values) = binary_value op left right ∷ values
 after_binary op values = values
 
--- what a node leaves of the values before it, where the variables and temporaries are these; nothing changes where it lacks
--- an operand, which no node of an expression does
+-- what a node leaves of the values before it, where the variables and temporaries are these; nothing changes where it
+-- lacks an operand, which no node of an expression does
 abbrev pub values_after_node : (VarId → ℤ) → List ℤ → Node → List ℤ → List ℤ
 values_after_node variables temporaries (node.Number n) values = n ∷ values
 values_after_node variables temporaries (node.Var x) values = variables x ∷ values

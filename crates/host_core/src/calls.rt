@@ -1,6 +1,7 @@
 //! The calls that change a host: its start, a message and a turn.
 
-ghost use Rattle.std.specs.Prelude.{◌≡◌, ◌<◌, ◌↔◌, ◌+◌, ◌^◌, OnOk, OnErr, IsErrOf, IsSome, IsTrue, IfOk, None, Some, length};
+ghost use Rattle.std.specs.Prelude.{◌≡◌, ◌<◌, ◌↔◌, ◌+◌, ◌^◌, OnOk, OnErr, IsErrOf, IsSome, IsTrue, IfOk, None, Some};
+ghost use Rattle.std.specs.Prelude.{length};
 ghost use Rattle.host_code.specs.Code.{instruction_at};
 ghost use Rattle.host_code.specs.Sound.{IsHost, IsOther, IsSoundCode};
 ghost use Rattle.entry_check.specs.Checks.{AreChecksOf};
@@ -172,7 +173,8 @@ impl Host {
         requires next { thread.at + 1 < 2 ^ 32 }
         requires entry { PushesWithin (length self.old.stack.serials) op.now }
         ensures ok { IfOk result (λ sent.
-            IsOperation code.now (state_of self.old) thread op.now (record { state = state_of self.new; sent = sent })) }
+            IsOperation code.now (state_of self.old) thread op.now
+            (record { state = state_of self.new; sent = sent })) }
         ensures err { OnErr result (state_of self.new ≡ with_running (state_of self.old) (Some thread)) }
         ensures same { IsSameHost self.old self.new }
     {

@@ -77,8 +77,8 @@ impl Host {
         }
     }
 
-    /// Takes the top entry off for its token, and starts its thread. Tells whether the token was that of the top entry; where
-    /// it was not, it is ignored.
+    /// Takes the top entry off for its token, and starts its thread. Tells whether the token was that of the top entry;
+    /// where it was not, it is ignored.
     pub(crate) fn pop_or_ignore(&mut self, code: &Code, token: Token) -> bool
         requires { IsReady self.old }
         ensures on_top { IsTrue result ↔ (top_token self.old.stack.entries ≡ Some token) }
@@ -101,7 +101,8 @@ impl Host {
         }
     }
 
-    /// A thread waits for the answer to the next request of an instruction, from the host that is asked. Gives the request.
+    /// A thread waits for the answer to the next request of an instruction, from the host that is asked. Gives the
+    /// request.
     pub(crate) fn wait(
         &mut self,
         at: u32,

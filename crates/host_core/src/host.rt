@@ -1,7 +1,7 @@
 //! A host: what it has, and what one call of it does.
 
-ghost use Rattle.std.specs.Prelude.{◌≡◌, ◌<◌, ◌↔◌, OnOk, OnErr, IsErrOf, IsSome, IfOk, IsTrue, is_none, length};
-ghost use Rattle.std.specs.Prelude.{◌+◌, ◌≢◌};
+ghost use Rattle.std.specs.Prelude.{◌≡◌, ◌<◌, ◌↔◌, OnOk, IsErrOf, IsTrue, is_none, length};
+ghost use Rattle.std.specs.Prelude.{◌+◌};
 ghost use Rattle.jif_tree.specs.Store.{row_of, element_at};
 ghost use Rattle.std.specs.Option.{option_map};
 ghost use Rattle.host_core.specs.Host.{value_in_running, state_of, IsStopped, IsReady, IsSameHost, with_one_ignored};

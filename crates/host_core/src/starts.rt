@@ -5,7 +5,7 @@ ghost use Rattle.entry_check.specs.Checks.{AreChecksOf};
 ghost use Rattle.host_code.specs.Sound.{IsHost};
 ghost use Rattle.host_core.specs.Fits.{HostFits};
 ghost use Rattle.host_core.specs.Host.{state_of, IsSameHost};
-ghost use Rattle.host_core.specs.Start.{host_at_start, idle_host, root_host, last_token, main_frame};
+ghost use Rattle.host_core.specs.Start.{host_at_start, idle_host, root_host, last_token};
 
 use crate::changes::HALT;
 use crate::host::Host;
@@ -25,8 +25,8 @@ const MAIN_FRAME: FrameId = FrameId {
 };
 
 impl Host {
-    /// Host `me` with its key before the first event. Its fields have the values of the store, and where it is the root host,
-    /// its thread stands at `main`.
+    /// Host `me` with its key before the first event. Its fields have the values of the store, and where it is the root
+    /// host, its thread stands at `main`.
     pub fn start(
         alloc: Global,
         code: &Code,

@@ -2,7 +2,7 @@
 
 ghost use Rattle.std.specs.Prelude.{◌≡◌, ◌<◌, ◌+◌, ◌^◌, [], None, Some, OnOk, OnErr};
 ghost use Rattle.host_stores.specs.Stores.{variable_of};
-ghost use Rattle.host_core.specs.Host.{stepped, cleared, with_temporary, with_token};
+ghost use Rattle.host_core.specs.Host.{after_step, after_clearing, with_temporary, with_token};
 ghost use Rattle.host_core.specs.Values.{value_of_nodes};
 ghost use Rattle.host_core.specs.Awaiting.{awaits, awaited_shape};
 
@@ -108,7 +108,7 @@ impl Thread {
     /// The thread goes on at the next instruction.
     pub fn step(&mut self)
         requires { self.old.at + 1 < 2 ^ 32 }
-        ensures { self.new ≡ stepped self.old }
+        ensures { self.new ≡ after_step self.old }
     {
         self.at += 1;
     }
@@ -116,7 +116,7 @@ impl Thread {
     /// The thread goes on at the next instruction, and drops its temporaries.
     pub fn step_cleared(&mut self)
         requires { self.old.at + 1 < 2 ^ 32 }
-        ensures { self.new ≡ cleared self.old }
+        ensures { self.new ≡ after_clearing self.old }
     {
         self.at += 1;
         self.temporaries.clear();

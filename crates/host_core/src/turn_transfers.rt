@@ -1,8 +1,8 @@
 //! Turns that push entries, hand the thread over, and give its token back.
 
-ghost use Rattle.std.specs.Prelude.{◌≡◌, ◌≢◌, ◌<◌, ◌+◌, ◌^◌, Some, length, option_copied};
+ghost use Rattle.std.specs.Prelude.{◌≡◌, ◌<◌, ◌+◌, ◌^◌, Some, length};
 ghost use Rattle.std.specs.Prelude.{◌↔◌, IsTrue};
-ghost use Rattle.host_code.specs.Code.{entry_at, variable_at};
+ghost use Rattle.host_code.specs.Code.{variable_at};
 ghost use Rattle.host_code.specs.declared.instruction.Op.TheVariants as op;
 ghost use Rattle.host_core.specs.Host.{state_of, IsReady, IsSameHost};
 ghost use Rattle.host_core.specs.Turn.{after_own_push, after_ask, after_go, after_call, IsReturning, IsGivingBack};
