@@ -5,3 +5,4 @@ pub mod OneExpr
 pub mod OneBlock
 pub mod OneProgram
 pub mod OneRefusal
+pub mod Examples
