@@ -6,3 +6,4 @@ pub mod OneBlock
 pub mod OneProgram
 pub mod OneRefusal
 pub mod Examples
+pub mod Marked
