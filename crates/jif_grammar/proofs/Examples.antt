@@ -6,7 +6,8 @@ use Rattle.jif_lex.specs.declared.token.Symbol.TheVariants as symbols
 use Rattle.jif_lex.specs.declared.token.Word.TheVariants as words
 use Rattle.label_lattice.specs.Written.{symbol}
 use Rattle.jif_grammar.specs.Phrases.{ExprPhrase, number, variable, element, parenthesized, signed, binary, relabelled}
-use Rattle.jif_grammar.specs.Phrases.{complement, minus, release, end, declaration, assignment, call_into, branch, unset}
+use Rattle.jif_grammar.specs.Phrases.{complement, minus, release, end, declaration, assignment, call_into, branch}
+use Rattle.jif_grammar.specs.Phrases.{unset}
 use Rattle.jif_grammar.specs.Phrases.{sized, field, method, ProgramPhrase}
 use Rattle.jif_grammar.specs.Grouping.{IsGrouped}
 use Rattle.jif_grammar.specs.Marks.{tally}

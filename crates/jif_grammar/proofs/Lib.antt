@@ -7,3 +7,7 @@ pub mod OneProgram
 pub mod OneRefusal
 pub mod Examples
 pub mod Marked
+pub mod SameMarks
+pub mod SameExprMarks
+pub mod SameBlockMarks
+pub mod SameProgramMarks

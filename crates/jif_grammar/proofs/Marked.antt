@@ -175,7 +175,8 @@ program_before (item ∷ items) tokens = item_before item (program_before items 
 
 -- ---- they are what is spelled
 
-spelled_joined : {X : Type 0} (separator : Marked) (spelled : X → List Marked) (before : X → List Marked → List Marked) →
+spelled_joined : {X : Type 0} (separator : Marked) (spelled : X → List Marked)
+    (before : X → List Marked → List Marked) →
     ((x : X) (tokens : List Marked) → spelled x ++ tokens ≡ before x tokens) → (items : List X) (tokens : List Marked) →
     separated separator spelled items ++ tokens ≡ joined_before separator before items tokens
 spelled_joined separator spelled before each [] tokens = refl

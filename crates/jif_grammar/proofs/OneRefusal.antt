@@ -59,7 +59,7 @@ one_refusal tokens first second one other =
 
 -- ---- a program is not refused
 
-kinds_length : (tokens : List Token) → length (kinds tokens) ≡ length tokens
+pub kinds_length : (tokens : List Token) → length (kinds tokens) ≡ length tokens
 kinds_length [] = refl
 kinds_length (token ∷ tokens) = ap suc (kinds_length tokens)
 
@@ -87,7 +87,8 @@ no_fault : (tokens : List Token) (program : ProgramPhrase) (refusal : Refusal) �
 no_fault tokens program (unexpected n) is fault =
     elim (cases_lt n (length tokens)) [
       | inl less ↦ fault.no_further less (program, goes_on tokens program (n + 1) is.spells)
-      | inr least ↦ fault.not_whole program (let e : n ≡ length tokens = omega (arith, fault.within, least) in e) is.spells
+      | inr least ↦ fault.not_whole program (let e : n ≡ length tokens = omega (arith, fault.within, least) in e)
+          is.spells
     ]
 no_fault tokens program (too_deep n) is fault =
     is.limits.nesting n (let e : n < length (spelling program) =
