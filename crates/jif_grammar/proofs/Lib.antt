@@ -5,3 +5,9 @@ pub mod OneExpr
 pub mod OneBlock
 pub mod OneProgram
 pub mod OneRefusal
+pub mod Examples
+pub mod Marked
+pub mod SameMarks
+pub mod SameExprMarks
+pub mod SameBlockMarks
+pub mod SameProgramMarks

@@ -33,7 +33,7 @@ no_expr (relabelled change inner label) t u same = cc
 ends_args : (t : List TokenKind) → EndsJoined (symbol symbols.Comma) expr_then (symbol symbols.RightParenthesis ∷ t)
 ends_args t = (λ u same. cc, λ e u same. no_expr e u t same)
 
-each_grouped : (args : List ExprPhrase) → AreGrouped args → Each IsGrouped args
+pub each_grouped : (args : List ExprPhrase) → AreGrouped args → Each IsGrouped args
 each_grouped [] grouped = tt
 each_grouped (arg ∷ args) grouped = (grouped.0, each_grouped args grouped.1)
 
@@ -188,11 +188,13 @@ one_assignment name value rest grouped one_rest (call_into other called args mor
     (args_then args (symbol symbols.RightParenthesis ∷ symbol symbols.Semicolon ∷ block_then more s)) cc)
 one_assignment name value rest grouped one_rest _ also r s fr fs same = absurd (cc)
 
-one_element_assignment : (name : List ℕ) (index value : ExprPhrase) (rest : BlockPhrase) → IsGrouped index → IsGrouped value →
+one_element_assignment : (name : List ℕ) (index value : ExprPhrase) (rest : BlockPhrase) → IsGrouped index →
+    IsGrouped value →
     OneBlock rest → OneBlock (element_assignment name index value rest)
 one_element_assignment name index value rest grouped_index grouped one_rest end also r s fr fs same =
     absurd (elim fs.1 [ inl h ↦ cc | inr h ↦ cc ])
-one_element_assignment name index value rest grouped_index grouped one_rest (element_assignment other place worth more) also r s fr fs
+one_element_assignment name index value rest grouped_index grouped one_rest
+    (element_assignment other place worth more) also r s fr fs
     same =
     let names : name ≡ other = cc in
     let inside : expr_then index (symbol symbols.RightBracket ∷ symbol symbols.Assign
@@ -286,11 +288,13 @@ one_branch guard first rest grouped one_first one_rest (branch_else test chosen 
     absurd (never_else rest r behind_else fr behind)
 one_branch guard first rest grouped one_first one_rest _ also r s fr fs same = absurd (cc)
 
-one_branch_else : (guard : ExprPhrase) (first second rest : BlockPhrase) → IsGrouped guard → OneBlock first → OneBlock second →
+one_branch_else : (guard : ExprPhrase) (first second rest : BlockPhrase) → IsGrouped guard → OneBlock first →
+    OneBlock second →
     OneBlock rest → OneBlock (branch_else guard first second rest)
 one_branch_else guard first second rest grouped one_first one_second one_rest end also r s fr fs same =
     absurd (elim fs.1 [ inl h ↦ cc | inr h ↦ cc ])
-one_branch_else guard first second rest grouped one_first one_second one_rest (branch test chosen more) also r s fr fs same =
+one_branch_else guard first second rest grouped one_first one_second one_rest (branch test chosen more) also r s fr
+    fs same =
     let behind_else = symbol symbols.LeftBrace ∷ block_then second (symbol symbols.RightBrace ∷ block_then rest r) in
     let inside : expr_then guard (symbol symbols.RightParenthesis ∷ symbol symbols.LeftBrace
     ∷ block_then first (symbol symbols.RightBrace ∷ Word words.Else ∷ behind_else))
@@ -304,7 +308,8 @@ one_branch_else guard first second rest grouped one_first one_second one_rest (b
     let after = nested.1 in
     let behind : block_then more s ≡ Word words.Else ∷ behind_else = cc in
     absurd (never_else more s behind_else fs behind)
-one_branch_else guard first second rest grouped one_first one_second one_rest (branch_else test chosen otherwise more) also r s fr fs same =
+one_branch_else guard first second rest grouped one_first one_second one_rest
+    (branch_else test chosen otherwise more) also r s fr fs same =
     let from_else = Word words.Else ∷ symbol symbols.LeftBrace
     ∷ block_then second (symbol symbols.RightBrace ∷ block_then rest r) in
     let from_other = Word words.Else ∷ symbol symbols.LeftBrace

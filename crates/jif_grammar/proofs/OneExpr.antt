@@ -14,7 +14,8 @@ use Rattle.jif_grammar.specs.Operators.{operator_symbol, tightest_level}
 use Rattle.jif_grammar.specs.Grouping.{level, IsGrouped}
 use Rattle.jif_grammar.proofs.Continued.{expr_then, label_then}
 use Rattle.jif_grammar.proofs.OneJoined.{Each, one_label}
-use Rattle.jif_grammar.proofs.Groups.{Link, link, first_operand, links, IsOperand, first_of_operand, one_group}
+use Rattle.jif_grammar.proofs.Groups.{each_append, Link, link, first_operand, links, IsOperand, first_of_operand}
+use Rattle.jif_grammar.proofs.Groups.{one_group}
 
 -- ---- what continues an expression
 
@@ -139,7 +140,7 @@ AllOperands P (parenthesized inner) = P (parenthesized inner)
 AllOperands P (signed sign operand) = P (signed sign operand)
 AllOperands P (relabelled change inner label) = P (relabelled change inner label)
 
-at_first : (P : ExprPhrase → Type 0) (e : ExprPhrase) → AllOperands P e → P (first_operand e)
+pub at_first : (P : ExprPhrase → Type 0) (e : ExprPhrase) → AllOperands P e → P (first_operand e)
 at_first P (binary o left right) all = at_first P left all.0
 at_first P (number n) all = all
 at_first P (variable name) all = all
@@ -148,13 +149,9 @@ at_first P (parenthesized inner) all = all
 at_first P (signed sign operand) all = all
 at_first P (relabelled change inner label) all = all
 
-each_joined : {X : Type 0} (P : X → Type 0) (xs ys : List X) → Each P xs → Each P ys → Each P (xs ++ ys)
-each_joined P [] ys left right = right
-each_joined P (x ∷ xs) ys left right = (left.0, each_joined P xs ys left.1 right)
-
-at_links : (P : ExprPhrase → Type 0) (e : ExprPhrase) → AllOperands P e → Each (λ l. P l.operand) (links e)
+pub at_links : (P : ExprPhrase → Type 0) (e : ExprPhrase) → AllOperands P e → Each (λ l. P l.operand) (links e)
 at_links P (binary o left right) all =
-    each_joined (λ l. P l.operand) (links left) (link o (first_operand right) ∷ links right) (at_links P left all.0)
+    each_append (λ l. P l.operand) (links left) (link o (first_operand right) ∷ links right) (at_links P left all.0)
     (at_first P right all.1, at_links P right all.1)
 at_links P (number n) all = tt
 at_links P (variable name) all = tt
@@ -166,7 +163,7 @@ at_links P (relabelled change inner label) all = tt
 abbrev pub IsSoundOperand : ExprPhrase → Type 0
 IsSoundOperand e = IsOperand e × IsGrouped e
 
-sound_operands : (e : ExprPhrase) → IsGrouped e → AllOperands IsSoundOperand e
+pub sound_operands : (e : ExprPhrase) → IsGrouped e → AllOperands IsSoundOperand e
 sound_operands (binary o left right) grouped = (sound_operands left grouped.2, sound_operands right grouped.3)
 sound_operands (number n) grouped = (tt, grouped)
 sound_operands (variable name) grouped = (tt, grouped)
@@ -262,7 +259,7 @@ one_parenthesized inner one (relabelled release other label) operand grouped r s
 one_parenthesized inner one _ operand grouped r s fr fs same = absurd (cc)
 
 -- a sign stands before an operand
-level_of_operand : (e : ExprPhrase) → tightest_level ≤ level e → IsOperand e
+pub level_of_operand : (e : ExprPhrase) → tightest_level ≤ level e → IsOperand e
 level_of_operand (binary operator.Or left right) tight = omega (arith, tight)
 level_of_operand (binary operator.And left right) tight = omega (arith, tight)
 level_of_operand (binary _ left right) tight = omega (arith, tight)

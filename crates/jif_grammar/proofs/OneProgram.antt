@@ -9,7 +9,9 @@ use Rattle.label_lattice.specs.Written.{symbol}
 use Rattle.jif_grammar.specs.Phrases.{LabelPhrase, ExprPhrase, FieldEnd, unset, sized, set, FieldPhrase, ParamPhrase}
 use Rattle.jif_grammar.specs.Phrases.{MethodPhrase, ItemPhrase, field, method, ProgramPhrase}
 use Rattle.jif_grammar.specs.Grouping.{IsBlock, IsResult, IsItem, IsProgram}
-use Rattle.jif_grammar.specs.Programs.{Spells}
+use Rattle.jif_grammar.specs.DraftShapes.{DraftShape}
+use Rattle.jif_grammar.specs.Drafts.{draft_of}
+use Rattle.jif_grammar.specs.Programs.{Spells, IsProgramOf, line_at}
 use Rattle.jif_grammar.proofs.Continued.{names_then, label_then, param_then, params_then, authority_then, block_then}
 use Rattle.jif_grammar.proofs.Continued.{result_then, head_then, tail_then, field_end_then, item_then, program_then}
 use Rattle.jif_grammar.proofs.Continued.{program_unmarked}
@@ -240,3 +242,10 @@ pub one_reading : (tokens : List Token) (first second : ProgramPhrase) → Spell
 one_reading tokens first second one other =
     one_program first second one.is_program other.is_program
     (sym (program_unmarked first) ∙ sym one.written ∙ other.written ∙ program_unmarked second)
+
+pub one_draft : (tokens : List Token) (first second : DraftShape) → IsProgramOf tokens first →
+    IsProgramOf tokens second → first ≡ second
+one_draft tokens first second one other =
+    one.draft_is
+    ∙ ap (draft_of (line_at tokens)) (one_reading tokens one.program other.program one.text.spells other.text.spells)
+    ∙ sym other.draft_is

@@ -13,7 +13,8 @@ use Rattle.std.proofs.lemmas.List.{map-append, take-append-drop}
 use Rattle.label_lattice.specs.Written.{kinds}
 use Rattle.jif_grammar.specs.Phrases.{ProgramPhrase}
 use Rattle.jif_grammar.specs.Spelling.{spelling}
-use Rattle.jif_grammar.specs.Programs.{unmarked, Spells, GoesOn, IsProgramText, IsFault}
+use Rattle.jif_grammar.specs.Programs.{unmarked, Spells, GoesOn, IsProgramText, IsProgramOf, IsFault}
+use Rattle.jif_grammar.specs.DraftShapes.{DraftShape}
 
 -- ---- places and ranks determine refusals
 
@@ -58,7 +59,7 @@ one_refusal tokens first second one other =
 
 -- ---- a program is not refused
 
-kinds_length : (tokens : List Token) → length (kinds tokens) ≡ length tokens
+pub kinds_length : (tokens : List Token) → length (kinds tokens) ≡ length tokens
 kinds_length [] = refl
 kinds_length (token ∷ tokens) = ap suc (kinds_length tokens)
 
@@ -86,7 +87,8 @@ no_fault : (tokens : List Token) (program : ProgramPhrase) (refusal : Refusal) �
 no_fault tokens program (unexpected n) is fault =
     elim (cases_lt n (length tokens)) [
       | inl less ↦ fault.no_further less (program, goes_on tokens program (n + 1) is.spells)
-      | inr least ↦ fault.not_whole program (let e : n ≡ length tokens = omega (arith, fault.within, least) in e) is.spells
+      | inr least ↦ fault.not_whole program (let e : n ≡ length tokens = omega (arith, fault.within, least) in e)
+          is.spells
     ]
 no_fault tokens program (too_deep n) is fault =
     is.limits.nesting n (let e : n < length (spelling program) =
@@ -97,6 +99,6 @@ no_fault tokens program (too_many what n) is fault =
     omega (arith, fault.there, same_length tokens program is.spells) in e)
     (fault.certain program (goes_on tokens program (n + 1) is.spells))
 
-pub never_both : (tokens : List Token) (program : ProgramPhrase) (refusal : Refusal) → IsProgramText tokens program →
+pub never_both : (tokens : List Token) (draft : DraftShape) (refusal : Refusal) → IsProgramOf tokens draft →
     ¬ IsRefused tokens refusal
-never_both tokens program refusal is refused = no_fault tokens program refusal is refused.fault
+never_both tokens draft refusal is refused = no_fault tokens is.program refusal is.text refused.fault

@@ -23,6 +23,8 @@ pub data Beginning : Type 0 where
   local : Beginning
   statement : Beginning
   node : Beginning
+  -- The arguments of a call after `=`. Up to here the method's name could be a node, and counts as one.
+  arguments : Beginning
 
 -- A token. `nesting` counts the constructs that are open at it, with one that opens there: blocks of statements,
 -- parentheses and index brackets of expressions, `declassify` and `endorse`, and signs before an operand.
@@ -79,6 +81,7 @@ after_beginning t parameter = record t { parameters = t.parameters + 1; variable
 after_beginning t local = record t { statements = t.statements + 1; variables = t.variables + 1; nodes = 0 }
 after_beginning t statement = record t { statements = t.statements + 1; nodes = 0 }
 after_beginning t node = record t { nodes = t.nodes + 1 }
+after_beginning t arguments = record t { nodes = 0 }
 
 abbrev pub after_token : Tally → Marked → Tally
 after_token t token = record (after_beginning t token.begins) { nesting = token.nesting }

@@ -1,5 +1,5 @@
 -- Which tokens are a program, and for what other tokens are refused.
-use Rattle.std.specs.Prelude.{◌≡◌, ℕ, ◌+◌, ◌<◌, ◌≤◌, ◌⊎◌, List, ◌++◌, length, map, take}
+use Rattle.std.specs.Prelude.{◌≡◌, ℕ, ◌+◌, ◌<◌, ◌≤◌, ◌⊎◌, List, ◌++◌, length, map, take, get_or}
 use Rattle.jif_lex.specs.declared.token.Token.{Token}
 use Rattle.jif_lex.specs.declared.token.TokenKind.{TokenKind}
 use Rattle.label_lattice.specs.Written.{kinds}
@@ -10,6 +10,8 @@ use Rattle.jif_grammar.specs.Phrases.{ProgramPhrase}
 use Rattle.jif_grammar.specs.Marks.{Marked, Tally, tally, IsTooDeep, HasTooMany}
 use Rattle.jif_grammar.specs.Spelling.{spelling}
 use Rattle.jif_grammar.specs.Grouping.{IsProgram}
+use Rattle.jif_grammar.specs.DraftShapes.{DraftShape}
+use Rattle.jif_grammar.specs.Drafts.{draft_of}
 
 -- the tokens without their marks
 abbrev pub unmarked : List Marked → List TokenKind
@@ -45,6 +47,16 @@ pub record IsWithinLimits (program : ProgramPhrase) : Type 0 where
 pub record IsProgramText (tokens : List Token) (program : ProgramPhrase) : Type 0 where
   pub spells : Spells tokens program
   pub limits : IsWithinLimits program
+
+-- the line of each token
+abbrev pub line_at : List Token → ℕ → ℕ
+line_at tokens n = get_or (map (λ token. token.line) tokens) n 0
+
+-- the tokens are a program with this draft
+pub record IsProgramOf (tokens : List Token) (draft : DraftShape) : Type 0 where
+  pub program : ProgramPhrase
+  pub text : IsProgramText tokens program
+  pub draft_is : draft ≡ draft_of (line_at tokens) program
 
 -- ---- refusals
 

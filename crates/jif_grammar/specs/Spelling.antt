@@ -74,9 +74,9 @@ block_spelling depth (call name args rest) =
     ∷ args_spelling depth args ++ plain depth (symbol RightParenthesis) ∷ plain depth (symbol Semicolon)
     ∷ block_spelling depth rest
 block_spelling depth (call_into into name args rest) =
-    mark statement depth (Name into) ∷ plain depth (symbol Assign) ∷ plain depth (Name name)
-    ∷ plain depth (symbol LeftParenthesis) ∷ args_spelling depth args ++ plain depth (symbol RightParenthesis)
-    ∷ plain depth (symbol Semicolon) ∷ block_spelling depth rest
+    mark statement depth (Name into) ∷ plain depth (symbol Assign) ∷ mark node depth (Name name)
+    ∷ mark marks.arguments depth (symbol LeftParenthesis) ∷ args_spelling depth args
+    ++ plain depth (symbol RightParenthesis) ∷ plain depth (symbol Semicolon) ∷ block_spelling depth rest
 block_spelling depth (branch guard first rest) =
     mark statement depth (Word If) ∷ plain depth (symbol LeftParenthesis)
     ∷ expr_spelling depth guard ++ plain depth (symbol RightParenthesis)
