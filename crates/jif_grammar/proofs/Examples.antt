@@ -1,5 +1,5 @@
 -- What the definitions say of small programs, computed.
-use Rattle.std.proofs.Common.{◌≡◌, ℕ, pos, [], ◌∷◌, map, codes, refl, None, arith}
+use Rattle.std.proofs.Common.{◌≡◌, ℕ, pos, [], ◌∷◌, map, codes, refl, None, arith, inl, inr}
 use Rattle.js_base.specs.declared.binary_operator.BinOp.TheVariants as operator
 use Rattle.jif_lex.specs.declared.token.TokenKind.TheVariants.{Name, Number, Word}
 use Rattle.jif_lex.specs.declared.token.Symbol.TheVariants as symbols
@@ -9,12 +9,13 @@ use Rattle.jif_grammar.specs.Phrases.{ExprPhrase, number, variable, element, par
 use Rattle.jif_grammar.specs.Phrases.{complement, minus, release, end, declaration, assignment, call_into, branch}
 use Rattle.jif_grammar.specs.Phrases.{unset}
 use Rattle.jif_grammar.specs.Phrases.{sized, field, method, ProgramPhrase}
-use Rattle.jif_grammar.specs.Grouping.{IsGrouped}
-use Rattle.jif_grammar.specs.Marks.{tally}
+use Rattle.jif_grammar.specs.Grouping.{IsGrouped, IsFieldEnd}
+use Rattle.jif_grammar.specs.Marks.{tally, tally_at_start, HasTooMany}
 use Rattle.jif_grammar.specs.Spelling.{expr_spelling, block_spelling, spelling}
 use Rattle.jif_grammar.specs.DraftShapes.{end_shape, assignment_shape, number_shape}
 use Rattle.jif_grammar.specs.Drafts.{draft_of, name_at}
-use Rattle.jif_grammar.specs.Programs.{unmarked}
+use Rattle.jif_grammar.specs.Programs.{unmarked, ComesBefore, unexpected, too_deep, too_many}
+use Rattle.jif_grammar.specs.declared.what.What.TheVariants as what
 
 abbrev a : ExprPhrase
 a = variable (codes "a")
@@ -106,6 +107,33 @@ all_that_began : tally (spelling small) ≡ record {
   elements = 4;
 }
 all_that_began = refl
+
+-- ---- limits
+
+-- an array has an element
+no_array_of_nothing : ¬ IsFieldEnd (sized 0)
+no_array_of_nothing within = omega (arith, within)
+
+-- an expression has 256 nodes and no more
+nodes_within : ¬ HasTooMany what.Nodes (record tally_at_start { nodes = 256 })
+nodes_within past = omega (arith, past)
+
+nodes_past : HasTooMany what.Nodes (record tally_at_start { nodes = 257 })
+nodes_past = omega arith
+
+-- at one token nesting comes first, then what is too many in the order of the limits, and what goes on no program last
+nesting_first : ComesBefore (too_deep 5) (too_many what.Methods 5)
+nesting_first = inr (refl, omega arith)
+
+fields_before_elements : ComesBefore (too_many what.Fields 5) (too_many what.Elements 5)
+fields_before_elements = inr (refl, omega arith)
+
+unexpected_last : ComesBefore (too_many what.Elements 5) (unexpected 5)
+unexpected_last = inr (refl, omega arith)
+
+-- the earlier token comes first, whatever is there
+earlier_first : ComesBefore (unexpected 4) (too_deep 5)
+earlier_first = inl (omega arith)
 
 -- ---- tokens
 
