@@ -56,7 +56,7 @@ MayEnter code me entry host =
 abbrev pub May : CodeShape → HostId → Ask → HostId → Type 0
 May code me (ask.Get field) from =
     IsSomeAnd (field_at code field) (λ there.
-      (there.host ≡ me) × MaySee (label_at code there.label) (label_of_host code from))
+    (there.host ≡ me) × MaySee (label_at code there.label) (label_of_host code from))
 May code me (ask.Set field) from =
     IsSomeAnd (field_at code field) (λ there.
     (there.host ≡ me) × MayAffect (label_of_host code from) (label_at code there.label))
