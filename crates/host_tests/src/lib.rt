@@ -8,6 +8,8 @@ mod control_stack;
 #[cfg(test)]
 mod small_code;
 #[cfg(test)]
+mod steps;
+#[cfg(test)]
 mod stores;
 #[cfg(test)]
 mod texts;

@@ -1,10 +1,8 @@
 //! What a host keeps.
 
-use crate::small_code::{A, small_code};
+use crate::small_code::{A, small_code, small_store};
 use host_stores::Stores;
-use jif_tree::{Field, Program, Store};
-use js_base::text::owned_text;
-use js_base::{FieldId, FrameId, MethodId, SiteId, VarId};
+use js_base::{FieldId, FrameId, SiteId, VarId};
 use label_lattice::Label;
 use std::test::Fail;
 
@@ -12,26 +10,7 @@ use std::test::Fail;
 fn keeps_its_own_fields_and_the_variables_of_each_frame(rt: HostRuntime) -> Result<(), Fail> {
     let alloc = rt.alloc();
     let code = small_code(alloc, Label::empty(), Label::empty())?;
-    let x = Field {
-        name: owned_text(alloc, "x")?,
-        label: Label::empty(),
-        size: 3,
-        array: true,
-        first: 1,
-    };
-    let y = Field {
-        name: owned_text(alloc, "y")?,
-        label: Label::empty(),
-        size: 1,
-        array: false,
-        first: 2,
-    };
-    let program = Program {
-        fields: vec![in alloc; x, y]?,
-        methods: Vec::new(alloc),
-        main: MethodId(0),
-    };
-    let store = Store::starting(alloc, &program)?;
+    let store = small_store(alloc)?;
     let mut stores = Stores::new(alloc, &code, A, &store)?;
     let (x, y, v) = (FieldId(0), FieldId(1), VarId(0));
     stores.set_field(x, 2, 7);
