@@ -9,8 +9,7 @@ use Rattle.js_base.specs.declared.ids.EntryId.{EntryId}
 use Rattle.js_base.specs.declared.limits.TheConstants.{HOSTS}
 use Rattle.label_lattice.specs.declared.label.Label.{Label}
 use Rattle.label_lattice.specs.Label.{ConfFlows, IntegFlows, IsTrustedBy}
-use Rattle.host_code.specs.declared.code.Entry.{Entry}
-use Rattle.host_code.specs.Code.{CodeShape, CodeFieldShape, CodeVariableShape, halt, field_at, variable_at, entry_at}
+use Rattle.host_code.specs.Code.{CodeShape, halt, field_at, variable_at, entry_at}
 use Rattle.entry_check.specs.declared.ask.Ask.{Ask}
 use Rattle.entry_check.specs.declared.ask.Ask.TheVariants as ask
 use Rattle.entry_check.specs.declared.checks.Kind.{Kind}

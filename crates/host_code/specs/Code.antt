@@ -1,6 +1,6 @@
 -- The code of all hosts, as contracts see it. A name is the list of its bytes, and a label is its place among the
 -- labels.
-use Rattle.std.specs.Prelude.{◌≡◌, ℕ, ◌-◌, ◌<◌, ◌&&◌, ◌==◌, Bool, false, ℤ, List, [], Option, Some, None, length}
+use Rattle.std.specs.Prelude.{ℕ, Bool, ℤ, List, [], Option, None}
 use Rattle.std.specs.Prelude.{unwrap_or}
 use Rattle.std.specs.Prelude.{slice_get, suc, zero}
 use Rattle.js_base.specs.declared.ids.HostId.{HostId}

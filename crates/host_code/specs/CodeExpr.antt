@@ -1,5 +1,5 @@
 -- Expressions in instructions, in postfix order: the operands of a node stand before it.
-use Rattle.std.specs.Prelude.{◌≡◌, ℕ, ◌+◌, ◌≤◌, ◌<◌, suc, List, [], ◌∷◌, length, Option, Some, None}
+use Rattle.std.specs.Prelude.{◌≡◌, ℕ, ◌≤◌, suc, List, [], ◌∷◌, length, Option, Some, None}
 use Rattle.std.specs.Option.{option_and_then}
 use Rattle.host_code.specs.declared.code_expr.Node.{Node}
 use Rattle.host_code.specs.declared.code_expr.Node.TheVariants.{Number, Var, Temp, Not, Negate, Binary}

@@ -1,6 +1,5 @@
 -- What a message names is there.
 use Rattle.std.specs.Prelude.{⊤}
-use Rattle.capability.specs.declared.token.Token.{Token}
 use Rattle.host_code.specs.declared.message.Message.{Message}
 use Rattle.host_code.specs.declared.message.Message.TheVariants as message
 use Rattle.host_code.specs.Code.{CodeShape}

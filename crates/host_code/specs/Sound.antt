@@ -1,14 +1,13 @@
 -- What every code keeps: all that it names is there and where it has to be, so that a host can run its part of it.
-use Rattle.std.specs.Prelude.{◌≡◌, ◌≢◌, ℕ, ◌+◌, ◌-◌, ◌<◌, ◌≤◌, ◌^◌, ◌⊎◌, zero, suc, Bool, false, ◌==◌, ◌&&◌}
+use Rattle.std.specs.Prelude.{◌≡◌, ◌≢◌, ℕ, ◌-◌, ◌<◌, ◌≤◌, ◌⊎◌, zero, suc, Bool, false, ◌==◌, ◌&&◌}
 use Rattle.std.specs.Prelude.{if◌then◌else◌}
-use Rattle.std.specs.Prelude.{List, [], ◌∷◌, ◌++◌, All, length, Option, Some, None, IsSomeAnd, slice_get, codes, ⊤}
+use Rattle.std.specs.Prelude.{List, [], ◌++◌, All, length, Option, Some, None, IsSomeAnd, slice_get, codes, ⊤}
 use Rattle.std.specs.Prelude.{sum_by}
 use Rattle.std.specs.List.{list_any}
 use Rattle.js_base.specs.declared.ids.HostId.{HostId}
 use Rattle.js_base.specs.declared.ids.FieldId.{FieldId}
 use Rattle.js_base.specs.declared.ids.VarId.{VarId}
 use Rattle.js_base.specs.declared.ids.EntryId.{EntryId}
-use Rattle.js_base.specs.declared.ids.SiteId.{SiteId}
 use Rattle.js_base.specs.declared.limits.TheConstants.{HOSTS, ARRAY_SIZE, ELEMENTS}
 use Rattle.js_base.specs.Name.{IsName}
 use Rattle.host_code.specs.declared.code.Entry.{Entry}

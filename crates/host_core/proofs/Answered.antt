@@ -45,10 +45,12 @@ running_again : (code : CodeShape) (me : HostId) (found : Option WaitingShape) (
 running_again code me None answered fits = tt
 running_again code me (Some waiting) answered fits = fits waiting refl
 
-woken : (code : CodeShape) (host : HostShape) (place : ℕ) (answered : ThreadShape → ThreadShape) → StateFits code host
-    → ((waiting : WaitingShape) → slice_get host.waiting place ≡ Some waiting → RunningFits code host.me (answered waiting.thread))
+waking_kept : (code : CodeShape) (host : HostShape) (place : ℕ) (answered : ThreadShape → ThreadShape) →
+    StateFits code host
+    → ((waiting : WaitingShape) → slice_get host.waiting place ≡ Some waiting →
+    RunningFits code host.me (answered waiting.thread))
     → StateFits code (after_answer host (Some place) answered)
-woken code host place answered fits runs = record {
+waking_kept code host place answered fits runs = record {
   me = fits.me;
   rows = fits.rows;
   serials = fits.serials;
@@ -66,17 +68,19 @@ waiting_at : (code : CodeShape) (host : HostShape) (place : ℕ) (waiting : Wait
     → slice_get host.waiting place ≡ Some waiting → WaitingFits code host.me waiting
 waiting_at code host place waiting fits at =
     subst (WaitingFits code host.me) (get_or_from_slice_get host.waiting place waiting waiting at)
-    (All-get_or (WaitingFits code host.me) host.waiting place waiting (slice_get_within host.waiting place waiting at) fits.waiting)
+    (All-get_or (WaitingFits code host.me) host.waiting place waiting
+    (slice_get_within host.waiting place waiting at) fits.waiting)
 
 -- a value or an acknowledgement
 answered_at : (code : CodeShape) (host : HostShape) (awaited : Awaited) (request : RequestId) (from : HostId)
     (answered : ThreadShape → ThreadShape) (found : Option ℕ) → StateFits code host
     → (awaited ≡ token_of_entry → ⊥)
-    → ((thread : ThreadShape) → (answered thread).at ≡ thread.at) → ((thread : ThreadShape) → (answered thread).held ≡ thread.held)
+    → ((thread : ThreadShape) → (answered thread).at ≡ thread.at) →
+    ((thread : ThreadShape) → (answered thread).held ≡ thread.held)
     → place_of_awaiting host awaited request from ≡ found → StateFits code (after_answer host found answered)
 answered_at code host awaited request from answered None fits other at held is = fits
 answered_at code host awaited request from answered (Some place) fits other at held is =
-    woken code host place answered fits (λ waiting there.
+    waking_kept code host place answered fits (λ waiting there.
     let holds = waiting_at code host place waiting fits there in
     record {
       place = subst (λ (k : ℕ). k < length (part_of code host.me)) (sym (at waiting.thread)) holds.place;
@@ -87,17 +91,19 @@ answered_at code host awaited request from answered (Some place) fits other at h
 
 pub kept_answer : (code : CodeShape) (host : HostShape) (awaited : Awaited) (request : RequestId) (from : HostId)
     (answered : ThreadShape → ThreadShape) → StateFits code host → (awaited ≡ token_of_entry → ⊥)
-    → ((thread : ThreadShape) → (answered thread).at ≡ thread.at) → ((thread : ThreadShape) → (answered thread).held ≡ thread.held)
+    → ((thread : ThreadShape) → (answered thread).at ≡ thread.at) →
+    ((thread : ThreadShape) → (answered thread).held ≡ thread.held)
     → StateFits code (after_answer host (place_of_awaiting host awaited request from) answered)
 kept_answer code host awaited request from answered fits other at held =
-    answered_at code host awaited request from answered (place_of_awaiting host awaited request from) fits other at held refl
+    answered_at code host awaited request from answered (place_of_awaiting host awaited request from) fits other at
+    held refl
 
 -- a token
 token_at : (code : CodeShape) (host : HostShape) (token : Token) (found : Option ℕ) → StateFits code host
     → TokenFits code token → StateFits code (after_answer host found (with_token (Some token)))
 token_at code host token None fits there = fits
 token_at code host token (Some place) fits there =
-    woken code host place (with_token (Some token)) fits (λ waiting at. record {
+    waking_kept code host place (with_token (Some token)) fits (λ waiting at. record {
       place = (waiting_at code host place waiting fits at).place;
       held = there;
     })

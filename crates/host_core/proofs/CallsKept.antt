@@ -1,5 +1,5 @@
 -- What a call of a host keeps.
-use Rattle.std.proofs.Common.{◌≡◌, ◌<◌, ◌≤◌, length, sym, ap, subst, arith}
+use Rattle.std.proofs.Common.{◌≡◌, ◌<◌, ◌≤◌, length, sym, ap, ◌∙◌, subst, arith}
 use Rattle.std.specs.Prelude.{Option}
 use Rattle.js_base.specs.declared.ids.HostId.{HostId}
 use Rattle.js_base.specs.declared.limits.TheConstants.{HOSTS}
@@ -7,54 +7,53 @@ use Rattle.host_code.specs.declared.message.Message.{Message}
 use Rattle.host_code.specs.Code.{CodeShape}
 use Rattle.host_code.specs.Sound.{IsOther, IsSoundCode}
 use Rattle.entry_check.specs.Checks.{ChecksShape, AreChecksOf}
-use Rattle.host_core.specs.Host.{HostShape, HostModel, state_of}
+use Rattle.host_core.specs.Host.{HostShape, HostModel, Outcome, IsSameHost, state_of}
 use Rattle.host_core.specs.Taking.{IsTaking}
 use Rattle.host_core.specs.Turn.{IsTurn}
-use Rattle.host_core.specs.Fits.{HostFits, StateFits, SentFits, TokensFit}
+use Rattle.host_core.specs.Fits.{HostFits, OutcomeFits, SentFits, TokensFit}
 use Rattle.host_core.proofs.TakingKept.{taking_kept}
 use Rattle.host_core.proofs.TurnKept.{turn_kept}
 
 -- the checks of a host are those of its number
-pub same_checks : (code : CodeShape) (me after : HostId) (checks now : ChecksShape) → AreChecksOf code me checks → after ≡ me
+pub same_checks : (code : CodeShape) (me after : HostId) (checks now : ChecksShape) → AreChecksOf code me checks →
+    after ≡ me
     → now ≡ checks → AreChecksOf code after now
 same_checks code me after checks now are host same =
     subst (λ (h : HostId). AreChecksOf code h now) (sym host) (subst (AreChecksOf code me) (sym same) are)
 
--- a call that changes no state keeps all
-pub kept_host : (code : CodeShape) (before after : HostModel) → HostFits code before
-    → state_of after ≡ state_of before → after.checks ≡ before.checks → HostFits code after
-kept_host code before after fits same checks = record {
-  state = subst (StateFits code) (sym same) fits.state;
-  checks = same_checks code before.me after.me before.checks after.checks fits.checks (ap (λ (s : HostShape). s.me) same) checks;
-}
+-- what holds of a host after a step from a state that is that of the host before it
+step_kept : (code : CodeShape) (before begun after : HostModel) (sent : Option (HostId × Message)) →
+    HostFits code before
+    → state_of begun ≡ state_of before → begun.checks ≡ before.checks → IsSameHost begun after
+    → OutcomeFits code before.me (record { state = state_of after; sent = sent })
+    → HostFits code after × SentFits code before.me sent
+step_kept code before begun after sent fits state checks same kept = (
+  record {
+    state = kept.0;
+    checks = same_checks code before.me after.me before.checks after.checks fits.checks
+        (same.me ∙ ap (λ (h : HostShape). h.me) state) (same.checks ∙ checks);
+  },
+  kept.1,
+)
 
-pub delivered : (code : CodeShape) (before after : HostModel) (from : HostId) (letter : Message)
+pub deliver_kept : (code : CodeShape) (before begun after : HostModel) (from : HostId) (letter : Message)
     (sent : Option (HostId × Message)) → IsSoundCode code → HostFits code before → IsOther code before.me from
-    → TokensFit code letter → IsTaking code (state_of before) from letter (record { state = state_of after; sent = sent })
-    → after.me ≡ before.me → after.checks ≡ before.checks
+    → TokensFit code letter → state_of begun ≡ state_of before → begun.checks ≡ before.checks → IsSameHost begun after
+    → IsTaking code (state_of begun) from letter (record { state = state_of after; sent = sent })
     → HostFits code after × SentFits code before.me sent
-delivered code before after from letter sent sound fits other tokens step me checks =
-    let kept = taking_kept code (state_of before) from letter (record { state = state_of after; sent = sent }) sound fits.state
-    other tokens step in (
-      record {
-        state = kept.0;
-        checks = same_checks code before.me after.me before.checks after.checks fits.checks me checks;
-      },
-      kept.1,
-    )
+deliver_kept code before begun after from letter sent sound fits other tokens state checks same step =
+    let outcome : Outcome = record { state = state_of after; sent = sent } in
+    let taking = subst (λ (h : HostShape). IsTaking code h from letter outcome) state step in
+    step_kept code before begun after sent fits state checks same
+    (taking_kept code (state_of before) from letter outcome sound fits.state other tokens taking)
 
-pub turned : (code : CodeShape) (before after : HostModel) (sent : Option (HostId × Message)) → IsSoundCode code
-    → HostFits code before → IsTurn code (state_of before) (record { state = state_of after; sent = sent })
-    → after.me ≡ before.me → after.checks ≡ before.checks
+pub turn_call_kept : (code : CodeShape) (before begun after : HostModel) (sent : Option (HostId × Message))
+    → IsSoundCode code → HostFits code before → state_of begun ≡ state_of before → begun.checks ≡ before.checks
+    → IsSameHost begun after → IsTurn code (state_of before) (record { state = state_of after; sent = sent })
     → HostFits code after × SentFits code before.me sent
-turned code before after sent sound fits step me checks =
-    let kept = turn_kept code (state_of before) (record { state = state_of after; sent = sent }) sound fits.state step in (
-      record {
-        state = kept.0;
-        checks = same_checks code before.me after.me before.checks after.checks fits.checks me checks;
-      },
-      kept.1,
-    )
+turn_call_kept code before begun after sent sound fits state checks same step =
+    step_kept code before begun after sent fits state checks same
+    (turn_kept code (state_of before) (record { state = state_of after; sent = sent }) sound fits.state step)
 
 -- who asks is one of the hosts that there may be
 pub few_hosts : (code : CodeShape) (me from : HostId) → IsSoundCode code → IsOther code me from → from.0 < HOSTS

@@ -114,7 +114,8 @@ kept_frames code host site count fits = record {
   entries = fits.entries;
 }
 
-pub kept_asking : (code : CodeShape) (host : HostShape) (at : ℕ) (thread : ThreadShape) (awaited : Awaited) (asked : HostId)
+pub kept_asking : (code : CodeShape) (host : HostShape) (at : ℕ) (thread : ThreadShape) (awaited : Awaited)
+    (asked : HostId)
     → StateFits code host → IsPlace code host.me thread → HeldFits code awaited thread.held → IsOther code host.me asked
     → StateFits code (after_asking host at thread awaited asked)
 kept_asking code host at thread awaited asked fits place held other = record {
@@ -139,7 +140,8 @@ place_of_entry code me entry there sound is on =
     let at : CodeEntryFits code there = subst (CodeEntryFits code) same fits in
     subst (λ (host : HostId). there.at < length (part_of code host)) on at.at
 
-entering : (code : CodeShape) (host : HostShape) (entry : EntryId) (frame : FrameId) (token : Token) (there : Option Entry)
+entering : (code : CodeShape) (host : HostShape) (entry : EntryId) (frame : FrameId) (token : Token)
+    (there : Option Entry)
     → entry_at code entry ≡ there → IsSoundCode code → StateFits code host
     → IsSomeAnd there (λ found. found.host ≡ host.me) → TokenFits code token
     → StateFits code (after_entering host there frame token)
@@ -184,7 +186,8 @@ below_top code host below fits entries = record {
   entries = entries;
 }
 
-pub kept_pop : (code : CodeShape) (host : HostShape) (entries : List StackEntry) → IsSoundCode code → StateFits code host
+pub kept_pop : (code : CodeShape) (host : HostShape) (entries : List StackEntry) → IsSoundCode code →
+    StateFits code host
     → All (EntryFits code host.me) entries → StateFits code (after_pop code host entries)
 kept_pop code host [] sound fits all = fits
 kept_pop code host (top ∷ below) sound fits all =

@@ -10,7 +10,7 @@ use Rattle.host_code.specs.Code.{CodeShape, entry_at}
 use Rattle.host_code.specs.Sound.{IsOther, IsSoundCode}
 use Rattle.host_core.specs.Host.{HostShape, Outcome, with_temporary}
 use Rattle.host_core.specs.Taking.{Passes, IsTaking, after_taking}
-use Rattle.host_core.specs.Fits.{StateFits, SentFits, TokensFit}
+use Rattle.host_core.specs.Fits.{OutcomeFits, StateFits, TokensFit}
 use Rattle.host_core.proofs.Kept.{kept_ignored, kept_row, kept_variable, kept_push, kept_entering, kept_pop}
 use Rattle.host_core.proofs.Answered.{kept_answer, kept_token}
 
@@ -20,34 +20,43 @@ on_host : (me : HostId) (P Q : Entry → Type 0) (there : Option Entry)
 on_host me P Q None on = on
 on_host me P Q (Some found) on = on.0
 
-abbrev OutcomeFits : CodeShape → HostId → Outcome → Type 0
-OutcomeFits code me outcome = StateFits code outcome.state × SentFits code me outcome.sent
-
-taken : (code : CodeShape) (host : HostShape) (from : HostId) (letter : Message) (passes : Bool) → IsSoundCode code
+message_kept : (code : CodeShape) (host : HostShape) (from : HostId) (letter : Message) (passes : Bool) →
+    IsSoundCode code
     → StateFits code host → IsOther code host.me from → TokensFit code letter
     → (IsTrue passes → Passes code host from letter)
     → OutcomeFits code host.me (after_taking code host from letter passes)
-taken code host from letter false sound fits other tokens check = (kept_ignored code host fits, tt)
-taken code host from (message.Get request field index) true sound fits other tokens check = (fits, (other, tt))
-taken code host from (message.Set request field index value) true sound fits other tokens check =
+message_kept code host from letter false sound fits other tokens check = (kept_ignored code host fits, tt)
+message_kept code host from (message.Get request field index) true sound fits other tokens check = (fits, (other, tt))
+message_kept code host from (message.Set request field index value) true sound fits other tokens check =
     (kept_row code host field index value fits, (other, tt))
-taken code host from (message.Forward request frame variable value) true sound fits other tokens check =
+message_kept code host from (message.Forward request frame variable value) true sound fits other tokens check =
     (kept_variable code host frame variable value fits, (other, tt))
-taken code host from (message.Sync request frame entry token) true sound fits other tokens check =
-    (kept_push code host entry frame token fits (on_host host.me _ _ (entry_at code entry) ((check refl).1)) tokens, (other, fits.me))
-taken code host from (message.Rgoto frame entry token) true sound fits other tokens check =
-    (kept_entering code host entry frame token sound fits (on_host host.me _ _ (entry_at code entry) ((check refl).1)) tokens, tt)
-taken code host from (message.Lgoto token) true sound fits other tokens check =
+message_kept code host from (message.Sync request frame entry token) true sound fits other tokens check = (
+  kept_push code host entry frame token fits (on_host host.me _ _ (entry_at code entry) ((check refl).1)) tokens,
+  (other, fits.me),
+)
+message_kept code host from (message.Rgoto frame entry token) true sound fits other tokens check = (
+  kept_entering code host entry frame token sound fits
+      (on_host host.me _ _ (entry_at code entry) ((check refl).1)) tokens,
+  tt,
+)
+message_kept code host from (message.Lgoto token) true sound fits other tokens check =
     (kept_pop code host host.entries sound fits fits.entries, tt)
-taken code host from (message.Value request value) true sound fits other tokens check =
-    (kept_answer code host value_of_field request from (with_temporary value) fits (λ same. cc) (λ thread. refl) (λ thread. refl), tt)
-taken code host from (message.Ack request) true sound fits other tokens check =
-    (kept_answer code host acknowledgement request from (λ thread. thread) fits (λ same. cc) (λ thread. refl) (λ thread. refl), tt)
-taken code host from (message.Token request token) true sound fits other tokens check =
+message_kept code host from (message.Value request value) true sound fits other tokens check = (
+  kept_answer code host value_of_field request from (with_temporary value) fits (λ same. cc) (λ thread. refl)
+      (λ thread. refl),
+  tt,
+)
+message_kept code host from (message.Ack request) true sound fits other tokens check = (
+  kept_answer code host acknowledgement request from (λ thread. thread) fits (λ same. cc) (λ thread. refl)
+      (λ thread. refl),
+  tt,
+)
+message_kept code host from (message.Token request token) true sound fits other tokens check =
     (kept_token code host request from token fits tokens, tt)
 
 pub taking_kept : (code : CodeShape) (host : HostShape) (from : HostId) (letter : Message) (outcome : Outcome)
     → IsSoundCode code → StateFits code host → IsOther code host.me from → TokensFit code letter
-    → IsTaking code host from letter outcome → StateFits code outcome.state × SentFits code host.me outcome.sent
+    → IsTaking code host from letter outcome → OutcomeFits code host.me outcome
 taking_kept code host from letter outcome sound fits other tokens step =
-    subst (OutcomeFits code host.me) step.2 (taken code host from letter step.0 sound fits other tokens step.1.0)
+    subst (OutcomeFits code host.me) step.2 (message_kept code host from letter step.0 sound fits other tokens step.1.0)

@@ -26,21 +26,19 @@ use Rattle.host_code.specs.Thread.Awaited.{value_of_field, acknowledgement, toke
 use Rattle.host_code.specs.Code.{CodeShape, CodeFieldShape, field_at, entry_at, instruction_at, part_of}
 use Rattle.host_code.specs.Sound.{IsHost, IsOther, IsField, IsVariable, IsSoundCode, FieldFits, IsLeaving, PartFits}
 use Rattle.host_code.specs.Sound.{OperationFits, temporaries_at}
-use Rattle.host_core.specs.Host.{HostShape, Outcome, silent, sending, with_running, with_token, with_temporary}
+use Rattle.host_core.specs.Host.{HostShape, Outcome, without_message, with_message, with_running, with_token}
+use Rattle.host_core.specs.Host.{with_temporary}
 use Rattle.host_core.specs.Host.{after_step, after_clearing}
 use Rattle.host_core.specs.Host.{value_in_thread, next_request, after_push, after_asking, after_pop, with_variable_set}
 use Rattle.host_core.specs.Host.{with_row_written, with_one_ignored}
-use Rattle.host_core.specs.Turn.{going_on, after_read, after_put, after_let, after_forward, after_frame}
+use Rattle.host_core.specs.Turn.{with_thread, after_read, after_put, after_let, after_forward, after_frame}
 use Rattle.host_core.specs.Turn.{after_own_push, after_ask, after_go, after_own_call, after_return, after_back}
 use Rattle.host_core.specs.Turn.{after_operation}
 use Rattle.host_core.specs.Turn.{IsTurn, IsRunning, IsTurnOf}
-use Rattle.host_core.specs.Fits.{StateFits, RunningFits, SentFits, IsEntryOf, TokenFits}
+use Rattle.host_core.specs.Fits.{OutcomeFits, StateFits, RunningFits, IsEntryOf, TokenFits}
 use Rattle.host_core.proofs.Kept.{kept_ignored, kept_row, kept_variable, kept_running, kept_at_rest, kept_push}
 use Rattle.host_core.proofs.Kept.{kept_frames}
 use Rattle.host_core.proofs.Kept.{kept_asking, kept_pop, place_of_entry}
-
-abbrev OutcomeFits : CodeShape → HostId → Outcome → Type 0
-OutcomeFits code me outcome = StateFits code outcome.state × SentFits code me outcome.sent
 
 -- ---- hosts and places
 
@@ -75,7 +73,8 @@ next_place : (code : CodeShape) (me : HostId) (at : ℕ) (instruction : Instr) �
 next_place code me at instruction part there stays =
     elim (cases_lt (at + 1) (length (part_of code me))) [
       | inl less ↦ less
-      | inr past ↦ absurd (not_last (part_of code me) at instruction (slice_get_within (part_of code me) at instruction there)
+      | inr past ↦ absurd (not_last (part_of code me) at instruction
+          (slice_get_within (part_of code me) at instruction there)
           past there stays part.end)
     ]
 
@@ -98,22 +97,24 @@ record Given (code : CodeShape) (host : HostShape) (thread : ThreadShape) : Type
   next : thread.at + 1 < length (part_of code host.me)
 
 goes_on : (code : CodeShape) (host : HostShape) (thread : ThreadShape) → StateFits code host
-    → RunningFits code host.me thread → OutcomeFits code host.me (going_on host thread)
+    → RunningFits code host.me thread → OutcomeFits code host.me (with_thread host thread)
 goes_on code host thread fits runs = (kept_running code host thread fits runs, tt)
 
-read_on : (code : CodeShape) (host : HostShape) (thread : ThreadShape) (field : FieldId) (place : ℤ) (there : CodeFieldShape)
+read_on : (code : CodeShape) (host : HostShape) (thread : ThreadShape) (field : FieldId) (place : ℤ)
+    (there : CodeFieldShape)
     (here : Bool) → Given code host thread → IsField code field → IsHost code there.host
     → (there.host.0 == host.me.0) ≡ here
     → OutcomeFits code host.me (if here
-    then going_on host (with_temporary (element_at (row_of host.rows field.0) place) (after_step thread))
-    else sending (after_asking host thread.at (after_step thread) value_of_field there.host) there.host
+    then with_thread host (with_temporary (element_at (row_of host.rows field.0) place) (after_step thread))
+    else with_message (after_asking host thread.at (after_step thread) value_of_field there.host) there.host
     (message.Get (next_request host thread.at) field place))
 read_on code host thread field place there true given is_field is_host here =
     goes_on code host (with_temporary (element_at (row_of host.rows field.0) place) (after_step thread)) given.fits
     (record { place = given.next; held = given.runs.held })
 read_on code host thread field place there false given is_field is_host here =
     let other = other_host code there.host host.me is_host here in (
-      kept_asking code host thread.at (after_step thread) value_of_field there.host given.fits given.next given.runs.held other,
+      kept_asking code host thread.at (after_step thread) value_of_field there.host given.fits given.next
+          given.runs.held other,
       (other, is_field),
     )
 
@@ -129,15 +130,17 @@ put_on : (code : CodeShape) (host : HostShape) (thread : ThreadShape) (field : F
     (there : CodeFieldShape) (here : Bool) → Given code host thread → IsField code field → IsHost code there.host
     → (there.host.0 == host.me.0) ≡ here
     → OutcomeFits code host.me (if here
-    then going_on (with_row_written host field place number) (after_clearing thread)
-    else sending (after_asking host thread.at (after_clearing thread) acknowledgement there.host) there.host
+    then with_thread (with_row_written host field place number) (after_clearing thread)
+    else with_message (after_asking host thread.at (after_clearing thread) acknowledgement there.host) there.host
     (message.Set (next_request host thread.at) field place number))
 put_on code host thread field place number there true given is_field is_host here =
-    goes_on code (with_row_written host field place number) (after_clearing thread) (kept_row code host field place number given.fits)
+    goes_on code (with_row_written host field place number) (after_clearing thread)
+    (kept_row code host field place number given.fits)
     (record { place = given.next; held = given.runs.held })
 put_on code host thread field place number there false given is_field is_host here =
     let other = other_host code there.host host.me is_host here in (
-      kept_asking code host thread.at (after_clearing thread) acknowledgement there.host given.fits given.next given.runs.held other,
+      kept_asking code host thread.at (after_clearing thread) acknowledgement there.host given.fits given.next
+          given.runs.held other,
       (other, is_field),
     )
 
@@ -174,8 +177,8 @@ frame_kept code host thread site given = (
 branch_on : (code : CodeShape) (host : HostShape) (thread : ThreadShape) (target : ℕ) (zero_guard : Bool)
     → Given code host thread → target < length (part_of code host.me)
     → OutcomeFits code host.me (if zero_guard
-    then going_on host (record (after_clearing thread) { at = target })
-    else going_on host (after_clearing thread))
+    then with_thread host (record (after_clearing thread) { at = target })
+    else with_thread host (after_clearing thread))
 branch_on code host thread target true given there =
     (kept_running code host _ given.fits (record { place = there; held = given.runs.held }), tt)
 branch_on code host thread target false given there =
@@ -192,12 +195,14 @@ push_kept code host thread entry (Some held) given holds there = (
   tt,
 )
 
-ask_kept : (code : CodeShape) (host : HostShape) (thread : ThreadShape) (entry : EntryId) (on : HostId) (held : Option Token)
+ask_kept : (code : CodeShape) (host : HostShape) (thread : ThreadShape) (entry : EntryId) (on : HostId)
+    (held : Option Token)
     → Given code host thread → IsSomeAnd held (TokenFits code) → IsOther code host.me on
     → OutcomeFits code host.me (after_ask host thread entry on held)
 ask_kept code host thread entry on None given holds other = absurd holds
 ask_kept code host thread entry on (Some held) given holds other = (
-  kept_asking code host thread.at (with_token None (after_step thread)) token_of_entry on given.fits given.next refl other,
+  kept_asking code host thread.at (with_token None (after_step thread)) token_of_entry on given.fits given.next refl
+      other,
   (other, holds),
 )
 
@@ -233,13 +238,14 @@ return_on : (code : CodeShape) (host : HostShape) (thread : ThreadShape) (variab
     (here passes : Bool) → Given code host thread → TokenFits code held → IsVariable code variable
     → (held.host.0 == host.me.0) ≡ here
     → OutcomeFits code host.me (if here
-    then going_on (with_variable_set host held.frame variable number) (after_clearing thread)
+    then with_thread (with_variable_set host held.frame variable number) (after_clearing thread)
     else (if passes
     then after_forward host thread.at (after_clearing thread) held.frame variable number held.host
-    else going_on host (after_clearing thread)))
+    else with_thread host (after_clearing thread)))
 return_on code host thread variable number held true passes given holds is_variable here =
     goes_on code (with_variable_set host held.frame variable number) (after_clearing thread)
-    (kept_variable code host held.frame variable number given.fits) (record { place = given.next; held = given.runs.held })
+    (kept_variable code host held.frame variable number given.fits)
+    (record { place = given.next; held = given.runs.held })
 return_on code host thread variable number held false true given holds is_variable here =
     forward_kept code host thread.at (after_clearing thread) held.frame variable number held.host given.fits
     (record { place = given.next; held = given.runs.held }) (other_host code held.host host.me holds here) is_variable
@@ -251,16 +257,17 @@ return_kept : (code : CodeShape) (host : HostShape) (thread : ThreadShape) (vari
     → IsVariable code variable → OutcomeFits code host.me (after_return host thread variable value held passes)
 return_kept code host thread variable value None passes given holds is_variable = absurd holds
 return_kept code host thread variable value (Some held) passes given holds is_variable =
-    return_on code host thread variable (value_in_thread host thread value) held (held.host.0 == host.me.0) passes given holds
+    return_on code host thread variable (value_in_thread host thread value) held (held.host.0 == host.me.0) passes
+    given holds
     is_variable refl
 
 back_on : (code : CodeShape) (host : HostShape) (held : Token) (here passes : Bool) → IsSoundCode code
     → StateFits code host → TokenFits code held → (held.host.0 == host.me.0) ≡ here
     → OutcomeFits code host.me (if here
-    then silent (if passes
+    then without_message (if passes
     then after_pop code (with_running host None) host.entries
     else with_one_ignored (with_running host None))
-    else sending (with_running host None) held.host (message.Lgoto held))
+    else with_message (with_running host None) held.host (message.Lgoto held))
 back_on code host held true true sound fits holds here =
     (kept_pop code (with_running host None) host.entries sound (kept_at_rest code host fits) fits.entries, tt)
 back_on code host held true false sound fits holds here =
@@ -289,40 +296,45 @@ given_next code host thread instruction sound fits runs there stays =
       next = next_place code host.me thread.at instruction (sound.parts host.me fits.me) there stays;
     }
 
-operated : (code : CodeShape) (host : HostShape) (thread : ThreadShape) (operation : Op) (count : ℕ) (passes : Bool)
-    → IsSoundCode code → StateFits code host → RunningFits code host.me thread → OperationFits code host.me count operation
+operation_kept : (code : CodeShape) (host : HostShape) (thread : ThreadShape) (operation : Op) (count : ℕ)
+    (passes : Bool)
+    → IsSoundCode code → StateFits code host → RunningFits code host.me thread →
+    OperationFits code host.me count operation
     → ((IsLeaving operation → ⊥) → Given code host thread)
     → OutcomeFits code host.me (after_operation code host thread operation passes)
-operated code host thread (op.Read field index) count passes sound fits runs names given =
+operation_kept code host thread (op.Read field index) count passes sound fits runs names given =
     read_kept code host thread field index (field_at code field) (given (λ leaves. leaves)) refl
-operated code host thread (op.Let variable value) count passes sound fits runs names given =
+operation_kept code host thread (op.Let variable value) count passes sound fits runs names given =
     let_kept code host thread thread.frame variable value (given (λ leaves. leaves))
-operated code host thread (op.Put field index value) count passes sound fits runs names given =
+operation_kept code host thread (op.Put field index value) count passes sound fits runs names given =
     put_kept code host thread field index value (field_at code field) (given (λ leaves. leaves)) refl
-operated code host thread (op.Send variable to) count passes sound fits runs names given =
-    forward_kept code host thread.at (after_step thread) thread.frame variable (host.variables thread.frame variable) to fits
+operation_kept code host thread (op.Send variable to) count passes sound fits runs names given =
+    forward_kept code host thread.at (after_step thread) thread.frame variable
+    (host.variables thread.frame variable) to fits
     (record { place = (given (λ leaves. leaves)).next; held = runs.held }) names.1 names.0
-operated code host thread (op.Frame site) count passes sound fits runs names given =
+operation_kept code host thread (op.Frame site) count passes sound fits runs names given =
     frame_kept code host thread site (given (λ leaves. leaves))
-operated code host thread (op.Arg variable value) count passes sound fits runs names given =
+operation_kept code host thread (op.Arg variable value) count passes sound fits runs names given =
     let_kept code host thread thread.new_frame variable value (given (λ leaves. leaves))
-operated code host thread (op.Pass variable to) count passes sound fits runs names given =
-    forward_kept code host thread.at (after_step thread) thread.new_frame variable (host.variables thread.new_frame variable) to
+operation_kept code host thread (op.Pass variable to) count passes sound fits runs names given =
+    forward_kept code host thread.at (after_step thread) thread.new_frame variable
+    (host.variables thread.new_frame variable) to
     fits (record { place = (given (λ leaves. leaves)).next; held = runs.held }) names.1 names.0
-operated code host thread (op.Push entry) count passes sound fits runs names given =
+operation_kept code host thread (op.Push entry) count passes sound fits runs names given =
     push_kept code host thread entry thread.held (given (λ leaves. leaves)) runs.held names.1
-operated code host thread (op.Ask entry on) count passes sound fits runs names given =
+operation_kept code host thread (op.Ask entry on) count passes sound fits runs names given =
     ask_kept code host thread entry on thread.held (given (λ leaves. leaves)) runs.held names.1
-operated code host thread (op.Go entry on) count passes sound fits runs names given =
+operation_kept code host thread (op.Go entry on) count passes sound fits runs names given =
     go_kept code host thread thread.frame entry on thread.held fits runs.held names.1
-operated code host thread (op.Call entry on) count passes sound fits runs names given =
+operation_kept code host thread (op.Call entry on) count passes sound fits runs names given =
     call_on code host thread entry on (on.0 == host.me.0) (given (λ leaves. leaves)) names.0.1 names.1 refl
-operated code host thread (op.Ret variable value) count passes sound fits runs names given =
+operation_kept code host thread (op.Ret variable value) count passes sound fits runs names given =
     return_kept code host thread variable value thread.held passes (given (λ leaves. leaves)) runs.held names.0
-operated code host thread op.Back count passes sound fits runs names given =
+operation_kept code host thread op.Back count passes sound fits runs names given =
     back_kept code host thread thread.held passes sound fits runs.held
-operated code host thread (op.Branch guard target) count passes sound fits runs names given =
-    branch_on code host thread target (int_eq (value_in_thread host thread guard) (pos 0)) (given (λ leaves. leaves)) names.1
+operation_kept code host thread (op.Branch guard target) count passes sound fits runs names given =
+    branch_on code host thread target (int_eq (value_in_thread host thread guard) (pos 0))
+    (given (λ leaves. leaves)) names.1
 
 running_kept : (code : CodeShape) (host : HostShape) (thread : ThreadShape) (there : Option Instr) (outcome : Outcome)
     → IsSoundCode code → StateFits code host → RunningFits code host.me thread
@@ -332,18 +344,21 @@ running_kept code host thread None outcome sound fits runs is step =
     subst (OutcomeFits code host.me) step (goes_on code host thread fits runs)
 running_kept code host thread (Some instruction) outcome sound fits runs is step =
     subst (OutcomeFits code host.me) step.2
-    (operated code host thread instruction.op (temporaries_at code.entries host.me (part_of code host.me) thread.at) step.0
+    (operation_kept code host thread instruction.op
+    (temporaries_at code.entries host.me (part_of code host.me) thread.at) step.0
     sound fits runs ((sound.parts host.me fits.me).instructions thread.at instruction is).operation
     (given_next code host thread instruction sound fits runs is))
 
-turned : (code : CodeShape) (host : HostShape) (running : Option ThreadShape) (outcome : Outcome) → IsSoundCode code
+thread_kept : (code : CodeShape) (host : HostShape) (running : Option ThreadShape) (outcome : Outcome) →
+    IsSoundCode code
     → StateFits code host → host.running ≡ running → IfSome running (RunningFits code host.me)
     → IsTurnOf code host running outcome → OutcomeFits code host.me outcome
-turned code host None outcome sound fits is runs step = subst (OutcomeFits code host.me) step (fits, tt)
-turned code host (Some thread) outcome sound fits is runs step =
+thread_kept code host None outcome sound fits is runs step = subst (OutcomeFits code host.me) step (fits, tt)
+thread_kept code host (Some thread) outcome sound fits is runs step =
     running_kept code (with_running host None) thread (instruction_at code host.me thread.at) outcome sound
     (kept_at_rest code host fits) runs refl step
 
 pub turn_kept : (code : CodeShape) (host : HostShape) (outcome : Outcome) → IsSoundCode code → StateFits code host
-    → IsTurn code host outcome → StateFits code outcome.state × SentFits code host.me outcome.sent
-turn_kept code host outcome sound fits step = turned code host host.running outcome sound fits refl fits.running step
+    → IsTurn code host outcome → OutcomeFits code host.me outcome
+turn_kept code host outcome sound fits step =
+    thread_kept code host host.running outcome sound fits refl fits.running step

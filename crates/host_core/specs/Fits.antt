@@ -14,7 +14,7 @@ use Rattle.host_code.specs.Code.{CodeShape, part_of, entry_at}
 use Rattle.host_code.specs.Sound.{IsHost, IsOther}
 use Rattle.host_code.specs.Messages.{MessageFits}
 use Rattle.entry_check.specs.Checks.{AreChecksOf}
-use Rattle.host_core.specs.Host.{HostShape, HostModel, state_of}
+use Rattle.host_core.specs.Host.{HostShape, HostModel, Outcome, state_of}
 
 -- the entry is one of the host's
 abbrev pub IsEntryOf : CodeShape → HostId → EntryId → Type 0
@@ -65,6 +65,10 @@ pub record HostFits (code : CodeShape) (host : HostModel) : Type 0 where
 -- what is sent goes to another host of the code, and names what is there
 abbrev pub SentFits : CodeShape → HostId → Option (HostId × Message) → Type 0
 SentFits code me sent = IfSome sent (λ letter. IsOther code me letter.0 × MessageFits code letter.1)
+
+-- a step keeps what holds of the host, and what it sends fits
+abbrev pub OutcomeFits : CodeShape → HostId → Outcome → Type 0
+OutcomeFits code me outcome = StateFits code outcome.state × SentFits code me outcome.sent
 
 -- each token of a message names a host of the code
 abbrev pub TokensFit : CodeShape → Message → Type 0

@@ -44,11 +44,11 @@ pub record Outcome : Type 0 where
   pub state : HostShape
   pub sent : Option (HostId × Message)
 
-abbrev pub silent : HostShape → Outcome
-silent host = record { state = host; sent = None }
+abbrev pub without_message : HostShape → Outcome
+without_message host = record { state = host; sent = None }
 
-abbrev pub sending : HostShape → HostId → Message → Outcome
-sending host to message = record { state = host; sent = Some (to, message) }
+abbrev pub with_message : HostShape → HostId → Message → Outcome
+with_message host to message = record { state = host; sent = Some (to, message) }
 
 -- What is sent carries the place of a label among the code's labels: for what a turn sends that of the instruction that
 -- ran, and for an answer that of the request, which is the label of the instruction that asked.
@@ -57,9 +57,9 @@ pub record Letter : Type 0 where
   pub message : Message
   pub label : ℕ
 
-abbrev pub with_label : Option (HostId × Message) → ℕ → Option Letter
-with_label None label = None
-with_label (Some sent) label = Some (record { to = sent.0; message = sent.1; label = label })
+abbrev pub with_label : ℕ → Option (HostId × Message) → Option Letter
+with_label label None = None
+with_label label (Some sent) = Some (record { to = sent.0; message = sent.1; label = label })
 
 -- ---- changes
 

@@ -15,7 +15,7 @@ use Rattle.host_code.specs.Code.{CodeShape, entry_at}
 use Rattle.entry_check.specs.declared.ask.Ask.TheVariants as ask
 use Rattle.entry_check.specs.Checks.{May}
 use Rattle.host_core.specs.Awaiting.{awaits}
-use Rattle.host_core.specs.Host.{HostShape, Outcome, silent, sending, with_one_ignored, with_row_written}
+use Rattle.host_core.specs.Host.{HostShape, Outcome, without_message, with_message, with_one_ignored, with_row_written}
 use Rattle.host_core.specs.Host.{with_variable_set}
 use Rattle.host_core.specs.Host.{new_token, after_push, after_entering, after_pop, with_temporary, with_token}
 
@@ -50,28 +50,28 @@ after_answer host (Some place) answered =
 -- what a message does that passes its check
 abbrev pub after_passing : CodeShape → HostShape → HostId → Message → Outcome
 after_passing code host from (message.Get request field index) =
-    sending host from (message.Value request (element_at (row_of host.rows field.0) index))
+    with_message host from (message.Value request (element_at (row_of host.rows field.0) index))
 after_passing code host from (message.Set request field index value) =
-    sending (with_row_written host field index value) from (message.Ack request)
+    with_message (with_row_written host field index value) from (message.Ack request)
 after_passing code host from (message.Forward request frame variable value) =
-    sending (with_variable_set host frame variable value) from (message.Ack request)
+    with_message (with_variable_set host frame variable value) from (message.Ack request)
 after_passing code host from (message.Sync request frame entry token) =
-    sending (after_push host entry frame token) from (message.Token request (new_token host entry frame))
+    with_message (after_push host entry frame token) from (message.Token request (new_token host entry frame))
 after_passing code host from (message.Rgoto frame entry token) =
-    silent (after_entering host (entry_at code entry) frame token)
-after_passing code host from (message.Lgoto token) = silent (after_pop code host host.entries)
+    without_message (after_entering host (entry_at code entry) frame token)
+after_passing code host from (message.Lgoto token) = without_message (after_pop code host host.entries)
 after_passing code host from (message.Value request value) =
-    silent (after_answer host (place_of_awaiting host value_of_field request from) (with_temporary value))
+    without_message (after_answer host (place_of_awaiting host value_of_field request from) (with_temporary value))
 after_passing code host from (message.Ack request) =
-    silent (after_answer host (place_of_awaiting host acknowledgement request from) (λ thread. thread))
+    without_message (after_answer host (place_of_awaiting host acknowledgement request from) (λ thread. thread))
 after_passing code host from (message.Token request token) =
-    silent (after_answer host (place_of_awaiting host token_of_entry request from) (with_token (Some token)))
+    without_message (after_answer host (place_of_awaiting host token_of_entry request from) (with_token (Some token)))
 
 -- What taking a message leaves, where its check passes or fails. A failed check counts one more message as ignored, and
 -- does nothing else.
 abbrev pub after_taking : CodeShape → HostShape → HostId → Message → Bool → Outcome
 after_taking code host from message passes =
-    if passes then after_passing code host from message else silent (with_one_ignored host)
+    if passes then after_passing code host from message else without_message (with_one_ignored host)
 
 -- this is what taking the message leaves and sends
 abbrev pub IsTaking : CodeShape → HostShape → HostId → Message → Outcome → Type 0

@@ -24,37 +24,37 @@ use Rattle.host_code.specs.Thread.Awaited.{value_of_field, acknowledgement, toke
 use Rattle.host_code.specs.Code.{CodeShape, CodeFieldShape, CodeVariableShape, field_at, variable_at, entry_at}
 use Rattle.host_code.specs.Code.{instruction_at}
 use Rattle.entry_check.specs.Checks.{MaySee, label_at, label_of_host}
-use Rattle.host_core.specs.Host.{HostShape, Outcome, silent, sending, with_one_ignored, with_row_written}
+use Rattle.host_core.specs.Host.{HostShape, Outcome, without_message, with_message, with_one_ignored, with_row_written}
 use Rattle.host_core.specs.Host.{with_variable_set}
 use Rattle.host_core.specs.Host.{with_running, new_token, after_push, after_pop, after_step, after_clearing}
 use Rattle.host_core.specs.Host.{with_temporary, with_token}
 use Rattle.host_core.specs.Host.{value_in_thread, next_request, after_asking}
 
 -- the thread goes on as this one, and nothing is sent
-abbrev pub going_on : HostShape → ThreadShape → Outcome
-going_on host thread = silent (with_running host (Some thread))
+abbrev pub with_thread : HostShape → ThreadShape → Outcome
+with_thread host thread = without_message (with_running host (Some thread))
 
 -- ---- fields
 
 -- one more temporary: the element of a field of this host, or a get to the field's host
 abbrev pub after_read : HostShape → ThreadShape → FieldId → List Node → Option CodeFieldShape → Outcome
-after_read host thread field index None = going_on host thread
+after_read host thread field index None = with_thread host thread
 after_read host thread field index (Some there) =
     let place = value_in_thread host thread index in
     if there.host.0 == host.me.0
-    then going_on host (with_temporary (element_at (row_of host.rows field.0) place) (after_step thread))
-    else sending (after_asking host thread.at (after_step thread) value_of_field there.host) there.host
+    then with_thread host (with_temporary (element_at (row_of host.rows field.0) place) (after_step thread))
+    else with_message (after_asking host thread.at (after_step thread) value_of_field there.host) there.host
     (message.Get (next_request host thread.at) field place)
 
 -- the element of a field of this host becomes a value, or a set to the field's host
 abbrev pub after_put : HostShape → ThreadShape → FieldId → List Node → List Node → Option CodeFieldShape → Outcome
-after_put host thread field index value None = going_on host thread
+after_put host thread field index value None = with_thread host thread
 after_put host thread field index value (Some there) =
     let place = value_in_thread host thread index in
     let number = value_in_thread host thread value in
     if there.host.0 == host.me.0
-    then going_on (with_row_written host field place number) (after_clearing thread)
-    else sending (after_asking host thread.at (after_clearing thread) acknowledgement there.host) there.host
+    then with_thread (with_row_written host field place number) (after_clearing thread)
+    else with_message (after_asking host thread.at (after_clearing thread) acknowledgement there.host) there.host
     (message.Set (next_request host thread.at) field place number)
 
 -- ---- variables
@@ -62,13 +62,13 @@ after_put host thread field index value (Some there) =
 -- a variable of a frame becomes a value
 abbrev pub after_let : HostShape → ThreadShape → FrameId → VarId → List Node → Outcome
 after_let host thread frame variable value =
-    going_on (with_variable_set host frame variable (value_in_thread host thread value)) (after_clearing thread)
+    with_thread (with_variable_set host frame variable (value_in_thread host thread value)) (after_clearing thread)
 
 -- An instruction forwards a value to a host for a variable of a frame. The thread is kept as it goes on when that is
 -- acknowledged.
 abbrev pub after_forward : HostShape → ℕ → ThreadShape → FrameId → VarId → ℤ → HostId → Outcome
 after_forward host at later frame variable value to =
-    sending (after_asking host at later acknowledgement to) to
+    with_message (after_asking host at later acknowledgement to) to
     (message.Forward (next_request host at) frame variable value)
 
 -- a variable of a frame is forwarded to a host
@@ -81,41 +81,42 @@ after_send host thread frame variable to =
 -- a new frame for a call at a site
 abbrev pub after_frame : HostShape → ThreadShape → SiteId → Outcome
 after_frame host thread site =
-    going_on (record host { frames = slice_set host.frames site.0 (slice_index host.frames site.0 + 1) })
+    with_thread (record host { frames = slice_set host.frames site.0 (slice_index host.frames site.0 + 1) })
     (record (after_step thread) { new_frame = record { site = site; count = slice_index host.frames site.0 } })
 
 -- the thread goes on at the target where the guard is 0
 abbrev pub after_branch : HostShape → ThreadShape → List Node → ℕ → Outcome
 after_branch host thread guard target =
     if int_eq (value_in_thread host thread guard) (pos 0)
-    then going_on host (record (after_clearing thread) { at = target })
-    else going_on host (after_clearing thread)
+    then with_thread host (record (after_clearing thread) { at = target })
+    else with_thread host (after_clearing thread)
 
 -- ---- the token of the thread, without which it stays where it is
 
 -- an entry is pushed in the thread's frame, and the thread holds the new token
 abbrev pub after_own_push : HostShape → ThreadShape → EntryId → Option Token → Outcome
-after_own_push host thread entry None = going_on host thread
+after_own_push host thread entry None = with_thread host thread
 after_own_push host thread entry (Some held) =
-    going_on (after_push host entry thread.frame held)
+    with_thread (after_push host entry thread.frame held)
     (with_token (Some (new_token host entry thread.frame)) (after_step thread))
 
 -- a host is asked to push an entry, and keeps the token that the thread held
 abbrev pub after_ask : HostShape → ThreadShape → EntryId → HostId → Option Token → Outcome
-after_ask host thread entry on None = going_on host thread
+after_ask host thread entry on None = with_thread host thread
 after_ask host thread entry on (Some held) =
-    sending (after_asking host thread.at (with_token None (after_step thread)) token_of_entry on) on
+    with_message (after_asking host thread.at (with_token None (after_step thread)) token_of_entry on) on
     (message.Sync (next_request host thread.at) thread.frame entry held)
 
 -- the thread ends, and is handed over to a host at an entry and in a frame
 abbrev pub after_go : HostShape → ThreadShape → FrameId → EntryId → HostId → Option Token → Outcome
-after_go host thread frame entry on None = going_on host thread
-after_go host thread frame entry on (Some held) = sending (with_running host None) on (message.Rgoto frame entry held)
+after_go host thread frame entry on None = with_thread host thread
+after_go host thread frame entry on (Some held) =
+    with_message (with_running host None) on (message.Rgoto frame entry held)
 
 -- the thread goes on at an entry of this host, in its new frame
 abbrev pub after_own_call : HostShape → ThreadShape → Option Entry → Outcome
-after_own_call host thread None = going_on host thread
-after_own_call host thread (Some there) = going_on host (record thread { at = there.at; frame = thread.new_frame })
+after_own_call host thread None = with_thread host thread
+after_own_call host thread (Some there) = with_thread host (record thread { at = there.at; frame = thread.new_frame })
 
 abbrev pub after_call : CodeShape → HostShape → ThreadShape → EntryId → HostId → Outcome
 after_call code host thread entry on =
@@ -126,25 +127,25 @@ after_call code host thread entry on =
 -- The result goes to the host and the frame that the token names. To another host it is forwarded where its label may
 -- flow there; otherwise nothing is sent, and the thread goes on.
 abbrev pub after_return : HostShape → ThreadShape → VarId → List Node → Option Token → Bool → Outcome
-after_return host thread variable value None passes = going_on host thread
+after_return host thread variable value None passes = with_thread host thread
 after_return host thread variable value (Some held) passes =
     let number = value_in_thread host thread value in
     if held.host.0 == host.me.0
-    then going_on (with_variable_set host held.frame variable number) (after_clearing thread)
+    then with_thread (with_variable_set host held.frame variable number) (after_clearing thread)
     else (if passes
     then after_forward host thread.at (after_clearing thread) held.frame variable number held.host
-    else going_on host (after_clearing thread))
+    else with_thread host (after_clearing thread))
 
 -- The thread ends, and gives its token back to the host that the token names. On this host that is what taking an lgoto
 -- with it would do.
 abbrev pub after_back : CodeShape → HostShape → ThreadShape → Option Token → Bool → Outcome
-after_back code host thread None passes = going_on host thread
+after_back code host thread None passes = with_thread host thread
 after_back code host thread (Some held) passes =
     if held.host.0 == host.me.0
-    then silent (if passes
+    then without_message (if passes
     then after_pop code (with_running host None) host.entries
     else with_one_ignored (with_running host None))
-    else sending (with_running host None) held.host (message.Lgoto held)
+    else with_message (with_running host None) held.host (message.Lgoto held)
 
 -- ---- the instructions
 
@@ -209,12 +210,12 @@ IsOperation code host thread operation outcome =
 
 -- the thread runs this instruction, and stays where it is where the code lacks it
 abbrev pub IsRunning : CodeShape → HostShape → ThreadShape → Option Instr → Outcome → Type 0
-IsRunning code host thread None outcome = going_on host thread ≡ outcome
+IsRunning code host thread None outcome = with_thread host thread ≡ outcome
 IsRunning code host thread (Some instruction) outcome = IsOperation code host thread instruction.op outcome
 
 -- the running thread is taken, and runs its instruction
 abbrev pub IsTurnOf : CodeShape → HostShape → Option ThreadShape → Outcome → Type 0
-IsTurnOf code host None outcome = silent host ≡ outcome
+IsTurnOf code host None outcome = without_message host ≡ outcome
 IsTurnOf code host (Some thread) outcome =
     IsRunning code (with_running host None) thread (instruction_at code host.me thread.at) outcome
 

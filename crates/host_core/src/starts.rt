@@ -1,6 +1,6 @@
 //! A host before the first event.
 
-ghost use Rattle.std.specs.Prelude.{◌≡◌, ◌<◌, ◌≤◌, IfOk, OnOk, All, length, false, replicate};
+ghost use Rattle.std.specs.Prelude.{◌≡◌, ◌≤◌, IfOk, OnOk, All, length, false, replicate};
 ghost use Rattle.entry_check.specs.Checks.{AreChecksOf};
 ghost use Rattle.host_code.specs.Sound.{IsHost};
 ghost use Rattle.host_core.specs.Fits.{HostFits};

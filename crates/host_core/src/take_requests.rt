@@ -143,6 +143,6 @@ impl Host {
             (record { state = state_of self.new; sent = None }) }
         ensures same { IsSameHost self.old self.new }
     {
-        let _ = self.pop_or_ignore(code, token);
+        self.pop_or_ignore(code, token);
     }
 }

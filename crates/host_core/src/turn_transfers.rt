@@ -1,9 +1,7 @@
 //! Turns that push entries, hand the thread over, and give its token back.
 
-ghost use Rattle.std.specs.Prelude.{◌≡◌, ◌<◌, ◌+◌, ◌^◌, Some, length};
-ghost use Rattle.std.specs.Prelude.{◌↔◌, IsTrue};
+ghost use Rattle.std.specs.Prelude.{◌≡◌, ◌<◌, ◌+◌, ◌^◌, ◌↔◌, IsTrue, length};
 ghost use Rattle.host_code.specs.Code.{variable_at};
-ghost use Rattle.host_code.specs.declared.instruction.Op.TheVariants as op;
 ghost use Rattle.host_core.specs.Host.{state_of, IsReady, IsSameHost};
 ghost use Rattle.host_core.specs.Turn.{after_own_push, after_ask, after_go, after_call, IsReturning, IsGivingBack};
 ghost use Rattle.host_core.specs.Turn.{MayReturn};
@@ -160,7 +158,7 @@ impl Host {
         if token.host.0 != self.me.0 {
             return Some((token.host, Message::Lgoto { token }));
         }
-        let _ = self.pop_or_ignore(code, token);
+        self.pop_or_ignore(code, token);
         None
     }
 }

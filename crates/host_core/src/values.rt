@@ -11,6 +11,7 @@ use js_base::{BinOp, FrameId};
 use std::marker::Model;
 
 /// Some values, at most as many as an expression has nodes. The one that was made last stands first.
+#[derive(Drop)]
 struct Values {
     /// The values stand at the end of these.
     items: [i64; MOST_NODES],
@@ -26,12 +27,6 @@ impl Model for Values {
     ghost view = { λ v. drop v.first v.items };
 
     ghost invariant = { λ v. (v.first ≤ MOST_NODES) × (length v.items ≡ MOST_NODES) };
-}
-
-impl Drop for Values {
-    fn drop(self) {
-        let Values { items: _, first: _ } = self;
-    }
 }
 
 impl Values {

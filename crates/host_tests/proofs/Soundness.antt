@@ -1,19 +1,18 @@
 -- The small code is sound.
-use Rattle.std.proofs.Common.{◌≡◌, ℕ, ◌+◌, ◌<◌, ◌≤◌, zero, suc, List, [], ◌∷◌, Some, None, refl, arith, inl, inr, subst}
-use Rattle.std.proofs.Common.{sym, ap, codes, true, false, length}
-use Rattle.std.specs.Prelude.{All, slice_get}
+use Rattle.std.proofs.Common.{◌≡◌, ℕ, ◌<◌, ◌≤◌, zero, suc, [], ◌∷◌, Some, None, refl, arith, inl, inr, subst}
+use Rattle.std.proofs.Common.{sym, codes, true, false, length}
+use Rattle.std.specs.Prelude.{slice_get}
 use Rattle.std.proofs.lemmas.Bool.{cases_lt}
 use Rattle.std.proofs.lemmas.List.Elements.{All-cons, All-nil}
 use Rattle.label_lattice.specs.declared.label.Label.{Label}
 use Rattle.js_base.specs.declared.ids.HostId.{HostId}
 use Rattle.js_base.specs.Name.{IsName}
 use Rattle.host_code.specs.declared.code.TheConstants.{MOST_ITEMS}
-use Rattle.host_code.specs.declared.code.Entry.{Entry}
 use Rattle.host_code.specs.declared.instruction.Instr.{Instr}
 use Rattle.host_code.specs.declared.instruction.Op.TheVariants.{Back}
-use Rattle.host_code.specs.Code.{CodeShape, CodeFieldShape, CodeVariableShape, CodeHostShape}
+use Rattle.host_code.specs.Code.{CodeHostShape}
 use Rattle.host_code.specs.Sound.{IsSoundCode, PartFits, InstructionFits, FieldFits, VariableFits, EntryFits, IsHost}
-use Rattle.host_tests.specs.Small.{small, host_a, host_b, field_x, field_y, variable_v, entry_on, only_back}
+use Rattle.host_tests.specs.Small.{small, host_a, host_b, field_x, field_y, variable_v, entry_on}
 
 -- what holds of both hosts holds of each
 each_host : (P : HostId → Type 0) → P (record { 0 = 0 }) → P (record { 0 = 1 }) → (host : HostId) → host.0 < 2 → P host

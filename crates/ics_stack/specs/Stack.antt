@@ -1,5 +1,5 @@
 -- The integrity control stack of a host: the entries at which threads may start, each once, and only the top one.
-use Rattle.std.specs.Prelude.{◌≡◌, ℕ, ◌+◌, ◌<◌, List, [], ◌∷◌, length, All, Option, Some, None, slice_index, slice_set}
+use Rattle.std.specs.Prelude.{◌≡◌, ℕ, ◌+◌, List, [], ◌∷◌, All, Option, Some, None, slice_index, slice_set}
 use Rattle.js_base.specs.declared.ids.HostId.{HostId}
 use Rattle.js_base.specs.declared.ids.FrameId.{FrameId}
 use Rattle.js_base.specs.declared.ids.EntryId.{EntryId}

@@ -3,7 +3,7 @@ use Rattle.std.proofs.Common.{◌≡◌, ℕ, List, ◌∷◌, [], ◌++◌, tak
 use Rattle.std.specs.Int.{to_be_bytes}
 use Rattle.sha2.specs.Sha256.{sha256}
 use Rattle.capability.specs.declared.tags.TheConstants.{TAG_BYTES}
-use Rattle.capability.specs.Tag.{tag_of, token_bytes}
+use Rattle.capability.specs.Tag.{tag_of}
 use Rattle.capability.proofs.tags.tag.Goals as goal
 
 -- the parts one after the other are the parts together

@@ -1,9 +1,9 @@
 -- The first cell of the variable is changed, or one is added.
-use Rattle.std.proofs.Common.{◌≡◌, sym, ap, ◌∙◌, subst, List, ◌++◌, ◌∷◌, [], Some, None, ℤ, Bool, true, w64}
-use Rattle.std.specs.Prelude.{if◌then◌else◌, is_ok}
+use Rattle.std.proofs.Common.{◌≡◌, sym, ◌∙◌, subst, List, Some, None, true, w64}
+use Rattle.std.specs.Prelude.{is_ok}
 use Rattle.std.proofs.lemmas.Int.{to_z-of_z}
 use Rattle.host_stores.specs.declared.variables.VarCell.{VarCell}
-use Rattle.host_stores.specs.Stores.{place_in, value_in, with_variable}
+use Rattle.host_stores.specs.Stores.{place_in}
 use Rattle.host_stores.proofs.Cells.{value_in-set, value_in-push, itself}
 use Rattle.host_stores.proofs.variables.set_in.Goals as goal
 

@@ -1,5 +1,5 @@
 -- The words are made for all that is there, and past the end nobody may ask.
-use Rattle.std.proofs.Common.{◌≡◌, ℕ, ◌≤◌, List, length, sym, ap, ◌∙◌, subst}
+use Rattle.std.proofs.Common.{◌≡◌, ℕ, ◌≤◌, length, ap, subst}
 use Rattle.entry_check.specs.declared.checks.Kind.TheVariants as kind
 use Rattle.entry_check.specs.Checks.{ask_of}
 use Rattle.entry_check.proofs.Words.{of_all, past_end}

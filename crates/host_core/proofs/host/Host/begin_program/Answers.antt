@@ -9,4 +9,5 @@ pub push_entry-token-requires-clause-entry : goal.push_entry-token-requires-clau
 push_entry-token-requires-clause-entry c =
     let same = ap (λ (s : StackShape). length s.serials) c.in_ok-reserve.ensures.same in
     let before = ap (λ (m : HostModel). length m.stack.serials) c.self.view_is in
-    subst (λ (n : ℕ). 0 < n) (sym (same ∙ before ∙ c.requires.serials)) (halt_there c.args.code.now c.main-main.ensures.sound)
+    subst (λ (n : ℕ). 0 < n) (sym (same ∙ before ∙ c.requires.serials))
+    (halt_there c.args.code.now c.main-main.ensures.sound)

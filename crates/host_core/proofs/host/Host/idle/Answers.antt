@@ -8,7 +8,8 @@ use Rattle.host_core.proofs.host.Host.idle.Goals as goal
 pub returns-clause-state : goal.returns-clause-state
 returns-clause-state c =
     let unset : FrameId → VarId → ℤ = λ frame variable. pos 0 in
-    let variables : variable_of c.in_ok-new.field-0 ≡ unset = λ i frame variable. c.in_ok-new.ensures.variables frame variable i in
+    let variables : variable_of c.in_ok-new.field-0 ≡ unset =
+    λ i frame variable. c.in_ok-new.ensures.variables frame variable i in
     rw (
       c.in_ok-new.ensures.rows,
       c.in_ok-new-2.ensures.key,

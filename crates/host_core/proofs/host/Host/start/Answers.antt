@@ -15,7 +15,9 @@ returns-then-me-root-clause-fits c =
     record {
       state = subst (StateFits code) (sym c.in_ok-host.ensures.state)
           (idle_fits code c.args.store.now c.args.key c.args.me c.requires);
-      checks = same_checks code c.args.me host.me host.checks host.checks c.in_ok-host.ensures.checks c.in_ok-host.ensures.new.0 refl;
+      checks =
+          same_checks code c.args.me host.me host.checks host.checks c.in_ok-host.ensures.checks
+          c.in_ok-host.ensures.new.0 refl;
     }
 
 pub returns-clause-fits : goal.returns-clause-fits
@@ -27,11 +29,14 @@ returns-clause-fits c =
     let number : c.args.me.0 ≡ c.root.result.0 = grind arith in
     let make : ℕ → HostId = λ n. record { 0 = n } in
     let root : c.args.me ≡ code.root = ap make number ∙ c.root.ensures.root in
-    let fits = root_fits code idle c.root.ensures.sound (idle_fits code c.args.store.now c.args.key c.args.me c.requires) root in
+    let fits =
+    root_fits code idle c.root.ensures.sound (idle_fits code c.args.store.now c.args.key c.args.me c.requires)
+    root in
     let state : state_of after ≡ root_host code idle =
     c.in_ok-begin_program.ensures.state ∙ ap (root_host code) c.in_ok-host.ensures.state in
     record {
       state = subst (StateFits code) (sym state) fits;
       checks = same_checks code c.args.me after.me host.checks after.checks c.in_ok-host.ensures.checks
-          (c.in_ok-begin_program.ensures.same.me ∙ c.in_ok-host.ensures.new.0) c.in_ok-begin_program.ensures.same.checks;
+          (c.in_ok-begin_program.ensures.same.me ∙ c.in_ok-host.ensures.new.0)
+          c.in_ok-begin_program.ensures.same.checks;
     }

@@ -1,11 +1,11 @@
--- The call's step is that of the table, and keeps what holds of the host.
+-- The step is that of the table, and keeps what holds of the host.
 use Rattle.std.proofs.Common.{◌≡◌, ap, ◌∙◌, subst}
 use Rattle.std.specs.Prelude.{Option}
 use Rattle.host_code.specs.Thread.{ThreadShape}
 use Rattle.host_core.specs.Host.{HostShape, HostModel, state_of, Outcome}
 use Rattle.host_core.specs.Turn.{IsTurn, IsTurnOf}
 use Rattle.host_core.specs.contracts.host.Host.{the_view}
-use Rattle.host_core.proofs.CallsKept.{turned}
+use Rattle.host_core.proofs.CallsKept.{turn_call_kept}
 use Rattle.host_core.proofs.host.Host.turn.Goals as goal
 
 pub returns-in-Ok-clause-ok : goal.returns-in-Ok-clause-ok
@@ -13,26 +13,35 @@ returns-in-Ok-clause-ok c =
     let code = c.args.code.now in
     let outcome : Outcome = record { state = state_of c.run.new.self; sent = c.in-Ok.sent } in
     let host = state_of (the_view c.self.inside) in
-    let taken = subst (λ (r : Option ThreadShape). IsTurnOf code host r outcome) c.in-Some.ensures.value c.in-Ok.ensures.ok in
+    let taken =
+    subst (λ (r : Option ThreadShape). IsTurnOf code host r outcome) c.in-Some.ensures.value c.in-Ok.ensures.ok in
     let same : host ≡ state_of c.args.self.now = ap state_of c.self.view_is ∙ c.begin.ensures.same in
     subst (λ (h : HostShape). IsTurn code h outcome) same taken
 
 pub returns-in-Ok-clause-fits : goal.returns-in-Ok-clause-fits
 returns-in-Ok-clause-fits c =
-    let before = c.args.self.now in
-    let after = c.run.new.self in
-    let me : after.me ≡ before.me = c.in-Ok.ensures.same.me ∙ ap (λ (h : HostModel). h.me) c.self.view_is
-    ∙ ap (λ (h : HostShape). h.me) c.begin.ensures.same in
-    let checks : after.checks ≡ before.checks = c.in-Ok.ensures.same.checks ∙ ap (λ (h : HostModel). h.checks) c.self.view_is
-    ∙ c.begin.ensures.checks in
-    (turned c.args.code.now before after c.in-Ok.sent c.code_laws.ensures c.requires.fits (returns-in-Ok-clause-ok c) me checks).0
+    (turn_call_kept c.args.code.now c.args.self.now (the_view c.self.inside) c.run.new.self c.in-Ok.sent
+    c.code_laws.ensures
+    c.requires.fits (ap state_of c.self.view_is ∙ c.begin.ensures.same)
+    (ap (λ (h : HostModel). h.checks) c.self.view_is ∙ c.begin.ensures.checks)
+    (record {
+      me = c.in-Ok.ensures.same.me;
+      checks = c.in-Ok.ensures.same.checks;
+      calls = c.in-Ok.ensures.same.calls;
+      stopped = c.in-Ok.ensures.same.stopped;
+    })
+    (returns-in-Ok-clause-ok c)).0
 
 pub returns-in-Ok-clause-sent : goal.returns-in-Ok-clause-sent
 returns-in-Ok-clause-sent c =
-    let before = c.args.self.now in
-    let after = c.run.new.self in
-    let me : after.me ≡ before.me = c.in-Ok.ensures.same.me ∙ ap (λ (h : HostModel). h.me) c.self.view_is
-    ∙ ap (λ (h : HostShape). h.me) c.begin.ensures.same in
-    let checks : after.checks ≡ before.checks = c.in-Ok.ensures.same.checks ∙ ap (λ (h : HostModel). h.checks) c.self.view_is
-    ∙ c.begin.ensures.checks in
-    (turned c.args.code.now before after c.in-Ok.sent c.code_laws.ensures c.requires.fits (returns-in-Ok-clause-ok c) me checks).1
+    (turn_call_kept c.args.code.now c.args.self.now (the_view c.self.inside) c.run.new.self c.in-Ok.sent
+    c.code_laws.ensures
+    c.requires.fits (ap state_of c.self.view_is ∙ c.begin.ensures.same)
+    (ap (λ (h : HostModel). h.checks) c.self.view_is ∙ c.begin.ensures.checks)
+    (record {
+      me = c.in-Ok.ensures.same.me;
+      checks = c.in-Ok.ensures.same.checks;
+      calls = c.in-Ok.ensures.same.calls;
+      stopped = c.in-Ok.ensures.same.stopped;
+    })
+    (returns-in-Ok-clause-ok c)).1
