@@ -334,7 +334,7 @@ unmarked_item (method phrase) tokens =
     unmarked_head phrase.kind phrase.name phrase.begin (tail_before phrase tokens)
     ∙ ap (head_then phrase.kind phrase.name phrase.begin) (unmarked_tail phrase tokens)
 
-unmarked_program : (program : ProgramPhrase) (tokens : List Marked) →
+pub unmarked_program : (program : ProgramPhrase) (tokens : List Marked) →
     unmarked (program_before program tokens) ≡ program_then program (unmarked tokens)
 unmarked_program [] tokens = refl
 unmarked_program (item ∷ items) tokens =

@@ -11,3 +11,6 @@ pub mod SameMarks
 pub mod SameExprMarks
 pub mod SameBlockMarks
 pub mod SameProgramMarks
+pub mod Refusing
+pub mod Within
+pub mod Worked
