@@ -14,3 +14,5 @@ pub mod SameProgramMarks
 pub mod Refusing
 pub mod Within
 pub mod Worked
+pub mod Gather
+pub mod Written
