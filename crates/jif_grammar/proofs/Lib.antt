@@ -16,3 +16,4 @@ pub mod Within
 pub mod Worked
 pub mod Gather
 pub mod Written
+pub mod DueMoves
