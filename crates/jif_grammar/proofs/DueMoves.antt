@@ -38,7 +38,7 @@ pub record Moves (first : Due) (kind : TokenKind) (tokens rest : List TokenKind)
   pub is : due_after_token first kind ≡ Some new
   pub written : AreWritten new tokens rest
 
-moves : (first : Due) (kind at : TokenKind) (new : List Due) (tokens rest : List TokenKind) → kind ≡ at →
+pub moves : (first : Due) (kind at : TokenKind) (new : List Due) (tokens rest : List TokenKind) → kind ≡ at →
     due_after_token first at ≡ Some new → AreWritten new tokens rest → Moves first kind tokens rest
 moves first kind at new tokens rest same is written = record {
   new = new;
@@ -52,7 +52,7 @@ fixed_is : (fixed : Fixed) → after_fixed fixed (fixed_symbol fixed) ≡ Some [
 fixed_is due.left_parenthesis = refl
 fixed_is _ = refl
 
-fixed_moves : (fixed : Fixed) (kind : TokenKind) (r rest : List TokenKind) →
+pub fixed_moves : (fixed : Fixed) (kind : TokenKind) (r rest : List TokenKind) →
     Written (due.exactly fixed) (kind ∷ r) rest → Moves (due.exactly fixed) kind r rest
 fixed_moves fixed kind r rest w =
     moves (due.exactly fixed) kind (symbol (fixed_symbol fixed)) [] r rest (cc) (fixed_is fixed) (cc)
@@ -60,11 +60,11 @@ fixed_moves fixed kind r rest w =
 -- ---- labels
 
 -- a part may begin
-record BeginsPart (first : Due) : Type 0 where
-  by_name : due_after_name first ≡ Some (due.exactly due.colon ∷ due.readers ∷ [])
-  by_question : due_after_symbol first symbols.Question ≡ Some (due.exactly due.colon ∷ due.members ∷ [])
+pub record BeginsPart (first : Due) : Type 0 where
+  pub by_name : due_after_name first ≡ Some (due.exactly due.colon ∷ due.readers ∷ [])
+  pub by_question : due_after_symbol first symbols.Question ≡ Some (due.exactly due.colon ∷ due.members ∷ [])
 
-part_moves : (first : Due) → BeginsPart first → (part : Part) (parts : LabelPhrase) → TrustIsLast (part ∷ parts) →
+pub part_moves : (first : Due) → BeginsPart first → (part : Part) (parts : LabelPhrase) → TrustIsLast (part ∷ parts) →
     (kind : TokenKind) (r rest : List TokenKind) →
     kind ∷ r ≡ joined_then (symbol symbols.Semicolon) part_then (part ∷ parts) (symbol symbols.RightBrace ∷ rest) →
     Moves first kind r rest
@@ -89,7 +89,7 @@ part_moves first begins (trust members) parts sound kind r rest w =
       (rest, (members, refl), refl),
     )
 
-first_part_moves : (label : LabelPhrase) → TrustIsLast label → (kind : TokenKind) (r rest : List TokenKind) →
+pub first_part_moves : (label : LabelPhrase) → TrustIsLast label → (kind : TokenKind) (r rest : List TokenKind) →
     kind ∷ r ≡ joined_then (symbol symbols.Semicolon) part_then label (symbol symbols.RightBrace ∷ rest) →
     Moves due.first_part kind r rest
 first_part_moves [] sound kind r rest w =
@@ -107,7 +107,7 @@ after_policy first by_brace by_semicolon (part ∷ parts) sound kind r rest w =
     moves first kind (symbol symbols.Semicolon) (due.a_part ∷ []) r rest (cc) by_semicolon
     (rest, (part, parts, sound, cc), refl)
 
-readers_move : (names : List (List ℕ)) (parts : LabelPhrase) → TrustIsLast parts → (kind : TokenKind)
+pub readers_move : (names : List (List ℕ)) (parts : LabelPhrase) → TrustIsLast parts → (kind : TokenKind)
     (r rest : List TokenKind) → kind ∷ r ≡ names_then names (more_parts parts rest) → Moves due.readers kind r rest
 readers_move [] parts sound kind r rest w = after_policy due.readers refl refl parts sound kind r rest w
 readers_move (name ∷ names) parts sound kind r rest w =
@@ -116,14 +116,14 @@ readers_move (name ∷ names) parts sound kind r rest w =
     moves due.readers kind (Name name) (due.after_reader ∷ []) r rest (cc) refl (rest, (names, parts, sound, cc), refl)
 
 -- a name behind a comma
-name_behind : (name : List ℕ) (names : List (List ℕ)) (kind : TokenKind) (r rest : List TokenKind) →
+pub name_behind : (name : List ℕ) (names : List (List ℕ)) (kind : TokenKind) (r rest : List TokenKind) →
     kind ∷ r ≡ more_names (name ∷ names) rest →
     (kind ≡ symbol symbols.Comma) × (r ≡ Name name ∷ more_names names rest)
 name_behind name names kind r rest w =
     let tail : r ≡ names_then (name ∷ names) rest = (cc) in
     (cc, tail ∙ joined_more (symbol symbols.Comma) name_then name names rest)
 
-after_reader_moves : (names : List (List ℕ)) (parts : LabelPhrase) → TrustIsLast parts → (kind : TokenKind)
+pub after_reader_moves : (names : List (List ℕ)) (parts : LabelPhrase) → TrustIsLast parts → (kind : TokenKind)
     (r rest : List TokenKind) → kind ∷ r ≡ more_names names (more_parts parts rest) →
     Moves due.after_reader kind r rest
 after_reader_moves [] parts sound kind r rest w = after_policy due.after_reader refl refl parts sound kind r rest w
@@ -132,7 +132,7 @@ after_reader_moves (name ∷ names) parts sound kind r rest w =
     moves due.after_reader kind (symbol symbols.Comma) (due.a_name ∷ due.after_reader ∷ []) r rest both.0 refl
     (more_names names (more_parts parts rest), (name, both.1), (rest, (names, parts, sound, refl), refl))
 
-members_move : (names : List (List ℕ)) (kind : TokenKind) (r rest : List TokenKind) →
+pub members_move : (names : List (List ℕ)) (kind : TokenKind) (r rest : List TokenKind) →
     kind ∷ r ≡ names_then names (symbol symbols.RightBrace ∷ rest) → Moves due.members kind r rest
 members_move [] kind r rest w =
     moves due.members kind (symbol symbols.RightBrace) [] r rest (cc) refl (let e : r ≡ rest = (cc) in e)
@@ -141,7 +141,7 @@ members_move (name ∷ names) kind r rest w =
     w ∙ joined_more (symbol symbols.Comma) name_then name names (symbol symbols.RightBrace ∷ rest) in
     moves due.members kind (Name name) (due.after_member ∷ []) r rest (cc) refl (rest, (names, cc), refl)
 
-after_member_moves : (names : List (List ℕ)) (kind : TokenKind) (r rest : List TokenKind) →
+pub after_member_moves : (names : List (List ℕ)) (kind : TokenKind) (r rest : List TokenKind) →
     kind ∷ r ≡ more_names names (symbol symbols.RightBrace ∷ rest) → Moves due.after_member kind r rest
 after_member_moves [] kind r rest w =
     moves due.after_member kind (symbol symbols.RightBrace) [] r rest (cc) refl (let e : r ≡ rest = (cc) in e)
@@ -152,7 +152,7 @@ after_member_moves (name ∷ names) kind r rest w =
 
 -- ---- expressions
 
-abbrev closing_symbol : Closing → Symbol
+abbrev pub closing_symbol : Closing → Symbol
 closing_symbol due.at_semicolon = symbols.Semicolon
 closing_symbol due.at_comma = symbols.Comma
 closing_symbol due.at_bracket = symbols.RightBracket
@@ -160,10 +160,10 @@ closing_symbol due.at_parenthesis = symbols.RightParenthesis
 closing_symbol due.at_argument = symbols.RightParenthesis
 
 -- an expression may end or go on behind an operand
-record GoesBehind (first : Due) (closing : Closing) : Type 0 where
-  operators : (o : BinOp) → due_after_symbol first (operator_symbol o) ≡ Some (due.operand closing ∷ [])
-  closes : due_after_symbol first (closing_symbol closing) ≡ Some []
-  comma : closing ≡ due.at_argument → due_after_symbol first symbols.Comma ≡ Some (due.operand due.at_argument ∷ [])
+pub record GoesBehind (first : Due) (closing : Closing) : Type 0 where
+  pub operators : (o : BinOp) → due_after_symbol first (operator_symbol o) ≡ Some (due.operand closing ∷ [])
+  pub closes : due_after_symbol first (closing_symbol closing) ≡ Some []
+  pub comma : closing ≡ due.at_argument → due_after_symbol first symbols.Comma ≡ Some (due.operand due.at_argument ∷ [])
 
 closes_moves : (first : Due) (closing : Closing) → GoesBehind first closing → (kind : TokenKind)
     (r x rest : List TokenKind) → Closes closing x rest → kind ∷ r ≡ x → Moves first kind r rest
@@ -197,7 +197,7 @@ closes_moves first due.at_argument goes kind r x rest closes w =
           refl,
         )
 
-links_move : (first : Due) (closing : Closing) → GoesBehind first closing → (kind : TokenKind)
+pub links_move : (first : Due) (closing : Closing) → GoesBehind first closing → (kind : TokenKind)
     (r rest : List TokenKind) → WrittenLinks closing (kind ∷ r) rest → Moves first kind r rest
 links_move first closing goes kind r rest w = by_links w.links w.sound w.written
   where
@@ -219,7 +219,7 @@ links_move first closing goes kind r rest w = by_links w.links w.sound w.written
           refl,
         )
 
-links_operator : (closing : Closing) (o : BinOp) →
+pub links_operator : (closing : Closing) (o : BinOp) →
     after_operand closing (operator_symbol o) ≡ Some (due.operand closing ∷ [])
 links_operator due.at_semicolon operator.Or = refl
 links_operator due.at_semicolon _ = refl
@@ -240,7 +240,7 @@ links_comma : (closing : Closing) → closing ≡ due.at_argument →
     after_operand closing symbols.Comma ≡ Some (due.operand due.at_argument ∷ [])
 links_comma closing is = ap (λ c. after_operand c symbols.Comma) is
 
-name_operator : (closing : Closing) (o : BinOp) →
+pub name_operator : (closing : Closing) (o : BinOp) →
     after_operand_name_symbol closing (operator_symbol o) ≡ Some (due.operand closing ∷ [])
 name_operator closing operator.Or = links_operator closing operator.Or
 name_operator closing operator.And = links_operator closing operator.And
@@ -260,7 +260,7 @@ name_closes : (closing : Closing) → after_operand_name_symbol closing (closing
 name_closes due.at_semicolon = refl
 name_closes _ = refl
 
-behind_links : (closing : Closing) → GoesBehind (due.links closing) closing
+pub behind_links : (closing : Closing) → GoesBehind (due.links closing) closing
 behind_links closing = record {
   operators = links_operator closing;
   closes = links_closes closing;
@@ -300,15 +300,15 @@ index_moves first closing is kind r rest w =
     )
 
 -- an operand may begin
-record BeginsOperand (first : Due) (closing : Closing) : Type 0 where
-  numbers : (n : ℕ) → due_after_number first (pos n) ≡ Some (due.links closing ∷ [])
-  behind_name : Due
-  names : due_after_name first ≡ Some (behind_name ∷ [])
-  after : (tokens rest : List TokenKind) → WrittenAfterName closing tokens rest → Written behind_name tokens rest
-  parenthesis : due_after_symbol first symbols.LeftParenthesis
+pub record BeginsOperand (first : Due) (closing : Closing) : Type 0 where
+  pub numbers : (n : ℕ) → due_after_number first (pos n) ≡ Some (due.links closing ∷ [])
+  pub behind_name : Due
+  pub names : due_after_name first ≡ Some (behind_name ∷ [])
+  pub after : (tokens rest : List TokenKind) → WrittenAfterName closing tokens rest → Written behind_name tokens rest
+  pub parenthesis : due_after_symbol first symbols.LeftParenthesis
       ≡ Some (due.operand due.at_parenthesis ∷ due.links closing ∷ [])
-  signs : (sign : Sign) → due_after_symbol first (sign_symbol sign) ≡ Some (due.operand closing ∷ [])
-  changes : (change : Change) → due_after_word first (change_word change) ≡ Some (relabelled_operand closing)
+  pub signs : (sign : Sign) → due_after_symbol first (sign_symbol sign) ≡ Some (due.operand closing ∷ [])
+  pub changes : (change : Change) → due_after_word first (change_word change) ≡ Some (relabelled_operand closing)
 
 operand_moves : (first : Due) (closing : Closing) → BeginsOperand first closing → (x : ExprPhrase) →
     IsSoundOperand x → (kind : TokenKind) (r rest : List TokenKind) (ls : List Link) →
@@ -404,14 +404,14 @@ operand_moves first closing begins (relabelled change inner label) sound kind r 
 operand_moves first closing begins (binary o left right) sound kind r rest ls links_sound behind closes w =
     absurd sound.0
 
-expr_moves : (first : Due) (closing : Closing) → BeginsOperand first closing → (kind : TokenKind)
+pub expr_moves : (first : Due) (closing : Closing) → BeginsOperand first closing → (kind : TokenKind)
     (r rest : List TokenKind) → WrittenExpr closing (kind ∷ r) rest → Moves first kind r rest
 expr_moves first closing begins kind r rest w =
     let sound = sound_operands w.expr w.sound in
     operand_moves first closing begins (first_operand w.expr) (at_first IsSoundOperand w.expr sound) kind r rest
     (links w.expr) (at_links IsSoundOperand w.expr sound) w.behind w.closes (w.written ∙ in_order w.expr w.behind)
 
-begins_operand : (closing : Closing) → BeginsOperand (due.operand closing) closing
+pub begins_operand : (closing : Closing) → BeginsOperand (due.operand closing) closing
 begins_operand closing = record {
   numbers = λ n. refl;
   behind_name = due.after_operand_name closing;
@@ -496,7 +496,7 @@ call_moves first is kind r rest w =
     moves first kind (symbol symbols.LeftParenthesis) call_rest r rest (cc) is
     (symbol symbols.Semicolon ∷ rest, (w.args, w.sound, (cc)), (rest, refl, refl))
 
-value_moves : (kind : TokenKind) (r rest : List TokenKind) → WrittenValue (kind ∷ r) rest → Moves due.value kind r rest
+pub value_moves : (kind : TokenKind) (r rest : List TokenKind) → WrittenValue (kind ∷ r) rest → Moves due.value kind r rest
 value_moves kind r rest (inl w) = expr_moves due.value due.at_semicolon begins_value kind r rest w
 value_moves kind r rest (inr w) =
     let same = w.written in
@@ -504,21 +504,21 @@ value_moves kind r rest (inr w) =
     moves due.value kind (Name w.name) (due.after_value_name ∷ []) r rest (cc) refl
     (rest, inr (subst (λ ts. WrittenCall ts rest) tail w.call), refl)
 
-after_name_moves : (closing : Closing) (kind : TokenKind) (r rest : List TokenKind) →
+pub after_name_moves : (closing : Closing) (kind : TokenKind) (r rest : List TokenKind) →
     WrittenAfterName closing (kind ∷ r) rest → Moves (due.after_operand_name closing) kind r rest
 after_name_moves closing kind r rest (inl w) =
     links_move (due.after_operand_name closing) closing (behind_name closing) kind r rest w
 after_name_moves closing kind r rest (inr w) =
     index_moves (due.after_operand_name closing) closing refl kind r rest w
 
-value_name_moves : (kind : TokenKind) (r rest : List TokenKind) → Written due.after_value_name (kind ∷ r) rest →
+pub value_name_moves : (kind : TokenKind) (r rest : List TokenKind) → Written due.after_value_name (kind ∷ r) rest →
     Moves due.after_value_name kind r rest
 value_name_moves kind r rest (inl (inl w)) =
     links_move due.after_value_name due.at_semicolon behind_value_name kind r rest w
 value_name_moves kind r rest (inl (inr w)) = index_moves due.after_value_name due.at_semicolon refl kind r rest w
 value_name_moves kind r rest (inr w) = call_moves due.after_value_name refl kind r rest w
 
-first_name_moves : (kind : TokenKind) (r rest : List TokenKind) → Written due.after_first_name (kind ∷ r) rest →
+pub first_name_moves : (kind : TokenKind) (r rest : List TokenKind) → Written due.after_first_name (kind ∷ r) rest →
     Moves due.after_first_name kind r rest
 first_name_moves kind r rest (inl w) =
     let same = w.written in
@@ -541,7 +541,7 @@ first_name_moves kind r rest (inr (inl w)) =
     )
 first_name_moves kind r rest (inr (inr w)) = call_moves due.after_first_name refl kind r rest w
 
-after_int_moves : (kind : TokenKind) (r rest : List TokenKind) → WrittenLocal (kind ∷ r) rest →
+pub after_int_moves : (kind : TokenKind) (r rest : List TokenKind) → WrittenLocal (kind ∷ r) rest →
     Moves due.after_int kind r rest
 after_int_moves kind r rest w = by_label w.label w.label_sound w.written
   where
@@ -555,7 +555,7 @@ after_int_moves kind r rest w = by_label w.label w.label_sound w.written
         moves due.after_int kind (symbol symbols.LeftBrace) (due.first_part ∷ due.a_name ∷ local_rest) r rest (cc) refl
         (Name w.name ∷ w.behind, (label, sound, (cc)), (w.behind, (w.name, refl), set_written w.behind rest w.set))
 
-args_move : (args : List ExprPhrase) → AreGrouped args → (kind : TokenKind) (r rest : List TokenKind) →
+pub args_move : (args : List ExprPhrase) → AreGrouped args → (kind : TokenKind) (r rest : List TokenKind) →
     kind ∷ r ≡ args_then args (symbol symbols.RightParenthesis ∷ rest) → Moves due.args kind r rest
 args_move [] sound kind r rest w =
     moves due.args kind (symbol symbols.RightParenthesis) [] r rest (cc) refl (let e : r ≡ rest = (cc) in e)
@@ -569,13 +569,13 @@ args_move (arg ∷ args) sound kind r rest w =
     })
 
 -- statements may begin
-record BeginsStatement (first : Due) (place : Place) : Type 0 where
-  names : due_after_name first ≡ Some (due.after_first_name ∷ due.statements place ∷ [])
-  by_int : due_after_word first words.Int ≡ Some (due.after_int ∷ due.statements place ∷ [])
-  by_if : due_after_word first words.If ≡ Some (guard ++ due.statements due.nested ∷ due.otherwise place ∷ [])
-  by_while : due_after_word first words.While ≡ Some (guard ++ due.statements due.nested ∷ due.statements place ∷ [])
-  by_brace : due_after_symbol first symbols.RightBrace ≡ Some []
-  by_return : place ≡ due.body → due_after_word first words.Return
+pub record BeginsStatement (first : Due) (place : Place) : Type 0 where
+  pub names : due_after_name first ≡ Some (due.after_first_name ∷ due.statements place ∷ [])
+  pub by_int : due_after_word first words.Int ≡ Some (due.after_int ∷ due.statements place ∷ [])
+  pub by_if : due_after_word first words.If ≡ Some (guard ++ due.statements due.nested ∷ due.otherwise place ∷ [])
+  pub by_while : due_after_word first words.While ≡ Some (guard ++ due.statements due.nested ∷ due.statements place ∷ [])
+  pub by_brace : due_after_symbol first symbols.RightBrace ≡ Some []
+  pub by_return : place ≡ due.body → due_after_word first words.Return
       ≡ Some (due.operand due.at_semicolon ∷ due.exactly due.right_brace ∷ [])
 
 -- a guard, its nested block, and what is behind
@@ -641,7 +641,7 @@ end_moves first due.body begins kind r x rest ends w = by_result ends.0 ends.1 (
         )
 
 -- statements behind one
-behind_one : (place : Place) (block : BlockPhrase) → IsBlock block → (x rest : List TokenKind) → EndsAt place x rest →
+pub behind_one : (place : Place) (block : BlockPhrase) → IsBlock block → (x rest : List TokenKind) → EndsAt place x rest →
     WrittenBlock place (block_then block x) rest
 behind_one place block sound x rest ends = record {
   block = block;
@@ -651,7 +651,7 @@ behind_one place block sound x rest ends = record {
   written = refl;
 }
 
-statements_move : (first : Due) (place : Place) → BeginsStatement first place → (b : BlockPhrase) → IsBlock b →
+pub statements_move : (first : Due) (place : Place) → BeginsStatement first place → (b : BlockPhrase) → IsBlock b →
     (kind : TokenKind) (r x rest : List TokenKind) → EndsAt place x rest → kind ∷ r ≡ block_then b x →
     Moves first kind r rest
 statements_move first place begins end sound kind r x rest ends w =
@@ -754,7 +754,7 @@ statements_move first place begins (loop e block more) sound kind r x rest ends 
     (sym tail) (guarded e block (due.statements place) (block_then more x) rest sound.0 sound.1
     (behind_one place more sound.2 x rest ends)))
 
-begins_statement : (place : Place) → BeginsStatement (due.statements place) place
+pub begins_statement : (place : Place) → BeginsStatement (due.statements place) place
 begins_statement due.nested = record {
   names = refl;
   by_int = refl;
@@ -790,7 +790,7 @@ begins_otherwise due.body = record {
   by_return = λ is. refl;
 }
 
-otherwise_moves : (place : Place) (kind : TokenKind) (r rest : List TokenKind) →
+pub otherwise_moves : (place : Place) (kind : TokenKind) (r rest : List TokenKind) →
     Written (due.otherwise place) (kind ∷ r) rest → Moves (due.otherwise place) kind r rest
 otherwise_moves place kind r rest (inl w) =
     let same = w.written in

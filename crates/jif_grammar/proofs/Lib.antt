@@ -17,3 +17,4 @@ pub mod Worked
 pub mod Gather
 pub mod Written
 pub mod DueMoves
+pub mod DueProgress
