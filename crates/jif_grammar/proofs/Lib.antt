@@ -18,3 +18,5 @@ pub mod Gather
 pub mod Written
 pub mod DueMoves
 pub mod DueProgress
+pub mod DueSound
+pub mod DueStatements
