@@ -9,12 +9,14 @@ use Rattle.label_lattice.specs.Written.{symbol}
 use Rattle.jif_grammar.specs.Phrases.{LabelPhrase, FieldEnd, unset, sized, set, ParamPhrase, MethodPhrase, field, method}
 use Rattle.jif_grammar.specs.Phrases.{ProgramPhrase}
 use Rattle.jif_grammar.specs.Grouping.{AreParams, IsBlock, IsResult, IsOptionalLabel, IsFieldEnd, IsProgram}
+use Rattle.std.proofs.Common.{ap}
+use Rattle.jif_grammar.specs.Due.{item_due, before_due, due_next}
 use Rattle.jif_grammar.specs.Due as due
 use Rattle.jif_grammar.specs.Due.{Due, method_rest, due_after_token}
 use Rattle.jif_grammar.proofs.Continued.{label_then, name_then, param_then, params_then, authority_then, block_then}
 use Rattle.jif_grammar.proofs.Continued.{result_then, head_then, tail_then, field_end_then, sign_then, program_then}
 use Rattle.jif_grammar.proofs.Continued.{names_then}
-use Rattle.jif_grammar.proofs.Written.{joined_more, more_names, more_params, Written, AreWritten}
+use Rattle.jif_grammar.proofs.Written.{joined_more, more_names, more_params, Written, AreWritten, WrittenFrom}
 use Rattle.jif_grammar.proofs.DueMoves.{Moves, moves, fixed_moves, part_moves, first_part_moves, readers_move}
 use Rattle.jif_grammar.proofs.DueMoves.{after_reader_moves, members_move, after_member_moves, name_behind, links_move}
 use Rattle.jif_grammar.proofs.DueMoves.{behind_links, expr_moves, begins_operand, value_moves, after_name_moves}
@@ -172,72 +174,106 @@ first_value_moves true n kind r rest w =
 
 -- ---- programs
 
-items_move : (program : ProgramPhrase) → IsProgram program → (kind : TokenKind) (r rest : List TokenKind) →
-    kind ∷ r ≡ program_then program [] → rest ≡ [] → Moves due.items kind r rest
-items_move [] sound kind r rest w ends = absurd (cc)
-items_move (field phrase ∷ items) sound kind r rest w ends =
+-- the first token of a program, and what it makes due
+pub record MovesFrom (first : List Due) (kind : TokenKind) (tokens : List TokenKind) : Type 0 where
+  pub new : List Due
+  pub is : due_next first kind ≡ Some new
+  pub written : WrittenFrom new tokens
+
+items_move : (program : ProgramPhrase) → IsProgram program → (kind : TokenKind) (r : List TokenKind) →
+    kind ∷ r ≡ program_then program [] → MovesFrom [] kind r
+items_move [] sound kind r w = absurd (cc)
+items_move (field phrase ∷ items) sound kind r w =
     let later = program_then items [] in
     let end = field_end_then phrase.ending later in
-    moves due.items kind (Word words.Int) (due.label ∷ due.a_name ∷ due.after_name ∷ due.items ∷ []) r rest (cc) refl (
-      Name phrase.name ∷ end,
-      (phrase.label, sound.0.0, (cc)),
-      (
-        end,
-        (phrase.name, refl),
-        (
-          later,
-          inl (phrase.ending, sound.0.1, refl),
-          ([], (items, sound.1, refl, refl), sym ends),
-        ),
-      ),
-    )
-items_move (method phrase ∷ items) sound kind r rest w ends = by_kind phrase.kind sound.0.0 w
+    let head : kind ≡ Word words.Int = (cc) in
+    record {
+      new = due.label ∷ due.a_name ∷ due.after_name ∷ [];
+      is = ap item_due head;
+      written = record {
+        behind = later;
+        written = (
+          Name phrase.name ∷ end,
+          (phrase.label, sound.0.0, (cc)),
+          (
+            end,
+            (phrase.name, refl),
+            (
+              later,
+              inl (phrase.ending, sound.0.1, refl),
+              refl,
+            ),
+          ),
+        );
+        items = items;
+        sound = sound.1;
+        is = refl;
+      };
+    }
+items_move (method phrase ∷ items) sound kind r w = by_kind phrase.kind sound.0.0 w
   where
-    later : List TokenKind
-    later = tail_then phrase (program_then items [])
-
-    behind : AreWritten (method_rest ++ due.items ∷ []) (tail_then phrase (program_then items [])) rest
+    behind : AreWritten method_rest (tail_then phrase (program_then items [])) (program_then items [])
     behind =
-        tail_written phrase sound.0.2 sound.0.3 sound.0.4 (due.items ∷ []) (program_then items []) rest
-        ([], (items, sound.1, refl, refl), sym ends)
+        tail_written phrase sound.0.2 sound.0.3 sound.0.4 [] (program_then items []) (program_then items []) refl
 
     by_kind : (label : Option LabelPhrase) → IsOptionalLabel label →
         kind ∷ r ≡ head_then label phrase.name phrase.begin (tail_then phrase (program_then items [])) →
-        Moves due.items kind r rest
+        MovesFrom [] kind r
     by_kind None label_sound is =
-        moves due.items kind (Word words.Void) (due.a_name ∷ due.label ∷ method_rest ++ due.items ∷ []) r rest (cc) refl (
-          label_then phrase.begin (tail_then phrase (program_then items [])),
-          (phrase.name, (cc)),
-          (tail_then phrase (program_then items []), (phrase.begin, sound.0.1, refl), behind),
-        )
+        let head : kind ≡ Word words.Void = (cc) in
+        record {
+          new = due.a_name ∷ due.label ∷ method_rest;
+          is = ap item_due head;
+          written = record {
+            behind = program_then items [];
+            written = (
+              label_then phrase.begin (tail_then phrase (program_then items [])),
+              (phrase.name, (cc)),
+              (tail_then phrase (program_then items []), (phrase.begin, sound.0.1, refl), behind),
+            );
+            items = items;
+            sound = sound.1;
+            is = refl;
+          };
+        }
     by_kind (Some label) label_sound is =
-        let head = label_then phrase.begin (tail_then phrase (program_then items [])) in
-        moves due.items kind (Word words.Int) (due.label ∷ due.a_name ∷ due.after_name ∷ due.items ∷ []) r rest (cc)
-        refl (
-          Name phrase.name ∷ head,
-          (label, label_sound, (cc)),
-          (
-            head,
-            (phrase.name, refl),
-            (
-              program_then items [],
-              inr (record {
-                begin = phrase.begin;
-                sound = sound.0.1;
-                behind = tail_then phrase (program_then items []);
-                tail = record {
-                  phrase = phrase;
-                  params = sound.0.2;
-                  body = sound.0.3;
-                  result = sound.0.4;
-                  written = refl;
-                };
-                written = refl;
-              }),
-              ([], (items, sound.1, refl, refl), sym ends),
-            ),
-          ),
-        )
+        let head : kind ≡ Word words.Int = (cc) in
+        let begun = label_then phrase.begin (tail_then phrase (program_then items [])) in
+        record {
+          new = due.label ∷ due.a_name ∷ due.after_name ∷ [];
+          is = ap item_due head;
+          written = record {
+            behind = program_then items [];
+            written = (
+              Name phrase.name ∷ begun,
+              (label, label_sound, (cc)),
+              (
+                begun,
+                (phrase.name, refl),
+                (
+                  program_then items [],
+                  inr (record {
+                    begin = phrase.begin;
+                    sound = sound.0.1;
+                    behind = tail_then phrase (program_then items []);
+                    tail = record {
+                      phrase = phrase;
+                      params = sound.0.2;
+                      body = sound.0.3;
+                      result = sound.0.4;
+                      written = refl;
+                    };
+                    written = refl;
+                  }),
+                  refl,
+                ),
+              ),
+            );
+            items = items;
+            sound = sound.1;
+            is = refl;
+          };
+        }
 
 -- ---- all that is due
 
@@ -257,7 +293,6 @@ progress due.a_number kind r rest w =
 progress due.a_size kind r rest w =
     let same = w.1 in
     moves due.a_size kind (Number (pos (suc w.0))) [] r rest (cc) refl (let e : r ≡ rest = (cc) in e)
-progress due.items kind r rest w = items_move w.0 w.1 kind r rest w.2 w.3
 progress due.after_name kind r rest w = after_name_moves_on kind r rest w
 progress due.first_value kind r rest w = first_value_moves w.0 w.1 kind r rest w.2
 progress due.label kind r rest w =
@@ -288,3 +323,29 @@ progress (due.operand closing) kind r rest w =
     expr_moves (due.operand closing) closing (begins_operand closing) kind r rest w
 progress (due.after_operand_name closing) kind r rest w = after_name_moves closing kind r rest w
 progress (due.links closing) kind r rest w = links_move (due.links closing) closing (behind_links closing) kind r rest w
+
+-- ---- lists of what is due
+
+pub written_joined : (first later : List Due) (tokens between rest : List TokenKind) → AreWritten first tokens between →
+    AreWritten later between rest → AreWritten (first ++ later) tokens rest
+written_joined [] later tokens between rest w v = subst (λ ts. AreWritten later ts rest) (sym w) v
+written_joined (one ∷ first) later tokens between rest (x, w, more) v =
+    (x, w, written_joined first later x between rest more v)
+
+pub progress_from : (first : List Due) (kind : TokenKind) (r : List TokenKind) → WrittenFrom first (kind ∷ r) →
+    MovesFrom first kind r
+progress_from [] kind r w = items_move w.items w.sound kind r (w.written ∙ w.is)
+progress_from (one ∷ later) kind r w =
+    let (x, v, more) = w.written in
+    let moved = progress one kind r x v in
+    record {
+      new = moved.new ++ later;
+      is = ap (before_due later) moved.is;
+      written = record {
+        behind = w.behind;
+        written = written_joined moved.new later r x w.behind moved.written more;
+        items = w.items;
+        sound = w.sound;
+        is = w.is;
+      };
+    }

@@ -20,3 +20,5 @@ pub mod DueMoves
 pub mod DueProgress
 pub mod DueSound
 pub mod DueStatements
+pub mod DuePrograms
+pub mod DueLaws

@@ -169,8 +169,6 @@ Written due.authority_word tokens rest = tokens ≡ Word words.Authority ∷ res
 Written due.a_name tokens rest = (name : List ℕ) × (tokens ≡ Name name ∷ rest)
 Written due.a_number tokens rest = (n : ℕ) × (tokens ≡ Number (pos n) ∷ rest)
 Written due.a_size tokens rest = (n : ℕ) × (tokens ≡ Number (pos (suc n)) ∷ rest)
-Written due.items tokens rest =
-    (program : ProgramPhrase) × IsProgram program × (tokens ≡ program_then program []) × (rest ≡ [])
 Written due.after_name tokens rest =
     ((ending : FieldEnd) × IsFieldEnd ending × (tokens ≡ field_end_then ending rest)) ⊎ WrittenBegin tokens rest
 Written due.first_value tokens rest =
@@ -221,3 +219,11 @@ abbrev pub AreWritten : List Due → List TokenKind → List TokenKind → Type 
 AreWritten [] tokens rest = tokens ≡ rest
 AreWritten (first ∷ later) tokens rest =
     (between : List TokenKind) × Written first tokens between × AreWritten later between rest
+
+-- what is due, and then the fields and methods that are left
+pub record WrittenFrom (first : List Due) (tokens : List TokenKind) : Type 0 where
+  pub behind : List TokenKind
+  pub written : AreWritten first tokens behind
+  pub items : ProgramPhrase
+  pub sound : IsProgram items
+  pub is : behind ≡ program_then items []

@@ -1,5 +1,6 @@
 -- What is due next, after the first tokens of a program. A list of what is due stands for all ways to go on: each token
--- takes the first of the list away, and puts in its place what the token makes due.
+-- takes the first of the list away, and puts in its place what the token makes due. Where nothing is due the program may
+-- end, or a field or a method begins.
 use Rattle.std.specs.Prelude.{suc, ℤ, pos, List, [], ◌∷◌, ◌++◌, Option, Some, None}
 use Rattle.jif_lex.specs.declared.token.TokenKind.{TokenKind}
 use Rattle.jif_lex.specs.declared.token.TokenKind.TheVariants as token
@@ -54,8 +55,6 @@ pub data Due : Type 0 where
   a_number : Due
   -- a number above 0
   a_size : Due
-  -- fields and methods, up to the end
-  items : Due
   -- what follows the name of a field or of an `int` method
   after_name : Due
   -- the first value of a field
@@ -215,8 +214,6 @@ due_after_symbol due symbol = None
 abbrev pub due_after_word : Due → Word → Option (List Due)
 due_after_word int_word words.Int = Some []
 due_after_word authority_word words.Authority = Some []
-due_after_word items words.Int = Some (label ∷ a_name ∷ after_name ∷ items ∷ [])
-due_after_word items words.Void = Some (a_name ∷ label ∷ method_rest ++ items ∷ [])
 due_after_word params words.Int = Some (label ∷ a_name ∷ after_param ∷ [])
 due_after_word authority words.Where =
     Some (authority_word ∷ exactly left_parenthesis ∷ a_name ∷ after_principal ∷ [])
@@ -264,9 +261,15 @@ abbrev pub before_due : List Due → Option (List Due) → Option (List Due)
 before_due later None = None
 before_due later (Some sooner) = Some (sooner ++ later)
 
+-- what a field or a method makes due by its first token
+abbrev pub item_due : TokenKind → Option (List Due)
+item_due (token.Word words.Int) = Some (label ∷ a_name ∷ after_name ∷ [])
+item_due (token.Word words.Void) = Some (a_name ∷ label ∷ method_rest)
+item_due kind = None
+
 abbrev pub due_next : List Due → TokenKind → Option (List Due)
-due_next [] kind = None
-due_next (due ∷ later) kind = before_due later (due_after_token due kind)
+due_next [] kind = item_due kind
+due_next (first ∷ later) kind = before_due later (due_after_token first kind)
 
 abbrev pub after_all : Option (List Due) → List TokenKind → Option (List Due)
 after_all None kinds = None
@@ -275,4 +278,4 @@ after_all (Some due) (kind ∷ kinds) = after_all (due_next due kind) kinds
 
 -- what is due after the first tokens of a program; `None` where no program begins with them
 abbrev pub due_after : List TokenKind → Option (List Due)
-due_after kinds = after_all (Some (items ∷ [])) kinds
+due_after kinds = after_all (Some []) kinds
