@@ -133,7 +133,7 @@ step_sound first new kind more r None step is rest = absurd (cc)
 step_sound first new kind more r (Some middle) step is rest =
     sound_from first kind middle (more ++ r) step (rest middle is)
 
-run_sound : (front : List TokenKind) (first new : List Due) (r : List TokenKind) →
+pub run_sound : (front : List TokenKind) (first new : List Due) (r : List TokenKind) →
     after_all (Some first) front ≡ Some new → WrittenFrom new r → WrittenFrom first (front ++ r)
 run_sound [] first new r is w =
     let same : new ≡ first = (cc) in
@@ -142,7 +142,7 @@ run_sound (kind ∷ more) first new r is w =
     step_sound first new kind more r (due_next first kind) refl is (λ middle reached. run_sound more middle new r reached
     w)
 
-run_progress : (front : List TokenKind) (first : List Due) (r : List TokenKind) → WrittenFrom first (front ++ r) →
+pub run_progress : (front : List TokenKind) (first : List Due) (r : List TokenKind) → WrittenFrom first (front ++ r) →
     (new : List Due) × (after_all (Some first) front ≡ Some new) × WrittenFrom new r
 run_progress [] first r w = (first, refl, w)
 run_progress (kind ∷ more) first r w =
@@ -150,7 +150,7 @@ run_progress (kind ∷ more) first r w =
     let (new, is, written) = run_progress more moved.new r moved.written in
     (new, ap (λ made. after_all made more) moved.is ∙ is, written)
 
-from_program : (tokens : List TokenKind) (program : ProgramPhrase) → IsProgram program →
+pub from_program : (tokens : List TokenKind) (program : ProgramPhrase) → IsProgram program →
     tokens ≡ program_then program [] → WrittenFrom [] tokens
 from_program tokens program sound is = record {
   behind = tokens;

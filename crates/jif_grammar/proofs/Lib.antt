@@ -22,3 +22,4 @@ pub mod DueSound
 pub mod DueStatements
 pub mod DuePrograms
 pub mod DueLaws
+pub mod DueEnds
