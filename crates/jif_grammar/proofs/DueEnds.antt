@@ -8,12 +8,14 @@ use Rattle.jif_lex.specs.declared.token.TokenKind.TheVariants as token
 use Rattle.jif_lex.specs.declared.token.Symbol.TheVariants as symbols
 use Rattle.label_lattice.specs.Written.{Part, policy, trust, symbol, kinds}
 use Rattle.jif_grammar.specs.Phrases.{LabelPhrase, ExprPhrase, number, variable, element, parenthesized, signed, binary}
-use Rattle.jif_grammar.specs.Phrases.{relabelled, BlockPhrase, end, FieldEnd, unset, sized, set, ParamPhrase, ProgramPhrase}
+use Rattle.jif_grammar.specs.Phrases.{relabelled, BlockPhrase, end, FieldEnd, unset, sized, set, ParamPhrase}
+use Rattle.jif_grammar.specs.Phrases.{ProgramPhrase}
 use Rattle.jif_grammar.specs.Operators.{operator_symbol}
 use Rattle.jif_grammar.specs.Due as due
 use Rattle.jif_grammar.specs.Due.{Due, Closing, Place, due_after}
 use Rattle.jif_grammar.specs.Programs.{Spells}
-use Rattle.jif_grammar.proofs.Continued.{joined_then, name_then, names_then, part_then, expr_then, args_then, block_then}
+use Rattle.jif_grammar.proofs.Continued.{joined_then, name_then, names_then, part_then, expr_then, args_then}
+use Rattle.jif_grammar.proofs.Continued.{block_then}
 use Rattle.jif_grammar.proofs.Continued.{field_end_then, param_then, params_then, authority_then}
 use Rattle.jif_grammar.proofs.Continued.{optional_label_then, program_then, program_unmarked}
 use Rattle.jif_grammar.proofs.Groups.{Link}

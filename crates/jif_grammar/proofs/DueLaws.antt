@@ -139,7 +139,8 @@ run_sound [] first new r is w =
     let same : new ≡ first = (cc) in
     subst (λ ds. WrittenFrom ds r) same w
 run_sound (kind ∷ more) first new r is w =
-    step_sound first new kind more r (due_next first kind) refl is (λ middle reached. run_sound more middle new r reached
+    step_sound first new kind more r (due_next first kind) refl is
+    (λ middle reached. run_sound more middle new r reached
     w)
 
 pub run_progress : (front : List TokenKind) (first : List Due) (r : List TokenKind) → WrittenFrom first (front ++ r) →

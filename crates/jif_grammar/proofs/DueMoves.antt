@@ -9,7 +9,8 @@ use Rattle.jif_lex.specs.declared.token.Symbol.{Symbol}
 use Rattle.jif_lex.specs.declared.token.Symbol.TheVariants as symbols
 use Rattle.jif_lex.specs.declared.token.Word.TheVariants as words
 use Rattle.label_lattice.specs.Written.{Part, policy, trust, symbol, TrustIsLast}
-use Rattle.jif_grammar.specs.Phrases.{Sign, complement, minus, Change, release, acceptance, LabelPhrase, ExprPhrase, number}
+use Rattle.jif_grammar.specs.Phrases.{Sign, complement, minus, Change, release, acceptance, LabelPhrase, ExprPhrase}
+use Rattle.jif_grammar.specs.Phrases.{number}
 use Rattle.jif_grammar.specs.Phrases.{variable, element, parenthesized, signed, binary, relabelled, BlockPhrase, end}
 use Rattle.jif_grammar.specs.Phrases.{declaration, assignment, element_assignment, call, call_into, branch, branch_else}
 use Rattle.jif_grammar.specs.Phrases.{loop}
@@ -20,7 +21,8 @@ use Rattle.jif_grammar.specs.Due.{Due, Closing, Place, Fixed, fixed_symbol, afte
 use Rattle.jif_grammar.specs.Due.{after_operand_name_symbol, relabelled_operand, call_rest, method_rest, guard}
 use Rattle.jif_grammar.specs.Due.{local_rest, statement_word, due_after_symbol, due_after_word, due_after_name}
 use Rattle.jif_grammar.specs.Due.{due_after_number, due_after_token}
-use Rattle.jif_grammar.proofs.Continued.{joined_then, name_then, names_then, part_then, label_then, expr_then, args_then}
+use Rattle.jif_grammar.proofs.Continued.{joined_then, name_then, names_then, part_then, label_then, expr_then}
+use Rattle.jif_grammar.proofs.Continued.{args_then}
 use Rattle.jif_grammar.proofs.Continued.{block_then}
 use Rattle.jif_grammar.proofs.Continued.{result_then, optional_label_then}
 use Rattle.jif_grammar.proofs.OneJoined.{Each}
@@ -83,7 +85,8 @@ part_moves first begins (trust members) parts sound kind r rest w =
     ∷ names_then members (more_parts parts rest) =
     w ∙ joined_more (symbol symbols.Semicolon) part_then (trust members) parts (symbol symbols.RightBrace ∷ rest) in
     let tail : r ≡ symbol symbols.Colon ∷ names_then members (more_parts parts rest) = (cc) in
-    moves first kind (symbol symbols.Question) (due.exactly due.colon ∷ due.members ∷ []) r rest (cc) begins.by_question (
+    moves first kind (symbol symbols.Question) (due.exactly due.colon ∷ due.members ∷ []) r rest (cc)
+    begins.by_question (
       names_then members (symbol symbols.RightBrace ∷ rest),
       tail ∙ ap (λ ps. symbol symbols.Colon ∷ names_then members (more_parts ps rest)) sound,
       (rest, (members, refl), refl),
@@ -447,7 +450,8 @@ begins_argument = record {
     signs complement = refl
     signs minus = refl
 
-    changes : (change : Change) → due_after_word due.args (change_word change) ≡ Some (relabelled_operand due.at_argument)
+    changes : (change : Change) →
+        due_after_word due.args (change_word change) ≡ Some (relabelled_operand due.at_argument)
     changes release = refl
     changes acceptance = refl
 
@@ -466,7 +470,8 @@ begins_value = record {
     signs complement = refl
     signs minus = refl
 
-    changes : (change : Change) → due_after_word due.value (change_word change) ≡ Some (relabelled_operand due.at_semicolon)
+    changes : (change : Change) →
+        due_after_word due.value (change_word change) ≡ Some (relabelled_operand due.at_semicolon)
     changes release = refl
     changes acceptance = refl
 
@@ -496,7 +501,8 @@ call_moves first is kind r rest w =
     moves first kind (symbol symbols.LeftParenthesis) call_rest r rest (cc) is
     (symbol symbols.Semicolon ∷ rest, (w.args, w.sound, (cc)), (rest, refl, refl))
 
-pub value_moves : (kind : TokenKind) (r rest : List TokenKind) → WrittenValue (kind ∷ r) rest → Moves due.value kind r rest
+pub value_moves : (kind : TokenKind) (r rest : List TokenKind) → WrittenValue (kind ∷ r) rest →
+    Moves due.value kind r rest
 value_moves kind r rest (inl w) = expr_moves due.value due.at_semicolon begins_value kind r rest w
 value_moves kind r rest (inr w) =
     let same = w.written in
@@ -573,7 +579,8 @@ pub record BeginsStatement (first : Due) (place : Place) : Type 0 where
   pub names : due_after_name first ≡ Some (due.after_first_name ∷ due.statements place ∷ [])
   pub by_int : due_after_word first words.Int ≡ Some (due.after_int ∷ due.statements place ∷ [])
   pub by_if : due_after_word first words.If ≡ Some (guard ++ due.statements due.nested ∷ due.otherwise place ∷ [])
-  pub by_while : due_after_word first words.While ≡ Some (guard ++ due.statements due.nested ∷ due.statements place ∷ [])
+  pub by_while : due_after_word first words.While
+      ≡ Some (guard ++ due.statements due.nested ∷ due.statements place ∷ [])
   pub by_brace : due_after_symbol first symbols.RightBrace ≡ Some []
   pub by_return : place ≡ due.body → due_after_word first words.Return
       ≡ Some (due.operand due.at_semicolon ∷ due.exactly due.right_brace ∷ [])
@@ -641,7 +648,8 @@ end_moves first due.body begins kind r x rest ends w = by_result ends.0 ends.1 (
         )
 
 -- statements behind one
-pub behind_one : (place : Place) (block : BlockPhrase) → IsBlock block → (x rest : List TokenKind) → EndsAt place x rest →
+pub behind_one : (place : Place) (block : BlockPhrase) → IsBlock block → (x rest : List TokenKind) →
+    EndsAt place x rest →
     WrittenBlock place (block_then block x) rest
 behind_one place block sound x rest ends = record {
   block = block;

@@ -225,7 +225,8 @@ symbol_sound due.after_name symbols.LeftBrace new r rest is w =
     begun_method r rest (got (due.first_part ∷ method_rest) new r rest is w)
 symbol_sound due.first_value symbols.Minus new r rest is w =
     negative_value r rest (got (due.a_number ∷ due.exactly due.semicolon ∷ []) new r rest is w)
-symbol_sound due.label symbols.LeftBrace new r rest is w = whole_label r rest (got (due.first_part ∷ []) new r rest is w)
+symbol_sound due.label symbols.LeftBrace new r rest is w =
+    whole_label r rest (got (due.first_part ∷ []) new r rest is w)
 symbol_sound due.first_part symbols.RightBrace new r rest is w =
     ([], tt, ap (λ ts. symbol symbols.RightBrace ∷ ts) (got [] new r rest is w))
 symbol_sound due.first_part s new r rest is w = first_of_part (symbol s ∷ r) rest (part_sound s new r rest is w)

@@ -6,7 +6,8 @@ use Rattle.jif_lex.specs.declared.token.TokenKind.TheVariants.{Name, Number, Wor
 use Rattle.jif_lex.specs.declared.token.Symbol.TheVariants as symbols
 use Rattle.jif_lex.specs.declared.token.Word.TheVariants as words
 use Rattle.label_lattice.specs.Written.{symbol}
-use Rattle.jif_grammar.specs.Phrases.{LabelPhrase, FieldEnd, unset, sized, set, ParamPhrase, MethodPhrase, field, method}
+use Rattle.jif_grammar.specs.Phrases.{LabelPhrase, FieldEnd, unset, sized, set, ParamPhrase, MethodPhrase, field}
+use Rattle.jif_grammar.specs.Phrases.{method}
 use Rattle.jif_grammar.specs.Phrases.{ProgramPhrase}
 use Rattle.jif_grammar.specs.Grouping.{AreParams, IsBlock, IsResult, IsOptionalLabel, IsFieldEnd, IsProgram}
 use Rattle.std.proofs.Common.{ap}

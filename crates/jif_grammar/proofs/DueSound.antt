@@ -10,20 +10,23 @@ use Rattle.jif_lex.specs.declared.token.Symbol.TheVariants as symbols
 use Rattle.jif_lex.specs.declared.token.Word as words_type
 use Rattle.jif_lex.specs.declared.token.Word.TheVariants as words
 use Rattle.label_lattice.specs.Written.{policy, trust, symbol, TrustIsLast}
-use Rattle.jif_grammar.specs.Phrases.{Sign, complement, minus, Change, release, acceptance, LabelPhrase, ExprPhrase, number}
+use Rattle.jif_grammar.specs.Phrases.{Sign, complement, minus, Change, release, acceptance, LabelPhrase, ExprPhrase}
+use Rattle.jif_grammar.specs.Phrases.{number}
 use Rattle.jif_grammar.specs.Phrases.{variable, element, parenthesized, relabelled}
 use Rattle.jif_grammar.specs.Operators.{operator_of, operator_symbol, sign_symbol, change_word}
 use Rattle.jif_grammar.specs.Grouping.{IsGrouped}
 use Rattle.jif_grammar.specs.Due as due
 use Rattle.jif_grammar.specs.Due.{Due, Closing, Place, Fixed, fixed_symbol, after_fixed, by_operator, after_operand}
-use Rattle.jif_grammar.specs.Due.{after_operand_name_symbol, operand_symbol, operand_word, relabelled_operand, call_rest}
+use Rattle.jif_grammar.specs.Due.{after_operand_name_symbol, operand_symbol, operand_word, relabelled_operand}
+use Rattle.jif_grammar.specs.Due.{call_rest}
 use Rattle.jif_grammar.specs.Due.{method_rest, guard, local_rest, statement_word, statement_symbol, part_symbol}
 use Rattle.jif_grammar.specs.Due.{due_after_symbol, due_after_word, due_after_name, due_after_number, due_after_token}
 use Rattle.jif_grammar.proofs.Continued.{joined_then, name_then, names_then, part_then, label_then, expr_then}
 use Rattle.jif_grammar.proofs.Groups.{link}
 use Rattle.jif_grammar.proofs.OneExpr.{IsSoundOperand, sound_operands, at_first, at_links, in_order}
 use Rattle.jif_grammar.proofs.Groups.{first_operand, links}
-use Rattle.jif_grammar.proofs.Gather.{gather, gather_tokens, gather_grouped, with_sign, with_sign_tokens, with_sign_grouped}
+use Rattle.jif_grammar.proofs.Gather.{gather, gather_tokens, gather_grouped, with_sign, with_sign_tokens}
+use Rattle.jif_grammar.proofs.Gather.{with_sign_grouped}
 use Rattle.jif_grammar.proofs.Written.{joined_more, more_names, more_parts, more_args, Closes, WrittenLinks}
 use Rattle.jif_grammar.proofs.Written.{WrittenExpr, WrittenIndex, WrittenAfterName}
 use Rattle.jif_grammar.proofs.Written.{Written, AreWritten}
@@ -97,7 +100,8 @@ parts_behind r rest (y, (part, parts, sound, inside), last) = (
   part ∷ parts,
   sound,
   ap (λ ts. symbol symbols.Semicolon ∷ ts) (inside
-      ∙ ap (λ ts. joined_then (symbol symbols.Semicolon) part_then (part ∷ parts) (symbol symbols.RightBrace ∷ ts)) last),
+      ∙ ap (λ ts. joined_then (symbol symbols.Semicolon) part_then (part ∷ parts) (symbol symbols.RightBrace ∷ ts))
+      last),
 )
 
 pub more_readers : (r rest : List TokenKind) → AreWritten (due.a_name ∷ due.after_reader ∷ []) r rest →
@@ -299,7 +303,8 @@ after_operand_sound due.at_argument symbols.Comma new r rest is w =
       (operand.sound, sound),
       ap (λ ts. symbol symbols.Comma ∷ ts) (operand.written
           ∙ ap (expr_then operand.expr) (more ∙ ap (more_args args) last)
-          ∙ sym (joined_more (symbol symbols.Comma) expr_then operand.expr args (symbol symbols.RightParenthesis ∷ rest))),
+          ∙ sym (joined_more (symbol symbols.Comma) expr_then operand.expr args
+          (symbol symbols.RightParenthesis ∷ rest))),
     )
 after_operand_sound closing s new r rest is w = operator_sound closing s (operator_of s) refl new r rest is w
 

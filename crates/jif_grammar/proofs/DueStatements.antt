@@ -326,5 +326,6 @@ tail_of tokens rest (a, opening, (b, (params, params_sound, inside), (c, (names,
       written = opening ∙ ap (λ ts. symbol symbols.LeftParenthesis ∷ ts) (inside
           ∙ ap (λ ts. params_then params (symbol symbols.RightParenthesis ∷ ts)) (authority
           ∙ ap (λ ts. authority_then names (symbol symbols.LeftBrace ∷ ts)) (block.written
-          ∙ ap (block_then block.block) (ending ∙ ap (λ ts. result_then result (symbol symbols.RightBrace ∷ ts)) last))));
+          ∙ ap (block_then block.block)
+          (ending ∙ ap (λ ts. result_then result (symbol symbols.RightBrace ∷ ts)) last))));
     }

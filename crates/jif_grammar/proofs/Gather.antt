@@ -84,7 +84,8 @@ attached_binary p left right o x true is behind grouped sound =
       λ bound low below. low,
     )
 attached_binary p left right o x false is behind grouped sound =
-    let looser : operator_level o < suc (operator_level p) = leb-false (suc (operator_level p)) (operator_level o) is in (
+    let looser : operator_level o < suc (operator_level p) =
+    leb-false (suc (operator_level p)) (operator_level o) is in (
       (
         (let e : operator_level o ≤ operator_level p = omega (arith, looser) in e),
         (let e : operator_level o < level x = omega (arith, low_level o, operand_level x sound.0) in e),

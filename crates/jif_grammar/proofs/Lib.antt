@@ -23,3 +23,4 @@ pub mod DueStatements
 pub mod DuePrograms
 pub mod DueLaws
 pub mod DueEnds
+pub mod FaultTable

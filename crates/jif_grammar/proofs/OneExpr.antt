@@ -100,7 +100,8 @@ links_append [] ms r = refl
 links_append (l ∷ ls) ms r =
     ap (λ t. symbol (operator_symbol l.joins) ∷ expr_then l.operand t) (links_append ls ms r)
 
-pub in_order : (e : ExprPhrase) (r : List TokenKind) → expr_then e r ≡ expr_then (first_operand e) (links_then (links e) r)
+pub in_order : (e : ExprPhrase) (r : List TokenKind) →
+    expr_then e r ≡ expr_then (first_operand e) (links_then (links e) r)
 in_order (number n) r = refl
 in_order (variable name) r = refl
 in_order (element name index) r = refl

@@ -1,9 +1,11 @@
 //! Laws of the grammar, for whoever reads programs. The calls do nothing.
 
-ghost use Rattle.std.specs.Prelude.{◌≡◌, ◌+◌, ◌<◌, ◌≤◌, ℕ, List, length, take};
+ghost use Rattle.std.specs.Prelude.{◌≡◌, ◌+◌, ◌<◌, ◌≤◌, ℕ, List, [], length, take, Some};
 ghost use Rattle.jif_lex.specs.declared.token.Token.{Token};
+ghost use Rattle.label_lattice.specs.Written.{kinds};
 ghost use Rattle.jif_grammar.specs.declared.what.What.{What};
 ghost use Rattle.jif_grammar.specs.Phrases.{ProgramPhrase};
+ghost use Rattle.jif_grammar.specs.Due.{Due, due_after};
 ghost use Rattle.jif_grammar.specs.Marks.{IsTooDeep, HasTooMany};
 ghost use Rattle.jif_grammar.specs.Spelling.{spelling};
 ghost use Rattle.jif_grammar.specs.DraftShapes.{DraftShape};
@@ -44,4 +46,17 @@ pub fn refusal_laws()
         GoesOn (take n tokens) program → IsWithinUpTo program n →
         (n < length tokens → ¬ IsBeginning (take (n + 1) tokens)) →
         ((other : ProgramPhrase) → n ≡ length tokens → ¬ Spells tokens other) → IsRefused tokens (unexpected n) }
+{}
+
+/// Something is due after tokens exactly where a program begins with them, and nothing is due, exactly where they are a
+/// program. So what is due, token by token, finds the first token with which no program goes on.
+pub fn due_laws()
+    ensures due_at_beginning { (tokens : List Token) → IsBeginning tokens →
+        (first : List Due) × (due_after (kinds tokens) ≡ Some first) }
+    ensures beginning_of_due { (tokens : List Token) (first : List Due) →
+        due_after (kinds tokens) ≡ Some first → IsBeginning tokens }
+    ensures nothing_due_at_end { (tokens : List Token) (program : ProgramPhrase) →
+        Spells tokens program → due_after (kinds tokens) ≡ Some [] }
+    ensures program_of_nothing_due { (tokens : List Token) →
+        due_after (kinds tokens) ≡ Some [] → (program : ProgramPhrase) × Spells tokens program }
 {}
