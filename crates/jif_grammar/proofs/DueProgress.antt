@@ -17,12 +17,13 @@ use Rattle.jif_grammar.specs.Due.{Due, method_rest, due_after_token}
 use Rattle.jif_grammar.proofs.Continued.{label_then, name_then, param_then, params_then, authority_then, block_then}
 use Rattle.jif_grammar.proofs.Continued.{result_then, head_then, tail_then, field_end_then, sign_then, program_then}
 use Rattle.jif_grammar.proofs.Continued.{names_then}
-use Rattle.jif_grammar.proofs.Written.{joined_more, more_names, more_params, Written, AreWritten, WrittenFrom}
 use Rattle.jif_grammar.proofs.DueMoves.{Moves, moves, fixed_moves, part_moves, first_part_moves, readers_move}
 use Rattle.jif_grammar.proofs.DueMoves.{after_reader_moves, members_move, after_member_moves, name_behind, links_move}
-use Rattle.jif_grammar.proofs.DueMoves.{behind_links, expr_moves, begins_operand, value_moves, after_name_moves}
-use Rattle.jif_grammar.proofs.DueMoves.{value_name_moves, first_name_moves, after_int_moves, args_move}
-use Rattle.jif_grammar.proofs.DueMoves.{statements_move, begins_statement, otherwise_moves}
+use Rattle.jif_grammar.proofs.DueMoves.{behind_links, expr_moves, begins_operand}
+use Rattle.jif_grammar.proofs.DueStatementMoves.{value_moves, after_name_moves, value_name_moves, first_name_moves}
+use Rattle.jif_grammar.proofs.DueStatementMoves.{after_int_moves, args_move, statements_move, begins_statement}
+use Rattle.jif_grammar.proofs.DueStatementMoves.{otherwise_moves}
+use Rattle.jif_grammar.proofs.Written.{joined_more, more_names, more_params, Written, AreWritten, WrittenFrom}
 
 -- ---- methods
 

@@ -17,6 +17,7 @@ pub mod Worked
 pub mod Gather
 pub mod Written
 pub mod DueMoves
+pub mod DueStatementMoves
 pub mod DueProgress
 pub mod DueSound
 pub mod DueStatements

@@ -1,6 +1,6 @@
 -- What is due next, after the first tokens of a program. A list of what is due stands for all ways to go on: each token
--- takes the first of the list away, and puts in its place what the token makes due. Where nothing is due the program may
--- end, or a field or a method begins.
+-- takes the first of the list away, and puts in its place what the token makes due. Where nothing is due the program
+-- may end, or a field or a method begins.
 use Rattle.std.specs.Prelude.{suc, ℤ, pos, List, [], ◌∷◌, ◌++◌, Option, Some, None}
 use Rattle.jif_lex.specs.declared.token.TokenKind.{TokenKind}
 use Rattle.jif_lex.specs.declared.token.TokenKind.TheVariants as token
