@@ -13,7 +13,7 @@ use Rattle.std.proofs.lemmas.List.{map-append, take-append-drop}
 use Rattle.label_lattice.specs.Written.{kinds}
 use Rattle.jif_grammar.specs.Phrases.{ProgramPhrase}
 use Rattle.jif_grammar.specs.Spelling.{spelling}
-use Rattle.jif_grammar.specs.Programs.{unmarked, Spells, GoesOn, IsProgramText, IsProgramOf, IsFault}
+use Rattle.jif_grammar.specs.Programs.{token_kinds, Spells, GoesOn, IsProgramText, IsProgramOf, IsFault}
 use Rattle.jif_grammar.specs.DraftShapes.{DraftShape}
 
 -- ---- places and ranks determine refusals
@@ -63,7 +63,7 @@ pub kinds_length : (tokens : List Token) → length (kinds tokens) ≡ length to
 kinds_length [] = refl
 kinds_length (token ∷ tokens) = ap suc (kinds_length tokens)
 
-unmarked_length : (tokens : List Marked) → length (unmarked tokens) ≡ length tokens
+unmarked_length : (tokens : List Marked) → length (token_kinds tokens) ≡ length tokens
 unmarked_length [] = refl
 unmarked_length (token ∷ tokens) = ap suc (unmarked_length tokens)
 

@@ -15,7 +15,7 @@ use Rattle.jif_grammar.specs.Marks.{Marked, plain, tally_at_start, HasTooMany}
 use Rattle.jif_grammar.specs.Spelling.{spelling}
 use Rattle.jif_grammar.specs.Grouping.{IsProgram, IsGrouped}
 use Rattle.jif_grammar.specs.Drafts.{draft_of}
-use Rattle.jif_grammar.specs.Programs.{unmarked, Spells, IsProgramOf, IsRefused, unexpected}
+use Rattle.jif_grammar.specs.Programs.{token_kinds, Spells, IsProgramOf, IsRefused, unexpected}
 use Rattle.jif_grammar.specs.Programs.{too_deep, too_many, line_at, rank_of_what, tally_at}
 use Rattle.jif_grammar.proofs.Marked.{spelled_program}
 use Rattle.jif_grammar.proofs.Continued.{head_then, tail_then, item_then, program_then, program_unmarked}
@@ -36,7 +36,7 @@ kinds_of [] = refl
 kinds_of (kind ∷ others) = ap (λ ts. kind ∷ ts) (kinds_of others)
 
 abbrev tokens_of_program : ProgramPhrase → List Token
-tokens_of_program program = tokens_of (unmarked (spelling program))
+tokens_of_program program = tokens_of (token_kinds (spelling program))
 
 accepted : (program : ProgramPhrase) → IsProgram program → length (spelling program) ≤ length (spelling program) →
     are_within tally_at_start (take (length (spelling program)) (spelling program)) ≡ true →
@@ -44,7 +44,7 @@ accepted : (program : ProgramPhrase) → IsProgram program → length (spelling 
 accepted program sound whole within = record {
   program = program;
   text = record {
-    spells = record { is_program = sound; written = kinds_of (unmarked (spelling program)) };
+    spells = record { is_program = sound; written = kinds_of (token_kinds (spelling program)) };
     limits = within_up_to program (length (spelling program)) whole within;
   };
   draft_is = refl;
@@ -92,12 +92,12 @@ brace_no_program (item ∷ items) same = brace_no_item item (program_then items 
 
 -- a program without its last brace is no program
 no_program_cut : (program : ProgramPhrase) (tokens : List Token) → IsProgram program →
-    kinds tokens ++ symbol symbols.RightBrace ∷ [] ≡ unmarked (spelling program) → (other : ProgramPhrase) →
+    kinds tokens ++ symbol symbols.RightBrace ∷ [] ≡ token_kinds (spelling program) → (other : ProgramPhrase) →
     ¬ Spells tokens other
 no_program_cut program tokens sound written other spells =
     let brace : List Marked = plain 0 (symbol symbols.RightBrace) ∷ [] in
     let whole : program_then other (symbol symbols.RightBrace ∷ []) ≡ program_then program [] =
-    sym (unmarked_program other brace) ∙ ap unmarked (sym (spelled_program other brace))
+    sym (unmarked_program other brace) ∙ ap token_kinds (sym (spelled_program other brace))
     ∙ map-append (λ token. token.kind) (spelling other) brace
     ∙ ap (λ ts. ts ++ symbol symbols.RightBrace ∷ []) (sym spells.written) ∙ written ∙ program_unmarked program in
     let rest = rest_of_program other program (symbol symbols.RightBrace ∷ []) spells.is_program sound whole in
@@ -134,7 +134,7 @@ nine_parameters : IsRefused (tokens_of_program (with_params 9)) (too_many counte
 nine_parameters =
     too_many_at (tokens_of_program (with_params 9)) 45 (with_params 9) counted.Parameters (omega arith) (record {
       is_program = ((tt, tt, (tt, (tt, (tt, (tt, (tt, (tt, (tt, (tt, (tt, tt))))))))), tt, tt), tt);
-      rest = unmarked (drop 46 (spelling (with_params 9)));
+      rest = token_kinds (drop 46 (spelling (with_params 9)));
       written = refl;
     }) (within_up_to (with_params 9) 45 (omega arith) refl) (omega arith) (λ deep. omega (arith, deep)) fewer
   where
@@ -169,6 +169,6 @@ nesting_65 : IsRefused (tokens_of_program (with_nesting 65)) (too_deep 73)
 nesting_65 =
     too_deep_at (tokens_of_program (with_nesting 65)) 73 (with_nesting 65) (omega arith) (record {
       is_program = ((tt, tt, tt, (nested_grouped 65, tt), tt), tt);
-      rest = unmarked (drop 74 (spelling (with_nesting 65)));
+      rest = token_kinds (drop 74 (spelling (with_nesting 65)));
       written = refl;
     }) (within_up_to (with_nesting 65) 73 (omega arith) refl) (omega arith)

@@ -14,21 +14,21 @@ use Rattle.jif_grammar.specs.DraftShapes.{DraftShape}
 use Rattle.jif_grammar.specs.Drafts.{draft_of}
 
 -- the tokens without their marks
-abbrev pub unmarked : List Marked → List TokenKind
-unmarked tokens = map (λ token. token.kind) tokens
+abbrev pub token_kinds : List Marked → List TokenKind
+token_kinds tokens = map (λ token. token.kind) tokens
 
 -- ---- programs
 
 -- the tokens are these phrases, whatever their number
 pub record Spells (tokens : List Token) (program : ProgramPhrase) : Type 0 where
   pub is_program : IsProgram program
-  pub written : kinds tokens ≡ unmarked (spelling program)
+  pub written : kinds tokens ≡ token_kinds (spelling program)
 
 -- a program begins with these tokens
 pub record GoesOn (tokens : List Token) (program : ProgramPhrase) : Type 0 where
   pub is_program : IsProgram program
   pub rest : List TokenKind
-  pub written : kinds tokens ++ rest ≡ unmarked (spelling program)
+  pub written : kinds tokens ++ rest ≡ token_kinds (spelling program)
 
 -- some program begins with these tokens
 abbrev pub IsBeginning : List Token → Type 0
