@@ -143,7 +143,8 @@ program_then (item ∷ items) rest = item_then item (program_then items rest)
 
 unmarked_joined : {X : Type 0} (separator : Marked) (before : X → List Marked → List Marked)
     (continued : X → List TokenKind → List TokenKind) →
-    ((x : X) (tokens : List Marked) → token_kinds (before x tokens) ≡ continued x (token_kinds tokens)) → (items : List X)
+    ((x : X) (tokens : List Marked) → token_kinds (before x tokens) ≡ continued x (token_kinds tokens)) →
+    (items : List X)
     (tokens : List Marked) →
     token_kinds (joined_before separator before items tokens)
     ≡ joined_then separator.kind continued items (token_kinds tokens)

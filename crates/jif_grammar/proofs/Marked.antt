@@ -17,7 +17,8 @@ use Rattle.jif_grammar.specs.Phrases.{ParamPhrase, MethodPhrase, ItemPhrase, fie
 use Rattle.jif_grammar.specs.Operators.{operator_symbol, sign_symbol, change_word}
 use Rattle.jif_grammar.specs.Marks as marks
 use Rattle.jif_grammar.specs.Marks.{Beginning, Marked, mark, plain, nothing, node, local, statement, parameter}
-use Rattle.jif_grammar.specs.Spelling.{joined_spelling, label_spelling, expr_spelling, args_spelling, optional_label_spelling}
+use Rattle.jif_grammar.specs.Spelling.{joined_spelling, label_spelling, expr_spelling, args_spelling}
+use Rattle.jif_grammar.specs.Spelling.{optional_label_spelling}
 use Rattle.jif_grammar.specs.Spelling.{block_spelling, field_end_spelling, field_spelling}
 use Rattle.jif_grammar.specs.Spelling.{param_spelling, params_spelling, authority_spelling, result_spelling}
 use Rattle.jif_grammar.specs.Spelling.{head_spelling, method_spelling, item_spelling, spelling}
