@@ -16,7 +16,7 @@ use Rattle.jif_grammar.specs.Operators.{operator_symbol, sign_symbol, change_wor
 use Rattle.jif_grammar.specs.Marks as marks
 use Rattle.jif_grammar.specs.Marks.{Beginning, Marked, mark, plain, nothing, node}
 use Rattle.jif_grammar.specs.Spelling.{spelling}
-use Rattle.jif_grammar.specs.Programs.{unmarked}
+use Rattle.jif_grammar.specs.Programs.{token_kinds}
 use Rattle.jif_grammar.proofs.Marked.{joined_before, name_before, names_before, part_before, label_before, expr_before}
 use Rattle.jif_grammar.proofs.Marked.{args_before, optional_label_before, value_before, arguments_before}
 use Rattle.jif_grammar.proofs.Marked.{guard_before, block_before, field_end_before, param_before, params_before}
@@ -143,10 +143,11 @@ program_then (item ∷ items) rest = item_then item (program_then items rest)
 
 unmarked_joined : {X : Type 0} (separator : Marked) (before : X → List Marked → List Marked)
     (continued : X → List TokenKind → List TokenKind) →
-    ((x : X) (tokens : List Marked) → unmarked (before x tokens) ≡ continued x (unmarked tokens)) → (items : List X)
+    ((x : X) (tokens : List Marked) → token_kinds (before x tokens) ≡ continued x (token_kinds tokens)) →
+    (items : List X)
     (tokens : List Marked) →
-    unmarked (joined_before separator before items tokens)
-    ≡ joined_then separator.kind continued items (unmarked tokens)
+    token_kinds (joined_before separator before items tokens)
+    ≡ joined_then separator.kind continued items (token_kinds tokens)
 unmarked_joined separator before continued each [] tokens = refl
 unmarked_joined separator before continued each (item ∷ []) tokens = each item tokens
 unmarked_joined separator before continued each (item ∷ next ∷ items) tokens =
@@ -155,25 +156,25 @@ unmarked_joined separator before continued each (item ∷ next ∷ items) tokens
     (unmarked_joined separator before continued each (next ∷ items) tokens)
 
 unmarked_names : (depth : ℕ) (names : List (List ℕ)) (tokens : List Marked) →
-    unmarked (names_before depth names tokens) ≡ names_then names (unmarked tokens)
+    token_kinds (names_before depth names tokens) ≡ names_then names (token_kinds tokens)
 unmarked_names depth names tokens =
     unmarked_joined (plain depth (symbol Comma)) (name_before depth) name_then (λ x ts. refl) names tokens
 
 unmarked_part : (depth : ℕ) (part : Part) (tokens : List Marked) →
-    unmarked (part_before depth part tokens) ≡ part_then part (unmarked tokens)
+    token_kinds (part_before depth part tokens) ≡ part_then part (token_kinds tokens)
 unmarked_part depth (policy owner readers) tokens =
     ap (λ ts. Name owner ∷ symbol Colon ∷ ts) (unmarked_names depth readers tokens)
 unmarked_part depth (trust members) tokens =
     ap (λ ts. symbol Question ∷ symbol Colon ∷ ts) (unmarked_names depth members tokens)
 
 unmarked_label : (begins : Beginning) (depth : ℕ) (label : LabelPhrase) (tokens : List Marked) →
-    unmarked (label_before begins depth label tokens) ≡ label_then label (unmarked tokens)
+    token_kinds (label_before begins depth label tokens) ≡ label_then label (token_kinds tokens)
 unmarked_label begins depth label tokens =
     ap (λ ts. symbol LeftBrace ∷ ts) (unmarked_joined (plain depth (symbol Semicolon)) (part_before depth) part_then
     (unmarked_part depth) label (plain depth (symbol RightBrace) ∷ tokens))
 
 unmarked_expr : (depth : ℕ) (e : ExprPhrase) (tokens : List Marked) →
-    unmarked (expr_before depth e tokens) ≡ expr_then e (unmarked tokens)
+    token_kinds (expr_before depth e tokens) ≡ expr_then e (token_kinds tokens)
 unmarked_expr depth (number n) tokens = refl
 unmarked_expr depth (variable name) tokens = refl
 unmarked_expr depth (element name index) tokens =
@@ -195,34 +196,34 @@ unmarked_expr depth (relabelled change inner label) tokens =
     (unmarked_label nothing (suc depth) label (plain (suc depth) (symbol RightParenthesis) ∷ tokens)))
 
 unmarked_args : (depth : ℕ) (args : List ExprPhrase) (tokens : List Marked) →
-    unmarked (args_before depth args tokens) ≡ args_then args (unmarked tokens)
+    token_kinds (args_before depth args tokens) ≡ args_then args (token_kinds tokens)
 unmarked_args depth args tokens =
     unmarked_joined (plain depth (symbol Comma)) (expr_before depth) expr_then (unmarked_expr depth) args tokens
 
 unmarked_optional_label : (depth : ℕ) (label : Option LabelPhrase) (tokens : List Marked) →
-    unmarked (optional_label_before depth label tokens) ≡ optional_label_then label (unmarked tokens)
+    token_kinds (optional_label_before depth label tokens) ≡ optional_label_then label (token_kinds tokens)
 unmarked_optional_label depth None tokens = refl
 unmarked_optional_label depth (Some label) tokens = unmarked_label nothing depth label tokens
 
 -- before tokens of which is known what they are without their marks
 unmarked_value : (depth : ℕ) (value : ExprPhrase) (tokens : List Marked) (rest : List TokenKind) →
-    unmarked tokens ≡ rest →
-    unmarked (value_before depth value tokens) ≡ expr_then value (symbol Semicolon ∷ rest)
+    token_kinds tokens ≡ rest →
+    token_kinds (value_before depth value tokens) ≡ expr_then value (symbol Semicolon ∷ rest)
 unmarked_value depth value tokens rest is =
     unmarked_expr depth value (plain depth (symbol Semicolon) ∷ tokens)
     ∙ ap (λ ts. expr_then value (symbol Semicolon ∷ ts)) is
 
 unmarked_arguments : (depth : ℕ) (args : List ExprPhrase) (tokens : List Marked) (rest : List TokenKind) →
-    unmarked tokens ≡ rest →
-    unmarked (arguments_before depth args tokens)
+    token_kinds tokens ≡ rest →
+    token_kinds (arguments_before depth args tokens)
     ≡ args_then args (symbol RightParenthesis ∷ symbol Semicolon ∷ rest)
 unmarked_arguments depth args tokens rest is =
     unmarked_args depth args (plain depth (symbol RightParenthesis) ∷ plain depth (symbol Semicolon) ∷ tokens)
     ∙ ap (λ ts. args_then args (symbol RightParenthesis ∷ symbol Semicolon ∷ ts)) is
 
 unmarked_guard : (depth : ℕ) (guard : ExprPhrase) (tokens : List Marked) (rest : List TokenKind) →
-    unmarked tokens ≡ rest →
-    unmarked (guard_before depth guard tokens)
+    token_kinds tokens ≡ rest →
+    token_kinds (guard_before depth guard tokens)
     ≡ symbol LeftParenthesis ∷ expr_then guard (symbol RightParenthesis ∷ symbol LeftBrace ∷ rest)
 unmarked_guard depth guard tokens rest is =
     ap (λ ts. symbol LeftParenthesis ∷ ts) (unmarked_expr depth guard
@@ -230,27 +231,27 @@ unmarked_guard depth guard tokens rest is =
     ∙ ap (λ ts. expr_then guard (symbol RightParenthesis ∷ symbol LeftBrace ∷ ts)) is)
 
 unmarked_block : (depth : ℕ) (block : BlockPhrase) (tokens : List Marked) →
-    unmarked (block_before depth block tokens) ≡ block_then block (unmarked tokens)
+    token_kinds (block_before depth block tokens) ≡ block_then block (token_kinds tokens)
 unmarked_block depth end tokens = refl
 unmarked_block depth (declaration label name value rest) tokens =
     ap (λ ts. Word Int ∷ ts) (unmarked_optional_label depth label (plain depth (Name name)
     ∷ plain depth (symbol Assign) ∷ value_before depth value (block_before depth rest tokens))
     ∙ ap (λ ts. optional_label_then label (Name name ∷ symbol Assign ∷ ts)) (unmarked_value depth value
-    (block_before depth rest tokens) (block_then rest (unmarked tokens)) (unmarked_block depth rest tokens)))
+    (block_before depth rest tokens) (block_then rest (token_kinds tokens)) (unmarked_block depth rest tokens)))
 unmarked_block depth (assignment name value rest) tokens =
     ap (λ ts. Name name ∷ symbol Assign ∷ ts) (unmarked_value depth value (block_before depth rest tokens)
-    (block_then rest (unmarked tokens)) (unmarked_block depth rest tokens))
+    (block_then rest (token_kinds tokens)) (unmarked_block depth rest tokens))
 unmarked_block depth (element_assignment name index value rest) tokens =
     ap (λ ts. Name name ∷ symbol LeftBracket ∷ ts) (unmarked_expr depth index (plain depth (symbol RightBracket)
     ∷ plain depth (symbol Assign) ∷ value_before depth value (block_before depth rest tokens))
     ∙ ap (λ ts. expr_then index (symbol RightBracket ∷ symbol Assign ∷ ts)) (unmarked_value depth value
-    (block_before depth rest tokens) (block_then rest (unmarked tokens)) (unmarked_block depth rest tokens)))
+    (block_before depth rest tokens) (block_then rest (token_kinds tokens)) (unmarked_block depth rest tokens)))
 unmarked_block depth (call name args rest) tokens =
     ap (λ ts. Name name ∷ symbol LeftParenthesis ∷ ts) (unmarked_arguments depth args
-    (block_before depth rest tokens) (block_then rest (unmarked tokens)) (unmarked_block depth rest tokens))
+    (block_before depth rest tokens) (block_then rest (token_kinds tokens)) (unmarked_block depth rest tokens))
 unmarked_block depth (call_into into name args rest) tokens =
     ap (λ ts. Name into ∷ symbol Assign ∷ Name name ∷ symbol LeftParenthesis ∷ ts) (unmarked_arguments depth args
-    (block_before depth rest tokens) (block_then rest (unmarked tokens)) (unmarked_block depth rest tokens))
+    (block_before depth rest tokens) (block_then rest (token_kinds tokens)) (unmarked_block depth rest tokens))
 unmarked_block depth (branch guard first rest) tokens =
     ap (λ ts. Word If ∷ ts) (unmarked_guard depth guard (block_before (suc depth) first
     (plain (suc depth) (symbol RightBrace) ∷ block_before depth rest tokens)) _
@@ -274,37 +275,37 @@ unmarked_block depth (loop guard body rest) tokens =
     ∙ ap (λ ts. block_then body (symbol RightBrace ∷ ts)) (unmarked_block depth rest tokens)))
 
 unmarked_field_end : (ending : FieldEnd) (tokens : List Marked) →
-    unmarked (field_end_before ending tokens) ≡ field_end_then ending (unmarked tokens)
+    token_kinds (field_end_before ending tokens) ≡ field_end_then ending (token_kinds tokens)
 unmarked_field_end unset tokens = refl
 unmarked_field_end (sized size) tokens = refl
 unmarked_field_end (set false first) tokens = refl
 unmarked_field_end (set true first) tokens = refl
 
 unmarked_param : (param : ParamPhrase) (tokens : List Marked) →
-    unmarked (param_before param tokens) ≡ param_then param (unmarked tokens)
+    token_kinds (param_before param tokens) ≡ param_then param (token_kinds tokens)
 unmarked_param param tokens =
     ap (λ ts. Word Int ∷ ts) (unmarked_label nothing 0 param.label (plain 0 (Name param.name) ∷ tokens))
 
 unmarked_params : (params : List ParamPhrase) (tokens : List Marked) →
-    unmarked (params_before params tokens) ≡ params_then params (unmarked tokens)
+    token_kinds (params_before params tokens) ≡ params_then params (token_kinds tokens)
 unmarked_params params tokens =
     unmarked_joined (plain 0 (symbol Comma)) param_before param_then unmarked_param params tokens
 
 unmarked_authority : (authority : List (List ℕ)) (tokens : List Marked) →
-    unmarked (authority_before authority tokens) ≡ authority_then authority (unmarked tokens)
+    token_kinds (authority_before authority tokens) ≡ authority_then authority (token_kinds tokens)
 unmarked_authority [] tokens = refl
 unmarked_authority (name ∷ names) tokens =
     ap (λ ts. Word Where ∷ Word Authority ∷ symbol LeftParenthesis ∷ ts)
     (unmarked_names 0 (name ∷ names) (plain 0 (symbol RightParenthesis) ∷ tokens))
 
 unmarked_result : (result : Option ExprPhrase) (tokens : List Marked) →
-    unmarked (result_before result tokens) ≡ result_then result (unmarked tokens)
+    token_kinds (result_before result tokens) ≡ result_then result (token_kinds tokens)
 unmarked_result None tokens = refl
 unmarked_result (Some value) tokens =
-    ap (λ ts. Word Return ∷ ts) (unmarked_value 0 value tokens (unmarked tokens) refl)
+    ap (λ ts. Word Return ∷ ts) (unmarked_value 0 value tokens (token_kinds tokens) refl)
 
 unmarked_head : (kind : Option LabelPhrase) (name : List ℕ) (begin : LabelPhrase) (tokens : List Marked) →
-    unmarked (head_before kind name begin tokens) ≡ head_then kind name begin (unmarked tokens)
+    token_kinds (head_before kind name begin tokens) ≡ head_then kind name begin (token_kinds tokens)
 unmarked_head None name begin tokens =
     ap (λ ts. Word Void ∷ Name name ∷ ts) (unmarked_label nothing 0 begin tokens)
 unmarked_head (Some label) name begin tokens =
@@ -313,7 +314,7 @@ unmarked_head (Some label) name begin tokens =
     ∙ ap (λ ts. label_then label (Name name ∷ ts)) (unmarked_label marks.method 0 begin tokens))
 
 unmarked_tail : (phrase : MethodPhrase) (tokens : List Marked) →
-    unmarked (tail_before phrase tokens) ≡ tail_then phrase (unmarked tokens)
+    token_kinds (tail_before phrase tokens) ≡ tail_then phrase (token_kinds tokens)
 unmarked_tail phrase tokens =
     let after_body = result_before phrase.result (plain 0 (symbol RightBrace) ∷ tokens) in
     let after_authority = plain 0 (symbol LeftBrace) ∷ block_before 0 phrase.body after_body in
@@ -325,7 +326,7 @@ unmarked_tail phrase tokens =
     ∙ ap (block_then phrase.body) (unmarked_result phrase.result (plain 0 (symbol RightBrace) ∷ tokens)))))
 
 unmarked_item : (item : ItemPhrase) (tokens : List Marked) →
-    unmarked (item_before item tokens) ≡ item_then item (unmarked tokens)
+    token_kinds (item_before item tokens) ≡ item_then item (token_kinds tokens)
 unmarked_item (field phrase) tokens =
     ap (λ ts. Word Int ∷ ts) (unmarked_label nothing 0 phrase.label
     (plain 0 (Name phrase.name) ∷ field_end_before phrase.ending tokens)
@@ -334,12 +335,12 @@ unmarked_item (method phrase) tokens =
     unmarked_head phrase.kind phrase.name phrase.begin (tail_before phrase tokens)
     ∙ ap (head_then phrase.kind phrase.name phrase.begin) (unmarked_tail phrase tokens)
 
-unmarked_program : (program : ProgramPhrase) (tokens : List Marked) →
-    unmarked (program_before program tokens) ≡ program_then program (unmarked tokens)
+pub unmarked_program : (program : ProgramPhrase) (tokens : List Marked) →
+    token_kinds (program_before program tokens) ≡ program_then program (token_kinds tokens)
 unmarked_program [] tokens = refl
 unmarked_program (item ∷ items) tokens =
     unmarked_item item (program_before items tokens) ∙ ap (item_then item) (unmarked_program items tokens)
 
 -- the tokens of a program
-pub program_unmarked : (program : ProgramPhrase) → unmarked (spelling program) ≡ program_then program []
-program_unmarked program = ap unmarked (program_marked program) ∙ unmarked_program program []
+pub program_unmarked : (program : ProgramPhrase) → token_kinds (spelling program) ≡ program_then program []
+program_unmarked program = ap token_kinds (program_marked program) ∙ unmarked_program program []

@@ -14,7 +14,7 @@ use Rattle.jif_grammar.specs.Marks.{tally, tally_at_start, HasTooMany}
 use Rattle.jif_grammar.specs.Spelling.{expr_spelling, block_spelling, spelling}
 use Rattle.jif_grammar.specs.DraftShapes.{end_shape, assignment_shape, number_shape}
 use Rattle.jif_grammar.specs.Drafts.{draft_of, name_at}
-use Rattle.jif_grammar.specs.Programs.{unmarked, ComesBefore, unexpected, too_deep, too_many}
+use Rattle.jif_grammar.specs.Programs.{token_kinds, ComesBefore, unexpected, too_deep, too_many}
 use Rattle.jif_grammar.specs.declared.what.What.TheVariants as what
 
 abbrev a : ExprPhrase
@@ -151,7 +151,7 @@ unknown_name =
       result = None;
     }) ∷ []
 
-its_tokens : unmarked (spelling unknown_name)
+its_tokens : token_kinds (spelling unknown_name)
     ≡ Word words.Int ∷ symbol symbols.LeftBrace ∷ symbol symbols.RightBrace ∷ Name (codes "x")
     ∷ symbol symbols.Semicolon ∷ Word words.Void ∷ Name (codes "main") ∷ symbol symbols.LeftBrace
     ∷ symbol symbols.RightBrace ∷ symbol symbols.LeftParenthesis ∷ symbol symbols.RightParenthesis

@@ -11,3 +11,17 @@ pub mod SameMarks
 pub mod SameExprMarks
 pub mod SameBlockMarks
 pub mod SameProgramMarks
+pub mod Refusing
+pub mod Within
+pub mod Worked
+pub mod Gather
+pub mod Written
+pub mod DueMoves
+pub mod DueStatementMoves
+pub mod DueProgress
+pub mod DueSound
+pub mod DueStatements
+pub mod DuePrograms
+pub mod DueLaws
+pub mod DueEnds
+pub mod FaultTable

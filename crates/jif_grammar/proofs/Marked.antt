@@ -17,7 +17,8 @@ use Rattle.jif_grammar.specs.Phrases.{ParamPhrase, MethodPhrase, ItemPhrase, fie
 use Rattle.jif_grammar.specs.Operators.{operator_symbol, sign_symbol, change_word}
 use Rattle.jif_grammar.specs.Marks as marks
 use Rattle.jif_grammar.specs.Marks.{Beginning, Marked, mark, plain, nothing, node, local, statement, parameter}
-use Rattle.jif_grammar.specs.Spelling.{separated, label_spelling, expr_spelling, args_spelling, optional_label_spelling}
+use Rattle.jif_grammar.specs.Spelling.{joined_spelling, label_spelling, expr_spelling, args_spelling}
+use Rattle.jif_grammar.specs.Spelling.{optional_label_spelling}
 use Rattle.jif_grammar.specs.Spelling.{block_spelling, field_end_spelling, field_spelling}
 use Rattle.jif_grammar.specs.Spelling.{param_spelling, params_spelling, authority_spelling, result_spelling}
 use Rattle.jif_grammar.specs.Spelling.{head_spelling, method_spelling, item_spelling, spelling}
@@ -178,11 +179,11 @@ program_before (item ∷ items) tokens = item_before item (program_before items 
 spelled_joined : {X : Type 0} (separator : Marked) (spelled : X → List Marked)
     (before : X → List Marked → List Marked) →
     ((x : X) (tokens : List Marked) → spelled x ++ tokens ≡ before x tokens) → (items : List X) (tokens : List Marked) →
-    separated separator spelled items ++ tokens ≡ joined_before separator before items tokens
+    joined_spelling separator spelled items ++ tokens ≡ joined_before separator before items tokens
 spelled_joined separator spelled before each [] tokens = refl
 spelled_joined separator spelled before each (item ∷ []) tokens = each item tokens
 spelled_joined separator spelled before each (item ∷ next ∷ items) tokens =
-    append_assoc (spelled item) (separator ∷ separated separator spelled (next ∷ items)) tokens
+    append_assoc (spelled item) (separator ∷ joined_spelling separator spelled (next ∷ items)) tokens
     ∙ ap (λ ts. spelled item ++ separator ∷ ts) (spelled_joined separator spelled before each (next ∷ items) tokens)
     ∙ each item (separator ∷ joined_before separator before (next ∷ items) tokens)
 

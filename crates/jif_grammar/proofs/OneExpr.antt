@@ -1,6 +1,6 @@
 -- An expression is read in one way, before what continues no expression.
 use Rattle.std.proofs.Common.{◌≡◌, ◌≢◌, ℕ, ◌≤◌, List, [], ◌∷◌, ◌++◌, refl, ap, sym, ◌∙◌, subst}
-use Rattle.std.proofs.Common.{Option, Some, None, arith}
+use Rattle.std.proofs.Common.{Some, None, arith}
 use Rattle.js_base.specs.declared.binary_operator.BinOp.{BinOp}
 use Rattle.js_base.specs.declared.binary_operator.BinOp.TheVariants as operator
 use Rattle.jif_lex.specs.declared.token.TokenKind.{TokenKind}
@@ -10,6 +10,7 @@ use Rattle.label_lattice.specs.Written.{symbol}
 use Rattle.jif_grammar.specs.Phrases.{Sign, complement, minus, Change, release, acceptance}
 use Rattle.jif_grammar.specs.Phrases.{LabelPhrase, ExprPhrase, number, variable, element, parenthesized, signed, binary}
 use Rattle.jif_grammar.specs.Phrases.{relabelled}
+use Rattle.jif_grammar.specs.Operators.{operator_of}
 use Rattle.jif_grammar.specs.Operators.{operator_symbol, tightest_level}
 use Rattle.jif_grammar.specs.Grouping.{level, IsGrouped}
 use Rattle.jif_grammar.proofs.Continued.{expr_then, label_then}
@@ -18,23 +19,6 @@ use Rattle.jif_grammar.proofs.Groups.{each_append, Link, link, first_operand, li
 use Rattle.jif_grammar.proofs.Groups.{one_group}
 
 -- ---- what continues an expression
-
--- the operator that a symbol writes between two operands
-abbrev pub operator_of : Symbol → Option BinOp
-operator_of symbols.Or = Some operator.Or
-operator_of symbols.And = Some operator.And
-operator_of symbols.Equal = Some operator.Equal
-operator_of symbols.NotEqual = Some operator.NotEqual
-operator_of symbols.Less = Some operator.Less
-operator_of symbols.LessOrEqual = Some operator.LessEqual
-operator_of symbols.Greater = Some operator.Greater
-operator_of symbols.GreaterOrEqual = Some operator.GreaterEqual
-operator_of symbols.Plus = Some operator.Add
-operator_of symbols.Minus = Some operator.Subtract
-operator_of symbols.Star = Some operator.Multiply
-operator_of symbols.Slash = Some operator.Divide
-operator_of symbols.Percent = Some operator.Remainder
-operator_of _ = None
 
 pub operator_back : (o : BinOp) → operator_of (operator_symbol o) ≡ Some o
 operator_back operator.Or = refl
@@ -116,7 +100,8 @@ links_append [] ms r = refl
 links_append (l ∷ ls) ms r =
     ap (λ t. symbol (operator_symbol l.joins) ∷ expr_then l.operand t) (links_append ls ms r)
 
-in_order : (e : ExprPhrase) (r : List TokenKind) → expr_then e r ≡ expr_then (first_operand e) (links_then (links e) r)
+pub in_order : (e : ExprPhrase) (r : List TokenKind) →
+    expr_then e r ≡ expr_then (first_operand e) (links_then (links e) r)
 in_order (number n) r = refl
 in_order (variable name) r = refl
 in_order (element name index) r = refl

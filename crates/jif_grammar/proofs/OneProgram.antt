@@ -249,3 +249,13 @@ one_draft tokens first second one other =
     one.draft_is
     ∙ ap (draft_of (line_at tokens)) (one_reading tokens one.program other.program one.text.spells other.text.spells)
     ∙ sym other.draft_is
+
+-- where a program's tokens begin with those of another, the rest is a program
+pub rest_of_program : (program other : ProgramPhrase) (r : List TokenKind) → IsProgram program → IsProgram other →
+    program_then program r ≡ program_then other [] →
+    (rest : ProgramPhrase) × (r ≡ program_then rest [])
+rest_of_program [] other r sound also same = (other, same)
+rest_of_program (item ∷ items) [] r sound also same = absurd (some_item item (program_then items r) same)
+rest_of_program (item ∷ items) (other ∷ others) r sound also same =
+    let heads = one_item item other (program_then items r) (program_then others []) sound.0 also.0 same in
+    rest_of_program items others r sound.1 also.1 heads.1

@@ -13,7 +13,7 @@ use Rattle.std.proofs.lemmas.List.{map-append, take-append-drop}
 use Rattle.label_lattice.specs.Written.{kinds}
 use Rattle.jif_grammar.specs.Phrases.{ProgramPhrase}
 use Rattle.jif_grammar.specs.Spelling.{spelling}
-use Rattle.jif_grammar.specs.Programs.{unmarked, Spells, GoesOn, IsProgramText, IsProgramOf, IsFault}
+use Rattle.jif_grammar.specs.Programs.{token_kinds, Spells, GoesOn, IsProgramText, IsProgramOf, IsFault}
 use Rattle.jif_grammar.specs.DraftShapes.{DraftShape}
 
 -- ---- places and ranks determine refusals
@@ -28,7 +28,7 @@ one_rank counted.Nodes counted.Nodes same = refl
 one_rank counted.Elements counted.Elements same = refl
 one_rank _ _ same = absurd (omega arith)
 
-rank_within : (what : What) → (0 < rank_of_what what) × (rank_of_what what < 8)
+pub rank_within : (what : What) → (0 < rank_of_what what) × (rank_of_what what < 8)
 rank_within counted.Fields = omega arith
 rank_within _ = omega arith
 
@@ -63,7 +63,7 @@ pub kinds_length : (tokens : List Token) → length (kinds tokens) ≡ length to
 kinds_length [] = refl
 kinds_length (token ∷ tokens) = ap suc (kinds_length tokens)
 
-unmarked_length : (tokens : List Marked) → length (unmarked tokens) ≡ length tokens
+unmarked_length : (tokens : List Marked) → length (token_kinds tokens) ≡ length tokens
 unmarked_length [] = refl
 unmarked_length (token ∷ tokens) = ap suc (unmarked_length tokens)
 
@@ -91,12 +91,12 @@ no_fault tokens program (unexpected n) is fault =
           is.spells
     ]
 no_fault tokens program (too_deep n) is fault =
-    is.limits.nesting n (let e : n < length (spelling program) =
-    omega (arith, fault.there, same_length tokens program is.spells) in e)
+    (is.limits n (let e : n < length (spelling program) =
+    omega (arith, fault.there, same_length tokens program is.spells) in e)).nesting
     (fault.certain program (goes_on tokens program (n + 1) is.spells))
 no_fault tokens program (too_many what n) is fault =
-    is.limits.counts what n (let e : n < length (spelling program) =
-    omega (arith, fault.there, same_length tokens program is.spells) in e)
+    (is.limits n (let e : n < length (spelling program) =
+    omega (arith, fault.there, same_length tokens program is.spells) in e)).counts what
     (fault.certain program (goes_on tokens program (n + 1) is.spells))
 
 pub never_both : (tokens : List Token) (draft : DraftShape) (refusal : Refusal) → IsProgramOf tokens draft →

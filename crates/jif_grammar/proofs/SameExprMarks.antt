@@ -9,14 +9,14 @@ use Rattle.label_lattice.specs.Written.{symbol}
 use Rattle.jif_grammar.specs.Phrases.{Sign, complement, minus, Change}
 use Rattle.jif_grammar.specs.Phrases.{LabelPhrase, ExprPhrase, number, variable, element, parenthesized, signed, binary}
 use Rattle.jif_grammar.specs.Phrases.{relabelled}
-use Rattle.jif_grammar.specs.Operators.{operator_symbol, sign_symbol}
+use Rattle.jif_grammar.specs.Operators.{operator_of, operator_symbol, sign_symbol}
 use Rattle.jif_grammar.specs.Marks.{Marked, mark, plain, nothing, node}
 use Rattle.jif_grammar.specs.Grouping.{IsGrouped}
 use Rattle.jif_grammar.proofs.Marked.{label_before, expr_before}
 use Rattle.jif_grammar.proofs.SameMarks.{SameMarks, marks_sym, same_label}
 use Rattle.jif_grammar.proofs.OneJoined.{Each}
 use Rattle.jif_grammar.proofs.Groups.{Link, link, first_operand, links, IsOperand, first_of_operand}
-use Rattle.jif_grammar.proofs.OneExpr.{operator_of, operator_back, AllOperands, at_first, at_links, IsSoundOperand}
+use Rattle.jif_grammar.proofs.OneExpr.{operator_back, AllOperands, at_first, at_links, IsSoundOperand}
 use Rattle.jif_grammar.proofs.OneExpr.{sound_operands, level_of_operand}
 
 -- ---- what continues an expression

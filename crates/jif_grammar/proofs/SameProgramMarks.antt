@@ -14,7 +14,7 @@ use Rattle.jif_grammar.specs.Grouping.{IsBlock, IsResult, IsItem, IsProgram}
 use Rattle.jif_grammar.specs.Marks as marks
 use Rattle.jif_grammar.specs.Marks.{Marked, mark, plain, statement, tally}
 use Rattle.jif_grammar.specs.Spelling.{spelling}
-use Rattle.jif_grammar.specs.Programs.{unmarked, GoesOn, tally_at}
+use Rattle.jif_grammar.specs.Programs.{token_kinds, GoesOn, tally_at}
 use Rattle.jif_grammar.proofs.Marked.{value_before, block_before, field_end_before, field_before, param_before}
 use Rattle.jif_grammar.proofs.Marked.{params_before, authority_before, result_before, head_before, tail_before}
 use Rattle.jif_grammar.proofs.Marked.{label_before, item_before, program_before, program_marked}
@@ -206,7 +206,7 @@ same_spelling program other sound also =
 -- ---- beginnings
 
 same_front : (front : List TokenKind) (tokens others : List Marked) (r s : List TokenKind) → SameMarks tokens others →
-    front ++ r ≡ unmarked tokens → front ++ s ≡ unmarked others →
+    front ++ r ≡ token_kinds tokens → front ++ s ≡ token_kinds others →
     take (length front) tokens ≡ take (length front) others
 same_front [] tokens others r s same one other = refl
 same_front (kind ∷ more) [] others r s same one other = absurd (cc)
@@ -214,8 +214,8 @@ same_front (kind ∷ more) (token ∷ tokens) [] r s same one other = absurd (cc
 same_front (kind ∷ more) (token ∷ tokens) (next ∷ others) r s same one other =
     let heads : token.kind ≡ next.kind = cc in
     let both = same heads in
-    let one_behind : more ++ r ≡ unmarked tokens = cc in
-    let other_behind : more ++ s ≡ unmarked others = cc in
+    let one_behind : more ++ r ≡ token_kinds tokens = cc in
+    let other_behind : more ++ s ≡ token_kinds others = cc in
     let tails = same_front more tokens others r s both.1 one_behind other_behind in
     ap (λ t. t ∷ take (length more) tokens) both.0 ∙ ap (λ ts. next ∷ ts) tails
 

@@ -1,5 +1,6 @@
 pub mod Phrases
 pub mod Operators
+pub mod Due
 pub mod Marks
 pub mod Spelling
 pub mod Grouping

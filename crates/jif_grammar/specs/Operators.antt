@@ -1,5 +1,5 @@
 -- The table of the operators: how each is written, and how tightly it binds.
-use Rattle.std.specs.Prelude.{ℕ}
+use Rattle.std.specs.Prelude.{ℕ, Option, Some, None}
 use Rattle.js_base.specs.declared.binary_operator.BinOp.{BinOp}
 use Rattle.js_base.specs.declared.binary_operator.BinOp.TheVariants as operator
 use Rattle.jif_lex.specs.declared.token.Symbol.{Symbol}
@@ -22,6 +22,23 @@ operator_symbol operator.Subtract = symbol.Minus
 operator_symbol operator.Multiply = symbol.Star
 operator_symbol operator.Divide = symbol.Slash
 operator_symbol operator.Remainder = symbol.Percent
+
+-- the operator that a symbol writes between two operands
+abbrev pub operator_of : Symbol → Option BinOp
+operator_of symbol.Or = Some operator.Or
+operator_of symbol.And = Some operator.And
+operator_of symbol.Equal = Some operator.Equal
+operator_of symbol.NotEqual = Some operator.NotEqual
+operator_of symbol.Less = Some operator.Less
+operator_of symbol.LessOrEqual = Some operator.LessEqual
+operator_of symbol.Greater = Some operator.Greater
+operator_of symbol.GreaterOrEqual = Some operator.GreaterEqual
+operator_of symbol.Plus = Some operator.Add
+operator_of symbol.Minus = Some operator.Subtract
+operator_of symbol.Star = Some operator.Multiply
+operator_of symbol.Slash = Some operator.Divide
+operator_of symbol.Percent = Some operator.Remainder
+operator_of _ = None
 
 -- the tighter, the larger
 abbrev pub operator_level : BinOp → ℕ

@@ -14,21 +14,21 @@ use Rattle.jif_grammar.specs.DraftShapes.{DraftShape}
 use Rattle.jif_grammar.specs.Drafts.{draft_of}
 
 -- the tokens without their marks
-abbrev pub unmarked : List Marked → List TokenKind
-unmarked tokens = map (λ token. token.kind) tokens
+abbrev pub token_kinds : List Marked → List TokenKind
+token_kinds tokens = map (λ token. token.kind) tokens
 
 -- ---- programs
 
 -- the tokens are these phrases, whatever their number
 pub record Spells (tokens : List Token) (program : ProgramPhrase) : Type 0 where
   pub is_program : IsProgram program
-  pub written : kinds tokens ≡ unmarked (spelling program)
+  pub written : kinds tokens ≡ token_kinds (spelling program)
 
 -- a program begins with these tokens
 pub record GoesOn (tokens : List Token) (program : ProgramPhrase) : Type 0 where
   pub is_program : IsProgram program
   pub rest : List TokenKind
-  pub written : kinds tokens ++ rest ≡ unmarked (spelling program)
+  pub written : kinds tokens ++ rest ≡ token_kinds (spelling program)
 
 -- some program begins with these tokens
 abbrev pub IsBeginning : List Token → Type 0
@@ -38,10 +38,17 @@ IsBeginning tokens = (program : ProgramPhrase) × GoesOn tokens program
 abbrev pub tally_at : ProgramPhrase → ℕ → Tally
 tally_at program n = tally (take (n + 1) (spelling program))
 
--- no token of the program passes a limit
-pub record IsWithinLimits (program : ProgramPhrase) : Type 0 where
-  pub nesting : (n : ℕ) → n < length (spelling program) → ¬ IsTooDeep (tally_at program n)
-  pub counts : (what : What) (n : ℕ) → n < length (spelling program) → ¬ HasTooMany what (tally_at program n)
+-- nothing passes its limit
+pub record IsWithin (t : Tally) : Type 0 where
+  pub nesting : ¬ IsTooDeep t
+  pub counts : (what : What) → ¬ HasTooMany what t
+
+-- the first n tokens of the program pass no limit
+abbrev pub IsWithinUpTo : ProgramPhrase → ℕ → Type 0
+IsWithinUpTo program n = (m : ℕ) → m < n → IsWithin (tally_at program m)
+
+abbrev pub IsWithinLimits : ProgramPhrase → Type 0
+IsWithinLimits program = IsWithinUpTo program (length (spelling program))
 
 -- the tokens are a program of these phrases
 pub record IsProgramText (tokens : List Token) (program : ProgramPhrase) : Type 0 where

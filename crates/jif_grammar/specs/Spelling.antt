@@ -14,11 +14,11 @@ use Rattle.jif_grammar.specs.Marks as marks
 use Rattle.jif_grammar.specs.Marks.{Beginning, Marked, mark, plain, nothing, node, local, statement, parameter}
 
 -- the items with the separator between each two
-abbrev pub separated : {X : Type 0} → Marked → (X → List Marked) → List X → List Marked
-separated separator item_spelling [] = []
-separated separator item_spelling (item ∷ []) = item_spelling item
-separated separator item_spelling (item ∷ next ∷ items) =
-    item_spelling item ++ separator ∷ separated separator item_spelling (next ∷ items)
+abbrev pub joined_spelling : {X : Type 0} → Marked → (X → List Marked) → List X → List Marked
+joined_spelling separator item_spelling [] = []
+joined_spelling separator item_spelling (item ∷ []) = item_spelling item
+joined_spelling separator item_spelling (item ∷ next ∷ items) =
+    item_spelling item ++ separator ∷ joined_spelling separator item_spelling (next ∷ items)
 
 -- ---- labels
 
@@ -50,7 +50,7 @@ expr_spelling depth (relabelled change inner label) =
 -- ---- statements
 
 abbrev pub args_spelling : ℕ → List ExprPhrase → List Marked
-args_spelling depth args = separated (plain depth (symbol Comma)) (expr_spelling depth) args
+args_spelling depth args = joined_spelling (plain depth (symbol Comma)) (expr_spelling depth) args
 
 abbrev pub optional_label_spelling : ℕ → Option LabelPhrase → List Marked
 optional_label_spelling depth None = []
@@ -122,7 +122,7 @@ param_spelling phrase =
     mark parameter 0 (Word Int) ∷ label_spelling nothing 0 phrase.label ++ plain 0 (Name phrase.name) ∷ []
 
 abbrev pub params_spelling : List ParamPhrase → List Marked
-params_spelling params = separated (plain 0 (symbol Comma)) param_spelling params
+params_spelling params = joined_spelling (plain 0 (symbol Comma)) param_spelling params
 
 abbrev pub authority_spelling : List (List ℕ) → List Marked
 authority_spelling [] = []
