@@ -1,5 +1,6 @@
 -- What one host may ask of another: the checks that a host makes on each request that reaches it.
-use Rattle.std.specs.Prelude.{◌≡◌, ◌≢◌, ℕ, ◌<◌, ◌↔◌, List, Option, Some, None, IsSomeAnd, slice_get, slice_index}
+use Rattle.std.specs.Prelude.{◌≡◌, ◌≢◌, ℕ, ◌<◌, ◌↔◌, List, Option, Some, None, IsSomeAnd}
+use Rattle.std.specs.Prelude.{slice_get, slice_index}
 use Rattle.std.specs.Option.{option_map}
 use Rattle.std.specs.Int.{bit_at}
 use Rattle.js_base.specs.declared.ids.HostId.{HostId}
@@ -81,7 +82,8 @@ ask_of kind.Enter number = ask.Enter (record { 0 = number })
 
 -- the word has the bits of the hosts that may
 abbrev pub IsWordOf : CodeShape → HostId → Ask → ℕ → Type 0
-IsWordOf code me asked word = (from : HostId) → from.0 < HOSTS → ((bit_at word from.0 ≡ 1) ↔ May code me asked from)
+IsWordOf code me asked word = (from : HostId) → from.0 < HOSTS →
+    ((bit_at word from.0 ≡ 1) ↔ May code me asked from)
 
 -- the words are those of this host with this code
 pub record AreChecksOf (code : CodeShape) (me : HostId) (checks : ChecksShape) : Type 0 where

@@ -1,5 +1,6 @@
 -- What every code keeps: all that it names is there and where it has to be, so that a host can run its part of it.
-use Rattle.std.specs.Prelude.{◌≡◌, ◌≢◌, ℕ, ◌-◌, ◌<◌, ◌≤◌, ◌⊎◌, zero, suc, Bool, false, ◌==◌, ◌&&◌}
+use Rattle.std.specs.Prelude.{◌≡◌, ◌≢◌, ℕ, ◌-◌, ◌<◌, ◌≤◌, ◌⊎◌, zero, suc, Bool, false}
+use Rattle.std.specs.Prelude.{◌==◌, ◌&&◌}
 use Rattle.std.specs.Prelude.{if◌then◌else◌}
 use Rattle.std.specs.Prelude.{List, [], ◌++◌, All, length, Option, Some, None, IsSomeAnd, slice_get, codes, ⊤}
 use Rattle.std.specs.Prelude.{sum_by}

@@ -1,5 +1,6 @@
 -- A host before the first event.
-use Rattle.std.specs.Prelude.{ℕ, ◌+◌, ℤ, pos, false, ◌==◌, if◌then◌else◌, List, [], length, replicate, None}
+use Rattle.std.specs.Prelude.{ℕ, ◌+◌, ℤ, pos, false, ◌==◌, if◌then◌else◌, List, [], length, replicate}
+use Rattle.std.specs.Prelude.{None}
 use Rattle.js_base.specs.declared.ids.HostId.{HostId}
 use Rattle.js_base.specs.declared.ids.FrameId.{FrameId}
 use Rattle.js_base.specs.Counts.{last_count}

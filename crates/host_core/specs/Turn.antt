@@ -1,5 +1,6 @@
 -- What a host does at a turn: its running thread runs one instruction.
-use Rattle.std.specs.Prelude.{◌≡◌, ◌≢◌, ℕ, ◌+◌, ◌<◌, ◌↔◌, ⊤, ℤ, pos, Bool, ◌==◌, if◌then◌else◌, IsTrue, List, Option}
+use Rattle.std.specs.Prelude.{◌≡◌, ◌≢◌, ℕ, ◌+◌, ◌<◌, ◌↔◌, ⊤, ℤ, pos, Bool, ◌==◌}
+use Rattle.std.specs.Prelude.{if◌then◌else◌, IsTrue, List, Option}
 use Rattle.std.specs.Prelude.{Some, None}
 use Rattle.std.specs.Prelude.{slice_index, slice_set}
 use Rattle.std.specs.Option.{option_and_then}
@@ -47,7 +48,8 @@ after_read host thread field index (Some there) =
     (message.Get (next_request host thread.at) field place)
 
 -- the element of a field of this host becomes a value, or a set to the field's host
-abbrev pub after_put : HostShape → ThreadShape → FieldId → List Node → List Node → Option CodeFieldShape → Outcome
+abbrev pub after_put : HostShape → ThreadShape → FieldId → List Node → List Node → Option CodeFieldShape →
+    Outcome
 after_put host thread field index value None = with_thread host thread
 after_put host thread field index value (Some there) =
     let place = value_in_thread host thread index in

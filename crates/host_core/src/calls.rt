@@ -1,6 +1,7 @@
 //! The calls that change a host: its start, a message and a turn.
 
-ghost use Rattle.std.specs.Prelude.{◌≡◌, ◌<◌, ◌↔◌, ◌+◌, ◌^◌, OnOk, OnErr, IsErrOf, IsSome, IsTrue, IfOk, None, Some};
+ghost use Rattle.std.specs.Prelude.{◌≡◌, ◌<◌, ◌↔◌, ◌+◌, ◌^◌, OnOk, OnErr, IsErrOf, IsSome};
+ghost use Rattle.std.specs.Prelude.{IsTrue, IfOk, None, Some};
 ghost use Rattle.std.specs.Prelude.{length};
 ghost use Rattle.host_code.specs.Code.{instruction_at};
 ghost use Rattle.host_code.specs.Sound.{IsHost, IsOther, IsSoundCode};
@@ -38,7 +39,8 @@ impl Host {
         ensures stopped { IsErrOf result HostError.Stopped ↔ IsStopped self.old }
         ensures kept { IsErrOf result HostError.Stopped → self.new ≡ self.old }
         ensures out_of_memory { IsErrOf result HostError.OutOfMemory → IsTrue self.new.stopped }
-        ensures counted { OnOk result ((self.new.calls ≡ self.old.calls + 1) × (self.new.stopped ≡ self.old.stopped)) }
+        ensures counted { OnOk result
+            ((self.new.calls ≡ self.old.calls + 1) × (self.new.stopped ≡ self.old.stopped)) }
         ensures fits { HostFits code.now self.new }
         ensures sent { IfOk result (λ sent. SentFits code.now self.old.me sent) }
     {
@@ -66,7 +68,8 @@ impl Host {
         ensures stopped { IsErrOf result HostError.Stopped ↔ IsStopped self.old }
         ensures kept { IsErrOf result HostError.Stopped → self.new ≡ self.old }
         ensures out_of_memory { IsErrOf result HostError.OutOfMemory → IsTrue self.new.stopped }
-        ensures counted { OnOk result ((self.new.calls ≡ self.old.calls + 1) × (self.new.stopped ≡ self.old.stopped)) }
+        ensures counted { OnOk result
+            ((self.new.calls ≡ self.old.calls + 1) × (self.new.stopped ≡ self.old.stopped)) }
         ensures fits { HostFits code.now self.new }
         ensures sent { IfOk result (λ sent. SentFits code.now self.old.me sent) }
     {

@@ -1,6 +1,7 @@
 //! The changes of which the rows of the host table are made.
 
-ghost use Rattle.std.specs.Prelude.{◌≡◌, ◌<◌, ◌≤◌, ◌↔◌, ◌+◌, length, Some, IsTrue, All, slice_set, slice_index};
+ghost use Rattle.std.specs.Prelude.{◌≡◌, ◌<◌, ◌≤◌, ◌↔◌, ◌+◌, length, Some, IsTrue, All};
+ghost use Rattle.std.specs.Prelude.{slice_set, slice_index};
 ghost use Rattle.std.specs.Prelude.{if◌then◌else◌};
 ghost use Rattle.ics_stack.specs.Stack.{top_token};
 ghost use Rattle.host_code.specs.Code.{entry_at};

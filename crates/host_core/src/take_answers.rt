@@ -1,6 +1,7 @@
 //! Answers that a host takes: the thread that waits for one runs again.
 
-ghost use Rattle.std.specs.Prelude.{◌≡◌, ◌<◌, IfOk, OnOk, OnErr, IfSome, position, length, remove, slice_get, Some};
+ghost use Rattle.std.specs.Prelude.{◌≡◌, ◌<◌, IfOk, OnOk, OnErr, IfSome, position, length, remove, slice_get};
+ghost use Rattle.std.specs.Prelude.{Some};
 ghost use Rattle.std.specs.Option.{option_map};
 ghost use Rattle.std.specs.Vec.{vec_len};
 ghost use Rattle.host_core.specs.Awaiting.{awaits, awaited_shape};
@@ -110,7 +111,8 @@ fn take_with_value(
 ) -> Result<Thread, OutOfMemory>
     requires { place < vec_len waiting.old }
     ensures thread { IfOk result (λ thread.
-        option_map (λ waiting. with_temporary value waiting.thread) (slice_get waiting.old.items place) ≡ Some thread) }
+        option_map (λ waiting. with_temporary value waiting.thread)
+        (slice_get waiting.old.items place) ≡ Some thread) }
     ensures rest { OnOk result (waiting.new.items ≡ remove waiting.old.items place) }
     ensures err { OnErr result (waiting.new.items ≡ waiting.old.items) }
 {

@@ -51,7 +51,8 @@ impl Values {
 
     /// Takes the first value away.
     fn pop(&mut self) -> Option<i64>
-        ensures { MatchOption result ((self.old ≡ []) × (self.new ≡ [])) (λ value. self.old ≡ value ∷ self.new) }
+        ensures { MatchOption result ((self.old ≡ []) × (self.new ≡ []))
+            (λ value. self.old ≡ value ∷ self.new) }
     {
         if self.first == MOST_NODES {
             return None;

@@ -1,5 +1,6 @@
 -- What becomes of the bytes of a host file.
-use Rattle.std.specs.Prelude.{◌≡◌, ◌⊎◌, ℕ, ◌<◌, ◌≤◌, List, length, Some, IsUtf8, string_bytes, ⊤}
+use Rattle.std.specs.Prelude.{◌≡◌, ◌⊎◌, ℕ, ◌<◌, ◌≤◌, List, length, Some, IsUtf8, string_bytes}
+use Rattle.std.specs.Prelude.{⊤}
 use Rattle.js_base.specs.declared.limits.TheConstants.{HOSTS_BYTES}
 use Rattle.toml.specs.Data.{Members}
 use Rattle.toml.specs.Parse.{parse_document}
@@ -18,7 +19,8 @@ pub record IsDocument (bytes : List ℕ) (file : Members) : Type 0 where
 
 -- the bytes say these hosts
 abbrev pub ReadsHosts : List ℕ → HostsShape → Type 0
-ReadsHosts bytes hosts = (file : Members) × IsDocument bytes file × IsSoundFile file × IsMeaningOf (draft_of file) hosts
+ReadsHosts bytes hosts = (file : Members) × IsDocument bytes file × IsSoundFile file
+    × IsMeaningOf (draft_of file) hosts
 
 -- the bytes are not a document
 abbrev pub DocumentFails : List ℕ → HostsError → Type 0

@@ -18,7 +18,8 @@ pub fn label_of_text(
     principals: &Principals,
 ) -> Result<Option<Label>, OutOfMemory>
     ensures found { IfOk result (λ read. IfSome read (IsLabelText principals.now text.now)) }
-    ensures none { IfOk result (λ read. IfNone read ((label : Label) → ¬ IsLabelText principals.now text.now label)) }
+    ensures none { IfOk result
+        (λ read. IfNone read ((label : Label) → ¬ IsLabelText principals.now text.now label)) }
 {
     lex_laws();
     match lex(alloc, text.as_bytes()) {

@@ -74,7 +74,8 @@ fn is_given(links: &[LinkDraft], link: &LinkDraft) -> bool
 
 /// Whether the link leads from the first host to the second.
 fn is_between(link: &LinkDraft, from: &str, to: &str) -> bool
-    ensures { result ≡ (bytes_eq (string_bytes link.now.from) from.now && bytes_eq (string_bytes link.now.to) to.now) }
+    ensures { result ≡
+        (bytes_eq (string_bytes link.now.from) from.now && bytes_eq (string_bytes link.now.to) to.now) }
 {
     link.from.as_str() == from && link.to.as_str() == to
 }

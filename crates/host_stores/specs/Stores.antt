@@ -1,5 +1,6 @@
 -- What a host keeps of fields and of variables, as two maps.
-use Rattle.std.specs.Prelude.{ℕ, ◌+◌, ◌==◌, ◌&&◌, Bool, if◌then◌else◌, ℤ, pos, List, [], ◌∷◌, Option, Some, None}
+use Rattle.std.specs.Prelude.{ℕ, ◌+◌, ◌==◌, ◌&&◌, Bool, if◌then◌else◌, ℤ, pos, List, []}
+use Rattle.std.specs.Prelude.{◌∷◌, Option, Some, None}
 use Rattle.std.specs.Prelude.{suc}
 use Rattle.std.specs.Option.{option_map}
 use Rattle.js_base.specs.declared.ids.HostId.{HostId}

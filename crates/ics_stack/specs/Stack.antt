@@ -1,5 +1,6 @@
 -- The integrity control stack of a host: the entries at which threads may start, each once, and only the top one.
-use Rattle.std.specs.Prelude.{◌≡◌, ℕ, ◌+◌, List, [], ◌∷◌, All, Option, Some, None, slice_index, slice_set}
+use Rattle.std.specs.Prelude.{◌≡◌, ℕ, ◌+◌, List, [], ◌∷◌, All, Option, Some, None, slice_index}
+use Rattle.std.specs.Prelude.{slice_set}
 use Rattle.js_base.specs.declared.ids.HostId.{HostId}
 use Rattle.js_base.specs.declared.ids.FrameId.{FrameId}
 use Rattle.js_base.specs.declared.ids.EntryId.{EntryId}
@@ -48,7 +49,8 @@ top_token (top ∷ below) = Some top.token
 abbrev pub IsTakenOff : List StackEntry → Token → PendingShape → List StackEntry → Type 0
 IsTakenOff [] token pending rest = ⊥
 IsTakenOff (top ∷ below) token pending rest =
-    (top.token ≡ token) × (pending ≡ record { entry = top.entry; frame = top.frame; kept = top.kept }) × (rest ≡ below)
+    (top.token ≡ token) × (pending ≡ record { entry = top.entry; frame = top.frame; kept = top.kept })
+    × (rest ≡ below)
 
 -- every token on the stack is one of this host, for its entry and its frame
 pub record IsOwnEntry (host : HostId) (on_stack : StackEntry) : Type 0 where

@@ -1,6 +1,7 @@
 //! The stack of entries with their tokens.
 
-ghost use Rattle.std.specs.Prelude.{◌≡◌, ◌≢◌, ◌+◌, ◌<◌, ◌≤◌, ◌^◌, [], length, replicate, IfOk, IfErr, OnOk, Some};
+ghost use Rattle.std.specs.Prelude.{◌≡◌, ◌≢◌, ◌+◌, ◌<◌, ◌≤◌, ◌^◌, [], length, replicate};
+ghost use Rattle.std.specs.Prelude.{IfOk, IfErr, OnOk, Some};
 ghost use Rattle.ics_stack.specs.Stack.{top_token, IsTakenOff, AreOwnEntries};
 
 use capability::{Held, KEY_BYTES, Pending, Token, tag};
@@ -55,7 +56,7 @@ impl Model for IcsStack {
       room = vec_capacity s.entries - vec_len s.entries;
     } };
 
-    ghost invariant = { λ s. All (λ serial. serial ≤ s.pushes) s.serials.items × AreOwnEntries s.host s.entries.items };
+    ghost invariant = { λ s. All (λ n. n ≤ s.pushes) s.serials.items × AreOwnEntries s.host s.entries.items };
 }
 
 impl IcsStack {
@@ -138,7 +139,8 @@ impl IcsStack {
     /// `NotTop` exactly where the stack is empty or the top entry's token differs in any part. Nothing changes then.
     pub fn take(&mut self, token: Token) -> Result<Pending, NotTop>
         ensures ok { IfOk result (λ pending. IsTakenOff self.old.entries token pending self.new.entries) }
-        ensures not_top { IfErr result (λ error. (error.top ≡ top_token self.old.entries) × (error.top ≢ Some token)) }
+        ensures not_top { IfErr result
+            (λ error. (error.top ≡ top_token self.old.entries) × (error.top ≢ Some token)) }
         ensures err { IfErr result (λ error. self.new ≡ self.old) }
         ensures same { self.new ≡ record self.old { entries = self.new.entries; room = self.new.room } }
         ensures room { self.old.room ≤ self.new.room }

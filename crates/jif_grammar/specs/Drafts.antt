@@ -1,5 +1,6 @@
 -- The draft of a program's phrases. `at` is the number of the first token of what is meant, from 0.
-use Rattle.std.specs.Prelude.{ℕ, ℤ, pos, neg_ℤ, ◌+◌, Bool, true, false, List, [], ◌∷◌, length, Option, Some, None}
+use Rattle.std.specs.Prelude.{ℕ, ℤ, pos, neg_ℤ, ◌+◌, Bool, true, false, List, [], ◌∷◌, length, Option}
+use Rattle.std.specs.Prelude.{Some, None}
 use Rattle.label_lattice.specs.Written.{Part, policy, trust, part_tokens}
 use Rattle.jif_grammar.specs.Phrases.{Sign, complement, minus, Change, release, acceptance}
 use Rattle.jif_grammar.specs.Phrases.{LabelPhrase, ExprPhrase, number, variable, element, parenthesized, signed, binary}

@@ -37,7 +37,8 @@ pub fn refusal_laws()
     ensures too_deep_at { (tokens : List Token) (n : ℕ) (program : ProgramPhrase) → n < length tokens →
         GoesOn (take (n + 1) tokens) program → IsWithinUpTo program n → IsTooDeep (tally_at program n) →
         IsRefused tokens (too_deep n) }
-    ensures too_many_at { (tokens : List Token) (n : ℕ) (program : ProgramPhrase) (what : What) → n < length tokens →
+    ensures too_many_at { (tokens : List Token) (n : ℕ) (program : ProgramPhrase) (what : What) →
+        n < length tokens →
         GoesOn (take (n + 1) tokens) program → IsWithinUpTo program n → HasTooMany what (tally_at program n) →
         ¬ IsTooDeep (tally_at program n) →
         ((other : What) → rank_of_what other < rank_of_what what → ¬ HasTooMany other (tally_at program n)) →
@@ -45,7 +46,8 @@ pub fn refusal_laws()
     ensures unexpected_at { (tokens : List Token) (n : ℕ) (program : ProgramPhrase) → n ≤ length tokens →
         GoesOn (take n tokens) program → IsWithinUpTo program n →
         (n < length tokens → ¬ IsBeginning (take (n + 1) tokens)) →
-        ((other : ProgramPhrase) → n ≡ length tokens → ¬ Spells tokens other) → IsRefused tokens (unexpected n) }
+        ((other : ProgramPhrase) → n ≡ length tokens → ¬ Spells tokens other) →
+        IsRefused tokens (unexpected n) }
 {}
 
 /// What is due after tokens is known exactly where a program begins with them, and it is nothing exactly where they are

@@ -1,5 +1,6 @@
 -- What the parts of the lexer answer: the length of what a text begins with, or why there is none.
-use Rattle.std.specs.Prelude.{◌≡◌, ℕ, ◌<◌, ◌≤◌, ◌⊎◌, List, [], ◌∷◌, ◌++◌, length, take, drop, IsTrue, codes, ⊤}
+use Rattle.std.specs.Prelude.{◌≡◌, ℕ, ◌<◌, ◌≤◌, ◌⊎◌, List, [], ◌∷◌, ◌++◌, length}
+use Rattle.std.specs.Prelude.{take, drop, IsTrue, codes, ⊤}
 use Rattle.std.specs.Char.{is_ascii_digit}
 use Rattle.js_base.specs.Name.{starts_name}
 use Rattle.js_base.specs.declared.limits.TheConstants.{PROGRAM_BYTES}

@@ -1,6 +1,7 @@
 -- Which tokens a text has. The text is cut into pieces: blanks and comments, which are skipped, and lexemes, which make
 -- the tokens. At each place stands the longest lexeme that there is. A text is the list of its bytes.
-use Rattle.std.specs.Prelude.{◌≡◌, ◌≢◌, ℕ, pos, ◌+◌, ◌≤ℤ◌, ◌<ℤ◌, ◌==◌, ◌⊎◌, List, [], ◌∷◌, ◌++◌, length, Contains}
+use Rattle.std.specs.Prelude.{◌≡◌, ◌≢◌, ℕ, pos, ◌+◌, ◌≤ℤ◌, ◌<ℤ◌, ◌==◌, ◌⊎◌}
+use Rattle.std.specs.Prelude.{List, [], ◌∷◌, ◌++◌, length, Contains}
 use Rattle.std.specs.Prelude.{IsTrue, codes, if◌then◌else◌}
 use Rattle.std.specs.List.{list_all}
 use Rattle.std.specs.Char.{is_ascii_digit}
@@ -128,7 +129,8 @@ pub record BeginsBadNumber (text : List ℕ) : Type 0 where
 pub record BeginsBadByte (text : List ℕ) : Type 0 where
   pub some : text ≢ []
   pub no_number : ¬ BeginsBadNumber text
-  pub no_piece : (piece : Piece) (after : List ℕ) → text ≡ piece_text piece ++ after → ¬ IsPieceBefore piece after
+  pub no_piece : (piece : Piece) (after : List ℕ) → text ≡ piece_text piece ++ after →
+      ¬ IsPieceBefore piece after
 
 -- what a text is read as: its tokens, or the place of its first fault
 pub data Reading : Type 0 where
@@ -139,7 +141,8 @@ pub data Reading : Type 0 where
 abbrev pub ReadsAs : List ℕ → Reading → Type 0
 ReadsAs text (tokens list) = (pieces : List Piece) × CutsTo text pieces [] × (list ≡ tokens_of 0 1 pieces)
 ReadsAs text (bad_byte at) =
-    (pieces : List Piece) × (rest : List ℕ) × CutsTo text pieces rest × BeginsBadByte rest × (at ≡ pieces_length pieces)
+    (pieces : List Piece) × (rest : List ℕ) × CutsTo text pieces rest × BeginsBadByte rest
+    × (at ≡ pieces_length pieces)
 ReadsAs text (bad_number at) =
     (pieces : List Piece) × (rest : List ℕ) × CutsTo text pieces rest × BeginsBadNumber rest
     × (at ≡ pieces_length pieces)

@@ -9,7 +9,8 @@ use js_base::limits::PROGRAM_BYTES;
 
 /// A text has one reading only: the same tokens, or the same fault at the same place.
 pub fn lex_laws()
-    ensures { (text : List ℕ) (first second : Reading) → ReadsAs text first → ReadsAs text second → first ≡ second }
+    ensures { (text : List ℕ) (first second : Reading) → ReadsAs text first → ReadsAs text second →
+        first ≡ second }
 {}
 
 /// The tokens of a text that is not too long are few, and each is small.

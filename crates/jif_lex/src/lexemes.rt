@@ -15,7 +15,8 @@ use std::alloc::Global;
 /// The token that a text begins with, and how many bytes it has. The text stands at this place of the whole.
 pub fn first_lexeme(alloc: Global, text: &[u8], at: u32) -> Result<(TokenKind, usize), LexError>
     requires { ¬ OpensComment text.now }
-    ensures { MatchResult result (λ found. HasFront text.now found.1 (IsTokenFront found.0)) (LexemeFails text.now at) }
+    ensures { MatchResult result (λ found. HasFront text.now found.1 (IsTokenFront found.0))
+        (LexemeFails text.now at) }
 {
     if begins_word(text) {
         return Ok(first_word(alloc, text)?);

@@ -1,6 +1,7 @@
 //! Numbers.
 
-ghost use Rattle.std.specs.Prelude.{◌≡◌, ◌≤◌, ◌↔◌, ◌≤ℤ◌, ◌<ℤ◌, length, pos, IfSome, IfNone, IsTrue};
+ghost use Rattle.std.specs.Prelude.{◌≡◌, ◌≤◌, ◌↔◌, ◌≤ℤ◌, ◌<ℤ◌, length, pos, IfSome};
+ghost use Rattle.std.specs.Prelude.{IfNone, IsTrue};
 ghost use Rattle.std.specs.Char.{is_ascii_digit};
 ghost use Rattle.std.specs.List.{prefix_len};
 ghost use Rattle.std.specs.Str.Parse.{digits_value};
@@ -31,7 +32,8 @@ pub fn digits_len(text: &[u8]) -> usize
 /// The number that digits write, where it is at most `LARGEST_NUMBER`.
 pub fn number(digits: &[u8]) -> Option<i64>
     requires { AreDigits digits.now }
-    ensures some { IfSome result (λ value. (value ≡ pos (digits_value 10 digits.now)) × (value ≤ℤ LARGEST_NUMBER)) }
+    ensures some { IfSome result
+        (λ value. (value ≡ pos (digits_value 10 digits.now)) × (value ≤ℤ LARGEST_NUMBER)) }
     ensures none { IfNone result (LARGEST_NUMBER <ℤ pos (digits_value 10 digits.now)) }
 {
     i64::try_from(digits_value(digits)?).ok()

@@ -1,6 +1,7 @@
 -- What a load and a save mean, where the files tell what they hold. A name and a file are lists of bytes. What is
 -- held is a function from names, `None` where nothing is held under a name.
-use Rattle.std.specs.Prelude.{◌≡◌, ◌≢◌, ℕ, ◌<◌, ◌≤◌, List, length, Option, Some, None, IsSomeAnd, ⊤}
+use Rattle.std.specs.Prelude.{◌≡◌, ◌≢◌, ℕ, ◌<◌, ◌≤◌, List, length, Option, Some, None}
+use Rattle.std.specs.Prelude.{IsSomeAnd, ⊤}
 use Rattle.js_base.specs.declared.files.LoadError.{LoadError}
 use Rattle.js_base.specs.declared.files.LoadError.TheVariants as load
 
@@ -13,7 +14,8 @@ LoadFails held most load.Absent = held ≡ None
 LoadFails held most load.Failed = IsSomeAnd held (λ bytes. length bytes ≤ most)
 
 -- under every other name the same is held
-abbrev pub ChangesOnly : List ℕ → Option (List ℕ → Option (List ℕ)) → Option (List ℕ → Option (List ℕ)) → Type 0
+abbrev pub ChangesOnly : List ℕ → Option (List ℕ → Option (List ℕ)) →
+    Option (List ℕ → Option (List ℕ)) → Type 0
 ChangesOnly name None None = ⊤
 ChangesOnly name (Some old) (Some new) = (other : List ℕ) → other ≢ name → new other ≡ old other
 ChangesOnly name None (Some new) = ⊥

@@ -7,7 +7,8 @@ use Rattle.js_base.specs.declared.names.TheConstants.{UNDERSCORE}
 
 -- the words that the language has for itself
 abbrev pub keywords : List (List ℕ)
-keywords = codes "int" ∷ codes "void" ∷ codes "if" ∷ codes "else" ∷ codes "while" ∷ codes "return" ∷ codes "where"
+keywords =
+    codes "int" ∷ codes "void" ∷ codes "if" ∷ codes "else" ∷ codes "while" ∷ codes "return" ∷ codes "where"
     ∷ codes "authority" ∷ codes "declassify" ∷ codes "endorse" ∷ []
 
 -- an ASCII letter or `_`

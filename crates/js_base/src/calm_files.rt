@@ -1,6 +1,7 @@
 //! Files in memory that never fail.
 
-ghost use Rattle.std.specs.Prelude.{◌≡◌, ◌≤◌, [], Some, IfOk, OnOk, MatchResult, OnErr, IsErrOf, IsOkUnless};
+ghost use Rattle.std.specs.Prelude.{◌≡◌, ◌≤◌, [], Some, IfOk, OnOk, MatchResult, OnErr, IsErrOf};
+ghost use Rattle.std.specs.Prelude.{IsOkUnless};
 ghost use Rattle.std.specs.Prelude.{vec_len};
 ghost use Rattle.js_base.specs.Files.{LoadFails, ChangesOnly};
 ghost use Rattle.js_base.specs.MemFiles.{named_bytes};

@@ -1,6 +1,7 @@
 //! Files under names, as a trait.
 
-ghost use Rattle.std.specs.Prelude.{◌≡◌, ◌≤◌, ◌⊎◌, ℕ, List, Option, Some, IfOk, IfSome, OnOk, MatchResult, IsErrOf};
+ghost use Rattle.std.specs.Prelude.{◌≡◌, ◌≤◌, ◌⊎◌, ℕ, List, Option, Some, IfOk, IfSome, OnOk};
+ghost use Rattle.std.specs.Prelude.{MatchResult, IsErrOf};
 ghost use Rattle.std.specs.Prelude.{vec_len};
 ghost use Rattle.js_base.specs.Counts.{counted, Rose};
 ghost use Rattle.js_base.specs.Files.{LoadFails, ChangesOnly};

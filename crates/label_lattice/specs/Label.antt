@@ -2,7 +2,8 @@
 -- reader each, and a set of trusting principals. Owners are the numbers below `PRINCIPALS`, and readers those below
 -- `READERS`, of which the last is the outsider (principals, ActsFor). A label is kept as a word for each owner, with a
 -- bit set for each reader that the owner allows, and one word with a bit set for each principal that trusts.
-use Rattle.std.specs.Prelude.{◌≡◌, ℕ, ◌<◌, ◌↔◌, ◌⊎◌, ◌^◌, List, All, Any, length, slice_index}
+use Rattle.std.specs.Prelude.{◌≡◌, ℕ, ◌<◌, ◌↔◌, ◌⊎◌, ◌^◌, List, All, Any, length}
+use Rattle.std.specs.Prelude.{slice_index}
 use Rattle.std.specs.Int.{bit_at}
 use Rattle.js_base.specs.declared.ids.PrincipalId.{PrincipalId}
 use Rattle.js_base.specs.declared.bits.TheConstants.{WORD_BITS}
@@ -36,7 +37,8 @@ IntegFlows from to = (principal : ℕ) → principal < READERS → Trusts to pri
 
 -- each principal of a word trusts the label
 abbrev pub IsTrustedBy : Label → ℕ → Type 0
-IsTrustedBy label word = (principal : ℕ) → principal < READERS → bit_at word principal ≡ 1 → Trusts label principal
+IsTrustedBy label word = (principal : ℕ) → principal < READERS → bit_at word principal ≡ 1 →
+    Trusts label principal
 
 -- the first may flow to the second
 abbrev pub Flows : Label → Label → Type 0
@@ -51,7 +53,8 @@ SameTrust old new = (principal : ℕ) → principal < READERS → (Trusts new pr
 
 -- the label forbids no reader at all
 abbrev pub ForbidsNothing : Label → Type 0
-ForbidsNothing label = (owner reader : ℕ) → owner < PRINCIPALS → reader < READERS → ¬ Forbids label owner reader
+ForbidsNothing label = (owner reader : ℕ) → owner < PRINCIPALS → reader < READERS →
+    ¬ Forbids label owner reader
 
 -- nobody trusts it
 abbrev pub IsUntrusted : Label → Type 0
@@ -83,7 +86,8 @@ IsPolicy label principals owner readers = (principal reader : ℕ) → principal
 
 -- the new label forbids what the old one or the policy forbids
 abbrev pub AddsPolicy : Label → Label → Declared → PrincipalId → List PrincipalId → Type 0
-AddsPolicy old new principals owner readers = (principal reader : ℕ) → principal < PRINCIPALS → reader < READERS →
+AddsPolicy old new principals owner readers = (principal reader : ℕ) → principal < PRINCIPALS →
+    reader < READERS →
     (Forbids new principal reader ↔
     (Forbids old principal reader ⊎ PolicyForbids principals owner readers principal reader))
 

@@ -1,5 +1,6 @@
 -- Joins and meets of labels, as sets and as values.
-use Rattle.std.specs.Prelude.{ℕ, ◌<◌, ◌-◌, ◌^◌, ◌↔◌, ◌⊎◌, List, map, length, bit_and, bit_or, replicate}
+use Rattle.std.specs.Prelude.{ℕ, ◌<◌, ◌-◌, ◌^◌, ◌↔◌, ◌⊎◌, List, map, length, bit_and, bit_or}
+use Rattle.std.specs.Prelude.{replicate}
 use Rattle.std.specs.List.{zip}
 use Rattle.js_base.specs.declared.bits.TheConstants.{WORD_BITS}
 use Rattle.js_base.specs.declared.limits.TheConstants.{PRINCIPALS}

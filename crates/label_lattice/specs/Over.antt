@@ -33,7 +33,8 @@ pub record ForbidsOver (principals : Declared) (label : Label) : Type 0 where
 
 -- only declared principals trust, and with each of them all for whom it acts
 pub record TrustsOver (principals : Declared) (label : Label) : Type 0 where
-  pub declared : (principal : ℕ) → principal < READERS → Trusts label principal → principal < length principals.names
+  pub declared : (principal : ℕ) → principal < READERS → Trusts label principal →
+      principal < length principals.names
   pub on_behalf : (principal other : ℕ) → principal < READERS → other < READERS →
       Trusts label principal → ActsFor principals principal other → Trusts label other
 

@@ -1,6 +1,7 @@
 -- How a label is written: `{`, parts joined by `;`, and `}`. A part is a policy, `owner: readers`, or says who trusts,
 -- `?: members`, where names are joined by `,`. Only the last part may say who trusts.
-use Rattle.std.specs.Prelude.{◌≡◌, ℕ, ◌<◌, ◌↔◌, List, [], ◌∷◌, ◌++◌, map, Any, Some, slice_get, ⊤}
+use Rattle.std.specs.Prelude.{◌≡◌, ℕ, ◌<◌, ◌↔◌, List, [], ◌∷◌, ◌++◌, map, Any, Some}
+use Rattle.std.specs.Prelude.{slice_get, ⊤}
 use Rattle.std.specs.List.{AllZip}
 use Rattle.js_base.specs.declared.ids.PrincipalId.{PrincipalId}
 use Rattle.jif_lex.specs.declared.token.Token.{Token}

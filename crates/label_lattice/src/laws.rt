@@ -18,12 +18,14 @@ use principals::acts_for_laws;
 pub fn label_laws()
     // May-flow is an order: two labels that may flow to each other are one.
     ensures reflexive { (label : Label) → Flows label label }
-    ensures transitive { (first second third : Label) → Flows first second → Flows second third → Flows first third }
+    ensures transitive { (first second third : Label) → Flows first second →
+        Flows second third → Flows first third }
     ensures antisymmetric { (first second : Label) → IsLabel first → IsLabel second →
         Flows first second → Flows second first → first ≡ second }
 
     // The join is the least label to which both may flow, and the meet of integrity the greatest that may flow to both.
-    ensures join_above { (first second join : Label) → IsJoin first second join → Flows first join × Flows second join }
+    ensures join_above { (first second join : Label) → IsJoin first second join →
+        Flows first join × Flows second join }
     ensures join_least { (first second join above : Label) → IsJoin first second join →
         Flows first above → Flows second above → Flows join above }
     ensures meet_below { (first second meet : Label) → IsIntegrityMeet first second meet →
@@ -66,16 +68,19 @@ pub fn label_laws()
     ensures join_bottom { (principals : Declared) (label : Label) → IsDeclared principals →
         IsLabelOver principals label → join_of (bottom_of principals) label ≡ label }
     ensures meet_empty { (label : Label) → meet_of label empty_label ≡ label }
-    ensures join_empty { (label : Label) → IsLabel label → join_of label empty_label ≡ record label { trust = 0 } }
+    ensures join_empty { (label : Label) → IsLabel label →
+        join_of label empty_label ≡ record label { trust = 0 } }
 
     // The bottom label may flow to each label that only declared principals trust.
     ensures from_bottom { (principals : Declared) (bottom label : Label) → IsBottom principals bottom →
-        ((principal : ℕ) → principal < READERS → Trusts label principal → principal < length principals.names) →
+        ((principal : ℕ) → principal < READERS → Trusts label principal →
+        principal < length principals.names) →
         Flows bottom label }
 
     // The confidentiality of a label without policies flows to every label, and that of none with a policy flows to it.
     ensures from_free { (free label : Label) → ForbidsNothing free → ConfFlows free label }
-    ensures to_free { (label free : Label) (principals : Declared) (owner : PrincipalId) (readers : List PrincipalId) →
+    ensures to_free { (label free : Label) (principals : Declared) (owner : PrincipalId)
+        (readers : List PrincipalId) →
         IsDeclared principals → owner.0 < length principals.names →
         All (λ named. named.0 < length principals.names) readers →
         IsPolicy label principals owner readers → ForbidsNothing free → ¬ ConfFlows label free }
@@ -86,7 +91,8 @@ pub fn label_laws()
         IsPolicy label principals owner readers }
 
     // What one owner keeps from all others flows to what another keeps from all others just where that one acts for it.
-    ensures owners { (from to : Label) (principals : Declared) (first second : PrincipalId) → IsDeclared principals →
+    ensures owners { (from to : Label) (principals : Declared) (first second : PrincipalId) →
+        IsDeclared principals →
         first.0 < length principals.names → second.0 < length principals.names →
         IsPolicy from principals first [] → IsPolicy to principals second [] →
         (ConfFlows from to ↔ ActsFor principals second.0 first.0) }

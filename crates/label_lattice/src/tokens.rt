@@ -26,7 +26,8 @@ pub fn read_label(
 ) -> Result<Option<Label>, OutOfMemory>
     ensures found { IfOk result (λ read. IfSome read (IsLabelOf principals.now tokens.now)) }
     ensures over { IfOk result (λ read. IfSome read (IsLabelOver principals.now)) }
-    ensures none { IfOk result (λ read. IfNone read ((label : Label) → ¬ IsLabelOf principals.now tokens.now label)) }
+    ensures none { IfOk result
+        (λ read. IfNone read ((label : Label) → ¬ IsLabelOf principals.now tokens.now label)) }
 {
     match between_braces(tokens) {
         Some(inside) => label_of_parts(alloc, inside, principals),

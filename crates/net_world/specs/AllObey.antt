@@ -1,5 +1,6 @@
 -- What hosts that all obey promise together: their fields follow the plain run of the program.
-use Rattle.std.specs.Prelude.{◌≡◌, ℕ, ◌+◌, ◌≤◌, ℤ, true, List, [], length, take, All, Some, None, Ok, slice_get}
+use Rattle.std.specs.Prelude.{◌≡◌, ℕ, ◌+◌, ◌≤◌, ℤ, true, List, [], length, take, All, Some, None}
+use Rattle.std.specs.Prelude.{Ok, slice_get}
 use Rattle.std.specs.Prelude.{slice_index}
 use Rattle.std.specs.List.Sorted.{IsNonDecreasing}
 use Rattle.jif_tree.specs.declared.program.Program.{Program}

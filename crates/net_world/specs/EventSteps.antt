@@ -1,5 +1,6 @@
 -- What the parts of an event find and leave: the test before it, the step of its host, and its answer.
-use Rattle.std.specs.Prelude.{◌≡◌, ◌≢◌, ◌≤◌, ◌⊎◌, ℕ, ⊤, false, List, All, length, Option, Some, None, IsSome, IsSomeAnd}
+use Rattle.std.specs.Prelude.{◌≡◌, ◌≢◌, ◌≤◌, ◌⊎◌, ℕ, ⊤, false, List, All, length, Option}
+use Rattle.std.specs.Prelude.{Some, None, IsSome, IsSomeAnd}
 use Rattle.std.specs.Prelude.{IfSome, IsOk, slice_get, slice_set, Result, Ok, Err}
 use Rattle.js_base.specs.declared.ids.HostId.{HostId}
 use Rattle.net_world.specs.declared.host_code.Message.{Message}

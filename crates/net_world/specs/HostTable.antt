@@ -1,6 +1,8 @@
 -- One host: its state, and what taking a message and running an instruction do to it.
-use Rattle.std.specs.Prelude.{ℕ, ◌+◌, ◌-◌, ◌≤◌, ◌⊎◌, ℤ, pos, Bool, true, false, ◌==◌, ◌&&◌, if◌then◌else◌, IsTrue}
-use Rattle.std.specs.Prelude.{List, [], ◌∷◌, ◌++◌, length, take, Option, Some, None, slice_get, slice_index, slice_set}
+use Rattle.std.specs.Prelude.{ℕ, ◌+◌, ◌-◌, ◌≤◌, ◌⊎◌, ℤ, pos, Bool, true, false, ◌==◌}
+use Rattle.std.specs.Prelude.{◌&&◌, if◌then◌else◌, IsTrue}
+use Rattle.std.specs.Prelude.{List, [], ◌∷◌, ◌++◌, length, take, Option, Some, None, slice_get, slice_index}
+use Rattle.std.specs.Prelude.{slice_set}
 use Rattle.std.specs.Prelude.{remove, position, replicate}
 use Rattle.std.specs.Option.{option_map}
 use Rattle.js_base.specs.declared.ids.HostId.{HostId}

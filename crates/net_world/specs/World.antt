@@ -1,5 +1,6 @@
 -- All hosts, what is in flight between them, and what each event leaves.
-use Rattle.std.specs.Prelude.{◌≡◌, ℕ, ◌≤◌, zero, suc, ℤ, Bool, ◌==◌, ◌&&◌, nat_lt, if◌then◌else◌, List, [], ◌∷◌, ◌++◌}
+use Rattle.std.specs.Prelude.{◌≡◌, ℕ, ◌≤◌, zero, suc, ℤ, Bool, ◌==◌, ◌&&◌, nat_lt}
+use Rattle.std.specs.Prelude.{if◌then◌else◌, List, [], ◌∷◌, ◌++◌}
 use Rattle.std.specs.Prelude.{length, map, Option, Some, None, is_some, IsSomeAnd, IsOk, slice_get, slice_set, remove}
 use Rattle.std.specs.Prelude.{replicate, Result, Ok, Err}
 use Rattle.std.specs.List.{list_any, fold}

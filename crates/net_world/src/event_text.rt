@@ -1,6 +1,7 @@
 //! Scripts of events: what their lines mean.
 
-ghost use Rattle.std.specs.Prelude.{◌≡◌, ◌==◌, ◌<◌, ◌≤◌, ◌^◌, [], ◌∷◌, length, position, slice_get, codes, Ok};
+ghost use Rattle.std.specs.Prelude.{◌≡◌, ◌==◌, ◌<◌, ◌≤◌, ◌^◌, [], ◌∷◌, length, position};
+ghost use Rattle.std.specs.Prelude.{slice_get, codes, Ok};
 ghost use Rattle.std.specs.Prelude.{MatchResult, IfOk, IfSome, IfNone, IsTrue};
 ghost use Rattle.std.specs.Char.{is_ascii_digit};
 ghost use Rattle.std.specs.List.{list_all, prefix_len, position_or_len};

@@ -1,6 +1,7 @@
 //! What the hosts run, and the messages that they send each other.
 
-ghost use Rattle.std.specs.Prelude.{◌≡◌, ◌+◌, ◌^◌, ◌<◌, length, map, slice_get, IfSome, IfNone, IsSome, Some, None};
+ghost use Rattle.std.specs.Prelude.{◌≡◌, ◌+◌, ◌^◌, ◌<◌, length, map, slice_get, IfSome, IfNone};
+ghost use Rattle.std.specs.Prelude.{IsSome, Some, None};
 ghost use Rattle.std.specs.String.{string_bytes};
 ghost use Rattle.net_world.specs.Code.{IsSound, instruction, is_on, part_of};
 

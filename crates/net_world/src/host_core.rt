@@ -1,7 +1,9 @@
 //! One host: its fields, its threads and its control stack, and how a message and an instruction change them.
 
-ghost use Rattle.std.specs.Prelude.{◌≡◌, ◌≢◌, ◌+◌, ◌<◌, ◌↔◌, length, All, IsTrue, IsSome, IsNone, IfOk, OnOk, OnErr};
-ghost use Rattle.std.specs.Prelude.{IsErrOf, IfSome, Some, None, Err, Option, position, ◌^◌, slice_set, slice_index};
+ghost use Rattle.std.specs.Prelude.{◌≡◌, ◌≢◌, ◌+◌, ◌<◌, ◌↔◌, length, All, IsTrue, IsSome};
+ghost use Rattle.std.specs.Prelude.{IsNone, IfOk, OnOk, OnErr};
+ghost use Rattle.std.specs.Prelude.{IsErrOf, IfSome, Some, None, Err, Option, position, ◌^◌, slice_set};
+ghost use Rattle.std.specs.Prelude.{slice_index};
 ghost use Rattle.std.specs.Prelude.{is_none, false, true};
 ghost use Rattle.jif_tree.specs.Store.{store_after_write, row_of};
 ghost use Rattle.net_world.specs.HostTable.{HostState, HostModel, IsStopped, host_at_start, own_row, own_rows};
@@ -105,7 +107,8 @@ impl Model for Host {
       stopped = h.stopped;
     } };
 
-    ghost invariant = { λ h. All (λ n. n ≤ h.calls) h.asked.items × (h.ignored ≤ h.calls) × (h.calls ≤ MOST_CALLS) };
+    ghost invariant = { λ h.
+        All (λ n. n ≤ h.calls) h.asked.items × (h.ignored ≤ h.calls) × (h.calls ≤ MOST_CALLS) };
 }
 
 impl Host {
@@ -201,7 +204,8 @@ impl Host {
         ensures same { self.new.me ≡ self.old.me }
         ensures err { OnErr result (self.new.state ≡ self.old.state) }
         // A step is counted, and only want of memory stops the host.
-        ensures counted { OnOk result ((self.new.calls ≡ self.old.calls + 1) × (self.new.stopped ≡ self.old.stopped)) }
+        ensures counted { OnOk result
+            ((self.new.calls ≡ self.old.calls + 1) × (self.new.stopped ≡ self.old.stopped)) }
         ensures out_of_memory { IsErrOf result HostError.OutOfMemory → IsTrue self.new.stopped }
         ensures kept { IsErrOf result HostError.Stopped → self.new ≡ self.old }
         // What is sent answers the sender.
@@ -239,7 +243,8 @@ impl Host {
         ensures same { self.new.me ≡ self.old.me }
         ensures err { OnErr result (self.new.state ≡ self.old.state) }
         // A step is counted, and only want of memory stops the host.
-        ensures counted { OnOk result ((self.new.calls ≡ self.old.calls + 1) × (self.new.stopped ≡ self.old.stopped)) }
+        ensures counted { OnOk result
+            ((self.new.calls ≡ self.old.calls + 1) × (self.new.stopped ≡ self.old.stopped)) }
         ensures out_of_memory { IsErrOf result HostError.OutOfMemory → IsTrue self.new.stopped }
         ensures kept { IsErrOf result HostError.Stopped → self.new ≡ self.old }
         // What is sent goes to a host of the code.
@@ -281,7 +286,8 @@ impl Host {
         ensures memory { result ≢ Err HostError.Stopped }
         ensures same { self.new.me ≡ self.old.me }
         ensures err { OnErr result (self.new.state ≡ self.old.state) }
-        ensures uncounted { OnOk result ((self.new.calls ≡ self.old.calls) × (self.new.stopped ≡ self.old.stopped)) }
+        ensures uncounted { OnOk result
+            ((self.new.calls ≡ self.old.calls) × (self.new.stopped ≡ self.old.stopped)) }
         ensures out_of_memory { IsErrOf result HostError.OutOfMemory → IsTrue self.new.stopped }
     {
         if there.host.0 == self.me.0 {
@@ -315,7 +321,8 @@ impl Host {
         ensures memory { result ≢ Err HostError.Stopped }
         ensures same { self.new.me ≡ self.old.me }
         ensures err { OnErr result (self.new.state ≡ self.old.state) }
-        ensures uncounted { OnOk result ((self.new.calls ≡ self.old.calls) × (self.new.stopped ≡ self.old.stopped)) }
+        ensures uncounted { OnOk result
+            ((self.new.calls ≡ self.old.calls) × (self.new.stopped ≡ self.old.stopped)) }
         ensures out_of_memory { IsErrOf result HostError.OutOfMemory → IsTrue self.new.stopped }
     {
         let at = thread.at as usize;

@@ -1,6 +1,7 @@
 //! All hosts, what is in flight between them, and the events that move them on.
 
-ghost use Rattle.std.specs.Prelude.{◌≡◌, ◌≢◌, ◌<◌, ◌≤◌, ◌+◌, ◌↔◌, ℕ, length, Ok, Err, OnOk, OnErr, IfOk, IfErr, IfSome};
+ghost use Rattle.std.specs.Prelude.{◌≡◌, ◌≢◌, ◌<◌, ◌≤◌, ◌+◌, ◌↔◌, ℕ, length, Ok, Err};
+ghost use Rattle.std.specs.Prelude.{OnOk, OnErr, IfOk, IfErr, IfSome};
 ghost use Rattle.std.specs.Prelude.{IsSomeAnd, IsErrOf, slice_get, map, option_copied};
 ghost use Rattle.std.specs.List.{list_any};
 ghost use Rattle.net_world.specs.World.{World, world_of, next, not_there, host_busy, run, queue, IsStuck};
@@ -256,7 +257,8 @@ fn deliver_at(
     ensures numbered { AreNumbered hosts.new.items }
     ensures others { ChangesOnly to.0 hosts.old.items hosts.new.items }
     // A step is counted, and stops no host.
-    ensures made { IfOk result (λ sent. (n : ℕ) → HaveMade n hosts.old.items → HaveMade (n + 1) hosts.new.items) }
+    ensures made { IfOk result
+        (λ sent. (n : ℕ) → HaveMade n hosts.old.items → HaveMade (n + 1) hosts.new.items) }
     // What is sent answers the sender.
     ensures to_sender { IfOk result (λ sent. IfSome sent (λ letter. letter.0 ≡ from)) }
 {
@@ -280,7 +282,8 @@ fn turn_at(hosts: &mut Vec<Host>, code: &Code, host: HostId) -> Result<Sent, Out
     ensures numbered { AreNumbered hosts.new.items }
     ensures others { ChangesOnly host.0 hosts.old.items hosts.new.items }
     // A step is counted, and stops no host.
-    ensures made { IfOk result (λ sent. (n : ℕ) → HaveMade n hosts.old.items → HaveMade (n + 1) hosts.new.items) }
+    ensures made { IfOk result
+        (λ sent. (n : ℕ) → HaveMade n hosts.old.items → HaveMade (n + 1) hosts.new.items) }
     // What is sent goes to a host of the code.
     ensures to_host { IfOk result (λ sent. IfSome sent (λ letter. letter.0.0 < length code.now.hosts)) }
 {

@@ -1,7 +1,8 @@
 -- Principals, and who acts for whom, after the decentralized label model of Myers and Liskov. A declared principal is
 -- known by its place in the list of the names, and a name is the list of its bytes. At most `PRINCIPALS` are declared,
 -- so the numbers below it stand for principals, and it for the outsider, whom nobody declares.
-use Rattle.std.specs.Prelude.{◌≡◌, ℕ, ◌<◌, ◌≤◌, ◌⊎◌, List, [], ◌∷◌, All, Contains, length, Bool, IsTrue}
+use Rattle.std.specs.Prelude.{◌≡◌, ℕ, ◌<◌, ◌≤◌, ◌⊎◌, List, [], ◌∷◌, All, Contains, length}
+use Rattle.std.specs.Prelude.{Bool, IsTrue}
 use Rattle.std.specs.List.{IsDistinct}
 use Rattle.std.specs.Str.{bytes_eq}
 use Rattle.js_base.specs.Name.{IsName}

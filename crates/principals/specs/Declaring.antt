@@ -1,5 +1,6 @@
 -- What becomes of the names and the pairs that are to be declared.
-use Rattle.std.specs.Prelude.{◌≡◌, ◌≤◌, ◌<◌, ◌⊎◌, ℕ, List, [], ◌∷◌, Contains, length, map, Some, slice_get}
+use Rattle.std.specs.Prelude.{◌≡◌, ◌≤◌, ◌<◌, ◌⊎◌, ℕ, List, [], ◌∷◌, Contains, length, map}
+use Rattle.std.specs.Prelude.{Some, slice_get}
 use Rattle.std.specs.Prelude.{String, string_bytes, ⊤}
 use Rattle.std.specs.List.{AllZip}
 use Rattle.std.specs.declared.alloc.Global.{Global}
@@ -26,7 +27,8 @@ IsPairOf names written pair = IsNamed names written.0 pair.0 × IsNamed names wr
 
 -- These names and pairs of names are declared as these principals. So the names may be declared together, and each pair
 -- is of two of them.
-pub record AreDeclaredAs (names : List (List ℕ)) (pairs : List (List ℕ × List ℕ)) (principals : Declared) : Type 0 where
+pub record AreDeclaredAs (names : List (List ℕ)) (pairs : List (List ℕ × List ℕ)) (principals : Declared)
+    : Type 0 where
   pub declarable : AreDeclarable names
   pub names_are : principals.names ≡ names
   pub pairs_are : AllZip (IsPairOf names) pairs principals.pairs

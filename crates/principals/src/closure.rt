@@ -23,7 +23,8 @@ fn own_rows() -> [u64; PRINCIPALS]
 fn add_pair(rows: &mut [u64; PRINCIPALS], pair: &(PrincipalId, PrincipalId))
     requires first { pair.now.0.0 < PRINCIPALS }
     requires second { pair.now.1.0 < PRINCIPALS }
-    ensures { (pairs : List (ℕ × ℕ)) → AreRowsOf pairs rows.old → AreRowsOf (pairs ++ pair_of pair.now ∷ []) rows.new }
+    ensures { (pairs : List (ℕ × ℕ)) → AreRowsOf pairs rows.old →
+        AreRowsOf (pairs ++ pair_of pair.now ∷ []) rows.new }
 {
     let (first, second) = *pair;
     let reached = rows[second.0 as usize];

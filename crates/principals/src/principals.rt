@@ -1,6 +1,7 @@
 //! Principals, and who acts for whom.
 
-ghost use Rattle.std.specs.Prelude.{◌≡◌, ◌<◌, ◌↔◌, length, map, Some, IsTrue, IfSome, IfNone, All, Contains};
+ghost use Rattle.std.specs.Prelude.{◌≡◌, ◌<◌, ◌↔◌, length, map, Some, IsTrue, IfSome, IfNone, All};
+ghost use Rattle.std.specs.Prelude.{Contains};
 ghost use Rattle.std.specs.Prelude.{slice_get, MatchResult, string_bytes};
 ghost use Rattle.js_base.specs.Name.{IsName};
 ghost use Rattle.principals.specs.ActsFor.{ActsFor, IsDeclared};

@@ -7,7 +7,8 @@ use Rattle.split_cli.specs.Replay.{DueForBytes}
 
 -- the files of a replay are held, and this is due for their bytes, where files that do not tell hold some bytes
 pub record IsDueForReplay
-    (held : Option (List ℕ → Option (List ℕ))) (program hosts events : List ℕ) (verdict : VerdictShape) : Type 0 where
+    (held : Option (List ℕ → Option (List ℕ))) (program hosts events : List ℕ) (verdict : VerdictShape)
+    : Type 0 where
   pub program_bytes : List ℕ
   pub hosts_bytes : List ℕ
   pub events_bytes : List ℕ
@@ -30,7 +31,8 @@ pub data DueForCommand
       DueForCommand held command (length (files_of command)) verdict
 
 -- What is due for the words where no load fails, and the number of loads that come before it.
-pub data Due (words : List (List ℕ)) (held : Option (List ℕ → Option (List ℕ))) : ℕ → VerdictShape → Type 0 where
+pub data Due (words : List (List ℕ)) (held : Option (List ℕ → Option (List ℕ))) : ℕ → VerdictShape →
+    Type 0 where
   no_words : HaveNoForm words → Due words held 0 usage
   for_command : (command : CommandShape) (number : ℕ) (verdict : VerdictShape) → words ≡ words_of command →
       DueForCommand held command number verdict → Due words held number verdict

@@ -43,7 +43,8 @@ pub record IsFaithful (program hosts events : List ℕ) (text : List ℕ) : Type
 
 -- The words name three files, and what was put is the faithful report of a replay of what they hold.
 pub record PutsFaithfully
-    (words : List (List ℕ)) (held : Option (List ℕ → Option (List ℕ))) (before after : Option (List ℕ)) : Type 0 where
+    (words : List (List ℕ)) (held : Option (List ℕ → Option (List ℕ))) (before after : Option (List ℕ))
+    : Type 0 where
   pub program : List ℕ
   pub hosts : List ℕ
   pub events : List ℕ

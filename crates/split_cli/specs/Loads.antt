@@ -1,5 +1,6 @@
 -- What files did in a call, and how the loads of some files in order may end. A name and a file are lists of bytes.
-use Rattle.std.specs.Prelude.{◌≡◌, ℕ, ◌+◌, zero, suc, List, take, Option, Some, None, IfSome, IsSome, slice_get}
+use Rattle.std.specs.Prelude.{◌≡◌, ℕ, ◌+◌, zero, suc, List, take, Option, Some, None, IfSome, IsSome}
+use Rattle.std.specs.Prelude.{slice_get}
 use Rattle.std.specs.List.{AllByRecursion}
 use Rattle.js_base.specs.Counts.{counted, Rose}
 use Rattle.split_cli.specs.Verdicts.{VerdictShape, file_fault}
@@ -34,7 +35,8 @@ pub record LoadsWell (number : ℕ) (files : FilesChange) : Type 0 where
 
 -- the file at this place is absent, and each before it is held
 pub record IsFirstAbsent
-    (held : Option (List ℕ → Option (List ℕ))) (names : List (List ℕ)) (place : ℕ) (file : List ℕ) : Type 0 where
+    (held : Option (List ℕ → Option (List ℕ))) (names : List (List ℕ)) (place : ℕ) (file : List ℕ)
+    : Type 0 where
   pub here : slice_get names place ≡ Some file
   pub absent : Told held file None
   pub before : AllByRecursion (IsHeld held) (take place names)

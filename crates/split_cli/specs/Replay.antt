@@ -72,6 +72,7 @@ pub data DueForBytes (file program hosts events : List ℕ) : VerdictShape → T
       DueForBytes file program hosts events (no_host_for_field name)
   long_script : (code : CodeShape) (tree : Program) → AreAccepted program hosts code tree →
       SCRIPT_BYTES < length events → DueForBytes file program hosts events (too_long file)
-  script : (code : CodeShape) (tree : Program) → AreAccepted program hosts code tree → length events ≤ SCRIPT_BYTES →
+  script : (code : CodeShape) (tree : Program) → AreAccepted program hosts code tree →
+      length events ≤ SCRIPT_BYTES →
       DueForBytes file program hosts events
       (due_for_script file code (world_at_start code (starting_values tree)) (script_of code.hosts events))

@@ -1,5 +1,6 @@
 -- What the lines of a program stand for, once their names are known.
-use Rattle.std.specs.Prelude.{◌≡◌, ℕ, ◌+◌, ◌⊎◌, pos, false, List, [], ◌∷◌, length, map, Any, Contains, Option, Some}
+use Rattle.std.specs.Prelude.{◌≡◌, ℕ, ◌+◌, ◌⊎◌, pos, false, List, [], ◌∷◌, length, map, Any}
+use Rattle.std.specs.Prelude.{Contains, Option, Some}
 use Rattle.std.specs.Prelude.{None, slice_get, string_bytes, codes, ⊤}
 use Rattle.std.specs.List.{AllZip, IsDistinct}
 use Rattle.std.specs.Str.{bytes_eq}
@@ -37,7 +38,8 @@ pub record IsFieldOf (principals : Declared) (form : FieldForm) (field : Field) 
 
 -- Statement number `number` of `main`, from 0, where the program has these fields. The head of `main` is statement 0
 -- and stands on the line after those of the fields.
-pub record IsStatementOf (names : List (List ℕ)) (number : ℕ) (form : AssignmentForm) (statement : Stmt) : Type 0 where
+pub record IsStatementOf (names : List (List ℕ)) (number : ℕ) (form : AssignmentForm) (statement : Stmt)
+    : Type 0 where
   pub field : FieldId
   pub id : statement.id ≡ record { 0 = number + 1 }
   pub line : statement.line ≡ length names + number + 2

@@ -1,6 +1,7 @@
 //! The code of a program on its hosts: all statements on the first host, and each field on the first that may hold it.
 
-ghost use Rattle.std.specs.Prelude.{◌≡◌, ◌+◌, ◌^◌, ◌<◌, [], ◌∷◌, ◌++◌, IfOk, MatchResult, length, map, replicate};
+ghost use Rattle.std.specs.Prelude.{◌≡◌, ◌+◌, ◌^◌, ◌<◌, [], ◌∷◌, ◌++◌, IfOk, MatchResult};
+ghost use Rattle.std.specs.Prelude.{length, map, replicate};
 ghost use Rattle.std.specs.String.{string_bytes};
 ghost use Rattle.jif_tree.specs.SourceRun.{main_body};
 ghost use Rattle.net_world.specs.FirstCode.{IsCodeOf, instruction_of, root_part};

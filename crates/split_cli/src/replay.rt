@@ -1,6 +1,7 @@
 //! What is due for what the three files of a replay hold.
 
-ghost use Rattle.std.specs.Prelude.{◌≡◌, ◌≤◌, ◌<◌, ◌^◌, ℕ, List, All, length, option_copied, IfOk, IfSome, IfNone};
+ghost use Rattle.std.specs.Prelude.{◌≡◌, ◌≤◌, ◌<◌, ◌^◌, ℕ, List, All, length, option_copied};
+ghost use Rattle.std.specs.Prelude.{IfOk, IfSome, IfNone};
 ghost use Rattle.std.specs.Prelude.{IsSomeAnd, MatchResult};
 ghost use Rattle.host_decl.specs.Reading.{ReadsHosts, RefusesHosts};
 ghost use Rattle.split_cli.specs.ProgramForm.{FieldForm, AssignmentForm, SpellsProgram};

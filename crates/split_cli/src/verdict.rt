@@ -144,7 +144,8 @@ fn why_no_hosts(alloc: Global, why: &HostsError) -> Result<String, AllocError>
 
 /// Why the principals of a host file are refused.
 fn why_no_principals(alloc: Global, why: &PrincipalError) -> Result<String, AllocError>
-    ensures { IfOk result (λ text. string_bytes text ≡ verdicts.why_no_principals (principals.refusal_shape why.now)) }
+    ensures { IfOk result
+        (λ text. string_bytes text ≡ verdicts.why_no_principals (principals.refusal_shape why.now)) }
 {
     match why {
         PrincipalError::OutOfMemory => Err(AllocError),

@@ -10,7 +10,8 @@ const LARGEST: u64 = 9223372036854775807;
 pub fn number(digits: &[u8]) -> Option<u64>
     ensures found { IfSome result (λ value.
         IsNumeral 10 digits.now × (digits_value 10 digits.now ≡ value) × (value ≤ 9223372036854775807)) }
-    ensures none { IfNone result (IsNumeral 10 digits.now → digits_value 10 digits.now ≤ 9223372036854775807 → ⊥) }
+    ensures none { IfNone result
+        (IsNumeral 10 digits.now → digits_value 10 digits.now ≤ 9223372036854775807 → ⊥) }
 {
     if digits.is_empty() {
         return None;

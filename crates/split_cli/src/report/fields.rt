@@ -36,7 +36,8 @@ fn push_field(
 ) -> Result<(), OutOfMemory>
     requires { number < 2 ^ 32 }
     ensures { OnOk result (
-        string_bytes text.new ≡ string_bytes text.old ++ line_text (field_line (world_of world.now) number field.now)) }
+        string_bytes text.new ≡ string_bytes text.old
+        ++ line_text (field_line (world_of world.now) number field.now)) }
 {
     let name = &field.name;
     write!(text, "field {name} = ").map_err(|_| OutOfMemory)?;
@@ -72,7 +73,8 @@ fn push_row(text: &mut String, row: &[i64]) -> Result<(), OutOfMemory>
 /// Adds the elements after the first, each after a space.
 fn push_rest(text: &mut String, rest: &[i64]) -> Result<(), OutOfMemory>
     ensures { OnOk result (
-        string_bytes text.new ≡ string_bytes text.old ++ flat_map (λ element. 32 ∷ signed_decimal element) rest.now) }
+        string_bytes text.new ≡ string_bytes text.old
+        ++ flat_map (λ element. 32 ∷ signed_decimal element) rest.now) }
 {
     for element in rest {
         write!(text, " {element}").map_err(|_| OutOfMemory)?;

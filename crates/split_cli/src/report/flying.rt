@@ -44,7 +44,8 @@ fn push_flying_from(
 ) -> Result<(), OutOfMemory>
     requires { length world.now.hosts ≤ HOSTS }
     ensures { OnOk result (
-        string_bytes text.new ≡ string_bytes text.old ++ lines_text (lines_from code.now (world_of world.now) from.0)) }
+        string_bytes text.new ≡ string_bytes text.old
+        ++ lines_text (lines_from code.now (world_of world.now) from.0)) }
 {
     for to in 0..world.host_count() {
         let to = HostId(to as u8);

@@ -1,6 +1,7 @@
 //! Names, no two the same, each known by its place.
 
-ghost use Rattle.std.specs.Prelude.{◌≡◌, ◌++◌, ◌∷◌, ◌<◌, [], Contains, IfOk, IfSome, IfNone, OnErr, IsTrue, ◌↔◌};
+ghost use Rattle.std.specs.Prelude.{◌≡◌, ◌++◌, ◌∷◌, ◌<◌, [], Contains, IfOk, IfSome, IfNone, OnErr};
+ghost use Rattle.std.specs.Prelude.{IsTrue, ◌↔◌};
 ghost use Rattle.std.specs.Prelude.{if◌then◌else◌, length, slice_get, Some};
 
 use indexmap::IndexSet;
