@@ -14,10 +14,10 @@ use Rattle.jif_grammar.specs.Operators.{operator_symbol}
 use Rattle.jif_grammar.specs.Due as due
 use Rattle.jif_grammar.specs.Due.{Due, Closing, Place, due_after}
 use Rattle.jif_grammar.specs.Programs.{Spells}
-use Rattle.jif_grammar.proofs.Continued.{joined_then, name_then, names_then, part_then, expr_then, args_then}
-use Rattle.jif_grammar.proofs.Continued.{block_then}
-use Rattle.jif_grammar.proofs.Continued.{field_end_then, param_then, params_then, authority_then}
-use Rattle.jif_grammar.proofs.Continued.{optional_label_then, program_then, program_unmarked}
+use Rattle.jif_grammar.specs.Unmarked.{joined_then, name_then, names_then, part_then, expr_then, args_then}
+use Rattle.jif_grammar.specs.Unmarked.{block_then, field_end_then, param_then, params_then, authority_then}
+use Rattle.jif_grammar.specs.Unmarked.{optional_label_then, program_then}
+use Rattle.jif_grammar.proofs.Continued.{program_unmarked}
 use Rattle.jif_grammar.proofs.Groups.{Link}
 use Rattle.jif_grammar.proofs.OneExpr.{links_then}
 use Rattle.jif_grammar.proofs.Written.{joined_more, more_then, more_names, more_parts, Closes}

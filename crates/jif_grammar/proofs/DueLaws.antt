@@ -12,7 +12,8 @@ use Rattle.jif_grammar.specs.Due as due
 use Rattle.jif_grammar.specs.Due.{Due, Closing, Place, fixed_symbol, due_next, after_all, due_after}
 use Rattle.jif_grammar.specs.Programs.{IsBeginning}
 use Rattle.jif_grammar.specs.Grouping.{IsProgram}
-use Rattle.jif_grammar.proofs.Continued.{program_then, program_unmarked}
+use Rattle.jif_grammar.specs.Unmarked.{program_then}
+use Rattle.jif_grammar.proofs.Continued.{program_unmarked}
 use Rattle.jif_grammar.proofs.Written.{Closes, WrittenLinks, WrittenCall, Written, AreWritten, WrittenFrom}
 use Rattle.jif_grammar.proofs.DueProgress.{progress_from}
 use Rattle.jif_grammar.proofs.DueStatements.{ended}

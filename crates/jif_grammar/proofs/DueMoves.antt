@@ -18,8 +18,8 @@ use Rattle.jif_grammar.specs.Due.{Due, Closing, Place, Fixed, fixed_symbol, afte
 use Rattle.jif_grammar.specs.Due.{after_operand_name_symbol, relabelled_operand, call_rest, method_rest, guard}
 use Rattle.jif_grammar.specs.Due.{local_rest, statement_word, due_after_symbol, due_after_word, due_after_name}
 use Rattle.jif_grammar.specs.Due.{due_after_number, due_after_token}
-use Rattle.jif_grammar.proofs.Continued.{joined_then, name_then, names_then, part_then, label_then, expr_then}
-use Rattle.jif_grammar.proofs.Continued.{args_then}
+use Rattle.jif_grammar.specs.Unmarked.{joined_then, name_then, names_then, part_then, label_then, expr_then}
+use Rattle.jif_grammar.specs.Unmarked.{args_then}
 use Rattle.jif_grammar.proofs.OneJoined.{Each}
 use Rattle.jif_grammar.proofs.Groups.{Link, first_operand, links}
 use Rattle.jif_grammar.proofs.OneExpr.{links_then, IsSoundOperand, in_order, at_first, at_links, sound_operands}

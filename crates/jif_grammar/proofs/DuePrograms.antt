@@ -15,8 +15,8 @@ use Rattle.jif_grammar.specs.Due as due
 use Rattle.jif_grammar.specs.Due.{item_due, before_due, due_next}
 use Rattle.jif_grammar.specs.Due.{Due, Closing, Place, call_rest, method_rest, local_rest, due_after_symbol}
 use Rattle.jif_grammar.specs.Due.{due_after_word, due_after_name, due_after_number, due_after_token}
-use Rattle.jif_grammar.proofs.Continued.{name_then, label_then, param_then}
-use Rattle.jif_grammar.proofs.Continued.{sign_then, field_end_then, tail_then, program_then}
+use Rattle.jif_grammar.specs.Unmarked.{name_then, label_then, param_then, sign_then, field_end_then, tail_then}
+use Rattle.jif_grammar.specs.Unmarked.{program_then}
 use Rattle.jif_grammar.proofs.Written.{joined_more, more_names, more_params, WrittenValue}
 use Rattle.jif_grammar.proofs.Written.{Written, AreWritten, WrittenFrom}
 use Rattle.jif_grammar.proofs.DueSound.{got, fixed_sound, policy_part, first_of_part, part_sound, parts_behind}

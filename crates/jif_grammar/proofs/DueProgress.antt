@@ -14,9 +14,9 @@ use Rattle.std.proofs.Common.{ap}
 use Rattle.jif_grammar.specs.Due.{item_due, before_due, due_next}
 use Rattle.jif_grammar.specs.Due as due
 use Rattle.jif_grammar.specs.Due.{Due, method_rest, due_after_token}
-use Rattle.jif_grammar.proofs.Continued.{label_then, name_then, param_then, params_then, authority_then, block_then}
-use Rattle.jif_grammar.proofs.Continued.{result_then, head_then, tail_then, field_end_then, sign_then, program_then}
-use Rattle.jif_grammar.proofs.Continued.{names_then}
+use Rattle.jif_grammar.specs.Unmarked.{label_then, name_then, param_then, params_then, authority_then, block_then}
+use Rattle.jif_grammar.specs.Unmarked.{result_then, head_then, tail_then, field_end_then, sign_then, program_then}
+use Rattle.jif_grammar.specs.Unmarked.{names_then}
 use Rattle.jif_grammar.proofs.DueMoves.{Moves, moves, fixed_moves, part_moves, first_part_moves, readers_move}
 use Rattle.jif_grammar.proofs.DueMoves.{after_reader_moves, members_move, after_member_moves, name_behind, links_move}
 use Rattle.jif_grammar.proofs.DueMoves.{behind_links, expr_moves, begins_operand}

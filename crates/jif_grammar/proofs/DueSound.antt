@@ -21,7 +21,7 @@ use Rattle.jif_grammar.specs.Due.{after_operand_name_symbol, operand_symbol, ope
 use Rattle.jif_grammar.specs.Due.{call_rest}
 use Rattle.jif_grammar.specs.Due.{method_rest, guard, local_rest, statement_word, statement_symbol, part_symbol}
 use Rattle.jif_grammar.specs.Due.{due_after_symbol, due_after_word, due_after_name, due_after_number, due_after_token}
-use Rattle.jif_grammar.proofs.Continued.{joined_then, name_then, names_then, part_then, label_then, expr_then}
+use Rattle.jif_grammar.specs.Unmarked.{joined_then, name_then, names_then, part_then, label_then, expr_then}
 use Rattle.jif_grammar.proofs.Groups.{link}
 use Rattle.jif_grammar.proofs.OneExpr.{IsSoundOperand, sound_operands, at_first, at_links, in_order}
 use Rattle.jif_grammar.proofs.Groups.{first_operand, links}

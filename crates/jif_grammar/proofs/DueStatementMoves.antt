@@ -16,10 +16,7 @@ use Rattle.jif_grammar.specs.Due.{Due, Closing, Place, Fixed, fixed_symbol, afte
 use Rattle.jif_grammar.specs.Due.{after_operand_name_symbol, relabelled_operand, call_rest, method_rest, guard}
 use Rattle.jif_grammar.specs.Due.{local_rest, statement_word, due_after_symbol, due_after_word, due_after_name}
 use Rattle.jif_grammar.specs.Due.{due_after_number, due_after_token}
-use Rattle.jif_grammar.proofs.Continued.{expr_then}
-use Rattle.jif_grammar.proofs.Continued.{args_then}
-use Rattle.jif_grammar.proofs.Continued.{block_then}
-use Rattle.jif_grammar.proofs.Continued.{result_then, optional_label_then}
+use Rattle.jif_grammar.specs.Unmarked.{expr_then, args_then, block_then, result_then, optional_label_then}
 use Rattle.jif_grammar.proofs.Written.{joined_more, more_args}
 use Rattle.jif_grammar.proofs.Written.{WrittenAfterName, WrittenCall}
 use Rattle.jif_grammar.proofs.Written.{WrittenValue, WrittenSet}

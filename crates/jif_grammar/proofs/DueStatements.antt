@@ -17,9 +17,8 @@ use Rattle.jif_grammar.specs.Due.{Due, Closing, Place, call_rest, method_rest, g
 use Rattle.jif_grammar.specs.Due.{statement_symbol, operand_symbol, operand_word, after_operand_name_symbol}
 use Rattle.jif_grammar.specs.Due.{due_after_symbol, due_after_word, due_after_name, due_after_number, due_after_token}
 use Rattle.jif_grammar.specs.Due.{after_fixed, part_symbol, after_operand}
-use Rattle.jif_grammar.proofs.Continued.{label_then, expr_then, args_then, block_then}
-use Rattle.jif_grammar.proofs.Continued.{optional_label_then, params_then, authority_then}
-use Rattle.jif_grammar.proofs.Continued.{result_then}
+use Rattle.jif_grammar.specs.Unmarked.{label_then, expr_then, args_then, block_then, optional_label_then, params_then}
+use Rattle.jif_grammar.specs.Unmarked.{authority_then, result_then}
 use Rattle.jif_grammar.proofs.Written.{joined_more, WrittenExpr, WrittenCall}
 use Rattle.jif_grammar.proofs.Written.{WrittenValue, WrittenSet, WrittenLocal, EndsAt, WrittenBlock}
 use Rattle.jif_grammar.proofs.Written.{WrittenElse, WrittenTail, WrittenElement, Written, AreWritten}

@@ -10,7 +10,7 @@ use Rattle.jif_grammar.specs.Phrases.{Sign, ExprPhrase, number, variable, elemen
 use Rattle.jif_grammar.specs.Phrases.{relabelled}
 use Rattle.jif_grammar.specs.Operators.{operator_symbol, operator_level, tightest_level, sign_symbol}
 use Rattle.jif_grammar.specs.Grouping.{level, IsGrouped}
-use Rattle.jif_grammar.proofs.Continued.{expr_then}
+use Rattle.jif_grammar.specs.Unmarked.{expr_then}
 use Rattle.jif_grammar.proofs.OneJoined.{Each}
 use Rattle.jif_grammar.proofs.Groups.{Link, IsOperand}
 use Rattle.jif_grammar.proofs.OneExpr.{links_then, IsSoundOperand}

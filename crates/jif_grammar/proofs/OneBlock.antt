@@ -13,7 +13,7 @@ use Rattle.jif_grammar.specs.Phrases.{relabelled, BlockPhrase, end, declaration,
 use Rattle.jif_grammar.specs.Phrases.{call_into, branch, branch_else, loop}
 use Rattle.jif_grammar.specs.Operators.{operator_of, operator_symbol}
 use Rattle.jif_grammar.specs.Grouping.{IsGrouped, AreGrouped, IsBlock}
-use Rattle.jif_grammar.proofs.Continued.{expr_then, args_then, label_then, block_then}
+use Rattle.jif_grammar.specs.Unmarked.{expr_then, args_then, label_then, block_then}
 use Rattle.jif_grammar.proofs.OneJoined.{Each, IsOne, EndsJoined, one_joined, one_label}
 use Rattle.jif_grammar.proofs.OneExpr.{Stops, one_expr, operator_back, stops_semicolon}
 use Rattle.jif_grammar.proofs.OneExpr.{stops_comma, stops_bracket, stops_parenthesis}

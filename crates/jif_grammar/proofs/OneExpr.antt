@@ -13,7 +13,7 @@ use Rattle.jif_grammar.specs.Phrases.{relabelled}
 use Rattle.jif_grammar.specs.Operators.{operator_of}
 use Rattle.jif_grammar.specs.Operators.{operator_symbol, tightest_level}
 use Rattle.jif_grammar.specs.Grouping.{level, IsGrouped}
-use Rattle.jif_grammar.proofs.Continued.{expr_then, label_then}
+use Rattle.jif_grammar.specs.Unmarked.{expr_then, label_then}
 use Rattle.jif_grammar.proofs.OneJoined.{Each, one_label}
 use Rattle.jif_grammar.proofs.Groups.{each_append, Link, link, first_operand, links, IsOperand, first_of_operand}
 use Rattle.jif_grammar.proofs.Groups.{one_group}

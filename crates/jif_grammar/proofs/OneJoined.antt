@@ -5,7 +5,7 @@ use Rattle.jif_lex.specs.declared.token.TokenKind.{TokenKind}
 use Rattle.jif_lex.specs.declared.token.Symbol.TheVariants.{RightBrace, Semicolon, Comma}
 use Rattle.label_lattice.specs.Written.{Part, policy, trust, symbol}
 use Rattle.jif_grammar.specs.Phrases.{LabelPhrase}
-use Rattle.jif_grammar.proofs.Continued.{joined_then, name_then, names_then, part_then, label_then}
+use Rattle.jif_grammar.specs.Unmarked.{joined_then, name_then, names_then, part_then, label_then}
 
 abbrev pub Each : {X : Type 0} → (X → Type 0) → List X → Type 0
 Each P [] = ⊤

@@ -12,8 +12,8 @@ use Rattle.jif_grammar.specs.Grouping.{IsBlock, IsResult, IsItem, IsProgram}
 use Rattle.jif_grammar.specs.DraftShapes.{DraftShape}
 use Rattle.jif_grammar.specs.Drafts.{draft_of}
 use Rattle.jif_grammar.specs.Programs.{Spells, IsProgramOf, line_at}
-use Rattle.jif_grammar.proofs.Continued.{names_then, label_then, param_then, params_then, authority_then, block_then}
-use Rattle.jif_grammar.proofs.Continued.{result_then, head_then, tail_then, field_end_then, item_then, program_then}
+use Rattle.jif_grammar.specs.Unmarked.{names_then, label_then, param_then, params_then, authority_then, block_then}
+use Rattle.jif_grammar.specs.Unmarked.{result_then, head_then, tail_then, field_end_then, item_then, program_then}
 use Rattle.jif_grammar.proofs.Continued.{program_unmarked}
 use Rattle.jif_grammar.proofs.OneJoined.{IsOne, EndsNames, EndsJoined, Anything, each_of, one_joined, one_names}
 use Rattle.jif_grammar.proofs.OneJoined.{one_label}

@@ -18,7 +18,8 @@ use Rattle.jif_grammar.specs.Drafts.{draft_of}
 use Rattle.jif_grammar.specs.Programs.{token_kinds, Spells, IsProgramOf, IsRefused, unexpected}
 use Rattle.jif_grammar.specs.Programs.{too_deep, too_many, line_at, rank_of_what, tally_at}
 use Rattle.jif_grammar.proofs.Marked.{spelled_program}
-use Rattle.jif_grammar.proofs.Continued.{head_then, tail_then, item_then, program_then, program_unmarked}
+use Rattle.jif_grammar.specs.Unmarked.{head_then, tail_then, item_then, program_then}
+use Rattle.jif_grammar.proofs.Continued.{program_unmarked}
 use Rattle.jif_grammar.proofs.Continued.{unmarked_program}
 use Rattle.jif_grammar.proofs.OneProgram.{rest_of_program}
 use Rattle.jif_grammar.proofs.Refusing.{unexpected_at, too_deep_at, too_many_at}

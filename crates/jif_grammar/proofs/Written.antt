@@ -11,10 +11,9 @@ use Rattle.jif_grammar.specs.Grouping.{IsGrouped, AreGrouped, IsBlock, IsOptiona
 use Rattle.jif_grammar.specs.Grouping.{IsProgram}
 use Rattle.jif_grammar.specs.Due as due
 use Rattle.jif_grammar.specs.Due.{Due, Closing, Place, fixed_symbol}
-use Rattle.jif_grammar.proofs.Continued.{joined_then, name_then, names_then, part_then, label_then, expr_then}
-use Rattle.jif_grammar.proofs.Continued.{args_then}
-use Rattle.jif_grammar.proofs.Continued.{optional_label_then, block_then, sign_then, field_end_then, param_then}
-use Rattle.jif_grammar.proofs.Continued.{params_then, authority_then, result_then, tail_then, program_then}
+use Rattle.jif_grammar.specs.Unmarked.{joined_then, name_then, names_then, part_then, label_then, expr_then}
+use Rattle.jif_grammar.specs.Unmarked.{args_then, optional_label_then, block_then, sign_then, field_end_then}
+use Rattle.jif_grammar.specs.Unmarked.{param_then, params_then, authority_then, result_then, tail_then, program_then}
 use Rattle.jif_grammar.proofs.OneJoined.{Each}
 use Rattle.jif_grammar.proofs.Groups.{Link}
 use Rattle.jif_grammar.proofs.OneExpr.{links_then, IsSoundOperand}

@@ -3,7 +3,10 @@ pub mod Operators
 pub mod Due
 pub mod Marks
 pub mod Spelling
+pub mod Unmarked
 pub mod Grouping
 pub mod DraftShapes
 pub mod Drafts
 pub mod Programs
+pub mod Nesting
+pub mod Verdicts
