@@ -25,3 +25,7 @@ pub mod DuePrograms
 pub mod DueLaws
 pub mod DueEnds
 pub mod FaultTable
+pub mod ExprMarks
+pub mod ProgramMarks
+pub mod ExcessOf
+pub mod Walking

@@ -67,7 +67,7 @@ unmarked_length : (tokens : List Marked) → length (token_kinds tokens) ≡ len
 unmarked_length [] = refl
 unmarked_length (token ∷ tokens) = ap suc (unmarked_length tokens)
 
-same_length : (tokens : List Token) (program : ProgramPhrase) → Spells tokens program →
+pub same_length : (tokens : List Token) (program : ProgramPhrase) → Spells tokens program →
     length tokens ≡ length (spelling program)
 same_length tokens program spells =
     sym (kinds_length tokens) ∙ ap length spells.written ∙ unmarked_length (spelling program)

@@ -13,7 +13,7 @@ use Rattle.jif_grammar.specs.Programs.{IsRefused}
 use Rattle.jif_grammar.proofs.OneRefusal.{rank_within}
 use Rattle.jif_grammar.proofs.SameProgramMarks.{one_tally}
 
-goes_on_sooner : (tokens : List Token) (program : ProgramPhrase) (n : ℕ) → GoesOn tokens program →
+pub goes_on_sooner : (tokens : List Token) (program : ProgramPhrase) (n : ℕ) → GoesOn tokens program →
     GoesOn (take n tokens) program
 goes_on_sooner tokens program n goes = record {
   is_program = goes.is_program;

@@ -55,9 +55,9 @@ walk_on due t n kind = walk_behind (nested_next due kind) t n
 -- whole, and all within the limits.
 abbrev pub refusal_from : Walk → ℕ → List TokenKind → Option Refusal
 refusal_from (refused refusal) n kinds = Some refusal
+refusal_from (going due t) n (kind ∷ kinds) = refusal_from (walk_on due t n kind) (n + 1) kinds
 refusal_from (going [] t) n [] = None
 refusal_from (going (first ∷ later) t) n [] = Some (unexpected n)
-refusal_from (going due t) n (kind ∷ kinds) = refusal_from (walk_on due t n kind) (n + 1) kinds
 
 -- what tokens are refused for, and `None` where they are a program
 abbrev pub refusal_of : List Token → Option Refusal
