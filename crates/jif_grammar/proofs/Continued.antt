@@ -41,25 +41,25 @@ unmarked_joined separator before continued each (item ∷ next ∷ items) tokens
     ∙ ap (λ ts. continued item (separator.kind ∷ ts))
     (unmarked_joined separator before continued each (next ∷ items) tokens)
 
-unmarked_names : (depth : ℕ) (names : List (List ℕ)) (tokens : List Marked) →
+pub unmarked_names : (depth : ℕ) (names : List (List ℕ)) (tokens : List Marked) →
     token_kinds (names_before depth names tokens) ≡ names_then names (token_kinds tokens)
 unmarked_names depth names tokens =
     unmarked_joined (plain depth (symbol Comma)) (name_before depth) name_then (λ x ts. refl) names tokens
 
-unmarked_part : (depth : ℕ) (part : Part) (tokens : List Marked) →
+pub unmarked_part : (depth : ℕ) (part : Part) (tokens : List Marked) →
     token_kinds (part_before depth part tokens) ≡ part_then part (token_kinds tokens)
 unmarked_part depth (policy owner readers) tokens =
     ap (λ ts. Name owner ∷ symbol Colon ∷ ts) (unmarked_names depth readers tokens)
 unmarked_part depth (trust members) tokens =
     ap (λ ts. symbol Question ∷ symbol Colon ∷ ts) (unmarked_names depth members tokens)
 
-unmarked_label : (begins : Beginning) (depth : ℕ) (label : LabelPhrase) (tokens : List Marked) →
+pub unmarked_label : (begins : Beginning) (depth : ℕ) (label : LabelPhrase) (tokens : List Marked) →
     token_kinds (label_before begins depth label tokens) ≡ label_then label (token_kinds tokens)
 unmarked_label begins depth label tokens =
     ap (λ ts. symbol LeftBrace ∷ ts) (unmarked_joined (plain depth (symbol Semicolon)) (part_before depth) part_then
     (unmarked_part depth) label (plain depth (symbol RightBrace) ∷ tokens))
 
-unmarked_expr : (depth : ℕ) (e : ExprPhrase) (tokens : List Marked) →
+pub unmarked_expr : (depth : ℕ) (e : ExprPhrase) (tokens : List Marked) →
     token_kinds (expr_before depth e tokens) ≡ expr_then e (token_kinds tokens)
 unmarked_expr depth (number n) tokens = refl
 unmarked_expr depth (variable name) tokens = refl
@@ -81,12 +81,12 @@ unmarked_expr depth (relabelled change inner label) tokens =
     ∙ ap (λ ts. expr_then inner (symbol Comma ∷ ts))
     (unmarked_label nothing (suc depth) label (plain (suc depth) (symbol RightParenthesis) ∷ tokens)))
 
-unmarked_args : (depth : ℕ) (args : List ExprPhrase) (tokens : List Marked) →
+pub unmarked_args : (depth : ℕ) (args : List ExprPhrase) (tokens : List Marked) →
     token_kinds (args_before depth args tokens) ≡ args_then args (token_kinds tokens)
 unmarked_args depth args tokens =
     unmarked_joined (plain depth (symbol Comma)) (expr_before depth) expr_then (unmarked_expr depth) args tokens
 
-unmarked_optional_label : (depth : ℕ) (label : Option LabelPhrase) (tokens : List Marked) →
+pub unmarked_optional_label : (depth : ℕ) (label : Option LabelPhrase) (tokens : List Marked) →
     token_kinds (optional_label_before depth label tokens) ≡ optional_label_then label (token_kinds tokens)
 unmarked_optional_label depth None tokens = refl
 unmarked_optional_label depth (Some label) tokens = unmarked_label nothing depth label tokens
@@ -116,7 +116,7 @@ unmarked_guard depth guard tokens rest is =
     (plain depth (symbol RightParenthesis) ∷ plain (suc depth) (symbol LeftBrace) ∷ tokens)
     ∙ ap (λ ts. expr_then guard (symbol RightParenthesis ∷ symbol LeftBrace ∷ ts)) is)
 
-unmarked_block : (depth : ℕ) (block : BlockPhrase) (tokens : List Marked) →
+pub unmarked_block : (depth : ℕ) (block : BlockPhrase) (tokens : List Marked) →
     token_kinds (block_before depth block tokens) ≡ block_then block (token_kinds tokens)
 unmarked_block depth end tokens = refl
 unmarked_block depth (declaration label name value rest) tokens =
@@ -167,17 +167,17 @@ unmarked_field_end (sized size) tokens = refl
 unmarked_field_end (set false first) tokens = refl
 unmarked_field_end (set true first) tokens = refl
 
-unmarked_param : (param : ParamPhrase) (tokens : List Marked) →
+pub unmarked_param : (param : ParamPhrase) (tokens : List Marked) →
     token_kinds (param_before param tokens) ≡ param_then param (token_kinds tokens)
 unmarked_param param tokens =
     ap (λ ts. Word Int ∷ ts) (unmarked_label nothing 0 param.label (plain 0 (Name param.name) ∷ tokens))
 
-unmarked_params : (params : List ParamPhrase) (tokens : List Marked) →
+pub unmarked_params : (params : List ParamPhrase) (tokens : List Marked) →
     token_kinds (params_before params tokens) ≡ params_then params (token_kinds tokens)
 unmarked_params params tokens =
     unmarked_joined (plain 0 (symbol Comma)) param_before param_then unmarked_param params tokens
 
-unmarked_authority : (authority : List (List ℕ)) (tokens : List Marked) →
+pub unmarked_authority : (authority : List (List ℕ)) (tokens : List Marked) →
     token_kinds (authority_before authority tokens) ≡ authority_then authority (token_kinds tokens)
 unmarked_authority [] tokens = refl
 unmarked_authority (name ∷ names) tokens =
@@ -190,7 +190,7 @@ unmarked_result None tokens = refl
 unmarked_result (Some value) tokens =
     ap (λ ts. Word Return ∷ ts) (unmarked_value 0 value tokens (token_kinds tokens) refl)
 
-unmarked_head : (kind : Option LabelPhrase) (name : List ℕ) (begin : LabelPhrase) (tokens : List Marked) →
+pub unmarked_head : (kind : Option LabelPhrase) (name : List ℕ) (begin : LabelPhrase) (tokens : List Marked) →
     token_kinds (head_before kind name begin tokens) ≡ head_then kind name begin (token_kinds tokens)
 unmarked_head None name begin tokens =
     ap (λ ts. Word Void ∷ Name name ∷ ts) (unmarked_label nothing 0 begin tokens)
@@ -211,7 +211,7 @@ unmarked_tail phrase tokens =
     ∙ ap (λ ts. authority_then phrase.authority (symbol LeftBrace ∷ ts)) (unmarked_block 0 phrase.body after_body
     ∙ ap (block_then phrase.body) (unmarked_result phrase.result (plain 0 (symbol RightBrace) ∷ tokens)))))
 
-unmarked_item : (item : ItemPhrase) (tokens : List Marked) →
+pub unmarked_item : (item : ItemPhrase) (tokens : List Marked) →
     token_kinds (item_before item tokens) ≡ item_then item (token_kinds tokens)
 unmarked_item (field phrase) tokens =
     ap (λ ts. Word Int ∷ ts) (unmarked_label nothing 0 phrase.label

@@ -1,5 +1,5 @@
 -- The first limit that is passed, and that no limit is passed where there is none.
-use Rattle.std.proofs.Common.{◌≡◌, ◌<◌, ◌≤◌, ◌⊎◌, inl, inr, ℕ, Bool, true, false, ◌||◌, refl, sym, subst, arith}
+use Rattle.std.proofs.Common.{◌≡◌, ◌<◌, ◌⊎◌, inl, inr, ℕ, Bool, true, false, ◌||◌, refl, subst, arith}
 use Rattle.std.proofs.Common.{Option, Some, None, ltb-true, ltb-false}
 use Rattle.std.specs.Prelude.{nat_lt, if◌then◌else◌}
 use Rattle.js_base.specs.declared.limits.TheConstants.{FIELDS, METHODS, PARAMETERS, VARIABLES, STATEMENTS}

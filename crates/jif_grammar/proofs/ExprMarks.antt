@@ -10,11 +10,11 @@ use Rattle.jif_grammar.specs.Phrases.{complement, minus, release, acceptance, La
 use Rattle.jif_grammar.specs.Phrases.{variable, element, parenthesized, signed, binary, relabelled}
 use Rattle.jif_grammar.specs.Operators.{operator_symbol, operator_level, tightest_level}
 use Rattle.jif_grammar.specs.Marks.{Marked, mark, plain, nothing, node}
-use Rattle.jif_grammar.specs.Grouping.{level, IsGrouped, AreGrouped}
+use Rattle.jif_grammar.specs.Grouping.{level, IsGrouped}
 use Rattle.jif_grammar.specs.Due as due
 use Rattle.jif_grammar.specs.Due.{Due, Closing, Place}
 use Rattle.jif_grammar.specs.Nesting.{Nested, nested_at, nested_next}
-use Rattle.jif_grammar.proofs.Marked.{joined_before, names_before, part_before, label_before, expr_before, args_before}
+use Rattle.jif_grammar.proofs.Marked.{joined_before, names_before, part_before, label_before, expr_before}
 
 -- the tokens are marked as what is due, token by token, has them
 abbrev pub Goes : List Nested → List Marked → Type 0
@@ -28,7 +28,7 @@ Goes first (token ∷ tokens) =
 pub goes_more_names : (more : Due) (depth : ℕ) (later : List Nested) (tokens : List Marked)
     (name : List ℕ) (names : List (List ℕ)) →
     nested_next (nested_at depth more ∷ later) (symbol symbols.Comma)
-        ≡ Some (plain depth (symbol symbols.Comma), nested_at depth due.a_name ∷ nested_at depth more ∷ later) →
+    ≡ Some (plain depth (symbol symbols.Comma), nested_at depth due.a_name ∷ nested_at depth more ∷ later) →
     Goes (nested_at depth more ∷ later) tokens →
     Goes (nested_at depth due.a_name ∷ nested_at depth more ∷ later) (names_before depth (name ∷ names) tokens)
 goes_more_names more depth later tokens name [] comma goes = (nested_at depth more ∷ later, refl, goes)
@@ -45,9 +45,9 @@ goes_more_names more depth later tokens name (next ∷ names) comma goes = (
 -- names up to what ends them
 goes_names : (first more : Due) (depth : ℕ) (later : List Nested) (tokens : List Marked) (names : List (List ℕ)) →
     ((name : List ℕ) → nested_next (nested_at depth first ∷ later) (Name name)
-        ≡ Some (plain depth (Name name), nested_at depth more ∷ later)) →
+    ≡ Some (plain depth (Name name), nested_at depth more ∷ later)) →
     nested_next (nested_at depth more ∷ later) (symbol symbols.Comma)
-        ≡ Some (plain depth (symbol symbols.Comma), nested_at depth due.a_name ∷ nested_at depth more ∷ later) →
+    ≡ Some (plain depth (symbol symbols.Comma), nested_at depth due.a_name ∷ nested_at depth more ∷ later) →
     Goes (nested_at depth first ∷ later) tokens → Goes (nested_at depth more ∷ later) tokens →
     Goes (nested_at depth first ∷ later) (names_before depth names tokens)
 goes_names first more depth later tokens [] begin comma none goes = none
@@ -103,8 +103,8 @@ goes_parts depth later tokens (policy owner readers) (next ∷ parts) last goes 
         nested_at depth due.readers ∷ later,
         refl,
         goes_readers depth later (plain depth (symbol symbols.Semicolon)
-        ∷ parts_before depth (next ∷ parts) (brace depth ∷ tokens)) readers
-        (nested_at depth due.a_part ∷ later, refl, more) (nested_at depth due.a_part ∷ later, refl, more),
+            ∷ parts_before depth (next ∷ parts) (brace depth ∷ tokens)) readers
+            (nested_at depth due.a_part ∷ later, refl, more) (nested_at depth due.a_part ∷ later, refl, more),
       ),
     )
 goes_parts depth later tokens (trust members) [] last goes = (
@@ -153,7 +153,7 @@ GoesBehind closing depth later tokens =
 
 pub links_operator : (closing : Closing) (depth : ℕ) (later : List Nested) (o : BinOp) →
     nested_next (nested_at depth (due.links closing) ∷ later) (symbol (operator_symbol o))
-        ≡ Some (mark node depth (symbol (operator_symbol o)), operand_at closing depth depth ∷ later)
+    ≡ Some (mark node depth (symbol (operator_symbol o)), operand_at closing depth depth ∷ later)
 links_operator due.at_semicolon depth later operator.Or = refl
 links_operator due.at_semicolon depth later _ = refl
 links_operator due.at_comma depth later operator.Or = refl
@@ -167,7 +167,7 @@ links_operator due.at_argument depth later _ = refl
 
 pub name_operator : (closing : Closing) (depth inner : ℕ) (later : List Nested) (o : BinOp) →
     nested_next (after_name_at closing depth inner ∷ later) (symbol (operator_symbol o))
-        ≡ Some (mark node depth (symbol (operator_symbol o)), operand_at closing depth depth ∷ later)
+    ≡ Some (mark node depth (symbol (operator_symbol o)), operand_at closing depth depth ∷ later)
 name_operator due.at_semicolon depth inner later operator.Or = refl
 name_operator due.at_semicolon depth inner later _ = refl
 name_operator due.at_comma depth inner later operator.Or = refl
@@ -181,7 +181,7 @@ name_operator due.at_argument depth inner later _ = refl
 
 pub value_name_operator : (depth : ℕ) (later : List Nested) (o : BinOp) →
     nested_next (nested_at depth due.after_value_name ∷ later) (symbol (operator_symbol o))
-        ≡ Some (mark node depth (symbol (operator_symbol o)), operand_at due.at_semicolon depth depth ∷ later)
+    ≡ Some (mark node depth (symbol (operator_symbol o)), operand_at due.at_semicolon depth depth ∷ later)
 value_name_operator depth later operator.Or = refl
 value_name_operator depth later _ = refl
 
@@ -205,8 +205,8 @@ goes_expr (element name index) closing depth inner later tokens grouped fits goe
         operand_at due.at_bracket (suc inner) (suc inner) ∷ behind,
         refl,
         goes_expr index due.at_bracket (suc inner) (suc inner) behind
-        (plain (suc inner) (symbol symbols.RightBracket) ∷ tokens) grouped (inl refl)
-        ((behind, refl, goes.0), λ deeper. (behind, refl, goes.0)),
+            (plain (suc inner) (symbol symbols.RightBracket) ∷ tokens) grouped (inl refl)
+            ((behind, refl, goes.0), λ deeper. (behind, refl, goes.0)),
       ),
     )
 goes_expr (parenthesized e) closing depth inner later tokens grouped fits goes =
@@ -214,8 +214,8 @@ goes_expr (parenthesized e) closing depth inner later tokens grouped fits goes =
       operand_at due.at_parenthesis (suc inner) (suc inner) ∷ behind,
       refl,
       goes_expr e due.at_parenthesis (suc inner) (suc inner) behind
-      (plain (suc inner) (symbol symbols.RightParenthesis) ∷ tokens) grouped (inl refl)
-      ((behind, refl, goes.0), λ deeper. (behind, refl, goes.0)),
+          (plain (suc inner) (symbol symbols.RightParenthesis) ∷ tokens) grouped (inl refl)
+          ((behind, refl, goes.0), λ deeper. (behind, refl, goes.0)),
     )
 goes_expr (signed complement e) closing depth inner later tokens grouped fits goes = (
   operand_at closing depth (suc inner) ∷ later,
@@ -245,13 +245,13 @@ goes_expr (relabelled release e label) closing depth inner later tokens grouped 
     let more = goes_label (suc inner) close (plain (suc inner) (symbol symbols.RightParenthesis) ∷ tokens) label grouped.1
     (behind, refl, goes.0) in (
       nested_at (suc inner) (due.exactly due.left_parenthesis)
-      ∷ operand_at due.at_comma (suc inner) (suc inner) ∷ label_due,
+          ∷ operand_at due.at_comma (suc inner) (suc inner) ∷ label_due,
       refl,
       (
         operand_at due.at_comma (suc inner) (suc inner) ∷ label_due,
         refl,
         goes_expr e due.at_comma (suc inner) (suc inner) label_due (plain (suc inner) (symbol symbols.Comma) ∷ rest)
-        grouped.0 (inl refl) ((label_due, refl, more), λ deeper. (label_due, refl, more)),
+            grouped.0 (inl refl) ((label_due, refl, more), λ deeper. (label_due, refl, more)),
       ),
     )
 goes_expr (relabelled acceptance e label) closing depth inner later tokens grouped fits goes =
@@ -262,12 +262,12 @@ goes_expr (relabelled acceptance e label) closing depth inner later tokens group
     let more = goes_label (suc inner) close (plain (suc inner) (symbol symbols.RightParenthesis) ∷ tokens) label grouped.1
     (behind, refl, goes.0) in (
       nested_at (suc inner) (due.exactly due.left_parenthesis)
-      ∷ operand_at due.at_comma (suc inner) (suc inner) ∷ label_due,
+          ∷ operand_at due.at_comma (suc inner) (suc inner) ∷ label_due,
       refl,
       (
         operand_at due.at_comma (suc inner) (suc inner) ∷ label_due,
         refl,
         goes_expr e due.at_comma (suc inner) (suc inner) label_due (plain (suc inner) (symbol symbols.Comma) ∷ rest)
-        grouped.0 (inl refl) ((label_due, refl, more), λ deeper. (label_due, refl, more)),
+            grouped.0 (inl refl) ((label_due, refl, more), λ deeper. (label_due, refl, more)),
       ),
     )

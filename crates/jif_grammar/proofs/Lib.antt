@@ -29,3 +29,4 @@ pub mod ExprMarks
 pub mod ProgramMarks
 pub mod ExcessOf
 pub mod Walking
+pub mod Widths

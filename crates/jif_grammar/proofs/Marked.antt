@@ -204,19 +204,19 @@ plain_joined depth separator written before each (item ∷ next ∷ items) token
     (plain_joined depth separator written before each (next ∷ items) tokens)
     ∙ each item (plain depth separator ∷ joined_before (plain depth separator) before (next ∷ items) tokens)
 
-spelled_names : (depth : ℕ) (names : List (List ℕ)) (tokens : List Marked) →
+pub spelled_names : (depth : ℕ) (names : List (List ℕ)) (tokens : List Marked) →
     map (plain depth) (names_tokens names) ++ tokens ≡ names_before depth names tokens
 spelled_names depth names tokens =
     plain_joined depth (symbol Comma) name_tokens (name_before depth) (λ x r. refl) names tokens
 
-spelled_part : (depth : ℕ) (part : Part) (tokens : List Marked) →
+pub spelled_part : (depth : ℕ) (part : Part) (tokens : List Marked) →
     map (plain depth) (part_tokens part) ++ tokens ≡ part_before depth part tokens
 spelled_part depth (policy owner readers) tokens =
     ap (λ ts. plain depth (Name owner) ∷ plain depth (symbol Colon) ∷ ts) (spelled_names depth readers tokens)
 spelled_part depth (trust members) tokens =
     ap (λ ts. plain depth (symbol Question) ∷ plain depth (symbol Colon) ∷ ts) (spelled_names depth members tokens)
 
-spelled_label : (begins : Beginning) (depth : ℕ) (label : LabelPhrase) (tokens : List Marked) →
+pub spelled_label : (begins : Beginning) (depth : ℕ) (label : LabelPhrase) (tokens : List Marked) →
     label_spelling begins depth label ++ tokens ≡ label_before begins depth label tokens
 spelled_label begins depth label tokens =
     ap (λ ts. mark begins depth (symbol LeftBrace) ∷ ts)
@@ -231,7 +231,7 @@ through : (first second tokens rest : List Marked) (before : List Marked → Lis
 through first second tokens rest before each is =
     append_assoc first second tokens ∙ ap (λ ts. first ++ ts) is ∙ each rest
 
-spelled_expr : (depth : ℕ) (e : ExprPhrase) (tokens : List Marked) →
+pub spelled_expr : (depth : ℕ) (e : ExprPhrase) (tokens : List Marked) →
     expr_spelling depth e ++ tokens ≡ expr_before depth e tokens
 spelled_expr depth (number n) tokens = refl
 spelled_expr depth (variable name) tokens = refl
@@ -260,13 +260,13 @@ spelled_expr depth (relabelled change inner label) tokens =
     (spelled_expr (suc depth) inner) (ap (λ ts. plain (suc depth) (symbol Comma) ∷ ts)
     (spelled_label nothing (suc depth) label (plain (suc depth) (symbol RightParenthesis) ∷ tokens))))
 
-spelled_args : (depth : ℕ) (args : List ExprPhrase) (tokens : List Marked) →
+pub spelled_args : (depth : ℕ) (args : List ExprPhrase) (tokens : List Marked) →
     args_spelling depth args ++ tokens ≡ args_before depth args tokens
 spelled_args depth args tokens =
     spelled_joined (plain depth (symbol Comma)) (expr_spelling depth) (expr_before depth) (spelled_expr depth) args
     tokens
 
-spelled_optional_label : (depth : ℕ) (label : Option LabelPhrase) (tokens : List Marked) →
+pub spelled_optional_label : (depth : ℕ) (label : Option LabelPhrase) (tokens : List Marked) →
     optional_label_spelling depth label ++ tokens ≡ optional_label_before depth label tokens
 spelled_optional_label depth None tokens = refl
 spelled_optional_label depth (Some label) tokens = spelled_label nothing depth label tokens
@@ -291,7 +291,7 @@ abbrev guarded : ℕ → BlockPhrase → List Marked
 guarded depth block =
     plain depth (symbol RightParenthesis) ∷ plain (suc depth) (symbol LeftBrace) ∷ block_spelling (suc depth) block
 
-spelled_block : (depth : ℕ) (block : BlockPhrase) (tokens : List Marked) →
+pub spelled_block : (depth : ℕ) (block : BlockPhrase) (tokens : List Marked) →
     block_spelling depth block ++ tokens ≡ block_before depth block tokens
 spelled_block depth end tokens = refl
 spelled_block depth (declaration label name value rest) tokens =
@@ -384,19 +384,19 @@ spelled_field phrase tokens =
     (spelled_label nothing 0 phrase.label)
     (ap (λ ts. plain 0 (Name phrase.name) ∷ ts) (spelled_field_end phrase.ending tokens)))
 
-spelled_param : (param : ParamPhrase) (tokens : List Marked) →
+pub spelled_param : (param : ParamPhrase) (tokens : List Marked) →
     param_spelling param ++ tokens ≡ param_before param tokens
 spelled_param param tokens =
     ap (λ ts. mark parameter 0 (Word Int) ∷ ts) (through (label_spelling nothing 0 param.label)
     (plain 0 (Name param.name) ∷ []) tokens _ (label_before nothing 0 param.label)
     (spelled_label nothing 0 param.label) refl)
 
-spelled_params : (params : List ParamPhrase) (tokens : List Marked) →
+pub spelled_params : (params : List ParamPhrase) (tokens : List Marked) →
     params_spelling params ++ tokens ≡ params_before params tokens
 spelled_params params tokens =
     spelled_joined (plain 0 (symbol Comma)) param_spelling param_before spelled_param params tokens
 
-spelled_authority : (authority : List (List ℕ)) (tokens : List Marked) →
+pub spelled_authority : (authority : List (List ℕ)) (tokens : List Marked) →
     authority_spelling authority ++ tokens ≡ authority_before authority tokens
 spelled_authority [] tokens = refl
 spelled_authority (name ∷ names) tokens =
@@ -411,7 +411,7 @@ spelled_result (Some value) tokens =
     ap (λ ts. mark statement 0 (Word Return) ∷ ts) (through (expr_spelling 0 value)
     (plain 0 (symbol Semicolon) ∷ []) tokens _ (expr_before 0 value) (spelled_expr 0 value) refl)
 
-spelled_head : (kind : Option LabelPhrase) (name : List ℕ) (begin : LabelPhrase) (tokens : List Marked) →
+pub spelled_head : (kind : Option LabelPhrase) (name : List ℕ) (begin : LabelPhrase) (tokens : List Marked) →
     head_spelling kind name begin ++ tokens ≡ head_before kind name begin tokens
 spelled_head None name begin tokens =
     ap (λ ts. mark marks.method 0 (Word Void) ∷ plain 0 (Name name) ∷ ts) (spelled_label nothing 0 begin tokens)
@@ -447,7 +447,7 @@ spelled_method phrase tokens =
     ∙ ap (λ ts. head ++ plain 0 (symbol LeftParenthesis) ∷ ts) (spelled_params phrase.params after_params)
     ∙ spelled_head phrase.kind phrase.name phrase.begin (tail_before phrase tokens)
 
-spelled_item : (item : ItemPhrase) (tokens : List Marked) → item_spelling item ++ tokens ≡ item_before item tokens
+pub spelled_item : (item : ItemPhrase) (tokens : List Marked) → item_spelling item ++ tokens ≡ item_before item tokens
 spelled_item (field phrase) tokens = spelled_field phrase tokens
 spelled_item (method phrase) tokens = spelled_method phrase tokens
 

@@ -63,7 +63,7 @@ pub kinds_length : (tokens : List Token) → length (kinds tokens) ≡ length to
 kinds_length [] = refl
 kinds_length (token ∷ tokens) = ap suc (kinds_length tokens)
 
-unmarked_length : (tokens : List Marked) → length (token_kinds tokens) ≡ length tokens
+pub unmarked_length : (tokens : List Marked) → length (token_kinds tokens) ≡ length tokens
 unmarked_length [] = refl
 unmarked_length (token ∷ tokens) = ap suc (unmarked_length tokens)
 

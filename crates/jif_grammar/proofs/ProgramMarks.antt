@@ -1,11 +1,11 @@
 -- What is due finds the marks of statements, methods, fields and whole programs as they are spelled.
-use Rattle.std.proofs.Common.{◌<◌, inl, ℕ, zero, suc, pos, true, false, List, [], ◌∷◌, refl, sym, subst, Option}
+use Rattle.std.proofs.Common.{inl, ℕ, zero, suc, true, false, List, [], ◌∷◌, refl, sym, subst, Option}
 use Rattle.std.proofs.Common.{Some, None, arith}
-use Rattle.jif_lex.specs.declared.token.TokenKind.TheVariants.{Name, Number, Word}
+use Rattle.jif_lex.specs.declared.token.TokenKind.TheVariants.{Name, Word}
 use Rattle.jif_lex.specs.declared.token.Symbol.TheVariants as symbols
 use Rattle.jif_lex.specs.declared.token.Word.TheVariants as words
 use Rattle.label_lattice.specs.Written.{symbol, TrustIsLast}
-use Rattle.jif_grammar.specs.Phrases.{Sign, complement, minus, release, acceptance, LabelPhrase, ExprPhrase, number}
+use Rattle.jif_grammar.specs.Phrases.{complement, minus, release, acceptance, LabelPhrase, ExprPhrase, number}
 use Rattle.jif_grammar.specs.Phrases.{variable, element, parenthesized, signed, binary, relabelled}
 use Rattle.jif_grammar.specs.Phrases.{BlockPhrase, end, declaration, assignment, element_assignment, call, call_into}
 use Rattle.jif_grammar.specs.Phrases.{branch, branch_else, loop, FieldEnd, unset, sized, set, ParamPhrase, MethodPhrase}
@@ -19,8 +19,8 @@ use Rattle.jif_grammar.specs.Spelling.{spelling}
 use Rattle.jif_grammar.specs.Due as due
 use Rattle.jif_grammar.specs.Due.{Place}
 use Rattle.jif_grammar.specs.Nesting.{Nested, nested_at}
-use Rattle.jif_grammar.proofs.Marked.{joined_before, label_before, expr_before, args_before, value_before}
-use Rattle.jif_grammar.proofs.Marked.{arguments_before, guard_before, block_before, field_end_before, param_before}
+use Rattle.jif_grammar.proofs.Marked.{label_before, expr_before, args_before, value_before}
+use Rattle.jif_grammar.proofs.Marked.{arguments_before, guard_before, block_before, field_end_before}
 use Rattle.jif_grammar.proofs.Marked.{params_before, authority_before, result_before, tail_before, item_before}
 use Rattle.jif_grammar.proofs.Marked.{head_before, program_before, program_marked}
 use Rattle.jif_grammar.proofs.ExprMarks.{Goes, goes_more_names, goes_first_part, goes_label, operand_at, GoesBehind}
@@ -47,8 +47,8 @@ goes_value (element name index) depth later tokens grouped goes called =
         operand_at due.at_bracket (suc depth) (suc depth) ∷ behind,
         refl,
         goes_expr index due.at_bracket (suc depth) (suc depth) behind
-        (plain (suc depth) (symbol symbols.RightBracket) ∷ tokens) grouped (inl refl)
-        ((behind, refl, goes.0), λ deeper. (behind, refl, goes.0)),
+            (plain (suc depth) (symbol symbols.RightBracket) ∷ tokens) grouped (inl refl)
+            ((behind, refl, goes.0), λ deeper. (behind, refl, goes.0)),
       ),
     )
 goes_value (binary o left right) depth later tokens grouped goes called =
@@ -151,8 +151,8 @@ goes_guard depth later tokens guard grouped goes =
       operand_at due.at_parenthesis depth depth ∷ brace,
       refl,
       goes_expr guard due.at_parenthesis depth depth brace (right_parenthesis depth
-      ∷ plain (suc depth) (symbol symbols.LeftBrace) ∷ tokens) grouped (inl refl)
-      ((brace, refl, (later, refl, goes)), λ inner. (brace, refl, (later, refl, goes))),
+          ∷ plain (suc depth) (symbol symbols.LeftBrace) ∷ tokens) grouped (inl refl)
+          ((brace, refl, (later, refl, goes)), λ inner. (brace, refl, (later, refl, goes))),
     )
 
 as_otherwise : (place : Place) (depth : ℕ) (later : List Nested) (tokens : List Marked) (block : BlockPhrase) →
@@ -200,11 +200,11 @@ goes_block place depth later tokens (declaration (Some label) name value rest) s
         nested_at depth due.first_part ∷ nested_at depth due.a_name ∷ local_at depth behind,
         refl,
         goes_first_part depth (nested_at depth due.a_name ∷ local_at depth behind)
-        (plain depth (Name name) ∷ value_tokens) label sound.0 (
-          local_at depth behind,
-          refl,
-          goes_local depth behind (block_before depth rest tokens) value sound.1 more,
-        ),
+            (plain depth (Name name) ∷ value_tokens) label sound.0 (
+              local_at depth behind,
+              refl,
+              goes_local depth behind (block_before depth rest tokens) value sound.1 more,
+            ),
       ),
     )
 goes_block place depth later tokens (assignment name value rest) sound ends =
@@ -228,9 +228,9 @@ goes_block place depth later tokens (element_assignment name index value rest) s
         operand_at due.at_bracket depth depth ∷ local_at depth behind,
         refl,
         goes_expr index due.at_bracket depth depth (local_at depth behind)
-        (plain depth (symbol symbols.RightBracket) ∷ plain depth (symbol symbols.Assign)
-        ∷ value_before depth value (block_before depth rest tokens)) sound.0 (inl refl)
-        ((local_at depth behind, refl, set), λ inner. (local_at depth behind, refl, set)),
+            (plain depth (symbol symbols.RightBracket) ∷ plain depth (symbol symbols.Assign)
+            ∷ value_before depth value (block_before depth rest tokens)) sound.0 (inl refl)
+            ((local_at depth behind, refl, set), λ inner. (local_at depth behind, refl, set)),
       ),
     )
 goes_block place depth later tokens (call name args rest) sound ends =
@@ -270,11 +270,11 @@ goes_block place depth later tokens (branch guard first rest) sound ends =
     let close = plain (suc depth) (symbol symbols.RightBrace) ∷ block_before depth rest tokens in
     let at_end = as_otherwise place depth later tokens rest ends.1 more in (
       nested_at depth (due.exactly due.left_parenthesis) ∷ operand_at due.at_parenthesis depth depth
-      ∷ nested_at (suc depth) (due.exactly due.left_brace) ∷ inside,
+          ∷ nested_at (suc depth) (due.exactly due.left_brace) ∷ inside,
       refl,
       goes_guard depth inside (block_before (suc depth) first close) guard sound.0
-      (goes_block due.nested (suc depth) behind close first sound.1
-      ((behind, refl, at_end), (behind, refl, at_end))),
+          (goes_block due.nested (suc depth) behind close first sound.1
+          ((behind, refl, at_end), (behind, refl, at_end))),
     )
 goes_block place depth later tokens (branch_else guard first second rest) sound ends =
     let more = goes_block place depth later tokens rest sound.3 ends in
@@ -293,11 +293,11 @@ goes_block place depth later tokens (branch_else guard first second rest) sound 
       (statements_at due.nested (suc depth) ∷ last, refl, within),
     ) in (
       nested_at depth (due.exactly due.left_parenthesis) ∷ operand_at due.at_parenthesis depth depth
-      ∷ nested_at (suc depth) (due.exactly due.left_brace) ∷ inside,
+          ∷ nested_at (suc depth) (due.exactly due.left_brace) ∷ inside,
       refl,
       goes_guard depth inside (block_before (suc depth) first close) guard sound.0
-      (goes_block due.nested (suc depth) behind close first sound.1
-      ((behind, refl, at_end), (behind, refl, at_end))),
+          (goes_block due.nested (suc depth) behind close first sound.1
+          ((behind, refl, at_end), (behind, refl, at_end))),
     )
 goes_block place depth later tokens (loop guard body rest) sound ends =
     let more = goes_block place depth later tokens rest sound.2 ends in
@@ -305,11 +305,11 @@ goes_block place depth later tokens (loop guard body rest) sound ends =
     let inside = statements_at due.nested (suc depth) ∷ behind in
     let close = plain (suc depth) (symbol symbols.RightBrace) ∷ block_before depth rest tokens in (
       nested_at depth (due.exactly due.left_parenthesis) ∷ operand_at due.at_parenthesis depth depth
-      ∷ nested_at (suc depth) (due.exactly due.left_brace) ∷ inside,
+          ∷ nested_at (suc depth) (due.exactly due.left_brace) ∷ inside,
       refl,
       goes_guard depth inside (block_before (suc depth) body close) guard sound.0
-      (goes_block due.nested (suc depth) behind close body sound.1
-      ((behind, refl, more), (behind, refl, more))),
+          (goes_block due.nested (suc depth) behind close body sound.1
+          ((behind, refl, more), (behind, refl, more))),
     )
 
 -- ---- methods
@@ -338,33 +338,32 @@ goes_more_params later tokens param (next ∷ params) sound goes = (
   param_due later,
   refl,
   goes_param (nested_at 0 due.after_param ∷ later) (plain 0 (symbol symbols.Comma)
-  ∷ params_before (next ∷ params) (right_parenthesis 0 ∷ tokens)) param sound.0 (
-    nested_at 0 due.int_word ∷ param_due later,
-    refl,
-    goes_more_params later tokens next params sound.1 goes,
-  ),
+      ∷ params_before (next ∷ params) (right_parenthesis 0 ∷ tokens)) param sound.0 (
+        nested_at 0 due.int_word ∷ param_due later,
+        refl,
+        goes_more_params later tokens next params sound.1 goes,
+      ),
 )
 
 goes_params : (later : List Nested) (tokens : List Marked) (params : List ParamPhrase) → AreParams params →
     Goes later tokens →
     Goes (nested_at 0 due.params ∷ later) (params_before params (right_parenthesis 0 ∷ tokens))
 goes_params later tokens [] sound goes = (later, refl, goes)
-goes_params later tokens (param ∷ []) sound goes =
-    (
-      param_due later,
-      refl,
-      goes_param (nested_at 0 due.after_param ∷ later) (right_parenthesis 0 ∷ tokens) param sound.0
+goes_params later tokens (param ∷ []) sound goes = (
+  param_due later,
+  refl,
+  goes_param (nested_at 0 due.after_param ∷ later) (right_parenthesis 0 ∷ tokens) param sound.0
       (later, refl, goes),
-    )
+)
 goes_params later tokens (param ∷ next ∷ params) sound goes = (
   param_due later,
   refl,
   goes_param (nested_at 0 due.after_param ∷ later) (plain 0 (symbol symbols.Comma)
-  ∷ params_before (next ∷ params) (right_parenthesis 0 ∷ tokens)) param sound.0 (
-    nested_at 0 due.int_word ∷ param_due later,
-    refl,
-    goes_more_params later tokens next params sound.1 goes,
-  ),
+      ∷ params_before (next ∷ params) (right_parenthesis 0 ∷ tokens)) param sound.0 (
+        nested_at 0 due.int_word ∷ param_due later,
+        refl,
+        goes_more_params later tokens next params sound.1 goes,
+      ),
 )
 
 goes_authority : (later : List Nested) (tokens : List Marked) (names : List (List ℕ)) → Goes later tokens →
@@ -382,11 +381,11 @@ goes_authority later tokens (name ∷ names) goes =
           behind,
           refl,
           goes_more_names due.after_principal 0 later
-          (right_parenthesis 0 ∷ plain 0 (symbol symbols.LeftBrace) ∷ tokens) name names refl (
-            nested_at 0 (due.exactly due.left_brace) ∷ later,
-            refl,
-            (later, refl, goes),
-          ),
+              (right_parenthesis 0 ∷ plain 0 (symbol symbols.LeftBrace) ∷ tokens) name names refl (
+                nested_at 0 (due.exactly due.left_brace) ∷ later,
+                refl,
+                (later, refl, goes),
+              ),
         ),
       ),
     )
@@ -418,10 +417,10 @@ goes_tail later tokens phrase sound goes =
       nested_at 0 due.params ∷ nested_at 0 due.authority ∷ body_due,
       refl,
       goes_params (nested_at 0 due.authority ∷ body_due)
-      (authority_before phrase.authority (plain 0 (symbol symbols.LeftBrace) ∷ body_tokens)) phrase.params sound.2
-      (goes_authority body_due body_tokens phrase.authority
-      (goes_block due.body 0 later (result_before phrase.result (plain 0 (symbol symbols.RightBrace) ∷ tokens))
-      phrase.body sound.3 (goes_result later tokens phrase.result sound.4 goes))),
+          (authority_before phrase.authority (plain 0 (symbol symbols.LeftBrace) ∷ body_tokens)) phrase.params sound.2
+          (goes_authority body_due body_tokens phrase.authority
+          (goes_block due.body 0 later (result_before phrase.result (plain 0 (symbol symbols.RightBrace) ∷ tokens))
+          phrase.body sound.3 (goes_result later tokens phrase.result sound.4 goes))),
     )
 
 -- ---- fields
@@ -455,11 +454,11 @@ goes_item tokens (field phrase) sound goes = (
   item_due,
   refl,
   goes_label 0 (nested_at 0 due.a_name ∷ nested_at 0 due.after_name ∷ [])
-  (plain 0 (Name phrase.name) ∷ field_end_before phrase.ending tokens) phrase.label sound.0 (
-    nested_at 0 due.after_name ∷ [],
-    refl,
-    goes_field_end [] tokens phrase.ending sound.1 goes,
-  ),
+      (plain 0 (Name phrase.name) ∷ field_end_before phrase.ending tokens) phrase.label sound.0 (
+        nested_at 0 due.after_name ∷ [],
+        refl,
+        goes_field_end [] tokens phrase.ending sound.1 goes,
+      ),
 )
 goes_item tokens (method phrase) sound goes = by_kind phrase.kind sound.0
   where
@@ -472,24 +471,24 @@ goes_item tokens (method phrase) sound goes = by_kind phrase.kind sound.0
         nested_at 0 due.label ∷ method_due [],
         refl,
         goes_label 0 (method_due []) (tail_before phrase tokens) phrase.begin sound.1
-        (goes_tail [] tokens phrase sound goes),
+            (goes_tail [] tokens phrase sound goes),
       ),
     )
     by_kind (Some label) labelled = (
       item_due,
       refl,
       goes_label 0 (nested_at 0 due.a_name ∷ nested_at 0 due.after_name ∷ [])
-      (plain 0 (Name phrase.name) ∷ label_before marks.method 0 phrase.begin (tail_before phrase tokens)) label
-      labelled (
-        nested_at 0 due.after_name ∷ [],
-        refl,
-        (
-          nested_at 0 due.first_part ∷ method_due [],
-          refl,
-          goes_first_part 0 (method_due []) (tail_before phrase tokens) phrase.begin sound.1
-          (goes_tail [] tokens phrase sound goes),
-        ),
-      ),
+          (plain 0 (Name phrase.name) ∷ label_before marks.method 0 phrase.begin (tail_before phrase tokens)) label
+          labelled (
+            nested_at 0 due.after_name ∷ [],
+            refl,
+            (
+              nested_at 0 due.first_part ∷ method_due [],
+              refl,
+              goes_first_part 0 (method_due []) (tail_before phrase tokens) phrase.begin sound.1
+                  (goes_tail [] tokens phrase sound goes),
+            ),
+          ),
     )
 
 goes_items : (program : ProgramPhrase) → IsProgram program → Goes [] (program_before program [])

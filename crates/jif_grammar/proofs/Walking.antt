@@ -1,5 +1,5 @@
 -- The walk by what is due tells what tokens are refused for.
-use Rattle.std.proofs.Common.{◌≡◌, ◌<◌, ◌≤◌, inl, inr, ℕ, suc, ◌+◌, List, [], ◌∷◌, ◌++◌, map, length, take, drop, refl}
+use Rattle.std.proofs.Common.{◌≡◌, ◌<◌, inl, inr, ℕ, suc, ◌+◌, List, [], ◌∷◌, ◌++◌, map, length, take, drop, refl}
 use Rattle.std.proofs.Common.{ap, sym, ◌∙◌, subst, Option, Some, None, arith, append_assoc}
 use Rattle.std.specs.Option.{option_map}
 use Rattle.std.proofs.lemmas.List.{map-append, append-nil}
@@ -13,17 +13,17 @@ use Rattle.jif_grammar.specs.Due.{Due, due_after_token, item_due, before_due, du
 use Rattle.jif_grammar.specs.Marks.{Marked, Tally, tally_at_start, after_token, after_tokens, mark}
 use Rattle.jif_grammar.specs.Spelling.{spelling}
 use Rattle.jif_grammar.specs.Programs.{token_kinds, Spells, GoesOn, IsBeginning, tally_at, IsWithin, IsWithinUpTo}
-use Rattle.jif_grammar.specs.Programs.{Refusal, unexpected, too_deep, too_many, IsRefused, IsProgramText}
+use Rattle.jif_grammar.specs.Programs.{Refusal, unexpected, IsRefused, IsProgramText}
 use Rattle.jif_grammar.specs.Nesting.{Nested, nested_all, nested_after, marked_by, begins_item, nested_next}
-use Rattle.jif_grammar.specs.Verdicts.{Excess, of_nesting, of_count, excess_at, excess, Walk, going, refused}
+use Rattle.jif_grammar.specs.Verdicts.{Excess, of_nesting, of_count, excess_at, excess, going}
 use Rattle.jif_grammar.specs.Verdicts.{walk_within, walk_behind, refusal_from, refusal_of}
 use Rattle.jif_grammar.proofs.ExprMarks.{Goes}
 use Rattle.jif_grammar.proofs.ProgramMarks.{goes_program}
 use Rattle.jif_grammar.proofs.ExcessOf.{IsExcess, no_excess, some_excess}
 use Rattle.jif_grammar.proofs.OneRefusal.{kinds_length, same_length}
-use Rattle.jif_grammar.proofs.Refusing.{goes_on_sooner, too_deep_at, too_many_at, unexpected_at}
+use Rattle.jif_grammar.proofs.Refusing.{too_deep_at, too_many_at, unexpected_at}
 use Rattle.jif_grammar.proofs.DueLaws.{due_at_beginning, beginning_of_due}
-use Rattle.jif_grammar.proofs.DueEnds.{nothing_due_at_end, program_of_nothing_due}
+use Rattle.jif_grammar.proofs.DueEnds.{nothing_due_at_end}
 
 -- ---- what is due, without its nesting
 

@@ -1,16 +1,27 @@
 //! Laws of the grammar, for whoever reads programs. The calls do nothing.
 
-ghost use Rattle.std.specs.Prelude.{◌≡◌, ◌+◌, ◌<◌, ◌≤◌, ℕ, List, [], length, take, Some};
+ghost use Rattle.std.specs.Prelude.{◌≡◌, ◌+◌, ◌<◌, ◌≤◌, ℕ, List, [], length, take, Option, Some, None};
 ghost use Rattle.jif_lex.specs.declared.token.Token.{Token};
-ghost use Rattle.label_lattice.specs.Written.{kinds};
+ghost use Rattle.jif_lex.specs.declared.token.TokenKind.{TokenKind};
+ghost use Rattle.label_lattice.specs.Written.{Part, kinds, names_tokens, part_tokens};
 ghost use Rattle.jif_grammar.specs.declared.what.What.{What};
+ghost use Rattle.jif_grammar.specs.Phrases.{LabelPhrase, ExprPhrase, BlockPhrase, ParamPhrase, ItemPhrase};
 ghost use Rattle.jif_grammar.specs.Phrases.{ProgramPhrase};
 ghost use Rattle.jif_grammar.specs.Due.{Due, due_after};
 ghost use Rattle.jif_grammar.specs.Marks.{IsTooDeep, HasTooMany};
+ghost use Rattle.jif_grammar.specs.Spelling.{args_spelling, optional_label_spelling, param_spelling};
+ghost use Rattle.jif_grammar.specs.Spelling.{params_spelling, authority_spelling, head_spelling, item_spelling};
 ghost use Rattle.jif_grammar.specs.Spelling.{spelling};
+ghost use Rattle.jif_grammar.specs.Unmarked.{names_then, part_then, label_then, optional_label_then, expr_then};
+ghost use Rattle.jif_grammar.specs.Unmarked.{args_then, block_then, param_then, params_then, authority_then};
+ghost use Rattle.jif_grammar.specs.Unmarked.{head_then, item_then, program_then};
+ghost use Rattle.jif_grammar.specs.Grouping.{IsProgram};
 ghost use Rattle.jif_grammar.specs.DraftShapes.{DraftShape};
-ghost use Rattle.jif_grammar.specs.Programs.{Spells, IsProgramOf, GoesOn, IsBeginning, tally_at, IsWithinUpTo};
-ghost use Rattle.jif_grammar.specs.Programs.{Refusal, unexpected, too_deep, too_many, rank_of_what, IsRefused};
+ghost use Rattle.jif_grammar.specs.Drafts.{label_width, expr_width, block_width};
+ghost use Rattle.jif_grammar.specs.Programs.{Spells, IsProgramText, IsProgramOf, GoesOn, IsBeginning, tally_at};
+ghost use Rattle.jif_grammar.specs.Programs.{IsWithinUpTo, Refusal, unexpected, too_deep, too_many, rank_of_what};
+ghost use Rattle.jif_grammar.specs.Programs.{IsRefused};
+ghost use Rattle.jif_grammar.specs.Verdicts.{refusal_of};
 
 /// Tokens are a program in one way only, or are refused for one cause only, and never both. What has begun at a token
 /// is the same in each program that goes on from there.
@@ -61,4 +72,42 @@ pub fn due_laws()
         Spells tokens program → due_after (kinds tokens) ≡ Some [] }
     ensures program_of_nothing_due { (tokens : List Token) →
         due_after (kinds tokens) ≡ Some [] → (program : ProgramPhrase) × Spells tokens program }
+{}
+
+/// The walk by what is due tells what tokens are refused for, and nothing of a program.
+pub fn verdict_laws()
+    ensures refused { (tokens : List Token) (refusal : Refusal) →
+        refusal_of tokens ≡ Some refusal → IsRefused tokens refusal }
+    ensures accepted { (tokens : List Token) (program : ProgramPhrase) →
+        refusal_of tokens ≡ None → Spells tokens program → IsProgramText tokens program }
+    ensures spelled { (tokens : List Token) (program : ProgramPhrase) →
+        IsProgram program → kinds tokens ≡ program_then program [] → Spells tokens program }
+{}
+
+/// How many tokens less are left behind a phrase.
+pub fn width_laws()
+    ensures names { (names : List (List ℕ)) (rest : List TokenKind) →
+        length (names_then names rest) ≡ length (names_tokens names) + length rest }
+    ensures parts { (part : Part) (rest : List TokenKind) →
+        length (part_then part rest) ≡ length (part_tokens part) + length rest }
+    ensures labels { (label : LabelPhrase) (rest : List TokenKind) →
+        length (label_then label rest) ≡ label_width label + length rest }
+    ensures optional_labels { (label : Option LabelPhrase) (rest : List TokenKind) →
+        length (optional_label_then label rest) ≡ length (optional_label_spelling 0 label) + length rest }
+    ensures exprs { (e : ExprPhrase) (rest : List TokenKind) →
+        length (expr_then e rest) ≡ expr_width e + length rest }
+    ensures args { (args : List ExprPhrase) (rest : List TokenKind) →
+        length (args_then args rest) ≡ length (args_spelling 0 args) + length rest }
+    ensures blocks { (block : BlockPhrase) (rest : List TokenKind) →
+        length (block_then block rest) ≡ block_width block + length rest }
+    ensures one_param { (param : ParamPhrase) (rest : List TokenKind) →
+        length (param_then param rest) ≡ length (param_spelling param) + length rest }
+    ensures params { (params : List ParamPhrase) (rest : List TokenKind) →
+        length (params_then params rest) ≡ length (params_spelling params) + length rest }
+    ensures authority { (names : List (List ℕ)) (rest : List TokenKind) →
+        length (authority_then names rest) ≡ length (authority_spelling names) + length rest }
+    ensures heads { (kind : Option LabelPhrase) (name : List ℕ) (begin : LabelPhrase) (rest : List TokenKind) →
+        length (head_then kind name begin rest) ≡ length (head_spelling kind name begin) + length rest }
+    ensures items { (item : ItemPhrase) (rest : List TokenKind) →
+        length (item_then item rest) ≡ length (item_spelling item) + length rest }
 {}

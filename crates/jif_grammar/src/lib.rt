@@ -4,5 +4,5 @@
 mod laws;
 mod what;
 
-pub use laws::{due_laws, grammar_laws, refusal_laws};
+pub use laws::{due_laws, grammar_laws, refusal_laws, verdict_laws, width_laws};
 pub use what::What;
