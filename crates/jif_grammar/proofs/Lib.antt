@@ -8,9 +8,6 @@ pub mod OneRefusal
 pub mod Examples
 pub mod Marked
 pub mod SameMarks
-pub mod SameExprMarks
-pub mod SameBlockMarks
-pub mod SameProgramMarks
 pub mod Refusing
 pub mod Within
 pub mod Worked

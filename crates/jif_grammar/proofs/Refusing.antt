@@ -11,7 +11,7 @@ use Rattle.jif_grammar.specs.Programs.{Spells, GoesOn, IsBeginning, tally_at, Is
 use Rattle.jif_grammar.specs.Programs.{too_deep, too_many, place, rank, rank_of_what, IsCertain, IsFault}
 use Rattle.jif_grammar.specs.Programs.{IsRefused}
 use Rattle.jif_grammar.proofs.OneRefusal.{rank_within}
-use Rattle.jif_grammar.proofs.SameProgramMarks.{one_tally}
+use Rattle.jif_grammar.proofs.SameMarks.{one_tally}
 
 pub goes_on_sooner : (tokens : List Token) (program : ProgramPhrase) (n : ℕ) → GoesOn tokens program →
     GoesOn (take n tokens) program

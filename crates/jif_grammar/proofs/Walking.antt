@@ -20,6 +20,7 @@ use Rattle.jif_grammar.specs.Verdicts.{walk_within, walk_behind, refusal_from, r
 use Rattle.jif_grammar.proofs.ExprMarks.{Goes}
 use Rattle.jif_grammar.proofs.ProgramMarks.{goes_program}
 use Rattle.jif_grammar.proofs.ExcessOf.{IsExcess, no_excess, some_excess}
+use Rattle.jif_grammar.proofs.SameMarks.{one_step}
 use Rattle.jif_grammar.proofs.OneRefusal.{kinds_length, same_length}
 use Rattle.jif_grammar.proofs.Refusing.{too_deep_at, too_many_at, unexpected_at}
 use Rattle.jif_grammar.proofs.DueLaws.{due_at_beginning, beginning_of_due}
@@ -166,9 +167,6 @@ record Stepped (program : ProgramPhrase) (n : ℕ) (next : List Nested) (t : Tal
   behind : Goes next (drop (suc n) (spelling program))
   tally_is : after_tokens tally_at_start (take (suc n) (spelling program)) ≡ t
   within : IsWithinUpTo program n
-
-one_step : (first second : Marked × List Nested) → Some first ≡ Some second → first ≡ second
-one_step first second same = cc
 
 stepped : (front : List Token) (token : Token) (first next : List Nested) (t : Tally) (marked : Marked) →
     Reached front first t → nested_next first token.kind ≡ Some (marked, next) → (program : ProgramPhrase) →

@@ -1,6 +1,6 @@
 use Rattle.jif_grammar.proofs.OneProgram.{one_reading, one_draft}
 use Rattle.jif_grammar.proofs.OneRefusal.{one_refusal, never_both}
-use Rattle.jif_grammar.proofs.SameProgramMarks.{same_marks, one_tally}
+use Rattle.jif_grammar.proofs.SameMarks.{same_marks, one_tally}
 use Rattle.jif_grammar.proofs.laws.grammar_laws.Goals as goal
 
 pub returns : goal.returns
