@@ -24,7 +24,7 @@ use Rattle.jif_grammar.proofs.SameMarks.{one_step}
 use Rattle.jif_grammar.proofs.OneRefusal.{kinds_length, same_length}
 use Rattle.jif_grammar.proofs.Refusing.{too_deep_at, too_many_at, unexpected_at}
 use Rattle.jif_grammar.proofs.DueLaws.{due_at_beginning, beginning_of_due}
-use Rattle.jif_grammar.proofs.DueEnds.{nothing_due_at_end}
+use Rattle.jif_grammar.proofs.DueEnds.{nothing_due_at_end, program_of_nothing_due}
 
 -- ---- what is due, without its nesting
 
@@ -313,19 +313,22 @@ passed front token more first next t marked found reached is passes =
 -- ---- the whole walk
 
 abbrev Verdict : List Token → ProgramPhrase → Option Refusal → Type 0
-Verdict tokens program None = Spells tokens program → IsWithinUpTo program (length tokens)
+Verdict tokens program None =
+    (due_after (kinds tokens) ≡ Some []) × (Spells tokens program → IsWithinUpTo program (length tokens))
 Verdict tokens program (Some refusal) = IsRefused tokens refusal
 
 walked : (rest front : List Token) (first : List Nested) (t : Tally) (program : ProgramPhrase) →
     Reached front first t → Verdict (front ++ rest) program (refusal_from (going first t) (length front) (kinds rest))
-walked [] front [] t program reached = λ spells.
+walked [] front [] t program reached =
     let nil = append-nil front in
-    let whole = subst (λ ts. Spells ts program) nil spells in
-    subst (λ ts. IsWithinUpTo program (length ts)) (sym nil) (reached.on_way program (record {
-      is_program = whole.is_program;
-      rest = [];
-      written = append-nil (kinds front) ∙ whole.written;
-    })).within
+    subst (λ ts. Verdict ts program None) (sym nil) (
+      reached.due_is,
+      λ whole. (reached.on_way program (record {
+        is_program = whole.is_program;
+        rest = [];
+        written = append-nil (kinds front) ∙ whole.written;
+      })).within,
+    )
 walked [] front (one ∷ later) t program reached =
     subst (λ ts. IsRefused ts (unexpected (length front))) (sym (append-nil front)) (at_end front one later t reached)
 walked (token ∷ more) front first t program reached =
@@ -368,5 +371,13 @@ refused_by_walk tokens refusal is = subst (Verdict tokens []) is (walked tokens 
 pub within_by_walk : (tokens : List Token) (program : ProgramPhrase) → refusal_of tokens ≡ None →
     Spells tokens program → IsProgramText tokens program
 within_by_walk tokens program is spells =
-    let within = subst (Verdict tokens program) is (walked tokens [] [] tally_at_start program at_start) spells in
+    let verdict = subst (Verdict tokens program) is (walked tokens [] [] tally_at_start program at_start) in
+    let within = verdict.1 spells in
     record { spells = spells; limits = subst (IsWithinUpTo program) (same_length tokens program spells) within }
+
+pub whole_by_walk : (tokens : List Token) → refusal_of tokens ≡ None →
+    (program : ProgramPhrase) × IsProgramText tokens program
+whole_by_walk tokens is =
+    let verdict = subst (Verdict tokens []) is (walked tokens [] [] tally_at_start [] at_start) in
+    let (program, spells) = program_of_nothing_due tokens verdict.0 in
+    (program, within_by_walk tokens program is spells)

@@ -74,10 +74,12 @@ pub fn due_laws()
         due_after (kinds tokens) ≡ Some [] → (program : ProgramPhrase) × Spells tokens program }
 {}
 
-/// The walk by what is due tells what tokens are refused for, and nothing of a program.
+/// The walk by what is due tells what tokens are refused for, and nothing of a program. So tokens are one or the other.
 pub fn verdict_laws()
     ensures refused { (tokens : List Token) (refusal : Refusal) →
         refusal_of tokens ≡ Some refusal → IsRefused tokens refusal }
+    ensures whole { (tokens : List Token) → refusal_of tokens ≡ None →
+        (program : ProgramPhrase) × IsProgramText tokens program }
     ensures accepted { (tokens : List Token) (program : ProgramPhrase) →
         refusal_of tokens ≡ None → Spells tokens program → IsProgramText tokens program }
     ensures spelled { (tokens : List Token) (program : ProgramPhrase) →
