@@ -5,10 +5,10 @@ use Rattle.host_decl.specs.Hosts.{HostsShape}
 use Rattle.host_decl.specs.Reading.{ReadsHosts}
 use Rattle.jif_tree.specs.declared.program.Program.{Program}
 use Rattle.jif_tree.specs.Store.{starting_values}
-use Rattle.net_world.specs.Code.{CodeShape}
-use Rattle.net_world.specs.Events.{script_of}
-use Rattle.net_world.specs.FirstCode.{IsCodeOf}
-use Rattle.net_world.specs.World.{world_at_start}
+use Rattle.net_world.specs.first.Code.{CodeShape}
+use Rattle.net_world.specs.first.Events.{script_of}
+use Rattle.net_world.specs.first.FirstCode.{IsCodeOf}
+use Rattle.net_world.specs.first.World.{world_at_start}
 use Rattle.split_cli.specs.ProgramForm.{FieldForm, AssignmentForm, SpellsProgram}
 use Rattle.split_cli.specs.Resolution.{IsProgramOf}
 use Rattle.split_cli.specs.Replay.{DueForBytes, no_program, script, IsProgramText, AreRead, AreAccepted, due_for_script}

@@ -12,11 +12,11 @@ use Rattle.host_decl.specs.Hosts.{HostsShape, AreHostNames, names_of}
 use Rattle.host_decl.specs.Reading.{ReadsHosts}
 use Rattle.jif_tree.specs.declared.program.Program.{Program}
 use Rattle.jif_tree.specs.Store.{starting_values}
-use Rattle.net_world.specs.declared.event_text.Event.{Event}
-use Rattle.net_world.specs.Code.{CodeShape}
-use Rattle.net_world.specs.Events.{script_of}
-use Rattle.net_world.specs.World.{World, Refusal, not_there, host_busy, run, world_at_start, has_halted}
-use Rattle.net_world.specs.AllObey.{IsSet, Follows, IsIdle, IsAfter}
+use Rattle.net_world.specs.declared.first.event_text.Event.{Event}
+use Rattle.net_world.specs.first.Code.{CodeShape}
+use Rattle.net_world.specs.first.Events.{script_of}
+use Rattle.net_world.specs.first.World.{World, Refusal, not_there, host_busy, run, world_at_start, has_halted}
+use Rattle.net_world.specs.first.AllObey.{IsSet, Follows, IsIdle, IsAfter}
 use Rattle.split_cli.specs.Commands.{CommandShape, Replay, words_of}
 use Rattle.split_cli.specs.Verdicts.{VerdictShape, Refuse, Print, event_refused}
 use Rattle.split_cli.specs.Loads.{FilesChange, Told}

@@ -13,10 +13,10 @@ use Rattle.host_decl.specs.Reading.{ReadsHosts, RefusesHosts}
 use Rattle.host_decl.specs.Refusal.{refusal_shape}
 use Rattle.jif_tree.specs.declared.program.Program.{Program}
 use Rattle.jif_tree.specs.Store.{starting_values}
-use Rattle.net_world.specs.Code.{CodeShape}
-use Rattle.net_world.specs.Events.{script_of}
-use Rattle.net_world.specs.FirstCode.{IsFirstUnheld, IsCodeOf}
-use Rattle.net_world.specs.World.{world_at_start}
+use Rattle.net_world.specs.first.Code.{CodeShape}
+use Rattle.net_world.specs.first.Events.{script_of}
+use Rattle.net_world.specs.first.FirstCode.{IsFirstUnheld, IsCodeOf}
+use Rattle.net_world.specs.first.World.{world_at_start}
 use Rattle.split_cli.specs.ProgramForm.{FieldForm, AssignmentForm}
 use Rattle.split_cli.specs.Resolution.{IsProgramOf, HasBadName}
 use Rattle.split_cli.specs.Commands.{CommandShape, Replay, words_of, files_of}

@@ -7,10 +7,10 @@ use Rattle.std.specs.List.{flat_map, join_with_byte}
 use Rattle.std.proofs.lemmas.List.{append-nil, append_assoc, flat_map_more, length-take-le, take_more}
 use Rattle.std.proofs.lemmas.Option.{get_or_from_slice_get, slice_get_within}
 use Rattle.std.proofs.lemmas.List.Concat.{flat_map-append}
-use Rattle.net_world.specs.Code.{CodeShape, FieldShape}
-use Rattle.net_world.specs.HostTable.{HostState}
-use Rattle.net_world.specs.Flying.{Flight}
-use Rattle.net_world.specs.World.{World, numbers_below}
+use Rattle.net_world.specs.first.Code.{CodeShape, FieldShape}
+use Rattle.net_world.specs.first.HostTable.{HostState}
+use Rattle.net_world.specs.first.Flying.{Flight}
+use Rattle.net_world.specs.first.World.{World, numbers_below}
 use Rattle.split_cli.specs.Report.{halted_line, field_line, flying_line, field_lines, host_line, host_lines, host_name}
 use Rattle.split_cli.specs.Report.{queue_lines, flying_lines, report}
 use Rattle.split_cli.specs.Text.{lines_text}

@@ -5,8 +5,8 @@ use Rattle.std.proofs.lemmas.Slice.Zip.{AllZip-long}
 use Rattle.principals.specs.ActsFor.{Declared}
 use Rattle.host_decl.specs.Hosts.{HostsShape}
 use Rattle.jif_tree.specs.declared.program.Program.{Program}
-use Rattle.net_world.specs.Code.{CodeShape}
-use Rattle.net_world.specs.FirstCode.{IsCodeOf, IsPlaced}
+use Rattle.net_world.specs.first.Code.{CodeShape}
+use Rattle.net_world.specs.first.FirstCode.{IsCodeOf, IsPlaced}
 use Rattle.split_cli.specs.ProgramForm.{FieldForm, AssignmentForm, SpellsProgram}
 use Rattle.split_cli.specs.Resolution.{IsFieldOf, IsProgramOf}
 use Rattle.split_cli.proofs.Drafts.{small_values, few_fields, few_assignments}

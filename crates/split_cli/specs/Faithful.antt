@@ -5,11 +5,11 @@ use Rattle.js_base.specs.Sink.{Takes}
 use Rattle.jif_tree.specs.declared.program.Program.{Program}
 use Rattle.jif_tree.specs.Store.{starting_values}
 use Rattle.jif_tree.specs.SourceRun.{prefix, HasLength}
-use Rattle.net_world.specs.declared.event_text.Event.{Event}
-use Rattle.net_world.specs.Code.{CodeShape}
-use Rattle.net_world.specs.Events.{script_of}
-use Rattle.net_world.specs.World.{World, run, world_at_start, has_halted}
-use Rattle.net_world.specs.AllObey.{FieldsAre, Follows, IsIdle}
+use Rattle.net_world.specs.declared.first.event_text.Event.{Event}
+use Rattle.net_world.specs.first.Code.{CodeShape}
+use Rattle.net_world.specs.first.Events.{script_of}
+use Rattle.net_world.specs.first.World.{World, run, world_at_start, has_halted}
+use Rattle.net_world.specs.first.AllObey.{FieldsAre, Follows, IsIdle}
 use Rattle.split_cli.specs.Report.{report}
 use Rattle.split_cli.specs.Commands.{Replay, words_of}
 use Rattle.split_cli.specs.Loads.{Told}

@@ -2,7 +2,7 @@
 use Rattle.std.specs.Prelude.{List, string_bytes, ⊤}
 use Rattle.host_decl.specs.Hosts.{HostShape}
 use Rattle.jif_tree.specs.declared.program.Field.{Field}
-use Rattle.net_world.specs.FirstCode.{IsFirstUnheld}
+use Rattle.net_world.specs.first.FirstCode.{IsFirstUnheld}
 use Rattle.split_cli.specs.declared.first_code.CodeError.{CodeError}
 use Rattle.split_cli.specs.declared.first_code.CodeError.TheVariants as code_error
 

@@ -8,11 +8,11 @@ use Rattle.host_decl.specs.Reading.{ReadsHosts, RefusesHosts}
 use Rattle.host_decl.specs.Refusal.{refusal_shape}
 use Rattle.jif_tree.specs.declared.program.Program.{Program}
 use Rattle.jif_tree.specs.Store.{starting_values}
-use Rattle.net_world.specs.declared.event_text.Event.{Event}
-use Rattle.net_world.specs.Code.{CodeShape}
-use Rattle.net_world.specs.FirstCode.{IsFirstUnheld, IsCodeOf}
-use Rattle.net_world.specs.Events.{script_of}
-use Rattle.net_world.specs.World.{World, Refusal, run, world_at_start}
+use Rattle.net_world.specs.declared.first.event_text.Event.{Event}
+use Rattle.net_world.specs.first.Code.{CodeShape}
+use Rattle.net_world.specs.first.FirstCode.{IsFirstUnheld, IsCodeOf}
+use Rattle.net_world.specs.first.Events.{script_of}
+use Rattle.net_world.specs.first.World.{World, Refusal, run, world_at_start}
 use Rattle.split_cli.specs.ProgramForm.{FieldForm, AssignmentForm, SpellsProgram}
 use Rattle.split_cli.specs.Resolution.{IsProgramOf, HasBadName}
 use Rattle.split_cli.specs.Report.{report}

@@ -4,11 +4,11 @@ use Rattle.std.specs.Prelude.{if◌then◌else◌}
 use Rattle.std.specs.Prelude.{codes}
 use Rattle.std.specs.List.{flat_map, join_with_byte}
 use Rattle.std.specs.Fmt.{decimal, signed_decimal}
-use Rattle.net_world.specs.Code.{CodeShape, FieldShape}
-use Rattle.net_world.specs.HostTable.{HostState}
-use Rattle.net_world.specs.Flying.{Flight}
-use Rattle.net_world.specs.World.{World, field_row, has_halted, numbers_below, queue}
-use Rattle.net_world.specs.MessageText.{message_text}
+use Rattle.net_world.specs.first.Code.{CodeShape, FieldShape}
+use Rattle.net_world.specs.first.HostTable.{HostState}
+use Rattle.net_world.specs.first.Flying.{Flight}
+use Rattle.net_world.specs.first.World.{World, field_row, has_halted, numbers_below, queue}
+use Rattle.net_world.specs.first.MessageText.{message_text}
 use Rattle.split_cli.specs.Text.{lines_text}
 
 abbrev pub halted_line : World → List ℕ

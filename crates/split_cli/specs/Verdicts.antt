@@ -9,7 +9,7 @@ use Rattle.principals.specs.Refusal.{PrincipalRefusal}
 use Rattle.principals.specs.Refusal as principals
 use Rattle.host_decl.specs.Refusal.{HostsRefusal}
 use Rattle.host_decl.specs.Refusal as hosts
-use Rattle.net_world.specs.World.{Refusal, not_there, host_busy}
+use Rattle.net_world.specs.first.World.{Refusal, not_there, host_busy}
 use Rattle.split_cli.specs.declared.verdict.Verdict as verdict
 use Rattle.split_cli.specs.declared.verdict.Verdict.TheVariants as variants
 

@@ -4,7 +4,7 @@ ghost use Rattle.std.specs.Prelude.{◌≡◌, ◌+◌, ◌^◌, ◌<◌, [], �
 ghost use Rattle.std.specs.Prelude.{length, map, replicate};
 ghost use Rattle.std.specs.String.{string_bytes};
 ghost use Rattle.jif_tree.specs.SourceRun.{main_body};
-ghost use Rattle.net_world.specs.FirstCode.{IsCodeOf, instruction_of, root_part};
+ghost use Rattle.net_world.specs.first.FirstCode.{IsCodeOf, instruction_of, root_part};
 ghost use Rattle.split_cli.specs.FirstCodes.{HaveNoCode};
 
 mod placement;
@@ -13,7 +13,7 @@ use host_decl::{HostRow, Hosts};
 use jif_tree::{Expr, Program, Stmt, StmtKind};
 use js_base::text::owned_text;
 use js_base::{HostId, OutOfMemory, StmtId};
-use net_world::host_code::{Code, Instr, Op, Part};
+use net_world::first::host_code::{Code, Instr, Op, Part};
 use placement::placed_fields;
 use std::alloc::{AllocFailed, Global};
 use thiserror::Error;

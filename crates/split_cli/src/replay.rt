@@ -9,8 +9,8 @@ ghost use Rattle.split_cli.specs.Replay.{IsProgramText, DueForBytes, due_for_scr
 ghost use Rattle.split_cli.specs.Loading.{IsLoaded};
 ghost use Rattle.split_cli.specs.Verdicts.{verdict_shape};
 ghost use Rattle.jif_tree.specs.Store.{starting_values};
-ghost use Rattle.net_world.specs.World.{world_at_start};
-ghost use Rattle.net_world.specs.Events.{script_of};
+ghost use Rattle.net_world.specs.first.World.{world_at_start};
+ghost use Rattle.net_world.specs.first.Events.{script_of};
 
 use crate::first_code::{CodeError, code_of};
 use crate::program_form::{ProgramDraft, read_program};
@@ -21,9 +21,9 @@ use host_decl::{Hosts, HostsError, read_hosts};
 use jif_tree::{Program, Store};
 use js_base::OutOfMemory;
 use js_base::limits::{HOSTS_BYTES, PROGRAM_BYTES, SCRIPT_BYTES};
-use net_world::event_text::{EventsError, read_events};
-use net_world::host_code::Code;
-use net_world::world::{EventError, World};
+use net_world::first::event_text::{EventsError, read_events};
+use net_world::first::host_code::Code;
+use net_world::first::world::{EventError, World};
 use std::alloc::Global;
 
 /// An accepted program, as a tree and as the code of its hosts.

@@ -2,7 +2,7 @@
 
 ghost use Rattle.std.specs.Prelude.{◌≡◌, ◌^◌, ◌<◌, ◌≤◌, ◌++◌, IfOk, OnOk, length};
 ghost use Rattle.std.specs.String.{string_bytes};
-ghost use Rattle.net_world.specs.World.{world_of};
+ghost use Rattle.net_world.specs.first.World.{world_of};
 ghost use Rattle.split_cli.specs.Report.{halted_line, report};
 ghost use Rattle.split_cli.specs.Text.{line_text};
 
@@ -15,8 +15,8 @@ use flying::push_flying;
 use hosts::push_hosts;
 use js_base::OutOfMemory;
 use js_base::limits::HOSTS;
-use net_world::host_code::Code;
-use net_world::world::World;
+use net_world::first::host_code::Code;
+use net_world::first::world::World;
 use std::alloc::Global;
 
 /// The report of a world: whether the program has halted, the fields, the hosts, and what is in flight.

@@ -16,7 +16,7 @@ use crate::words::{Replay, command_of};
 use host_decl::host_file_laws;
 use js_base::limits::{HOSTS_BYTES, PROGRAM_BYTES, SCRIPT_BYTES};
 use js_base::{Files, OutOfMemory, PutError, Sink, Status};
-use net_world::laws::all_obey_laws;
+use net_world::first::laws::all_obey_laws;
 use std::alloc::Global;
 
 /// Runs `jifsplit` on the words after its name.

@@ -22,7 +22,7 @@ pub enum Verdict {
 impl Verdict {
     ghost use Rattle.split_cli.specs.Verdicts.{verdict_shape};
     ghost use Rattle.host_decl.specs.Refusal.{refusal_shape};
-    ghost use Rattle.net_world.specs.World.{not_there, host_busy};
+    ghost use Rattle.net_world.specs.first.World.{not_there, host_busy};
 
     /// A refusal whose line says this after the program's name.
     fn refusal(alloc: Global, status: Status, text: &str) -> Result<Verdict, OutOfMemory>

@@ -2,7 +2,7 @@
 
 ghost use Rattle.std.specs.Prelude.{◌≤◌, All, IfSome, IfNone, MatchResult, length};
 ghost use Rattle.std.specs.List.{AllZip};
-ghost use Rattle.net_world.specs.FirstCode.{IsFirstHolder, IsPlaced, MayHold};
+ghost use Rattle.net_world.specs.first.FirstCode.{IsFirstHolder, IsPlaced, MayHold};
 ghost use Rattle.split_cli.specs.FirstCodes.{HaveNoCode};
 
 use crate::first_code::CodeError;
@@ -12,7 +12,7 @@ use js_base::HostId;
 use js_base::limits::HOSTS;
 use js_base::text::owned_text;
 use label_lattice::Label;
-use net_world::host_code::CodeField;
+use net_world::first::host_code::CodeField;
 use std::alloc::Global;
 
 /// The fields, each with its host.

@@ -4,13 +4,13 @@ ghost use Rattle.std.specs.Prelude.{◌≡◌, ◌^◌, ◌<◌, ◌∷◌, ◌+
 ghost use Rattle.std.specs.Fmt.{signed_decimal};
 ghost use Rattle.std.specs.List.{flat_map, join_with_byte};
 ghost use Rattle.std.specs.String.{string_bytes};
-ghost use Rattle.net_world.specs.World.{field_row, world_of};
+ghost use Rattle.net_world.specs.first.World.{field_row, world_of};
 ghost use Rattle.split_cli.specs.Report.{field_line, field_lines};
 ghost use Rattle.split_cli.specs.Text.{line_text, lines_text};
 
 use js_base::{FieldId, OutOfMemory};
-use net_world::host_code::{Code, CodeField};
-use net_world::world::World;
+use net_world::first::host_code::{Code, CodeField};
+use net_world::first::world::World;
 use std::fmt::Write;
 
 /// Adds the lines of the fields.

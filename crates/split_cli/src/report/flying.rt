@@ -2,16 +2,16 @@
 
 ghost use Rattle.std.specs.Prelude.{◌≡◌, ◌≤◌, ◌++◌, OnOk, length};
 ghost use Rattle.std.specs.String.{string_bytes};
-ghost use Rattle.net_world.specs.World.{world_of};
+ghost use Rattle.net_world.specs.first.World.{world_of};
 ghost use Rattle.split_cli.specs.Report.{flying_line, flying_lines, lines_from, queue_lines};
 ghost use Rattle.split_cli.specs.Text.{line_text, lines_text};
 
 use crate::report::hosts::host_name;
 use js_base::limits::HOSTS;
 use js_base::{HostId, OutOfMemory};
-use net_world::event_text::message_text;
-use net_world::host_code::{Code, Message};
-use net_world::world::World;
+use net_world::first::event_text::message_text;
+use net_world::first::host_code::{Code, Message};
+use net_world::first::world::World;
 use std::alloc::Global;
 use std::fmt::Write;
 

@@ -4,15 +4,15 @@ ghost use Rattle.std.specs.Prelude.{◌≡◌, ◌<◌, ◌≤◌, ◌++◌, OnO
 ghost use Rattle.std.specs.Prelude.{length};
 ghost use Rattle.std.specs.Prelude.{slice_get};
 ghost use Rattle.std.specs.String.{string_bytes};
-ghost use Rattle.net_world.specs.World.{world_of};
+ghost use Rattle.net_world.specs.first.World.{world_of};
 ghost use Rattle.split_cli.specs.Report.{host_line, host_lines, host_name};
 ghost use Rattle.split_cli.specs.Text.{line_text, lines_text};
 
 use js_base::limits::HOSTS;
 use js_base::{HostId, OutOfMemory};
-use net_world::host_code::Code;
-use net_world::host_core::Host;
-use net_world::world::World;
+use net_world::first::host_code::Code;
+use net_world::first::host_core::Host;
+use net_world::first::world::World;
 use std::fmt::Write;
 
 /// Adds the lines of the hosts.

@@ -1,5 +1,5 @@
 use Rattle.std.proofs.Common.{◌≡◌, map, take}
-use Rattle.net_world.specs.FirstCode.{instruction_of}
+use Rattle.net_world.specs.first.FirstCode.{instruction_of}
 use Rattle.split_cli.proofs.first_code.body_part.Given as goal
 
 -- one instruction for each statement so far

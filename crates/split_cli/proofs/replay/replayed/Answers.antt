@@ -1,6 +1,6 @@
 use Rattle.std.proofs.Common.{Ok, Err, sym, ◌∙◌, ap}
 use Rattle.std.proofs.lemmas.Result.{IfOk-weaker}
-use Rattle.net_world.specs.World.{world_of, not_there, host_busy}
+use Rattle.net_world.specs.first.World.{world_of, not_there, host_busy}
 use Rattle.jif_tree.specs.Store.{starting_values}
 use Rattle.split_cli.specs.Verdicts.{Print}
 use Rattle.split_cli.proofs.Replaying.{due_ran}

@@ -1,7 +1,7 @@
 use Rattle.std.proofs.Common.{sym, subst, arith}
 use Rattle.std.proofs.lemmas.Result.{IfOk-weaker}
 use Rattle.principals.specs.ActsFor.{Declared}
-use Rattle.net_world.specs.FirstCode.{IsFirstUnheld}
+use Rattle.net_world.specs.first.FirstCode.{IsFirstUnheld}
 use Rattle.split_cli.specs.Resolution.{HasBadName, IsProgramOf}
 use Rattle.split_cli.specs.Replay.{DueForBytes, bad_name, no_holder, long_script}
 use Rattle.split_cli.proofs.Building.{none_holds, main_size}

@@ -1,6 +1,6 @@
 use Rattle.std.proofs.Common.{ℕ, ◌<◌}
 use Rattle.std.specs.Prelude.{IsSomeAnd, slice_get}
-use Rattle.net_world.specs.FirstCode.{MayHold}
+use Rattle.net_world.specs.first.FirstCode.{MayHold}
 use Rattle.split_cli.proofs.first_code.placement.first_holder.Given as goal
 
 -- no host so far may hold the field

@@ -1,7 +1,7 @@
 use Rattle.std.proofs.Common.{◌≡◌, ◌∷◌, [], ◌++◌, sym, ◌∙◌, arith}
 use Rattle.std.specs.String.{string_bytes}
-use Rattle.net_world.specs.Code.{FieldShape}
-use Rattle.net_world.specs.FirstCode.{IsPlaced}
+use Rattle.net_world.specs.first.Code.{FieldShape}
+use Rattle.net_world.specs.first.FirstCode.{IsPlaced}
 use Rattle.split_cli.proofs.FirstCode.{AllZip_more, first_unheld}
 use Rattle.split_cli.proofs.first_code.placement.placed_fields.Goals as goal
 

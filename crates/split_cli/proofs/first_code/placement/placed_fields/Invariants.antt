@@ -1,6 +1,6 @@
 use Rattle.std.proofs.Common.{take}
 use Rattle.std.specs.List.{AllZip}
-use Rattle.net_world.specs.FirstCode.{IsPlaced}
+use Rattle.net_world.specs.first.FirstCode.{IsPlaced}
 use Rattle.split_cli.proofs.first_code.placement.placed_fields.Given as goal
 
 -- the fields so far are placed

@@ -1,5 +1,5 @@
 use Rattle.std.proofs.Common.{◌<◌, length}
-use Rattle.net_world.specs.World.{world_of}
+use Rattle.net_world.specs.first.World.{world_of}
 use Rattle.split_cli.proofs.ReportLines.{added, field_lines_more}
 use Rattle.split_cli.proofs.report.fields.push_fields.Goals as goal
 

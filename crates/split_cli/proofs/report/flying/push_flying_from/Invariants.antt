@@ -1,7 +1,7 @@
 use Rattle.std.proofs.Common.{◌≡◌, ◌++◌}
 use Rattle.std.specs.List.{flat_map}
 use Rattle.std.specs.String.{string_bytes}
-use Rattle.net_world.specs.World.{world_of, numbers_below, queue}
+use Rattle.net_world.specs.first.World.{world_of, numbers_below, queue}
 use Rattle.split_cli.specs.Report.{queue_lines}
 use Rattle.split_cli.specs.Text.{lines_text}
 use Rattle.split_cli.proofs.report.flying.push_flying_from.Given as goal

@@ -1,4 +1,4 @@
-use Rattle.net_world.specs.World.{world_of}
+use Rattle.net_world.specs.first.World.{world_of}
 use Rattle.split_cli.proofs.ReportLines.{added, host_lines_more}
 use Rattle.split_cli.proofs.report.hosts.push_hosts.Goals as goal
 

@@ -1,6 +1,6 @@
 use Rattle.std.proofs.Common.{◌≡◌, ◌++◌, take}
 use Rattle.std.specs.String.{string_bytes}
-use Rattle.net_world.specs.World.{world_of}
+use Rattle.net_world.specs.first.World.{world_of}
 use Rattle.split_cli.specs.Report.{host_lines}
 use Rattle.split_cli.specs.Text.{lines_text}
 use Rattle.split_cli.proofs.report.hosts.push_hosts.Given as goal
