@@ -131,6 +131,7 @@ pub fn small_store(alloc: Global) -> Result<Store, OutOfMemory> {
     };
     let program = Program {
         fields: vec![in alloc; x, y]?,
+        vars: Vec::new(alloc),
         methods: Vec::new(alloc),
         main: MethodId(0),
     };

@@ -1,4 +1,5 @@
 pub mod Operators
 pub mod SourceRun
 pub mod Store
-pub mod Validity
+pub mod Assignments
+pub mod Trees

@@ -2,6 +2,7 @@
 #![tactic(auto)]
 
 mod draft;
+mod laws;
 mod operators;
 mod program;
 mod store;
@@ -10,6 +11,7 @@ pub use draft::{
     Draft, ExprDraft, FieldDraft, LabelDraft, MethodDraft, NameDraft, ParamDraft, PolicyDraft,
     StmtDraft, StmtKindDraft,
 };
+pub use laws::tree_laws;
 pub use operators::{binary_value, inverted, negated};
-pub use program::{Expr, Field, Method, Program, Stmt, StmtKind};
+pub use program::{Checked, Expr, Field, Method, Program, Stmt, StmtKind, Var};
 pub use store::{Row, Store};

@@ -27,7 +27,7 @@ use Rattle.split_cli.specs.Due.{IsDueForReplay, DueForFiles, DueForCommand, abse
 use Rattle.split_cli.specs.Due.{IsDue}
 use Rattle.split_cli.specs.Answers.{SinkChange, Puts, IsAnswered, AnswersTo}
 use Rattle.split_cli.specs.Faithful.{IsReplayed, IsFaithful, PutsFaithfully}
-use Rattle.split_cli.proofs.ValidPrograms.{valid_program}
+use Rattle.split_cli.proofs.Assigning.{only_assigns}
 
 -- a refusal is no success, and a report is that of a replay
 Says : (program hosts events : List ℕ) → VerdictShape → Type 0
@@ -92,7 +92,7 @@ is_set : HostNamesLaw →
     (program hosts : List ℕ) (code : CodeShape) (tree : Program) (accepted : AreAccepted program hosts code tree) →
     IsSet tree accepted.said.file code (starting_values tree)
 is_set names program hosts code tree accepted = record {
-  valid = valid_program _ _ _ tree accepted.tree_is;
+  assigns = only_assigns _ _ _ tree accepted.tree_is;
   hosts_are = names hosts accepted.said.file accepted.said.hosts_text;
   code_is = accepted.code_is;
   rows = rw length-map;

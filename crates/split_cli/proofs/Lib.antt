@@ -22,4 +22,4 @@ pub mod Results
 pub mod Sizes
 pub mod StatementLists
 pub mod Stops
-pub mod ValidPrograms
+pub mod Assigning

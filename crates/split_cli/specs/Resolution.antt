@@ -61,6 +61,9 @@ pub record IsMainOf (names : List (List ℕ)) (assignments : List AssignmentForm
   pub name : string_bytes method.name ≡ codes "main"
   pub begin : ForbidsNothing method.begin
   pub begin_trust : IsUntrusted method.begin
+  pub params : method.params.items ≡ []
+  pub result : method.result ≡ None
+  pub authority : method.authority.items ≡ []
   pub head : method.head ≡ record { 0 = 0 }
   pub line : method.line ≡ length names + 1
   pub body : AreStatementsOf names 0 assignments method.body.items
@@ -72,6 +75,7 @@ pub record IsProgramOf
   pub main_method : Method
   pub distinct : IsDistinct bytes_eq (names_of fields)
   pub fields_are : AllZip (IsFieldOf principals) fields program.fields.items
+  pub vars : program.vars.items ≡ []
   pub methods : program.methods.items ≡ main_method ∷ []
   pub main : program.main ≡ record { 0 = 0 }
   pub main_is : IsMainOf (names_of fields) assignments main_method

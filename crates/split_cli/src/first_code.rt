@@ -104,15 +104,20 @@ fn body_part(alloc: Global, body: &[Stmt], head: StmtId) -> Result<Part, OutOfMe
     Ok(Part::new(instructions))
 }
 
-/// The instruction of a statement.
+/// The instruction of a statement, which assigns a number to a field; no other has one in this form of programs.
 fn instruction_of(statement: &Stmt) -> Instr
     ensures { result ≡ instruction_of statement.now }
 {
-    let StmtKind::SetField { field, value } = &statement.kind;
-    let Expr::Number(number) = value;
+    let op = match &statement.kind {
+        StmtKind::SetField {
+            field,
+            value: Expr::Number(number),
+        } => Op::Put(*field, *number),
+        _ => Op::Back,
+    };
     Instr {
         statement: statement.id,
-        op: Op::Put(*field, *number),
+        op,
     }
 }
 

@@ -1,7 +1,7 @@
 //! The program that fields and assignments stand for, once their names are known.
 
 ghost use Rattle.std.specs.Prelude.{◌<◌, ◌≤◌, All, Any, Contains, length, IfOk, IfSome, IfNone};
-ghost use Rattle.jif_tree.specs.Validity.{IsValid};
+ghost use Rattle.jif_tree.specs.Assignments.{AssignsNumbers};
 ghost use Rattle.split_cli.specs.Resolution.{IsMainOf, IsProgramOf, HasBadName};
 
 mod fields;
@@ -38,6 +38,9 @@ fn main_method(
     Ok(Some(Method {
         name,
         begin: Label::empty(),
+        params: Vec::new(alloc),
+        result: None,
+        authority: Vec::new(alloc),
         head: StmtId(0),
         line: names.len() as u32 + 1,
         body,
@@ -56,7 +59,7 @@ pub fn resolve(
     requires small { All (λ form. form.value ≤ 9223372036854775807) draft.assignments.items }
     ensures found { IfOk result (λ found. IfSome found (λ program.
         IsProgramOf principals.now draft.fields.items draft.assignments.items program)) }
-    ensures valid { IfOk result (λ found. IfSome found IsValid) }
+    ensures assigns { IfOk result (λ found. IfSome found AssignsNumbers) }
     ensures none { IfOk result (λ found. IfNone found (
         HasBadName principals.now draft.fields.items draft.assignments.items)) }
 {
@@ -72,6 +75,7 @@ pub fn resolve(
     let methods = vec![in alloc; method]?;
     Ok(Some(Program {
         fields,
+        vars: Vec::new(alloc),
         methods,
         main: MethodId(0),
     }))

@@ -34,6 +34,7 @@ fn reads_and_writes_in_range_alone(rt: HostRuntime) -> Result<(), Fail> {
 fn starts_with_the_values_of_the_text(rt: HostRuntime) -> Result<(), Fail> {
     let program = Program {
         fields: vec![in rt.alloc(); array_of_three(&rt)?]?,
+        vars: Vec::new(rt.alloc()),
         methods: Vec::new(rt.alloc()),
         main: MethodId(0),
     };

@@ -38,6 +38,7 @@ fn sets_a_field_of_another_host(rt: HostRuntime) -> Result<(), Fail> {
     let alloc = rt.alloc();
     let program = Program {
         fields: Vec::new(alloc),
+        vars: Vec::new(alloc),
         methods: Vec::new(alloc),
         main: MethodId(0),
     };

@@ -6,6 +6,7 @@ use Rattle.std.proofs.lemmas.Bool.{cases_eq}
 use Rattle.js_base.specs.declared.ids.HostId.{HostId}
 use Rattle.jif_tree.specs.declared.program.Program.{Program}
 use Rattle.jif_tree.specs.SourceRun.{HasLength}
+use Rattle.jif_tree.specs.Assignments.{AssignsNumbers}
 use Rattle.net_world.specs.declared.first.host_code.Message.{Message}
 use Rattle.net_world.specs.declared.first.host_code.Message.TheVariants.{Set, Ack}
 use Rattle.net_world.specs.declared.first.event_text.Event.{Event}
@@ -137,14 +138,15 @@ event_kept {code = code} set w v n (Turn host) agrees is =
 
 -- where the program has halted the plain run is at its end
 halted_at_end : {program : Program} {code : CodeShape} {w : World} {n : ℕ} (store : List (List ℤ)) →
-    IsOrderly code w → Phase program code w n → has_halted w ≡ true → HasLength program store n
-halted_at_end store orderly (Running r) halted = let none =
+    AssignsNumbers program → IsOrderly code w → Phase program code w n → has_halted w ≡ true → HasLength program store n
+halted_at_end store assigns orderly (Running r) halted = let none =
     none_halted orderly r.h r.root.there r.root.halted in absurd (cc)
-halted_at_end store orderly (Asking a) halted = let none =
+halted_at_end store assigns orderly (Asking a) halted = let none =
     none_halted orderly a.h a.waits.root.there a.waits.root.halted in absurd (cc)
-halted_at_end store orderly (Answering a) halted = let none =
+halted_at_end store assigns orderly (Answering a) halted = let none =
     none_halted orderly a.h a.waits.root.there a.waits.root.halted in absurd (cc)
-halted_at_end {program = program} {n = n} store orderly (Halting h) halted = has_length program store n h.end
+halted_at_end {program = program} {n = n} store assigns orderly (Halting h) halted =
+    has_length program store n assigns h.end
 
 nothing_flies : {w : World} {from to : HostId} {message : Message} → HasOneFlight w from to message → IsIdle w → ⊥
 nothing_flies {w = w} {from = from} {to = to} one idle =
@@ -187,7 +189,7 @@ module _ {program : Program} {file : HostsShape} {code : CodeShape} {store : Lis
         rising = tracked.rising;
         fields = λ moment v within is. (tracked.holds moment v within is).fields;
         halted =
-            λ moment v within is halted. halted_at_end store (tracked.holds moment v within is).orderly
+            λ moment v within is halted. halted_at_end store set.assigns (tracked.holds moment v within is).orderly
             (tracked.holds moment v within is).phase halted;
       }
 

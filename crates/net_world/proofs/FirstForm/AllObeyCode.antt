@@ -1,5 +1,5 @@
 -- What the code of a program has at the root and at its fields.
-use Rattle.std.proofs.Common.{◌≡◌, ℕ, ◌<◌, ◌≤◌, ℤ, List, [], length, ap, subst, ◌∙◌, arith, Some}
+use Rattle.std.proofs.Common.{◌≡◌, ℕ, ◌<◌, ◌≤◌, ℤ, List, [], length, ap, sym, subst, ◌∙◌, arith, Some}
 use Rattle.std.specs.Prelude.{slice_get, unwrap_or}
 use Rattle.std.proofs.lemmas.List.{length-map}
 use Rattle.js_base.specs.declared.ids.HostId.{HostId}
@@ -9,7 +9,7 @@ use Rattle.jif_tree.specs.declared.program.Stmt.{Stmt}
 use Rattle.jif_tree.specs.declared.program.StmtKind.TheVariants.{SetField}
 use Rattle.jif_tree.specs.declared.program.Expr.TheVariants.{Number}
 use Rattle.jif_tree.specs.SourceRun.{main_body}
-use Rattle.jif_tree.specs.Validity.{NamesFields}
+use Rattle.jif_tree.specs.Assignments.{AssignsNumber}
 use Rattle.net_world.specs.declared.first.host_code.Op.TheVariants.{Back}
 use Rattle.net_world.specs.first.Code.{CodeShape, FieldShape, part_of, instruction}
 use Rattle.host_decl.specs.Hosts.{HostShape, HostsShape, names_of}
@@ -17,6 +17,10 @@ use Rattle.net_world.specs.first.FirstCode.{MayHold, IsPlaced, instruction_of, h
 use Rattle.net_world.specs.first.AllObey.{IsSet}
 use Rattle.net_world.proofs.FirstForm.AllObeyLists.{get-from_All, get_has, get_within, length-zip, zip_at, get-map_push}
 use Rattle.net_world.proofs.FirstForm.AllObeyLists.{get-map_end}
+
+one_field : (first second : FieldId) (value other : ℤ) →
+    SetField first (Number value) ≡ SetField second (Number other) → first ≡ second
+one_field first second value other same = cc
 
 module _ {program : Program} {file : HostsShape} {code : CodeShape} {store : List (List ℤ)}
     (set : IsSet program file code store) where
@@ -55,14 +59,21 @@ module _ {program : Program} {file : HostsShape} {code : CodeShape} {store : Lis
       ap (λ part. slice_get part n) root_has ∙ ap (slice_get (root_part program)) end
       ∙ get-map_end instruction_of (main_body program) _
 
+  -- a statement assigns a number
+  pub assigned : (n : ℕ) (s : Stmt) → slice_get (main_body program) n ≡ Some s →
+      AssignsNumber (length program.fields.items) s.kind
+  assigned n s there =
+      get-from_All (λ (statement : Stmt). AssignsNumber (length program.fields.items) statement.kind)
+      (main_body program) n s set.assigns.statements there
+
   -- a statement's field is in the code
   pub field_there : (n : ℕ) (s : Stmt) (field : FieldId) (value : ℤ) → slice_get (main_body program) n ≡ Some s →
       s.kind ≡ SetField field (Number value) → (there : FieldShape) × (slice_get code.fields field.0 ≡ Some there)
   field_there n s field value there kind =
-      let names =
-      get-from_All (λ (statement : Stmt). NamesFields (length program.fields.items) statement.kind)
-      (main_body program) n s set.valid.fields there in
-      let lt : field.0 < length program.fields.items = subst (NamesFields (length program.fields.items)) kind names in
+      let sets = assigned n s there in
+      let same : field ≡ sets.field = one_field field sets.field value sets.value (sym kind ∙ sets.is) in
+      let lt : field.0 < length program.fields.items =
+      subst (λ (f : FieldId). f.0 < length program.fields.items) (sym same) sets.there in
       let count = length-zip (IsPlaced file.hosts) program.fields.items code.fields set.code_is.fields in
       get_within code.fields field.0 (omega arith)
 

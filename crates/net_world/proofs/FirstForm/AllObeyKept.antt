@@ -21,8 +21,9 @@ use Rattle.net_world.specs.first.HostTable.{HostState, thread_after, next_reques
 use Rattle.net_world.specs.first.World.{World, after_step, without_message}
 use Rattle.net_world.specs.first.AllObey.{IsSet, FieldsAre}
 use Rattle.net_world.proofs.FirstForm.AllObeyLists.{get-set_same, get-set_other}
-use Rattle.net_world.proofs.FirstForm.AllObeyRun.{statement_cases, kind_cases, store_after}
-use Rattle.net_world.proofs.FirstForm.AllObeyCode.{few_hosts, root_within, instruction_at, instruction_end, field_there}
+use Rattle.net_world.proofs.FirstForm.AllObeyRun.{statement_cases, store_after}
+use Rattle.net_world.proofs.FirstForm.AllObeyCode.{few_hosts, root_within, instruction_at, instruction_end, assigned}
+use Rattle.net_world.proofs.FirstForm.AllObeyCode.{field_there}
 use Rattle.net_world.proofs.FirstForm.AllObeyCode.{field_host}
 use Rattle.net_world.proofs.FirstForm.AllObeyEvents.{changed, IsTake}
 use Rattle.net_world.proofs.FirstForm.AllObeyAgrees.{thread_at, HasNoFlight, Runs, Asks, Answered, Running, Asking, Answering}
@@ -55,7 +56,7 @@ module _ {program : Program} {file : HostsShape} {code : CodeShape} {store : Lis
       let within : n < length (main_body program) = slice_get_within (main_body program) n s there in
       let fields : FieldsAre code (changed w code.root.0 new w.flying) (prefix program store (suc n)).store =
       subst (FieldsAre code (changed w code.root.0 new w.flying))
-      (sym (store_after program store n s field value there kind))
+      (sym (store_after program store n s field value set.assigns there kind))
       (fields_set code w (prefix program store n).store code.root.0 r.h new w.flying field.0 value place
       agrees.fields r.root.there refl at here) in
       let after : Agrees program code store (changed w code.root.0 new w.flying) (suc n) =
@@ -186,14 +187,14 @@ module _ {program : Program} {file : HostsShape} {code : CodeShape} {store : Lis
       (λ _. (m : ℕ) × (n ≤ m)
       × Agrees program code store (after_step w code.root (after_turn code code.root r.h)) m) [
         | inl there ↦
-            let kind = kind_cases there.0.kind in
-            let place = field_there set n there.0 kind.0 kind.1 there.1 kind.2 in
+            let sets = assigned set n there.0 there.1 in
+            let place = field_there set n there.0 sets.field sets.value there.1 sets.is in
             elim (cases_eq place.0.host.0 code.root.0) as
             (λ _. (m : ℕ) × (n ≤ m)
             × Agrees program code store (after_step w code.root (after_turn code code.root r.h)) m) [
-              | inl here ↦ (suc n, omega arith, turn_here r there.0 kind.0 kind.1 place.0 there.1 kind.2 place.1 here)
+              | inl here ↦ (suc n, omega arith, turn_here r there.0 sets.field sets.value place.0 there.1 sets.is place.1 here)
               | inr elsewhere ↦
-                  (n, omega arith, turn_there r there.0 kind.0 kind.1 place.0 there.1 kind.2 place.1 elsewhere)
+                  (n, omega arith, turn_there r there.0 sets.field sets.value place.0 there.1 sets.is place.1 elsewhere)
             ]
         | inr end ↦ (n, omega arith, turn_end r end)
       ]
@@ -227,7 +228,7 @@ module _ {program : Program} {file : HostsShape} {code : CodeShape} {store : Lis
       let rests = agrees.orderly.others asked.0 t.h t.there a.elsewhere in
       let fields : FieldsAre code (changed w asked.0 new flying) (prefix program store (suc n)).store =
       subst (FieldsAre code (changed w asked.0 new flying))
-      (sym (store_after program store n a.statement a.field a.value a.statement_is a.kind_is))
+      (sym (store_after program store n a.statement a.field a.value set.assigns a.statement_is a.kind_is))
       (fields_set code w (prefix program store n).store asked.0 t.h new flying a.field.0 a.value a.place
       agrees.fields t.there refl a.place_is refl) in
       let within : n < length (main_body program) = slice_get_within (main_body program) n a.statement a.statement_is in

@@ -6,16 +6,17 @@ use Rattle.std.specs.List.Sorted.{IsNonDecreasing}
 use Rattle.jif_tree.specs.declared.program.Program.{Program}
 use Rattle.jif_tree.specs.Store.{row_of}
 use Rattle.jif_tree.specs.SourceRun.{prefix, HasLength}
-use Rattle.jif_tree.specs.Validity.{IsValid}
+use Rattle.jif_tree.specs.Assignments.{AssignsNumbers}
 use Rattle.net_world.specs.declared.first.event_text.Event.{Event}
 use Rattle.net_world.specs.first.Code.{CodeShape, FieldShape}
 use Rattle.host_decl.specs.Hosts.{HostsShape, AreHostNames, names_of}
 use Rattle.net_world.specs.first.FirstCode.{IsCodeOf}
 use Rattle.net_world.specs.first.World.{World, run, world_at_start, field_row, has_halted}
 
--- the code is that of the program on these hosts, and the store has a row for each field
+-- `main` assigns numbers to fields, the code is that of the program on these hosts, and the store has a row for each
+-- field
 pub record IsSet (program : Program) (file : HostsShape) (code : CodeShape) (store : List (List ℤ)) : Type 0 where
-  pub valid : IsValid program
+  pub assigns : AssignsNumbers program
   pub hosts_are : AreHostNames (names_of file.hosts)
   pub code_is : IsCodeOf program file code
   pub rows : length store ≡ length program.fields.items

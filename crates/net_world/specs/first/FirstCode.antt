@@ -49,8 +49,10 @@ pub record IsPlaced (hosts : List HostShape) (field : Field) (placed : FieldShap
   pub name : placed.name ≡ string_bytes field.name
   pub host : IsFirstHolder hosts field.label placed.host.0
 
+-- Only an assignment of a number to a field has an operation here, and no other statement is in these programs.
 abbrev pub op_of : StmtKind → Op
 op_of (SetField field (Number n)) = Put field n
+op_of _ = Back
 
 -- a statement is one instruction
 abbrev pub instruction_of : Stmt → Instr

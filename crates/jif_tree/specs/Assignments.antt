@@ -1,0 +1,19 @@
+-- Programs whose `main` does nothing but assign numbers to plain fields.
+use Rattle.std.specs.Prelude.{◌≡◌, ℕ, ◌<◌, ℤ, length, All}
+use Rattle.js_base.specs.declared.ids.FieldId.{FieldId}
+use Rattle.jif_tree.specs.declared.program.Program.{Program}
+use Rattle.jif_tree.specs.declared.program.StmtKind.{StmtKind}
+use Rattle.jif_tree.specs.declared.program.StmtKind.TheVariants.{SetField}
+use Rattle.jif_tree.specs.declared.program.Expr.TheVariants.{Number}
+use Rattle.jif_tree.specs.SourceRun.{main_body}
+
+-- a statement assigns a number to one of so many fields
+pub record AssignsNumber (fields : ℕ) (what : StmtKind) : Type 0 where
+  pub field : FieldId
+  pub value : ℤ
+  pub is : what ≡ SetField field (Number value)
+  pub there : field.0 < fields
+
+pub record AssignsNumbers (program : Program) : Type 0 where
+  pub main : program.main.0 < length program.methods.items
+  pub statements : All (λ statement. AssignsNumber (length program.fields.items) statement.kind) (main_body program)
