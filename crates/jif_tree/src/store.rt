@@ -1,7 +1,7 @@
 //! Stores: the elements of fields.
 
-ghost use Rattle.std.specs.Prelude.{◌≡◌, ◌==◌, ◌<◌, length, IfOk, [], List};
-ghost use Rattle.jif_tree.specs.Store.{starting_values, starting_row, element_at, with_element};
+ghost use Rattle.std.specs.Prelude.{◌≡◌, length, replicate, IfOk, [], List};
+ghost use Rattle.jif_tree.specs.Store.{starting_values, starting_row, element_at, with_element, store_after_write};
 
 use crate::program::{Field, Program};
 use js_base::{FieldId, OutOfMemory};
@@ -27,7 +27,14 @@ impl Row {
     pub fn starting(alloc: Global, field: &Field) -> Result<Row, OutOfMemory>
         ensures { IfOk result (λ row. row ≡ starting_row field.now) }
     {
-        let elements = vec![in alloc; field.first; field.size as usize]?;
+        Row::filled(alloc, field.first, field.size as usize)
+    }
+
+    /// A row of so many elements, each of which is the value.
+    pub fn filled(alloc: Global, value: i64, count: usize) -> Result<Row, OutOfMemory>
+        ensures { IfOk result (λ row. row ≡ replicate count value) }
+    {
+        let elements = vec![in alloc; value; count]?;
         Ok(Row { elements })
     }
 
@@ -102,6 +109,24 @@ impl Store {
             rows.push(row)?;
         }
         Ok(Store { rows })
+    }
+
+    /// The store of these rows, one for each field in order.
+    pub fn of_rows(rows: Vec<Row>) -> Store
+        ensures { result ≡ rows.items }
+    {
+        Store { rows }
+    }
+
+    /// Writes the element of a field at an index. Where there is no such field or the index is out of range nothing
+    /// changes.
+    pub fn set_element(&mut self, field: FieldId, index: i64, value: i64)
+        ensures { self.new ≡ store_after_write self.old field.0 index value }
+    {
+        let place = field.0 as usize;
+        if place < self.rows.len() {
+            self.rows[place].set_element(index, value);
+        }
     }
 
     /// The rows in the order of the fields.
