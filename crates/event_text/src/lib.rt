@@ -2,5 +2,12 @@
 #![tactic(auto)]
 
 mod event;
+mod event_lines;
+mod lines;
+mod numbers;
+mod script;
+mod settings;
+mod words;
 
 pub use event::{BadMessage, BadToken, Event};
+pub use script::{EventsError, Script, read_events};

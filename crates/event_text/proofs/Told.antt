@@ -1,0 +1,8 @@
+-- The events of the lines that are left, after the events so far.
+use Rattle.std.proofs.Common.{ℕ, List, ◌++◌, Result, Ok, Err}
+use Rattle.event_text.specs.declared.event.Event.{Event}
+
+-- these events, and then those of the rest
+abbrev pub told : List (ℕ × Event) → Result (List (ℕ × Event)) ℕ → Result (List (ℕ × Event)) ℕ
+told events (Ok rest) = Ok (events ++ rest)
+told events (Err line) = Err line

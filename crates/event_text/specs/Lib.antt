@@ -1,0 +1,5 @@
+pub mod Events
+pub mod Lines
+pub mod Numbers
+pub mod Script
+pub mod Settings
