@@ -1,3 +1,4 @@
 pub mod Fronts
 pub mod Naming
+pub mod Rows
 pub mod Told

@@ -1,5 +1,6 @@
 -- The lines that set starting values, over the fields of a code or of a program.
-use Rattle.std.specs.Prelude.{ℕ, ℤ, pos, Bool, not, nat_lt, if◌then◌else◌, List, [], ◌∷◌, map, replicate}
+use Rattle.std.specs.Prelude.{◌≡◌, ℕ, ℤ, pos, Bool, not, nat_lt, if◌then◌else◌, List, [], ◌∷◌, map, length}
+use Rattle.std.specs.Prelude.{replicate}
 use Rattle.std.specs.Prelude.{Option, Some, None, slice_get, position, is_some, codes}
 use Rattle.std.specs.Option.{option_and_then}
 use Rattle.std.specs.Str.{bytes_eq}
@@ -93,3 +94,7 @@ after_setting rows setting = store_after_write rows setting.field.0 (pos setting
 abbrev pub after_settings : List (List ℤ) → List Setting → List (List ℤ)
 after_settings rows [] = rows
 after_settings rows (setting ∷ others) = after_settings (after_setting rows setting) others
+
+-- a row for each field, with as many elements as the field has
+abbrev pub HasRows : List FieldForm → List (List ℤ) → Type 0
+HasRows fields rows = map length rows ≡ map (λ field. field.size) fields

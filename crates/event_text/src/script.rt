@@ -1,9 +1,10 @@
 //! Scripts: starting values of fields, and then events.
 
-ghost use Rattle.std.specs.Prelude.{◌≡◌, ◌≤◌, ◌+◌, length, Ok, Err, MatchResult};
+ghost use Rattle.std.specs.Prelude.{◌≡◌, ◌≤◌, ◌+◌, length, map, Ok, Err, MatchResult, IfOk};
 ghost use Rattle.std.specs.Str.Lines.{lines};
 ghost use Rattle.event_text.specs.Lines.{said_from};
 ghost use Rattle.event_text.specs.Events.{events_of};
+ghost use Rattle.event_text.specs.Settings.{form_of, HasRows};
 ghost use Rattle.event_text.specs.Script.{script_of, EventsFail, EventLinesFail};
 
 use crate::event::Event;
@@ -51,6 +52,7 @@ pub struct Script {
 }
 
 impl Model for Script {
+    ghost use Rattle.event_text.specs.Settings.{form_of, HasRows};
     ghost use Rattle.event_text.specs.Script.{ScriptShape};
 
     ghost Value = { ScriptShape };
@@ -87,9 +89,10 @@ impl Script {
 /// `TooLong` where it has more than 16,777,216 bytes, otherwise `BadLine` of the first line that has no form or stands
 /// in another place than after the lines before it.
 pub fn read_events(alloc: Global, code: &Code, bytes: &[u8]) -> Result<Script, EventsError>
-    ensures { MatchResult result
+    ensures answer { MatchResult result
         (λ script. (length bytes.now ≤ SCRIPT_BYTES) × (script_of code.now bytes.now ≡ Ok script))
         (EventsFail code.now bytes.now) }
+    ensures rows { IfOk result (λ script. HasRows (map form_of code.now.fields) script.start) }
 {
     if bytes.len() > SCRIPT_BYTES {
         return Err(EventsError::TooLong);
@@ -98,11 +101,13 @@ pub fn read_events(alloc: Global, code: &Code, bytes: &[u8]) -> Result<Script, E
 }
 
 /// What the lines say.
+#[tactic(auto, using(crate::proofs::Rows::sizes_after))]
 fn read_lines(alloc: Global, code: &Code, bytes: &[u8]) -> Result<Script, EventsError>
     requires { length bytes.now ≤ SCRIPT_BYTES }
-    ensures { MatchResult result
+    ensures answer { MatchResult result
         (λ script. script_of code.now bytes.now ≡ Ok script)
         (EventsFail code.now bytes.now) }
+    ensures rows { IfOk result (λ script. HasRows (map form_of code.now.fields) script.start) }
 {
     let fields = code.fields();
     let mut start = starting_store(alloc, fields)?;
