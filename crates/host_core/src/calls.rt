@@ -42,6 +42,7 @@ impl Host {
         ensures counted { OnOk result
             ((self.new.calls ≡ self.old.calls + 1) × (self.new.stopped ≡ self.old.stopped)) }
         ensures fits { HostFits code.now self.new }
+        ensures me { self.new.me ≡ self.old.me }
         ensures sent { IfOk result (λ sent. SentFits code.now self.old.me sent) }
     {
         code_laws(code);
@@ -71,6 +72,7 @@ impl Host {
         ensures counted { OnOk result
             ((self.new.calls ≡ self.old.calls + 1) × (self.new.stopped ≡ self.old.stopped)) }
         ensures fits { HostFits code.now self.new }
+        ensures me { self.new.me ≡ self.old.me }
         ensures sent { IfOk result (λ sent. SentFits code.now self.old.me sent) }
     {
         code_laws(code);
