@@ -5,9 +5,8 @@ ghost use Rattle.host_tests.specs.Small.{small, host_a, host_b, field_x, field_y
 ghost use Rattle.label_lattice.specs.Lattice.{empty_label};
 
 use host_code::{Code, CodeField, CodeHost, CodeParts, CodeVar, Entry, Instr, Op, Part};
-use jif_tree::{Field, Program, Store};
 use js_base::text::owned_text;
-use js_base::{EntryId, HostId, MethodId, OutOfMemory, StmtId};
+use js_base::{EntryId, HostId, OutOfMemory, StmtId};
 use label_lattice::Label;
 use std::alloc::Global;
 
@@ -111,29 +110,4 @@ fn only_back(alloc: Global) -> Result<Part, OutOfMemory>
         op: Op::Back,
     };
     Ok(Part::new(vec![in alloc; back]?))
-}
-
-/// The starting values of `x` and `y`: each element is 1 in `x`, and 2 in `y`.
-pub fn small_store(alloc: Global) -> Result<Store, OutOfMemory> {
-    let x = Field {
-        name: owned_text(alloc, "x")?,
-        label: Label::empty(),
-        size: 3,
-        array: true,
-        first: 1,
-    };
-    let y = Field {
-        name: owned_text(alloc, "y")?,
-        label: Label::empty(),
-        size: 1,
-        array: false,
-        first: 2,
-    };
-    let program = Program {
-        fields: vec![in alloc; x, y]?,
-        vars: Vec::new(alloc),
-        methods: Vec::new(alloc),
-        main: MethodId(0),
-    };
-    Store::starting(alloc, &program)
 }

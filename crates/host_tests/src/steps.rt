@@ -1,7 +1,8 @@
 //! What one host does with a message and at a turn.
 
-use crate::small_code::{A, B, small_code, small_store};
+use crate::small_code::{A, B, small_code};
 use capability::KEY_BYTES;
+use event_text::read_events;
 use host_code::Message;
 use host_core::Host;
 use js_base::{FieldId, RequestId};
@@ -12,8 +13,8 @@ use std::test::Fail;
 fn the_root_runs_to_the_end_of_the_program(rt: HostRuntime) -> Result<(), Fail> {
     let alloc = rt.alloc();
     let code = small_code(alloc, Label::empty(), Label::empty())?;
-    let store = small_store(alloc)?;
-    let mut root = Host::start(alloc, &code, A, [7; KEY_BYTES], &store)?;
+    let script = read_events(alloc, &code, b"")?;
+    let mut root = Host::start(alloc, &code, A, [7; KEY_BYTES], script.start())?;
     assert_eq!(rt;
         (root.place(), root.depth(), root.halted()),
         (Some(0), 1, false)
@@ -31,8 +32,8 @@ fn the_root_runs_to_the_end_of_the_program(rt: HostRuntime) -> Result<(), Fail> 
 fn a_host_answers_what_it_may_and_ignores_the_rest(rt: HostRuntime) -> Result<(), Fail> {
     let alloc = rt.alloc();
     let code = small_code(alloc, Label::empty(), Label::empty())?;
-    let store = small_store(alloc)?;
-    let mut host = Host::start(alloc, &code, B, [7; KEY_BYTES], &store)?;
+    let script = read_events(alloc, &code, b"")?;
+    let mut host = Host::start(alloc, &code, B, [7; KEY_BYTES], script.start())?;
     let request = RequestId { at: 0, count: 0 };
     let (x, y) = (FieldId(0), FieldId(1));
     let set = Message::Set {

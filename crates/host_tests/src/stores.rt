@@ -1,6 +1,7 @@
 //! What a host keeps.
 
-use crate::small_code::{A, small_code, small_store};
+use crate::small_code::{A, small_code};
+use event_text::read_events;
 use host_stores::Stores;
 use js_base::{FieldId, FrameId, SiteId, VarId};
 use label_lattice::Label;
@@ -10,8 +11,8 @@ use std::test::Fail;
 fn keeps_its_own_fields_and_the_variables_of_each_frame(rt: HostRuntime) -> Result<(), Fail> {
     let alloc = rt.alloc();
     let code = small_code(alloc, Label::empty(), Label::empty())?;
-    let store = small_store(alloc)?;
-    let mut stores = Stores::new(alloc, &code, A, &store)?;
+    let script = read_events(alloc, &code, b"")?;
+    let mut stores = Stores::new(alloc, &code, A, script.start())?;
     let (x, y, v) = (FieldId(0), FieldId(1), VarId(0));
     stores.set_field(x, 2, 7);
     stores.set_field(x, 3, 8);
