@@ -6,7 +6,6 @@ use Rattle.std.specs.List.{AllByRecursion}
 use Rattle.std.proofs.lemmas.Bool.{cases_lt}
 use Rattle.std.proofs.lemmas.List.Elements.{All-cons, All-nil}
 use Rattle.label_lattice.specs.declared.label.Label.{Label}
-use Rattle.label_lattice.specs.Lattice.{empty_label, meet_of}
 use Rattle.js_base.specs.declared.ids.HostId.{HostId}
 use Rattle.js_base.specs.declared.ids.EntryId.{EntryId}
 use Rattle.js_base.specs.Name.{IsName}
@@ -80,39 +79,95 @@ not_halt : (number : ℕ) → 0 < number → e number ≡ halt → ⊥
 not_halt number some is =
     (let none : number ≡ 0 = ap (λ (entry : EntryId). entry.0) is in absurd (omega arith))
 
-fits_a : (secret trusted : Label) → FitsFrom (walked secret trusted) a 0 of_a
-fits_a secret trusted = (
-    record { label = omega arith; operation = (omega arith, number_fits (walked secret trusted) 0 _) }, (
-    record { label = omega arith; operation = (omega arith, number_fits (walked secret trusted) 1 _) }, (
-    record { label = omega arith; operation = (omega arith, number_fits (walked secret trusted) 2 _, sum_fits (walked secret trusted) 2 (omega arith) (omega arith)) }, (
-    record { label = omega arith; operation = (omega arith, number_fits (walked secret trusted) 0 _, number_fits (walked secret trusted) 0 _) }, (
-    record { label = omega arith; operation = (omega arith, number_fits (walked secret trusted) 0 _, number_fits (walked secret trusted) 0 _) }, (
-    record { label = omega arith; operation = (omega arith, number_fits (walked secret trusted) 0 _) }, (
-    record { label = omega arith; operation = (omega arith, (omega arith, other)) }, (
-    record { label = omega arith; operation = (number_fits (walked secret trusted) 0 _, omega arith) }, (
-    record { label = omega arith; operation = tt }, (
-    record { label = omega arith; operation = (number_fits (walked secret trusted) 0 _, omega arith) }, (
-    record { label = omega arith; operation = refl }, (
-    record { label = omega arith; operation = (omega arith, one_more_fits (walked secret trusted) 0 v (omega arith)) }, (
-    record { label = omega arith; operation = (omega arith, (omega arith, other)) }, (
-    record { label = omega arith; operation = (not_halt 11 (omega arith), refl) }, (
-    record { label = omega arith; operation = (omega arith, number_fits (walked secret trusted) 0 _) }, (
-    record { label = omega arith; operation = ((not_halt 6 (omega arith), refl), omega arith) }, (
-    record { label = omega arith; operation = tt }, (
-    record { label = omega arith; operation = (omega arith, variable_fits (walked secret trusted) 0 w (omega arith)) }, (
-    record { label = omega arith; operation = tt }, (
-    record { label = omega arith; operation = ((not_halt 5 (omega arith), refl), (omega arith, other)) }, (
-    record { label = omega arith; operation = (omega arith, number_fits (walked secret trusted) 0 _) }, (
-    record { label = omega arith; operation = (omega arith, number_fits (walked secret trusted) 0 _) }, (
-    record { label = omega arith; operation = tt }, (
-    record { label = omega arith; operation = refl }, (
-    record { label = omega arith; operation = ((not_halt 5 (omega arith), refl), omega arith) }, (
-    record { label = omega arith; operation = ((not_halt 5 (omega arith), refl), (omega arith, other)) }, tt))))))))))))))))))))))))))
+fits_a : (both secret trusted : Label) → FitsFrom (walked both secret trusted) a 0 of_a
+fits_a both secret trusted = (
+  record { label = omega arith; operation = (omega arith, number_fits (walked both secret trusted) 0 _) },
+  (
+    record { label = omega arith; operation = (omega arith, number_fits (walked both secret trusted) 1 _) },
+    (
+      record { label = omega arith; operation = (omega arith, number_fits (walked both secret trusted) 2 _, sum_fits (walked both secret trusted) 2 (omega arith) (omega arith)) },
+      (
+        record { label = omega arith; operation = (omega arith, number_fits (walked both secret trusted) 0 _, number_fits (walked both secret trusted) 0 _) },
+        (
+          record { label = omega arith; operation = (omega arith, number_fits (walked both secret trusted) 0 _, number_fits (walked both secret trusted) 0 _) },
+          (
+            record { label = omega arith; operation = (omega arith, number_fits (walked both secret trusted) 0 _) },
+            (
+              record { label = omega arith; operation = (omega arith, (omega arith, other)) },
+              (
+                record { label = omega arith; operation = (number_fits (walked both secret trusted) 0 _, omega arith) },
+                (
+                  record { label = omega arith; operation = tt },
+                  (
+                    record { label = omega arith; operation = (number_fits (walked both secret trusted) 0 _, omega arith) },
+                    (
+                      record { label = omega arith; operation = refl },
+                      (
+                        record { label = omega arith; operation = (omega arith, one_more_fits (walked both secret trusted) 0 v (omega arith)) },
+                        (
+                          record { label = omega arith; operation = (omega arith, (omega arith, other)) },
+                          (
+                            record { label = omega arith; operation = (not_halt 11 (omega arith), refl) },
+                            (
+                              record { label = omega arith; operation = (omega arith, number_fits (walked both secret trusted) 0 _) },
+                              (
+                                record { label = omega arith; operation = ((not_halt 6 (omega arith), refl), omega arith) },
+                                (
+                                  record { label = omega arith; operation = tt },
+                                  (
+                                    record { label = omega arith; operation = (omega arith, variable_fits (walked both secret trusted) 0 w (omega arith)) },
+                                    (
+                                      record { label = omega arith; operation = tt },
+                                      (
+                                        record { label = omega arith; operation = ((not_halt 5 (omega arith), refl), (omega arith, other)) },
+                                        (
+                                          record { label = omega arith; operation = (omega arith, number_fits (walked both secret trusted) 0 _) },
+                                          (
+                                            record { label = omega arith; operation = (omega arith, number_fits (walked both secret trusted) 0 _) },
+                                            (
+                                              record { label = omega arith; operation = tt },
+                                              (
+                                                record { label = omega arith; operation = refl },
+                                                (
+                                                  record { label = omega arith; operation = ((not_halt 5 (omega arith), refl), omega arith) },
+                                                  (
+                                                    record { label = omega arith; operation = ((not_halt 5 (omega arith), refl), (omega arith, other)) },
+                                                    tt,
+                                                  ),
+                                                ),
+                                              ),
+                                            ),
+                                          ),
+                                        ),
+                                      ),
+                                    ),
+                                  ),
+                                ),
+                              ),
+                            ),
+                          ),
+                        ),
+                      ),
+                    ),
+                  ),
+                ),
+              ),
+            ),
+          ),
+        ),
+      ),
+    ),
+  ),
+)
 
-fits_b : (secret trusted : Label) → FitsFrom (walked secret trusted) b 0 of_b
-fits_b secret trusted = (
-    record { label = omega arith; operation = ((not_halt 4 (omega arith), refl), (omega arith, not_b)) }, (
-    record { label = omega arith; operation = tt }, tt))
+fits_b : (both secret trusted : Label) → FitsFrom (walked both secret trusted) b 0 of_b
+fits_b both secret trusted = (
+  record { label = omega arith; operation = ((not_halt 4 (omega arith), refl), (omega arith, not_b)) },
+  (
+    record { label = omega arith; operation = tt },
+    tt,
+  ),
+)
 
 -- ---- parts
 
@@ -128,19 +183,19 @@ each_host P first second third host small_number =
           ]
     ]
 
-part : (secret trusted : Label) (host : HostId) → IsHost (walked secret trusted) host →
-    PartFits (walked secret trusted) host
-part secret trusted = each_host (PartFits (walked secret trusted))
+part : (both secret trusted : Label) (host : HostId) → IsHost (walked both secret trusted) host →
+    PartFits (walked both secret trusted) host
+part both secret trusted = each_host (PartFits (walked both secret trusted))
     (record {
       few = omega arith;
       instructions = λ at found is.
-          rw zero-add at (fits_at (walked secret trusted) a 0 of_a (fits_a secret trusted) at found is);
+          rw zero-add at (fits_at (walked both secret trusted) a 0 of_a (fits_a both secret trusted) at found is);
       end = inr tt;
     })
     (record {
       few = omega arith;
       instructions = λ at found is.
-          rw zero-add at (fits_at (walked secret trusted) b 0 of_b (fits_b secret trusted) at found is);
+          rw zero-add at (fits_at (walked both secret trusted) b 0 of_b (fits_b both secret trusted) at found is);
       end = inr tt;
     })
     (record {
@@ -154,86 +209,122 @@ part secret trusted = each_host (PartFits (walked secret trusted))
 true_is_not_false : true ≡ false → ⊥
 true_is_not_false is = cc
 
-fields_fit : (secret trusted : Label) → All (FieldFits (walked secret trusted)) fields
-fields_fit secret trusted = All-each (FieldFits (walked secret trusted)) fields (
-    record {
-      name = refl;
-      short = omega arith;
-      label = omega arith;
-      size = (omega arith, omega arith, λ plain. absurd (true_is_not_false plain));
-      host = omega arith;
-    }, (
-    record {
-      name = refl;
-      short = omega arith;
-      label = omega arith;
-      size = (omega arith, omega arith, λ plain. refl);
-      host = omega arith;
-    }, (
+fields_fit : (both secret trusted : Label) → All (FieldFits (walked both secret trusted)) fields
+fields_fit both secret trusted = All-each (FieldFits (walked both secret trusted)) fields (
+  record {
+    name = refl;
+    short = omega arith;
+    label = omega arith;
+    size = (omega arith, omega arith, λ plain. absurd (true_is_not_false plain));
+    host = omega arith;
+  },
+  (
     record {
       name = refl;
       short = omega arith;
       label = omega arith;
       size = (omega arith, omega arith, λ plain. refl);
       host = omega arith;
-    }, tt)))
+    },
+    (
+      record {
+        name = refl;
+        short = omega arith;
+        label = omega arith;
+        size = (omega arith, omega arith, λ plain. refl);
+        host = omega arith;
+      },
+      tt,
+    ),
+  ),
+)
 
-variables_fit : (secret trusted : Label) → All (VariableFits (walked secret trusted)) variables
-variables_fit secret trusted = All-each (VariableFits (walked secret trusted)) variables (
-    record {
-      name = (codes "main", codes "v", refl, inl refl, refl);
-      short = omega arith;
-      label = omega arith;
-    }, (
+variables_fit : (both secret trusted : Label) → All (VariableFits (walked both secret trusted)) variables
+variables_fit both secret trusted = All-each (VariableFits (walked both secret trusted)) variables (
+  record {
+    name = (codes "main", codes "v", refl, inl refl, refl);
+    short = omega arith;
+    label = omega arith;
+  },
+  (
     record {
       name = (codes "main", codes "w", refl, inl refl, refl);
       short = omega arith;
       label = omega arith;
-    }, (
-    record {
-      name = (codes "m", codes "return", refl, inr refl, refl);
-      short = omega arith;
-      label = omega arith;
-    }, tt)))
+    },
+    (
+      record {
+        name = (codes "m", codes "return", refl, inr refl, refl);
+        short = omega arith;
+        label = omega arith;
+      },
+      tt,
+    ),
+  ),
+)
 
-entries_fit : (secret trusted : Label) → All (EntryFits (walked secret trusted)) entries
-entries_fit secret trusted = All-each (EntryFits (walked secret trusted)) entries (
-    record { host = omega arith; at = omega arith; label = omega arith }, (
-    record { host = omega arith; at = omega arith; label = omega arith }, (
-    record { host = omega arith; at = omega arith; label = omega arith }, (
-    record { host = omega arith; at = omega arith; label = omega arith }, (
-    record { host = omega arith; at = omega arith; label = omega arith }, (
-    record { host = omega arith; at = omega arith; label = omega arith }, (
-    record { host = omega arith; at = omega arith; label = omega arith }, (
-    record { host = omega arith; at = omega arith; label = omega arith }, (
-    record { host = omega arith; at = omega arith; label = omega arith }, (
-    record { host = omega arith; at = omega arith; label = omega arith }, (
-    record { host = omega arith; at = omega arith; label = omega arith }, (
-    record { host = omega arith; at = omega arith; label = omega arith }, tt))))))))))))
+entries_fit : (both secret trusted : Label) → All (EntryFits (walked both secret trusted)) entries
+entries_fit both secret trusted = All-each (EntryFits (walked both secret trusted)) entries (
+  record { host = omega arith; at = omega arith; label = omega arith },
+  (
+    record { host = omega arith; at = omega arith; label = omega arith },
+    (
+      record { host = omega arith; at = omega arith; label = omega arith },
+      (
+        record { host = omega arith; at = omega arith; label = omega arith },
+        (
+          record { host = omega arith; at = omega arith; label = omega arith },
+          (
+            record { host = omega arith; at = omega arith; label = omega arith },
+            (
+              record { host = omega arith; at = omega arith; label = omega arith },
+              (
+                record { host = omega arith; at = omega arith; label = omega arith },
+                (
+                  record { host = omega arith; at = omega arith; label = omega arith },
+                  (
+                    record { host = omega arith; at = omega arith; label = omega arith },
+                    (
+                      record { host = omega arith; at = omega arith; label = omega arith },
+                      (
+                        record { host = omega arith; at = omega arith; label = omega arith },
+                        tt,
+                      ),
+                    ),
+                  ),
+                ),
+              ),
+            ),
+          ),
+        ),
+      ),
+    ),
+  ),
+)
 
 names_fit : (both : Label) → All (λ host. IsName host.name × (length host.name ≤ MOST_ITEMS)) (hosts both)
 names_fit both = All-each (λ (host : CodeHostShape). IsName host.name × (length host.name ≤ MOST_ITEMS)) (hosts both)
     ((refl, omega arith), ((refl, omega arith), ((refl, omega arith), tt)))
 
-pub sound : (secret trusted : Label) → IsSoundCode (walked secret trusted)
-sound secret trusted =
-    let code = walked secret trusted in
+pub sound : (both secret trusted : Label) → IsSoundCode (walked both secret trusted)
+sound both secret trusted =
+    let code = walked both secret trusted in
     record {
       some_host = omega arith;
       few_hosts = omega arith;
-      host_names = names_fit (meet_of secret trusted);
+      host_names = names_fit both;
       few_labels = omega arith;
       few_fields = omega arith;
-      fields = fields_fit secret trusted;
+      fields = fields_fit both secret trusted;
       elements = omega arith;
       few_variables = omega arith;
-      variables = variables_fit secret trusted;
+      variables = variables_fit both secret trusted;
       few_entries = omega arith;
-      entries = entries_fit secret trusted;
+      entries = entries_fit both secret trusted;
       few_sites = omega arith;
       sites = All-each (IsHost code) (a ∷ []) (omega arith, tt);
       a_part_each = refl;
-      parts = part secret trusted;
+      parts = part both secret trusted;
       halt_first = (refl, refl);
       main = refl;
     }

@@ -6,7 +6,7 @@ use Rattle.js_base.specs.declared.ids.VarId.{VarId}
 use Rattle.js_base.specs.declared.ids.EntryId.{EntryId}
 use Rattle.js_base.specs.declared.binary_operator.BinOp.TheVariants.{Add}
 use Rattle.label_lattice.specs.declared.label.Label.{Label}
-use Rattle.label_lattice.specs.Lattice.{empty_label, meet_of}
+use Rattle.label_lattice.specs.Lattice.{empty_label}
 use Rattle.host_code.specs.declared.code_expr.Node.{Node}
 use Rattle.host_code.specs.declared.code_expr.Node.TheVariants as node
 use Rattle.host_code.specs.declared.instruction.Op.{Op}
@@ -123,10 +123,10 @@ abbrev pub of_b : List Instr
 of_b = instr (op.Go (e 4) a) ∷ instr op.Back ∷ []
 
 -- The program starts on B, where it goes on at A. C has no instructions.
-abbrev pub walked : Label → Label → CodeShape
-walked secret trusted =
+abbrev pub walked : Label → Label → Label → CodeShape
+walked both secret trusted =
     record {
-      hosts = hosts (meet_of secret trusted);
+      hosts = hosts both;
       labels = labels secret trusted;
       fields = fields;
       variables = variables;

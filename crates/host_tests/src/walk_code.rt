@@ -79,14 +79,15 @@ pub fn walk_code(alloc: Global) -> Result<Code, Fail> {
     let alice = PrincipalId(0);
     let secret = Label::empty().with_policy(&principals, alice, &[]);
     let trusted = Label::empty().with_trust(&principals, &[alice]);
-    Ok(walked(alloc, secret, trusted)?)
+    let both = secret.meet_integrity(trusted);
+    Ok(walked(alloc, both, secret, trusted)?)
 }
 
-/// The code with these labels of what is secret and of what is trusted.
-fn walked(alloc: Global, secret: Label, trusted: Label) -> Result<Code, OutOfMemory>
-    ensures { IfOk result (λ code. code ≡ walked secret trusted) }
+/// The code with the label of hosts A and B, and those of what is secret and of what is trusted.
+fn walked(alloc: Global, both: Label, secret: Label, trusted: Label) -> Result<Code, OutOfMemory>
+    ensures { IfOk result (λ code. code ≡ walked both secret trusted) }
 {
-    let hosts = three_hosts(alloc, secret.meet_integrity(trusted))?;
+    let hosts = three_hosts(alloc, both)?;
     let labels = three_labels(alloc, secret, trusted)?;
     let fields = three_fields(alloc)?;
     let vars = three_variables(alloc)?;

@@ -1,19 +1,20 @@
 //! What happens to one host, row by row.
 
 ghost use Rattle.std.specs.Prelude.{◌≡◌, OnOk, IsTrue};
+ghost use Rattle.host_code.specs.Sound.{IsOther};
 ghost use Rattle.host_core.specs.Fits.{HostFits, TokensFit};
 
-use crate::walk_code::{number, temporary, variable};
+use crate::walk_code::{temporary, variable};
 use capability::Token;
-use host_code::{Code, CodeExpr, Message, message_text};
-use host_core::{Host, HostError, Sent};
+use host_code::{Code, Message, message_text};
+use host_core::{Host, Sent};
 use js_base::{EntryId, FieldId, FrameId, HostId, OutOfMemory, RequestId, SiteId, VarId};
 use std::alloc::Global;
 use std::process::Abort;
 use std::test::Fail;
 
 /// What happens to a host, or what is looked at. A message begins with the host that sends it.
-#[derive(Clone, Copy, Debug)]
+#[derive(Clone, Copy)]
 pub enum Act {
     Turn,
     Get(HostId, FieldId, i64),
@@ -48,7 +49,7 @@ pub const FRAME: FrameId = FrameId {
     count: 5,
 };
 
-/// The message of an act and who sends it.
+/// The message of an act and who sends it, where it is one.
 fn message_of(act: Act) -> Option<(HostId, Message)> {
     let request = REQUEST;
     let frame = FRAME;
@@ -114,15 +115,24 @@ fn message_of(act: Act) -> Option<(HostId, Message)> {
     Some(sent)
 }
 
-/// Whether each token of a message names one of the three hosts.
-fn tokens_fit(message: &Message) -> bool {
+/// Whether each token of a message names a host of the code.
+fn tokens_fit(code: &Code, message: &Message) -> bool
+    ensures { IsTrue result → TokensFit code.now message.now }
+{
     match message {
         Message::Sync { token, .. }
         | Message::Rgoto { token, .. }
         | Message::Lgoto { token }
-        | Message::Token { token, .. } => token.host.0 < 3,
+        | Message::Token { token, .. } => (token.host.0 as usize) < code.hosts().len(),
         _ => true,
     }
+}
+
+/// Whether a host is another host of the code.
+fn is_other(code: &Code, me: HostId, host: HostId) -> bool
+    ensures { IsTrue result → IsOther code.now me host }
+{
+    host.0 != me.0 && (host.0 as usize) < code.hosts().len()
 }
 
 /// The host takes a message, where it is one that it may be given.
@@ -132,11 +142,13 @@ fn taken(code: &Code, me: HostId, host: &mut Host, from: HostId, message: Messag
     ensures fits { HostFits code.now host.new }
     ensures me { host.new.me ≡ me }
 {
-    let hosts = code.hosts().len();
-    if !host.rest() || from.0 == me.0 || from.0 as usize >= hosts || hosts < 3 {
+    if !host.rest() {
         return None;
     }
-    if !tokens_fit(&message) {
+    if !is_other(code, me, from) {
+        return None;
+    }
+    if !tokens_fit(code, &message) {
         return None;
     }
     host.deliver(code, from, message).ok()
@@ -154,25 +166,57 @@ fn turned(code: &Code, host: &mut Host) -> Option<Sent>
     host.turn(code).ok()
 }
 
-/// What is sent, in words.
-fn sent_text(alloc: Global, code: &Code, sent: Option<Sent>) -> Result<String, Fail> {
-    match sent {
-        None => Ok(format!(in alloc; "refused")?),
-        Some(None) => Ok(format!(in alloc; "nothing")?),
-        Some(Some((to, message))) => {
-            let text = message_text(alloc, code, &message)?;
-            let name = match code.host(to) {
-                Some(host) => host.name(),
-                None => "nobody",
-            };
-            Ok(format!(in alloc; "{text} to {name}")?)
-        }
+/// What is sent at an act, where it is a turn or a message that the host may be given.
+fn sent_at(code: &Code, me: HostId, host: &mut Host, act: Act) -> Option<Sent>
+    requires fits { HostFits code.now host.old }
+    requires me { host.old.me ≡ me }
+    ensures fits { HostFits code.now host.new }
+    ensures me { host.new.me ≡ me }
+{
+    match message_of(act) {
+        Some((from, message)) => taken(code, me, host, from, message),
+        None => turned(code, host),
     }
 }
 
-/// The value of an expression in the running thread.
-fn value_text(alloc: Global, host: &Host, value: CodeExpr) -> Result<String, Fail> {
-    Ok(format!(in alloc; "{}", host.value(&value))?)
+/// What is seen at an act that only looks.
+fn seen_at(alloc: Global, host: &Host, act: Act) -> Result<Option<i64>, OutOfMemory> {
+    let seen = match act {
+        Act::Element(field, index) => host.field(field, index),
+        Act::Variable(var) => host.value(&variable(alloc, var)?),
+        Act::Temporary(place) => host.value(&temporary(alloc, place)?),
+        _ => return Ok(None),
+    };
+    Ok(Some(seen))
+}
+
+/// What is sent, in words.
+fn sent_text(alloc: Global, code: &Code, sent: Option<Sent>) -> Result<String, Fail> {
+    let Some(sent) = sent else {
+        return Ok(format!(in alloc; "refused")?);
+    };
+    let Some((to, message)) = sent else {
+        return Ok(format!(in alloc; "nothing")?);
+    };
+    if !message.fits(code) {
+        return Ok(format!(in alloc; "does not fit")?);
+    }
+    let text = message_text(alloc, code, &message)?;
+    let name = match code.host(to) {
+        Some(host) => host.name(),
+        None => "nobody",
+    };
+    Ok(format!(in alloc; "{text} to {name}")?)
+}
+
+/// How the host stands.
+fn state_text(alloc: Global, host: &Host) -> Result<String, Fail> {
+    let place = match host.place() {
+        Some(place) => format!(in alloc; "at {place}")?,
+        None => String::from_str(alloc, if host.halted() { "halted" } else { "rest" })?,
+    };
+    let (waiting, depth, ignored) = (host.waiting(), host.depth(), host.ignored());
+    Ok(format!(in alloc; "{place} {waiting} {depth} {ignored}")?)
 }
 
 /// What is sent or seen at an act.
@@ -182,33 +226,11 @@ fn answer(alloc: Global, code: &Code, me: HostId, host: &mut Host, act: Act) -> 
     ensures fits { HostFits code.now host.new }
     ensures me { host.new.me ≡ me }
 {
-    match act {
-        Act::Turn => {
-            let sent = turned(code, host);
-            sent_text(alloc, code, sent)
-        }
-        Act::Element(field, index) => Ok(format!(in alloc; "{}", host.field(field, index))?),
-        Act::Variable(var) => value_text(alloc, host, variable(alloc, var)?),
-        Act::Temporary(place) => value_text(alloc, host, temporary(alloc, place)?),
-        _ => match message_of(act) {
-            Some((from, message)) => {
-                let sent = taken(code, me, host, from, message);
-                sent_text(alloc, code, sent)
-            }
-            None => Ok(format!(in alloc; "no act")?),
-        },
+    if let Some(seen) = seen_at(alloc, host, act)? {
+        return Ok(format!(in alloc; "{seen}")?);
     }
-}
-
-/// How the host stands.
-fn state_text(alloc: Global, host: &Host) -> Result<String, Fail> {
-    let place = match host.place() {
-        Some(place) => format!(in alloc; "at {place}")?,
-        None if host.halted() => format!(in alloc; "halted")?,
-        None => format!(in alloc; "rest")?,
-    };
-    let (waiting, depth, ignored) = (host.waiting(), host.depth(), host.ignored());
-    Ok(format!(in alloc; "{place} {waiting} {depth} {ignored}")?)
+    let sent = sent_at(code, me, host, act);
+    sent_text(alloc, code, sent)
 }
 
 /// Each row comes out, one after the other.
@@ -225,9 +247,9 @@ pub fn assert_walk(
 {
     for (number, (act, sent, state)) in rows.iter().enumerate() {
         let given = answer(alloc, code, me, host, *act)?;
-        assert_eq!(rt; given.as_str(), *sent, "row {number}: {act:?}");
+        assert_eq!(rt; given.as_str(), *sent, "row {number}");
         let seen = state_text(alloc, host)?;
-        assert_eq!(rt; seen.as_str(), *state, "row {number}: {act:?}");
+        assert_eq!(rt; seen.as_str(), *state, "row {number}");
     }
     Ok(())
 }

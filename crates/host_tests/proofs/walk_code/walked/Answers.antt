@@ -11,4 +11,4 @@ new-requires c =
       c.in_ok-entries.ensures,
       c.in_ok-sites.ensures,
       c.in_ok-parts.ensures,
-    ) (sound c.args.secret c.args.trusted)
+    ) (sound c.args.both c.args.secret c.args.trusted)
