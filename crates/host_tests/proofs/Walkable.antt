@@ -9,14 +9,11 @@ use Rattle.label_lattice.specs.declared.label.Label.{Label}
 use Rattle.js_base.specs.declared.ids.HostId.{HostId}
 use Rattle.js_base.specs.declared.ids.EntryId.{EntryId}
 use Rattle.js_base.specs.Name.{IsName}
-use Rattle.host_code.specs.declared.code.Entry.{Entry}
 use Rattle.host_code.specs.declared.code.TheConstants.{MOST_ITEMS}
 use Rattle.js_base.specs.declared.ids.VarId.{VarId}
-use Rattle.js_base.specs.declared.binary_operator.BinOp.TheVariants.{Add}
-use Rattle.host_code.specs.declared.code_expr.Node.{Node}
 use Rattle.host_code.specs.declared.code_expr.Node.TheVariants as node
 use Rattle.host_code.specs.declared.instruction.Instr.{Instr}
-use Rattle.host_code.specs.Code.{CodeShape, CodeHostShape, CodeFieldShape, CodeVariableShape, halt, part_of}
+use Rattle.host_code.specs.Code.{CodeShape, CodeHostShape, halt}
 use Rattle.host_code.specs.Sound.{IsSoundCode, PartFits, InstructionFits, FieldFits, VariableFits, EntryFits, IsHost}
 use Rattle.host_code.specs.Sound.{NodeFits, ExpressionFits, IsVariable}
 use Rattle.host_tests.specs.Walked.{walked, hosts, fields, variables, entries, of_a, of_b, a, b, v, w, e}
