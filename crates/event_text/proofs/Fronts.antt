@@ -1,5 +1,6 @@
 -- Lines and words from the front of what is left.
-use Rattle.std.proofs.Common.{◌≡◌, ℕ, suc, ◌+◌, ◌<◌, Bool, true, false, not, ◌==◌, List, [], ◌∷◌}
+use Rattle.std.proofs.Common.{◌≡◌, ℕ, suc, ◌+◌, ◌<◌, Bool, true, false, not, ◌==◌, List, []}
+use Rattle.std.proofs.Common.{◌∷◌}
 use Rattle.std.proofs.Common.{length, take, drop, refl, ap, sym, ◌∙◌, inl, inr, arith}
 use Rattle.std.specs.Prelude.{filter}
 use Rattle.std.specs.List.{slice_split, prefix_len, position_or_len}
@@ -26,7 +27,8 @@ words_by p xs = filter is_word (slice_split p xs)
 abbrev others : (ℕ → Bool) → List ℕ → List (List ℕ)
 others p xs = drop 1 (slice_split p xs)
 
-len-parts : (p : ℕ → Bool) (x : ℕ) (xs : List ℕ) → p x ≡ true → prefix_len p (x ∷ xs) ≡ suc (prefix_len p xs)
+len-parts : (p : ℕ → Bool) (x : ℕ) (xs : List ℕ) → p x ≡ true →
+    prefix_len p (x ∷ xs) ≡ suc (prefix_len p xs)
 len-parts p x xs e = rw e (omega arith)
 
 len-ends : (p : ℕ → Bool) (x : ℕ) (xs : List ℕ) → p x ≡ false → prefix_len p (x ∷ xs) ≡ 0
@@ -39,7 +41,8 @@ place-more p x xs e = rw e (omega arith)
 place-here : (p : ℕ → Bool) (x : ℕ) (xs : List ℕ) → p x ≡ true → position_or_len p (x ∷ xs) ≡ 0
 place-here p x xs e = rw e refl
 
-words_by-past_one : (p : ℕ → Bool) (x : ℕ) (xs : List ℕ) → p x ≡ true → words_by p (x ∷ xs) ≡ words_by p xs
+words_by-past_one : (p : ℕ → Bool) (x : ℕ) (xs : List ℕ) → p x ≡ true →
+    words_by p (x ∷ xs) ≡ words_by p xs
 words_by-past_one p x xs e = rw e refl
 
 words_by-past : (p : ℕ → Bool) (xs : List ℕ) → words_by p (drop (prefix_len p xs) xs) ≡ words_by p xs
@@ -105,14 +108,16 @@ nil_from_length [] none = refl
 nil_from_length (x ∷ xs) none = absurd (omega arith)
 
 -- a line of blanks alone has no words
-pub words-none : (line rest : List ℕ) (start : ℕ) → start ≡ prefix_len is_blank line → rest ≡ drop start line →
+pub words-none : (line rest : List ℕ) (start : ℕ) → start ≡ prefix_len is_blank line →
+    rest ≡ drop start line →
     length rest ≡ 0 → words line ≡ []
 words-none line rest start at e none =
     sym (words_by-past is_blank line)
     ∙ ap (words_by is_blank) (ap (λ n. drop n line) (sym at) ∙ sym e ∙ nil_from_length rest none)
 
 -- the first word, and what follows it, where rest is the line after its first blanks
-pub words-first : (line rest : List ℕ) (start end : ℕ) → start ≡ prefix_len is_blank line → rest ≡ drop start line →
+pub words-first : (line rest : List ℕ) (start end : ℕ) → start ≡ prefix_len is_blank line →
+    rest ≡ drop start line →
     end ≡ position_or_len is_blank rest → 0 < length rest →
     words line ≡ take end rest ∷ words (drop end rest)
 words-first line rest start end at e ends some =
@@ -144,7 +149,8 @@ lines-last bytes end at whole some =
     ap lines_of_parts parts ∙ lines_of_parts-only bytes some
 
 -- the first of several lines, or one that a line feed ends
-pub lines-first : (bytes : List ℕ) (end : ℕ) → end ≡ position_or_len (λ byte. byte == 10) bytes → end < length bytes →
+pub lines-first : (bytes : List ℕ) (end : ℕ) → end ≡ position_or_len (λ byte. byte == 10) bytes →
+    end < length bytes →
     lines bytes ≡ strip_carriage_return (take end bytes) ∷ lines (drop (end + 1) bytes)
 lines-first bytes end at more =
     let count = length-slice_split is_line_feed (drop (end + 1) bytes) in

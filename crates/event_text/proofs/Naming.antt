@@ -1,5 +1,6 @@
 -- Settings, from what their words name.
-use Rattle.std.proofs.Common.{◌≡◌, ℕ, ◌+◌, ℤ, Bool, not, List, [], ◌∷◌, Option, Some, refl, ap, sym, ◌∙◌}
+use Rattle.std.proofs.Common.{◌≡◌, ℕ, ◌+◌, ℤ, Bool, not, List, [], ◌∷◌, Option, Some, refl, ap, sym}
+use Rattle.std.proofs.Common.{◌∙◌}
 use Rattle.std.specs.Prelude.{map, position, slice_get, if◌then◌else◌}
 use Rattle.std.specs.Option.{option_map, option_and_then}
 use Rattle.std.specs.List.{prefix_len}
@@ -27,7 +28,8 @@ form_at : {X : Type 0} (form : X → FieldForm) (xs : List X) (place : ℕ) (fou
     found ≡ slice_get xs place → slice_get (map form xs) place ≡ option_map form found
 form_at form xs place found is = slice_get-map form xs place ∙ ap (option_map form) (sym is)
 
-pub plain_setting-at : {X : Type 0} (form : X → FieldForm) (xs : List X) (place : ℕ) (value : ℤ) (found : Option X)
+pub plain_setting-at : {X : Type 0} (form : X → FieldForm) (xs : List X) (place : ℕ) (value : ℤ)
+    (found : Option X)
     (named : Option ℕ) (number : Option ℤ) →
     Some place ≡ named → Some value ≡ number → found ≡ slice_get xs place →
     plain_setting (map form xs) named number ≡ option_and_then (of_plain place value) (option_map form found)
@@ -40,4 +42,5 @@ pub element_setting-at : {X : Type 0} (form : X → FieldForm) (xs : List X) (pl
     element_setting (map form xs) named number signed
     ≡ option_and_then (of_element place index value) (option_map form found)
 element_setting-at form xs place index value found named number signed at second third is =
-    rw (← at, ← second, ← third) (ap (option_and_then (of_element place index value)) (form_at form xs place found is))
+    rw (← at, ← second, ← third)
+    (ap (option_and_then (of_element place index value)) (form_at form xs place found is))

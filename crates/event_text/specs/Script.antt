@@ -7,7 +7,8 @@ use Rattle.event_text.specs.declared.script.EventsError.{EventsError}
 use Rattle.event_text.specs.declared.script.EventsError.TheVariants as error
 use Rattle.event_text.specs.Events.{events_of}
 use Rattle.event_text.specs.Lines.{LineShape, said_lines}
-use Rattle.event_text.specs.Settings.{FieldForm, form_of, settings_in_front, past_settings, starting_rows, after_settings}
+use Rattle.event_text.specs.Settings.{FieldForm, form_of, settings_in_front, past_settings, starting_rows}
+use Rattle.event_text.specs.Settings.{after_settings}
 
 -- The hosts that misbehave, as a word with a bit for each; the elements that each field starts with; and the events,
 -- each with the number of its line.

@@ -1,6 +1,7 @@
 //! The lines that set starting values.
 
-ghost use Rattle.std.specs.Prelude.{◌≡◌, ◌≤◌, ◌<◌, ◌+◌, ◌^◌, ◌∷◌, length, map, codes, position, IfOk, IfSome, Some};
+ghost use Rattle.std.specs.Prelude.{◌≡◌, ◌≤◌, ◌<◌, ◌+◌, ◌^◌, ◌∷◌, length, map, codes};
+ghost use Rattle.std.specs.Prelude.{position, IfOk, IfSome, Some};
 ghost use Rattle.std.specs.Prelude.{slice_get, option_copied};
 ghost use Rattle.std.specs.Option.{option_map, option_and_then};
 ghost use Rattle.std.specs.Str.{bytes_eq};
@@ -165,7 +166,8 @@ fn of_plain<F: ScriptField>(place: usize, value: i64, field: &F) -> Option<Setti
     })
 }
 
-/// The setting of an element of an array of the name, at the index that a word writes, to the value that another writes.
+/// The setting of an element of an array of the name, at the index that a word writes, to the value that another
+/// writes.
 fn element_setting<F: ScriptField>(
     fields: &[F],
     name: &[u8],

@@ -1,5 +1,6 @@
 -- The code of the walks is sound.
-use Rattle.std.proofs.Common.{◌≡◌, ℕ, ◌+◌, ◌<◌, ◌≤◌, zero, suc, List, [], ◌∷◌, Some, None, refl, arith, inl, inr, subst, sym}
+use Rattle.std.proofs.Common.{◌≡◌, ℕ, ◌+◌, ◌<◌, ◌≤◌, zero, suc, List, [], ◌∷◌, Some, None}
+use Rattle.std.proofs.Common.{refl, arith, inl, inr, subst, sym}
 use Rattle.std.proofs.Common.{ap, codes, true, false, length, zero-add}
 use Rattle.std.specs.Prelude.{slice_get, ⊤, ℤ, All}
 use Rattle.std.specs.List.{AllByRecursion}
@@ -82,11 +83,31 @@ fits_a both secret trusted = (
   (
     record { label = omega arith; operation = (omega arith, number_fits (walked both secret trusted) 1 _) },
     (
-      record { label = omega arith; operation = (omega arith, number_fits (walked both secret trusted) 2 _, sum_fits (walked both secret trusted) 2 (omega arith) (omega arith)) },
+      record {
+        label = omega arith;
+        operation = (
+          omega arith,
+          number_fits (walked both secret trusted) 2 _,
+          sum_fits
+              (walked both secret trusted) 2 (omega arith) (omega arith),
+        );
+      },
       (
-        record { label = omega arith; operation = (omega arith, number_fits (walked both secret trusted) 0 _, number_fits (walked both secret trusted) 0 _) },
+        record {
+          label = omega arith;
+          operation =
+              (omega arith, number_fits (walked both secret trusted) 0 _, number_fits (walked both secret trusted) 0 _);
+        },
         (
-          record { label = omega arith; operation = (omega arith, number_fits (walked both secret trusted) 0 _, number_fits (walked both secret trusted) 0 _) },
+          record {
+            label = omega arith;
+            operation = (
+              omega arith,
+              number_fits
+                  (walked both secret trusted) 0 _,
+              number_fits (walked both secret trusted) 0 _,
+            );
+          },
           (
             record { label = omega arith; operation = (omega arith, number_fits (walked both secret trusted) 0 _) },
             (
@@ -96,39 +117,79 @@ fits_a both secret trusted = (
                 (
                   record { label = omega arith; operation = tt },
                   (
-                    record { label = omega arith; operation = (number_fits (walked both secret trusted) 0 _, omega arith) },
+                    record {
+                      label = omega arith;
+                      operation =
+                          (number_fits (walked both secret trusted) 0 _, omega arith);
+                    },
                     (
                       record { label = omega arith; operation = refl },
                       (
-                        record { label = omega arith; operation = (omega arith, one_more_fits (walked both secret trusted) 0 v (omega arith)) },
+                        record {
+                          label = omega arith;
+                          operation =
+                              (omega arith, one_more_fits (walked both secret trusted) 0 v (omega arith));
+                        },
                         (
                           record { label = omega arith; operation = (omega arith, (omega arith, other)) },
                           (
                             record { label = omega arith; operation = (not_halt 11 (omega arith), refl) },
                             (
-                              record { label = omega arith; operation = (omega arith, number_fits (walked both secret trusted) 0 _) },
+                              record {
+                                label = omega arith;
+                                operation =
+                                    (omega arith, number_fits (walked both secret trusted) 0 _);
+                              },
                               (
-                                record { label = omega arith; operation = ((not_halt 6 (omega arith), refl), omega arith) },
+                                record {
+                                  label = omega arith;
+                                  operation =
+                                      ((not_halt 6 (omega arith), refl), omega arith);
+                                },
                                 (
                                   record { label = omega arith; operation = tt },
                                   (
-                                    record { label = omega arith; operation = (omega arith, variable_fits (walked both secret trusted) 0 w (omega arith)) },
+                                    record {
+                                      label = omega arith;
+                                      operation =
+                                          (omega arith, variable_fits (walked both secret trusted) 0 w (omega arith));
+                                    },
                                     (
                                       record { label = omega arith; operation = tt },
                                       (
-                                        record { label = omega arith; operation = ((not_halt 5 (omega arith), refl), (omega arith, other)) },
+                                        record {
+                                          label = omega arith;
+                                          operation =
+                                              ((not_halt 5 (omega arith), refl), (omega arith, other));
+                                        },
                                         (
-                                          record { label = omega arith; operation = (omega arith, number_fits (walked both secret trusted) 0 _) },
+                                          record {
+                                            label = omega arith;
+                                            operation =
+                                                (omega arith, number_fits (walked both secret trusted) 0 _);
+                                          },
                                           (
-                                            record { label = omega arith; operation = (omega arith, number_fits (walked both secret trusted) 0 _) },
+                                            record {
+                                              label = omega arith;
+                                              operation =
+                                                  (omega arith, number_fits (walked both secret trusted) 0 _);
+                                            },
                                             (
                                               record { label = omega arith; operation = tt },
                                               (
                                                 record { label = omega arith; operation = refl },
                                                 (
-                                                  record { label = omega arith; operation = ((not_halt 5 (omega arith), refl), omega arith) },
+                                                  record {
+                                                    label = omega arith;
+                                                    operation =
+                                                        ((not_halt 5 (omega arith), refl), omega arith);
+                                                  },
                                                   (
-                                                    record { label = omega arith; operation = ((not_halt 5 (omega arith), refl), (omega arith, other)) },
+                                                    record {
+                                                      label = omega arith;
+                                                      operation =
+                                                          ((not_halt 5 (omega arith), refl), (omega arith, other));
+                                                    },
                                                     tt,
                                                   ),
                                                 ),
@@ -168,7 +229,8 @@ fits_b both secret trusted = (
 
 -- ---- parts
 
-each_host : (P : HostId → Type 0) → P a → P b → P (record { 0 = 2 }) → (host : HostId) → host.0 < 3 → P host
+each_host : (P : HostId → Type 0) → P a → P b → P (record { 0 = 2 }) → (host : HostId) →
+    host.0 < 3 → P host
 each_host P first second third host small_number =
     let at : ℕ → Type 0 = λ n. P (record { 0 = n }) in
     elim (cases_lt host.0 1) as (λ _. P host) [
@@ -300,7 +362,8 @@ entries_fit both secret trusted = All-each (EntryFits (walked both secret truste
 )
 
 names_fit : (both : Label) → All (λ host. IsName host.name × (length host.name ≤ MOST_ITEMS)) (hosts both)
-names_fit both = All-each (λ (host : CodeHostShape). IsName host.name × (length host.name ≤ MOST_ITEMS)) (hosts both)
+names_fit both =
+    All-each (λ (host : CodeHostShape). IsName host.name × (length host.name ≤ MOST_ITEMS)) (hosts both)
     ((refl, omega arith), ((refl, omega arith), ((refl, omega arith), tt)))
 
 pub sound : (both secret trusted : Label) → IsSoundCode (walked both secret trusted)

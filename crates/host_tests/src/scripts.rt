@@ -6,8 +6,8 @@ use js_base::limits::SCRIPT_BYTES;
 use std::alloc::Global;
 use std::test::Fail;
 
-/// Scripts over the hosts A, B and C, the array `s` of three elements, each 1, and the fields `n`, 2, and `o`, 7. What a
-/// script says is the elements of all fields, and then the events with the numbers of their lines.
+/// Scripts over the hosts A, B and C, the array `s` of three elements, each 1, and the fields `n`, 2, and `o`, 7. What
+/// a script says is the elements of all fields, and then the events with the numbers of their lines.
 const SCRIPTS: [(&str, &str); 29] = [
     ("", " 1 1 1 2 7"),
     ("turn A\nturn B", " 1 1 1 2 7 1:turn 0 2:turn 1"),

@@ -35,9 +35,9 @@ pub enum Act {
     Temporary(u32),
 }
 
-/// What happens, what is sent or seen then, and how the host stands afterwards: `rest`, `halted`, or `at` and the number
-/// of the thread's next instruction, and then how many threads wait, how many entries are on the control stack, and how
-/// many messages were ignored.
+/// What happens, what is sent or seen then, and how the host stands afterwards: `rest`, `halted`, or `at` and the
+/// number of the thread's next instruction, and then how many threads wait, how many entries are on the control stack,
+/// and how many messages were ignored.
 pub type Row = (Act, &'static str, &'static str);
 
 /// The number of each request that is made of the host.
