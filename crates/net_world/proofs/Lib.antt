@@ -1,1 +1,10 @@
 pub mod FirstForm
+pub mod Fitting
+pub mod Flights
+pub mod Letters
+pub mod Present
+pub mod Queues
+pub mod Same
+pub mod Starts
+pub mod StepsOf
+pub mod ToldTokens

@@ -1,1 +1,7 @@
+pub mod Choice
+pub mod Fits
+pub mod Flying
+pub mod Steps
+pub mod Told
+pub mod World
 pub mod first

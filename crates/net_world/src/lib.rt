@@ -2,3 +2,12 @@
 #![tactic(auto)]
 
 pub mod first;
+mod flying;
+mod mail;
+mod moves;
+mod refusals;
+mod steps;
+mod told;
+mod world;
+
+pub use world::{EventError, World};

@@ -12,7 +12,7 @@ use Rattle.host_decl.specs.Hosts.{HostsShape, AreHostNames, names_of}
 use Rattle.host_decl.specs.Reading.{ReadsHosts}
 use Rattle.jif_tree.specs.declared.program.Program.{Program}
 use Rattle.jif_tree.specs.Store.{starting_values}
-use Rattle.net_world.specs.declared.first.event_text.Event.{Event}
+use Rattle.net_world.specs.declared.first.events.Event.{Event}
 use Rattle.net_world.specs.first.Code.{CodeShape}
 use Rattle.net_world.specs.first.Events.{script_of}
 use Rattle.net_world.specs.first.World.{World, Refusal, not_there, host_busy, run, world_at_start, has_halted}

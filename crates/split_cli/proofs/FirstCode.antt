@@ -10,7 +10,7 @@ use Rattle.js_base.proofs.Lists.{zip_push}
 use Rattle.jif_tree.specs.declared.program.Program.{Program}
 use Rattle.jif_tree.specs.declared.program.Field.{Field}
 use Rattle.jif_tree.specs.SourceRun.{main_body}
-use Rattle.net_world.specs.declared.first.host_code.Instr.{Instr}
+use Rattle.net_world.specs.declared.first.code.Instr.{Instr}
 use Rattle.net_world.specs.first.Code.{CodeShape, FieldShape, IsSound}
 use Rattle.net_world.specs.first.FirstCode.{HasNoHolder, IsCodeOf, IsFirstUnheld, IsPlaced, MayHold, root_part}
 use Rattle.host_decl.specs.Hosts.{AreHostNames, HostShape, HostsShape, names_of}

@@ -19,9 +19,9 @@ use Rattle.jif_tree.specs.declared.program.Stmt.{Stmt}
 use Rattle.jif_tree.specs.declared.program.StmtKind.TheVariants.{SetField}
 use Rattle.jif_tree.specs.declared.program.Expr.TheVariants.{Number}
 use Rattle.jif_tree.specs.Store.{starting_row, starting_values}
-use Rattle.net_world.specs.declared.first.host_code.Instr.{Instr}
-use Rattle.net_world.specs.declared.first.host_code.Op.{Op}
-use Rattle.net_world.specs.declared.first.host_code.Op.TheVariants.{Back}
+use Rattle.net_world.specs.declared.first.code.Instr.{Instr}
+use Rattle.net_world.specs.declared.first.code.Op.{Op}
+use Rattle.net_world.specs.declared.first.code.Op.TheVariants.{Back}
 use Rattle.net_world.specs.first.Code.{CodeShape, FieldShape}
 use Rattle.net_world.specs.first.FirstCode.{MayHold, IsFirstHolder, HasNoHolder, IsFirstUnheld, IsPlaced, op_of}
 use Rattle.net_world.specs.first.FirstCode.{instruction_of, root_part, IsCodeOf}

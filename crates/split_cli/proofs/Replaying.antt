@@ -1,7 +1,7 @@
 -- What is due for a script, by how it was read and how it ran.
 use Rattle.std.proofs.Common.{◌≡◌, ℕ, List, Result, Ok, sym, ◌∙◌, ap}
 use Rattle.std.specs.Prelude.{ℤ}
-use Rattle.net_world.specs.declared.first.event_text.Event.{Event}
+use Rattle.net_world.specs.declared.first.events.Event.{Event}
 use Rattle.net_world.specs.first.Code.{CodeShape}
 use Rattle.net_world.specs.first.World.{World, Refusal, run, world_at_start}
 use Rattle.split_cli.specs.Replay.{due_after, due_for_script}

@@ -5,7 +5,7 @@ use Rattle.js_base.specs.Sink.{Takes}
 use Rattle.jif_tree.specs.declared.program.Program.{Program}
 use Rattle.jif_tree.specs.Store.{starting_values}
 use Rattle.jif_tree.specs.SourceRun.{prefix, HasLength}
-use Rattle.net_world.specs.declared.first.event_text.Event.{Event}
+use Rattle.net_world.specs.declared.first.events.Event.{Event}
 use Rattle.net_world.specs.first.Code.{CodeShape}
 use Rattle.net_world.specs.first.Events.{script_of}
 use Rattle.net_world.specs.first.World.{World, run, world_at_start, has_halted}

@@ -8,7 +8,7 @@ use Rattle.host_decl.specs.Reading.{ReadsHosts, RefusesHosts}
 use Rattle.host_decl.specs.Refusal.{refusal_shape}
 use Rattle.jif_tree.specs.declared.program.Program.{Program}
 use Rattle.jif_tree.specs.Store.{starting_values}
-use Rattle.net_world.specs.declared.first.event_text.Event.{Event}
+use Rattle.net_world.specs.declared.first.events.Event.{Event}
 use Rattle.net_world.specs.first.Code.{CodeShape}
 use Rattle.net_world.specs.first.FirstCode.{IsFirstUnheld, IsCodeOf}
 use Rattle.net_world.specs.first.Events.{script_of}

@@ -13,7 +13,7 @@ use host_decl::{HostRow, Hosts};
 use jif_tree::{Expr, Program, Stmt, StmtKind};
 use js_base::text::owned_text;
 use js_base::{HostId, OutOfMemory, StmtId};
-use net_world::first::host_code::{Code, Instr, Op, Part};
+use net_world::first::code::{Code, Instr, Op, Part};
 use placement::placed_fields;
 use std::alloc::{AllocFailed, Global};
 use thiserror::Error;

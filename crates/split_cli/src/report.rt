@@ -15,7 +15,7 @@ use flying::push_flying;
 use hosts::push_hosts;
 use js_base::OutOfMemory;
 use js_base::limits::HOSTS;
-use net_world::first::host_code::Code;
+use net_world::first::code::Code;
 use net_world::first::world::World;
 use std::alloc::Global;
 

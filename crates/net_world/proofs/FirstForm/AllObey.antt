@@ -7,10 +7,10 @@ use Rattle.js_base.specs.declared.ids.HostId.{HostId}
 use Rattle.jif_tree.specs.declared.program.Program.{Program}
 use Rattle.jif_tree.specs.SourceRun.{HasLength}
 use Rattle.jif_tree.specs.Assignments.{AssignsNumbers}
-use Rattle.net_world.specs.declared.first.host_code.Message.{Message}
-use Rattle.net_world.specs.declared.first.host_code.Message.TheVariants.{Set, Ack}
-use Rattle.net_world.specs.declared.first.event_text.Event.{Event}
-use Rattle.net_world.specs.declared.first.event_text.Event.TheVariants.{Take, Turn}
+use Rattle.net_world.specs.declared.first.code.Message.{Message}
+use Rattle.net_world.specs.declared.first.code.Message.TheVariants.{Set, Ack}
+use Rattle.net_world.specs.declared.first.events.Event.{Event}
+use Rattle.net_world.specs.declared.first.events.Event.TheVariants.{Take, Turn}
 use Rattle.net_world.specs.first.Code.{CodeShape}
 use Rattle.host_decl.specs.Hosts.{HostsShape}
 use Rattle.net_world.specs.first.Flying.{pair_place}

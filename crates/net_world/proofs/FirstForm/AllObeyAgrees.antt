@@ -9,9 +9,9 @@ use Rattle.jif_tree.specs.declared.program.Stmt.{Stmt}
 use Rattle.jif_tree.specs.declared.program.StmtKind.TheVariants.{SetField}
 use Rattle.jif_tree.specs.declared.program.Expr.TheVariants.{Number}
 use Rattle.jif_tree.specs.SourceRun.{main_body, prefix}
-use Rattle.net_world.specs.declared.first.host_code.Message.{Message}
-use Rattle.net_world.specs.declared.first.host_code.Message.TheVariants.{Set, Ack}
-use Rattle.net_world.specs.declared.first.host_core.Thread.{Thread}
+use Rattle.net_world.specs.declared.first.code.Message.{Message}
+use Rattle.net_world.specs.declared.first.code.Message.TheVariants.{Set, Ack}
+use Rattle.net_world.specs.declared.first.host.Thread.{Thread}
 use Rattle.net_world.specs.first.Code.{CodeShape, FieldShape}
 use Rattle.net_world.specs.first.Flying.{flights_at, pair_place}
 use Rattle.net_world.specs.first.HostTable.{HostState, halt_entry, main_thread}

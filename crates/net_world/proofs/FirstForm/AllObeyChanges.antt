@@ -5,7 +5,7 @@ use Rattle.std.specs.Prelude.{slice_get, slice_set, remove}
 use Rattle.std.proofs.lemmas.Bool.{cases_eq}
 use Rattle.js_base.specs.declared.ids.HostId.{HostId}
 use Rattle.jif_tree.specs.Store.{row_of, store_after_write, with_element}
-use Rattle.net_world.specs.declared.first.host_code.Message.{Message}
+use Rattle.net_world.specs.declared.first.code.Message.{Message}
 use Rattle.net_world.specs.first.Code.{CodeShape, FieldShape}
 use Rattle.net_world.specs.first.Flying.{Flight, flights_at, pair_place}
 use Rattle.net_world.specs.first.HostTable.{HostState}

@@ -10,7 +10,7 @@ use Rattle.jif_tree.specs.declared.program.StmtKind.TheVariants.{SetField}
 use Rattle.jif_tree.specs.declared.program.Expr.TheVariants.{Number}
 use Rattle.jif_tree.specs.SourceRun.{main_body}
 use Rattle.jif_tree.specs.Assignments.{AssignsNumber}
-use Rattle.net_world.specs.declared.first.host_code.Op.TheVariants.{Back}
+use Rattle.net_world.specs.declared.first.code.Op.TheVariants.{Back}
 use Rattle.net_world.specs.first.Code.{CodeShape, FieldShape, part_of, instruction}
 use Rattle.host_decl.specs.Hosts.{HostShape, HostsShape, names_of}
 use Rattle.net_world.specs.first.FirstCode.{MayHold, IsPlaced, instruction_of, head_of, root_part}

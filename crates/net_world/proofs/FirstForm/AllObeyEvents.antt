@@ -5,9 +5,9 @@ use Rattle.std.specs.Prelude.{slice_get, slice_set, is_some}
 use Rattle.std.specs.List.{list_any}
 use Rattle.std.proofs.lemmas.Bool.{lt-ltb, ltb-true}
 use Rattle.js_base.specs.declared.ids.HostId.{HostId}
-use Rattle.net_world.specs.declared.first.host_code.Message.{Message}
-use Rattle.net_world.specs.declared.first.host_core.Thread.{Thread}
-use Rattle.net_world.specs.declared.first.event_text.Event.TheVariants.{Take, Turn}
+use Rattle.net_world.specs.declared.first.code.Message.{Message}
+use Rattle.net_world.specs.declared.first.host.Thread.{Thread}
+use Rattle.net_world.specs.declared.first.events.Event.TheVariants.{Take, Turn}
 use Rattle.net_world.specs.first.Code.{CodeShape}
 use Rattle.net_world.specs.first.Flying.{Flight, flights_at, pair_place}
 use Rattle.net_world.specs.first.HostTable.{HostState, after_taking, after_turn}

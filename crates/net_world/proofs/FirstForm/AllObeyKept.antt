@@ -12,8 +12,8 @@ use Rattle.jif_tree.specs.declared.program.StmtKind.TheVariants.{SetField}
 use Rattle.jif_tree.specs.declared.program.Expr.TheVariants.{Number}
 use Rattle.jif_tree.specs.Store.{store_after_write}
 use Rattle.jif_tree.specs.SourceRun.{main_body, prefix}
-use Rattle.net_world.specs.declared.first.host_code.Message.{Message}
-use Rattle.net_world.specs.declared.first.host_code.Message.TheVariants.{Set, Ack}
+use Rattle.net_world.specs.declared.first.code.Message.{Message}
+use Rattle.net_world.specs.declared.first.code.Message.TheVariants.{Set, Ack}
 use Rattle.net_world.specs.first.Code.{CodeShape, FieldShape}
 use Rattle.host_decl.specs.Hosts.{HostsShape}
 use Rattle.net_world.specs.first.Flying.{Flight, pair_place}

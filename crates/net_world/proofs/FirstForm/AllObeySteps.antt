@@ -10,10 +10,10 @@ use Rattle.jif_tree.specs.declared.program.StmtKind.{StmtKind}
 use Rattle.jif_tree.specs.declared.program.StmtKind.TheVariants.{SetField}
 use Rattle.jif_tree.specs.declared.program.Expr.TheVariants.{Number}
 use Rattle.jif_tree.specs.Store.{store_after_write}
-use Rattle.net_world.specs.declared.first.host_code.Instr.{Instr}
-use Rattle.net_world.specs.declared.first.host_code.Message.TheVariants.{Set, Ack}
-use Rattle.net_world.specs.declared.first.host_core.Thread.{Thread}
-use Rattle.net_world.specs.declared.first.host_core.Waiting.{Waiting}
+use Rattle.net_world.specs.declared.first.code.Instr.{Instr}
+use Rattle.net_world.specs.declared.first.code.Message.TheVariants.{Set, Ack}
+use Rattle.net_world.specs.declared.first.host.Thread.{Thread}
+use Rattle.net_world.specs.declared.first.host.Waiting.{Waiting}
 use Rattle.net_world.specs.first.Code.{CodeShape, FieldShape, instruction, is_on, is_field_on}
 use Rattle.net_world.specs.first.FirstCode.{op_of}
 use Rattle.net_world.specs.first.HostTable.{HostState, without_message_sent, awaits, after_answer, after_taking, thread_after}

@@ -6,7 +6,7 @@ use Rattle.std.specs.List.{fold}
 use Rattle.std.specs.List.Sorted.{IsNonDecreasing}
 use Rattle.std.proofs.lemmas.List.{get_or_default, take_all}
 use Rattle.std.proofs.lemmas.List.Folds.{fold_stays}
-use Rattle.net_world.specs.declared.first.event_text.Event.{Event}
+use Rattle.net_world.specs.declared.first.events.Event.{Event}
 use Rattle.net_world.specs.first.Code.{CodeShape}
 use Rattle.net_world.specs.first.World.{World, Refusal, next, at_line, after_event, run}
 

@@ -8,7 +8,7 @@ use Rattle.std.proofs.lemmas.List.{map-set, get_or-map}
 use Rattle.std.proofs.lemmas.Grind.{common_steps}
 use Rattle.js_base.specs.declared.ids.HostId.{HostId}
 use Rattle.net_world.proofs.FirstForm.AllObeyLists.{get-set_other}
-use Rattle.net_world.specs.declared.first.host_code.Message.{Message}
+use Rattle.net_world.specs.declared.first.code.Message.{Message}
 use Rattle.net_world.specs.first.HostTable.{HostModel, HostState, Outcome, IsStopped}
 use Rattle.net_world.specs.first.World.{numbers_below, states_of, AreNumbered}
 use Rattle.net_world.specs.first.EventSteps.{ChangesOnly, HasStepped, HasMade, HaveMade}

@@ -1,6 +1,6 @@
 -- The script of the lines that are left, after the events so far.
 use Rattle.std.proofs.Common.{ℕ, List, ◌++◌, Result, Ok, Err}
-use Rattle.net_world.specs.declared.first.event_text.Event.{Event}
+use Rattle.net_world.specs.declared.first.events.Event.{Event}
 
 -- these events, and then those of the rest
 abbrev pub told : List (ℕ × Event) → Result (List (ℕ × Event)) ℕ → Result (List (ℕ × Event)) ℕ

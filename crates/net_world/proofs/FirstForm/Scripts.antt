@@ -2,7 +2,7 @@
 use Rattle.std.proofs.Common.{◌≡◌, ◌≢◌, ℕ, suc, ◌<◌, List, [], ◌∷◌, length, get_or, drop, Err, refl, sym, ◌∙◌, ap}
 use Rattle.std.proofs.Common.{drop-cons}
 use Rattle.std.specs.List.{fold}
-use Rattle.net_world.specs.declared.first.event_text.Event.{Event}
+use Rattle.net_world.specs.declared.first.events.Event.{Event}
 use Rattle.net_world.specs.declared.first.world.EventError.{EventError}
 use Rattle.net_world.specs.declared.first.world.EventError.TheVariants as answer
 use Rattle.net_world.specs.first.Code.{CodeShape}

@@ -7,7 +7,7 @@ use Rattle.jif_tree.specs.declared.program.Program.{Program}
 use Rattle.jif_tree.specs.Store.{row_of}
 use Rattle.jif_tree.specs.SourceRun.{prefix, HasLength}
 use Rattle.jif_tree.specs.Assignments.{AssignsNumbers}
-use Rattle.net_world.specs.declared.first.event_text.Event.{Event}
+use Rattle.net_world.specs.declared.first.events.Event.{Event}
 use Rattle.net_world.specs.first.Code.{CodeShape, FieldShape}
 use Rattle.host_decl.specs.Hosts.{HostsShape, AreHostNames, names_of}
 use Rattle.net_world.specs.first.FirstCode.{IsCodeOf}

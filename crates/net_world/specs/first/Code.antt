@@ -5,7 +5,7 @@ use Rattle.std.specs.Prelude.{unwrap_or, slice_get}
 use Rattle.js_base.specs.declared.ids.HostId.{HostId}
 use Rattle.js_base.specs.declared.ids.FieldId.{FieldId}
 use Rattle.js_base.specs.declared.limits.TheConstants.{HOSTS}
-use Rattle.net_world.specs.declared.first.host_code.Instr.{Instr}
+use Rattle.net_world.specs.declared.first.code.Instr.{Instr}
 
 -- a field and the host that holds it
 pub record FieldShape : Type 0 where

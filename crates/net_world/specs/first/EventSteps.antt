@@ -3,8 +3,8 @@ use Rattle.std.specs.Prelude.{◌≡◌, ◌≢◌, ◌≤◌, ◌⊎◌, ℕ, �
 use Rattle.std.specs.Prelude.{Some, None, IsSome, IsSomeAnd}
 use Rattle.std.specs.Prelude.{IfSome, IsOk, slice_get, slice_set, Result, Ok, Err}
 use Rattle.js_base.specs.declared.ids.HostId.{HostId}
-use Rattle.net_world.specs.declared.first.host_code.Message.{Message}
-use Rattle.net_world.specs.declared.first.event_text.Event.{Event}
+use Rattle.net_world.specs.declared.first.code.Message.{Message}
+use Rattle.net_world.specs.declared.first.events.Event.{Event}
 use Rattle.net_world.specs.declared.first.world.EventError.{EventError}
 use Rattle.net_world.specs.declared.first.world.EventError.TheVariants as answer
 use Rattle.net_world.specs.first.Code.{CodeShape}

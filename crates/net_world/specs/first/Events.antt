@@ -12,10 +12,10 @@ use Rattle.std.specs.Str.{bytes_eq}
 use Rattle.std.specs.Str.Lines.{lines}
 use Rattle.std.specs.Str.Parse.{digits_value}
 use Rattle.js_base.specs.declared.ids.HostId.{HostId}
-use Rattle.net_world.specs.declared.first.event_text.Event.{Event}
-use Rattle.net_world.specs.declared.first.event_text.Event.TheVariants.{Take, Turn}
-use Rattle.net_world.specs.declared.first.event_text.EventsError.{EventsError}
-use Rattle.net_world.specs.declared.first.event_text.EventsError.TheVariants as error
+use Rattle.net_world.specs.declared.first.events.Event.{Event}
+use Rattle.net_world.specs.declared.first.events.Event.TheVariants.{Take, Turn}
+use Rattle.net_world.specs.declared.first.events.EventsError.{EventsError}
+use Rattle.net_world.specs.declared.first.events.EventsError.TheVariants as error
 use Rattle.js_base.specs.declared.limits.TheConstants.{SCRIPT_BYTES}
 use Rattle.net_world.specs.first.Code.{CodeShape}
 

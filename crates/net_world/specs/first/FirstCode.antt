@@ -15,9 +15,9 @@ use Rattle.jif_tree.specs.declared.program.StmtKind.{StmtKind}
 use Rattle.jif_tree.specs.declared.program.StmtKind.TheVariants.{SetField}
 use Rattle.jif_tree.specs.declared.program.Expr.TheVariants.{Number}
 use Rattle.jif_tree.specs.SourceRun.{main_body}
-use Rattle.net_world.specs.declared.first.host_code.Instr.{Instr}
-use Rattle.net_world.specs.declared.first.host_code.Op.{Op}
-use Rattle.net_world.specs.declared.first.host_code.Op.TheVariants.{Put, Back}
+use Rattle.net_world.specs.declared.first.code.Instr.{Instr}
+use Rattle.net_world.specs.declared.first.code.Op.{Op}
+use Rattle.net_world.specs.declared.first.code.Op.TheVariants.{Put, Back}
 use Rattle.net_world.specs.first.Code.{CodeShape, FieldShape}
 use Rattle.host_decl.specs.Hosts.{HostShape, HostsShape}
 

@@ -5,7 +5,7 @@ use Rattle.std.specs.Prelude.{IsSomeAnd, unwrap_or}
 use Rattle.std.specs.Prelude.{slice_get, slice_set}
 use Rattle.js_base.specs.declared.ids.HostId.{HostId}
 use Rattle.js_base.specs.declared.limits.TheConstants.{HOSTS}
-use Rattle.net_world.specs.declared.first.host_code.Message.{Message}
+use Rattle.net_world.specs.declared.first.code.Message.{Message}
 
 -- What is in flight: a message. A label will stand beside its fields.
 abbrev pub Flight : Type 0

@@ -11,16 +11,16 @@ use Rattle.js_base.specs.declared.ids.FrameId.{FrameId}
 use Rattle.js_base.specs.declared.ids.RequestId.{RequestId}
 use Rattle.js_base.specs.Counts.{last_count}
 use Rattle.jif_tree.specs.Store.{store_after_write, row_of}
-use Rattle.net_world.specs.declared.first.host_code.Token.{Token}
-use Rattle.net_world.specs.declared.first.host_code.Message.{Message}
-use Rattle.net_world.specs.declared.first.host_code.Message.TheVariants.{Set, Ack}
-use Rattle.net_world.specs.declared.first.host_code.Instr.{Instr}
-use Rattle.net_world.specs.declared.first.host_code.Op.{Op}
-use Rattle.net_world.specs.declared.first.host_code.Op.TheVariants.{Put, Back}
-use Rattle.net_world.specs.declared.first.host_core.Thread.{Thread}
-use Rattle.net_world.specs.declared.first.host_core.Waiting.{Waiting}
-use Rattle.net_world.specs.declared.first.host_core.StackEntry.{StackEntry}
-use Rattle.net_world.specs.declared.first.host_core.TheConstants.{MOST_CALLS}
+use Rattle.net_world.specs.declared.first.code.Token.{Token}
+use Rattle.net_world.specs.declared.first.code.Message.{Message}
+use Rattle.net_world.specs.declared.first.code.Message.TheVariants.{Set, Ack}
+use Rattle.net_world.specs.declared.first.code.Instr.{Instr}
+use Rattle.net_world.specs.declared.first.code.Op.{Op}
+use Rattle.net_world.specs.declared.first.code.Op.TheVariants.{Put, Back}
+use Rattle.net_world.specs.declared.first.host.Thread.{Thread}
+use Rattle.net_world.specs.declared.first.host.Waiting.{Waiting}
+use Rattle.net_world.specs.declared.first.host.StackEntry.{StackEntry}
+use Rattle.net_world.specs.declared.first.host.TheConstants.{MOST_CALLS}
 use Rattle.net_world.specs.first.Code.{CodeShape, FieldShape, is_on, instruction, part_of}
 
 -- The state of a host. It has a row for each field of the code, which is empty where the field is elsewhere. The top

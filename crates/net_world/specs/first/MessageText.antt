@@ -2,8 +2,8 @@
 use Rattle.std.specs.Prelude.{ℕ, ℤ, List, [], ◌++◌, Option, Some, None, slice_get, codes}
 use Rattle.std.specs.Fmt.{decimal, signed_decimal}
 use Rattle.js_base.specs.declared.ids.RequestId.{RequestId}
-use Rattle.net_world.specs.declared.first.host_code.Message.{Message}
-use Rattle.net_world.specs.declared.first.host_code.Message.TheVariants.{Set, Ack}
+use Rattle.net_world.specs.declared.first.code.Message.{Message}
+use Rattle.net_world.specs.declared.first.code.Message.TheVariants.{Set, Ack}
 use Rattle.net_world.specs.first.Code.{CodeShape, FieldShape}
 
 -- nothing where there is no such field

@@ -5,9 +5,9 @@ use Rattle.std.specs.Prelude.{length, map, Option, Some, None, is_some, IsSomeAn
 use Rattle.std.specs.Prelude.{replicate, Result, Ok, Err}
 use Rattle.std.specs.List.{list_any, fold}
 use Rattle.js_base.specs.declared.ids.HostId.{HostId}
-use Rattle.net_world.specs.declared.first.host_code.Message.{Message}
-use Rattle.net_world.specs.declared.first.event_text.Event.{Event}
-use Rattle.net_world.specs.declared.first.event_text.Event.TheVariants.{Take, Turn}
+use Rattle.net_world.specs.declared.first.code.Message.{Message}
+use Rattle.net_world.specs.declared.first.events.Event.{Event}
+use Rattle.net_world.specs.declared.first.events.Event.TheVariants.{Take, Turn}
 use Rattle.jif_tree.specs.Store.{row_of}
 use Rattle.js_base.specs.declared.limits.TheConstants.{HOSTS}
 use Rattle.net_world.specs.declared.first.flying.TheConstants.{PAIRS}

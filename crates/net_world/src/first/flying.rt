@@ -6,8 +6,8 @@ ghost use Rattle.std.specs.Prelude.{IfOk, IfSome, OnOk, OnErr};
 ghost use Rattle.js_base.specs.declared.ids.HostId.{HostId};
 ghost use Rattle.net_world.specs.first.Flying.{Queue, HasRoom, pair_place, flights_of, flights_at, flights_after};
 
-use crate::first::host_code::Message;
-use crate::first::host_core::Sent;
+use crate::first::code::Message;
+use crate::first::host::Sent;
 use js_base::limits::HOSTS;
 use js_base::{HostId, OutOfMemory};
 use std::alloc::Global;

@@ -2,7 +2,7 @@
 
 ghost use Rattle.std.specs.Prelude.{◌≡◌, ℕ, ℤ, true, List, All, Ok};
 ghost use Rattle.jif_tree.specs.declared.program.Program.{Program};
-ghost use Rattle.net_world.specs.declared.first.event_text.Event.{Event};
+ghost use Rattle.net_world.specs.declared.first.events.Event.{Event};
 ghost use Rattle.net_world.specs.first.Code.{CodeShape};
 ghost use Rattle.host_decl.specs.Hosts.{HostsShape};
 ghost use Rattle.net_world.specs.first.World.{World, run, world_at_start, has_halted};

@@ -11,10 +11,10 @@ ghost use Rattle.net_world.specs.first.EventSteps.{CannotTake, CannotTurn};
 ghost use Rattle.net_world.specs.first.EventSteps.{HasStepped, ChangesOnly, IsAnswer, HasNoMemory};
 ghost use Rattle.net_world.specs.first.HostTable.{host_at_start, after_taking, after_turn, IsStopped};
 
-use crate::first::event_text::Event;
+use crate::first::code::{Code, Message};
+use crate::first::events::Event;
 use crate::first::flying::Flying;
-use crate::first::host_code::{Code, Message};
-use crate::first::host_core::{Host, HostError, Sent};
+use crate::first::host::{Host, HostError, Sent};
 use jif_tree::Store;
 use js_base::limits::HOSTS;
 use js_base::{HostId, OutOfMemory};

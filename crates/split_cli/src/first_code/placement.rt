@@ -12,7 +12,7 @@ use js_base::HostId;
 use js_base::limits::HOSTS;
 use js_base::text::owned_text;
 use label_lattice::Label;
-use net_world::first::host_code::CodeField;
+use net_world::first::code::CodeField;
 use std::alloc::Global;
 
 /// The fields, each with its host.

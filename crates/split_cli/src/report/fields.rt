@@ -9,7 +9,7 @@ ghost use Rattle.split_cli.specs.Report.{field_line, field_lines};
 ghost use Rattle.split_cli.specs.Text.{line_text, lines_text};
 
 use js_base::{FieldId, OutOfMemory};
-use net_world::first::host_code::{Code, CodeField};
+use net_world::first::code::{Code, CodeField};
 use net_world::first::world::World;
 use std::fmt::Write;
 

@@ -10,8 +10,8 @@ ghost use Rattle.split_cli.specs.Text.{line_text, lines_text};
 
 use js_base::limits::HOSTS;
 use js_base::{HostId, OutOfMemory};
-use net_world::first::host_code::Code;
-use net_world::first::host_core::Host;
+use net_world::first::code::Code;
+use net_world::first::host::Host;
 use net_world::first::world::World;
 use std::fmt::Write;
 

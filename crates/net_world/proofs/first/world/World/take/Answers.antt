@@ -1,6 +1,6 @@
 -- The message that was found is taken out, and what its host sends is put in flight.
 use Rattle.std.proofs.Common.{Ok, sym, subst}
-use Rattle.net_world.specs.declared.first.event_text.Event.TheVariants.{Take}
+use Rattle.net_world.specs.declared.first.events.Event.TheVariants.{Take}
 use Rattle.net_world.specs.first.World.{WorldModel}
 use Rattle.net_world.specs.first.EventSteps.{IsTakeable, IsAnswer, HaveMade}
 use Rattle.net_world.proofs.FirstForm.Events.{taken_answer}

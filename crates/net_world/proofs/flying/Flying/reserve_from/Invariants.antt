@@ -1,0 +1,11 @@
+use Rattle.std.proofs.Common.{◌≡◌, ◌<◌}
+use Rattle.js_base.specs.declared.ids.HostId.{HostId}
+use Rattle.net_world.specs.Flying.{HasRoom, pair_place, flights_of}
+use Rattle.net_world.proofs.flying.Flying.reserve_from.Given as goal
+
+-- there is room to the hosts below
+abbrev pub invariant-loop-to : goal.invariant-loop-to
+invariant-loop-to l = record {
+  flights : flights_of l.self ≡ flights_of l.fn.self;
+  room : (to : HostId) → to.0 < l.to → HasRoom l.self (pair_place l.from to);
+}

@@ -1,0 +1,57 @@
+-- The message is taken at once, and its answer is told to the sender.
+use Rattle.std.proofs.Common.{◌∙◌, ◌<◌, ap, sym, subst, length, inr}
+use Rattle.host_core.specs.Host.{HostShape, Outcome}
+use Rattle.host_core.specs.Taking.{IsTaking}
+use Rattle.net_world.specs.Fits.{MailFits, world_of}
+use Rattle.net_world.specs.Steps.{IsReady}
+use Rattle.net_world.proofs.Present.{get_lt, length_states}
+use Rattle.net_world.proofs.StepsOf.{acted, act_due, state_rests}
+use Rattle.net_world.proofs.Fitting.{world_fits, mail_stepped, mail_telling, made_tokens_fit}
+use Rattle.net_world.proofs.world.World.act.Goals as goal
+
+pub deliver-requires-clause-tokens : goal.deliver-requires-clause-tokens
+deliver-requires-clause-tokens c =
+    let a = c.args in
+    made_tokens_fit a.code.now (world_of a.self.now) a.made c.in_ok-message.message
+    (length_states a.self.now.hosts ∙ c.requires.fits.count) c.requires.fits.mail c.requires.own
+    c.in_ok-message.ensures.ok.makes
+
+pub returns-in_default-clause-answer : goal.returns-in_default-clause-answer
+returns-in_default-clause-answer c =
+    let a = c.args in (
+      act_due a.self.now a.from a.to a.made c.in_ok-message.message c.in_ok-message.ensures.ok,
+      c.in_default.ensures.err ∙ c.reserve_told.ensures.world,
+      inr c.in_default.ensures.stopped,
+    )
+
+pub returns-clause-answer : goal.returns-clause-answer
+returns-clause-answer c =
+    let a = c.args in
+    let actable = c.in_ok-message.ensures.ok in (
+      act_due a.self.now a.from a.to a.made c.in_ok-message.message actable,
+      acted a.code.now (world_of a.self.now) (world_of c.reserve_told.new.self) (world_of c.deliver.new.self)
+          (world_of c.tell.new.self) a.from a.to a.made c.in_ok-message.message c.in-Ok.sent actable.bad actable.makes
+          (state_rests a.self.now a.to actable.host) c.reserve_told.ensures.world c.in-Ok.ensures.ok
+          c.tell.ensures.world,
+    )
+
+pub returns-clause-fits : goal.returns-clause-fits
+returns-clause-fits c =
+    let a = c.args in
+    let code = a.code.now in
+    let kind : HostShape → Outcome → Type 0 =
+    λ state outcome. IsTaking code state a.from c.in_ok-message.message outcome in
+    let within : a.to.0 < length a.self.now.hosts =
+    get_lt a.self.now.hosts a.to.0 IsReady c.in_ok-message.ensures.ok.host in
+    let is_host : a.to.0 < length code.hosts = subst (λ n. a.to.0 < n) c.requires.fits.count within in
+    let reserved : MailFits code (world_of c.reserve_told.new.self) =
+    subst (MailFits code) (sym c.reserve_told.ensures.world) c.requires.fits.mail in
+    let moved =
+    mail_stepped code kind (world_of c.reserve_told.new.self) a.to c.in-Ok.sent (world_of c.deliver.new.self)
+    c.in-Ok.ensures.ok reserved in
+    let mail : MailFits code (world_of c.tell.new.self) =
+    subst (MailFits code) (sym c.tell.ensures.world)
+    (mail_telling code (world_of c.deliver.new.self) a.to c.in-Ok.sent moved is_host c.in-Ok.ensures.sent) in
+    world_fits code a.self.now c.tell.new.self c.deliver.new.self.hosts c.requires.fits
+    (c.tell.ensures.same.1 ∙ c.in-Ok.ensures.root ∙ c.reserve_told.ensures.root) c.tell.ensures.same.0
+    (c.in-Ok.ensures.others.count ∙ ap length c.reserve_told.ensures.hosts) c.in-Ok.ensures.fits mail

@@ -1,0 +1,41 @@
+use Rattle.std.proofs.Common.{ap, ◌∙◌}
+use Rattle.net_world.specs.World.{hosts_before}
+use Rattle.net_world.proofs.Starts.{started, mail_at_start}
+use Rattle.net_world.proofs.world.World.start.Goals as goal
+
+pub returns-clause-start : goal.returns-clause-start
+returns-clause-start c =
+    started c.args.code.now c.args.hosts.now.hosts c.args.bad c.args.store.now
+    (record {
+      root = c.root-root.result;
+      hosts = c.in_ok-hosts.hosts.items;
+      queues = c.in_ok-flying.flying;
+      told = c.new-told.result;
+    })
+    (c.in_ok-hosts.ensures.states
+    ∙ ap (hosts_before c.args.code.now c.args.store.now c.args.bad 0) c.hosts-rows.ensures.hosts)
+    c.in_ok-flying.ensures c.new-told.ensures
+
+pub returns-clause-fits : goal.returns-clause-fits
+returns-clause-fits c = record {
+  root = c.root-root.ensures.root;
+  count = c.in_ok-hosts.ensures.count;
+  hosts = c.in_ok-hosts.ensures.fits;
+  mail = mail_at_start c.args.code.now c.args.hosts.now.hosts c.args.bad c.args.store.now
+      (record {
+        root = c.root-root.result;
+        hosts = c.in_ok-hosts.hosts.items;
+        queues = c.in_ok-flying.flying;
+        told = c.new-told.result;
+      })
+      (started c.args.code.now c.args.hosts.now.hosts c.args.bad c.args.store.now
+      (record {
+        root = c.root-root.result;
+        hosts = c.in_ok-hosts.hosts.items;
+        queues = c.in_ok-flying.flying;
+        told = c.new-told.result;
+      })
+      (c.in_ok-hosts.ensures.states
+      ∙ ap (hosts_before c.args.code.now c.args.store.now c.args.bad 0) c.hosts-rows.ensures.hosts)
+      c.in_ok-flying.ensures c.new-told.ensures);
+}

@@ -1,0 +1,59 @@
+-- What is in flight between the hosts, and how the program keeps it: a queue for each ordered pair of 16 hosts.
+use Rattle.std.specs.Prelude.{ℕ, ◌+◌, ◌*◌, ◌<◌, ◌==◌, ◌&&◌, if◌then◌else◌, nat_lt, List, [], ◌∷◌, map, IsSomeAnd}
+use Rattle.std.specs.Prelude.{unwrap_or, slice_get}
+use Rattle.js_base.specs.declared.ids.HostId.{HostId}
+use Rattle.js_base.specs.declared.limits.TheConstants.{HOSTS}
+use Rattle.host_code.specs.declared.message.Message.{Message}
+
+-- A message in flight, with the place of the label that it carries among the code's labels: that of the instruction that
+-- sent it, and for an answer that of the request.
+pub record Flight : Type 0 where
+  pub message : Message
+  pub label : ℕ
+
+-- for each ordered pair of hosts what is in flight from the first to the second, the oldest first
+abbrev pub Flying : Type 0
+Flying = HostId → HostId → List Flight
+
+-- these are in flight from a host to a host, and all else stays
+abbrev pub with_flights : Flying → HostId → HostId → List Flight → Flying
+with_flights flying from to flights =
+    λ i j. if i.0 == from.0 && j.0 == to.0 then flights else flying i j
+
+-- ---- in the program
+
+-- messages beside their labels
+abbrev pub flights_with : List Message → List ℕ → List Flight
+flights_with [] labels = []
+flights_with (message ∷ messages) [] = []
+flights_with (message ∷ messages) (label ∷ labels) =
+    record { message = message; label = label } ∷ flights_with messages labels
+
+-- what is in a queue, and for how many more messages and labels it has room
+pub record Queue : Type 0 where
+  pub flights : List Flight
+  pub message_room : ℕ
+  pub label_room : ℕ
+
+-- the place of the queue from a host to a host
+abbrev pub pair_place : HostId → HostId → ℕ
+pair_place from to = HOSTS * from.0 + to.0
+
+abbrev pub flights_of : List Queue → List (List Flight)
+flights_of queues = map (λ queue. queue.flights) queues
+
+-- what is in the queue at a place
+abbrev pub flights_at : List (List Flight) → ℕ → List Flight
+flights_at queues place = unwrap_or (slice_get queues place) []
+
+-- what is in flight between so many hosts, and nothing where a number is none of theirs
+abbrev pub flying_of : ℕ → List (List Flight) → Flying
+flying_of count queues =
+    λ from to. if nat_lt from.0 count && nat_lt to.0 count then flights_at queues (pair_place from to) else []
+
+-- one more message goes into the queue without memory
+abbrev pub QueueHasRoom : Queue → Type 0
+QueueHasRoom queue = (0 < queue.message_room) × (0 < queue.label_room)
+
+abbrev pub HasRoom : List Queue → ℕ → Type 0
+HasRoom queues place = IsSomeAnd (slice_get queues place) QueueHasRoom

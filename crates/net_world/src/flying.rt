@@ -1,0 +1,243 @@
+//! What is in flight between the hosts.
+
+ghost use Rattle.std.specs.Prelude.{◌≡◌, ◌+◌, ◌-◌, ◌<◌, ◌≤◌, ℕ, [], ◌∷◌, ◌++◌, length, map, remove, slice_get};
+ghost use Rattle.std.specs.Prelude.{slice_set, replicate, IfOk, OnOk, MatchOption, None, Some};
+ghost use Rattle.js_base.specs.declared.ids.HostId.{HostId};
+ghost use Rattle.net_world.specs.Flying.{Flight, Queue, QueueHasRoom, HasRoom, pair_place, flights_of, flights_at};
+
+use host_code::Message;
+use js_base::limits::HOSTS;
+use js_base::{HostId, OutOfMemory};
+use std::alloc::Global;
+use std::marker::Model;
+
+/// The ordered pairs of so many hosts as there may be.
+const PAIRS: usize = HOSTS * HOSTS;
+
+/// Messages in flight from one host to another, the oldest first, and beside each the place of its label.
+#[derive(Drop)]
+struct Queue {
+    messages: Vec<Message>,
+    labels: Vec<u32>,
+}
+
+impl Model for Queue {
+    ghost use Rattle.std.specs.Prelude.{◌≡◌, ◌-◌, length};
+    ghost use Rattle.std.specs.Vec.{vec_len, vec_capacity};
+    ghost use Rattle.net_world.specs.Flying.{Queue, flights_with};
+
+    ghost Value = { Queue };
+
+    ghost view = { λ q. record {
+      flights = flights_with q.messages.items q.labels.items;
+      message_room = vec_capacity q.messages - vec_len q.messages;
+      label_room = vec_capacity q.labels - vec_len q.labels;
+    } };
+
+    ghost invariant = { λ q. length q.messages.items ≡ length q.labels.items };
+}
+
+impl Queue {
+    fn new(alloc: Global) -> Queue
+        ensures { result.flights ≡ [] }
+    {
+        Queue {
+            messages: Vec::new(alloc),
+            labels: Vec::new(alloc),
+        }
+    }
+
+    #[tactic(auto, using(crate::proofs::Flights::flights))]
+    fn messages(&self) -> &[Message]
+        ensures { result.now ≡ map (λ flight. flight.message) self.now.flights }
+    {
+        &self.messages
+    }
+
+    /// The message at a place with its label.
+    #[tactic(auto, using(crate::proofs::Flights::flights))]
+    fn flight(&self, place: usize) -> Option<(Message, u32)>
+        ensures { MatchOption result (slice_get self.now.flights place ≡ None)
+            (λ found. slice_get self.now.flights place
+            ≡ Some (record { message = found.0; label = found.1 })) }
+    {
+        match (
+            message_at(&self.messages, place),
+            label_at(&self.labels, place),
+        ) {
+            (Some(message), Some(label)) => Some((message, label)),
+            _ => None,
+        }
+    }
+
+    /// Makes room for one more message, and changes nothing else, also after an error.
+    fn reserve(&mut self) -> Result<(), OutOfMemory>
+        ensures room { OnOk result (QueueHasRoom self.new) }
+        ensures same { self.new.flights ≡ self.old.flights }
+        ensures messages { self.old.message_room ≤ self.new.message_room }
+        ensures labels { self.old.label_room ≤ self.new.label_room }
+    {
+        self.messages.reserve(1)?;
+        self.labels.reserve(1)?;
+        Ok(())
+    }
+
+    /// Adds a message, for which there is room.
+    #[tactic(auto, using(crate::proofs::Flights::flights))]
+    fn push(&mut self, message: Message, label: u32)
+        requires { QueueHasRoom self.old }
+        ensures { self.new.flights ≡ self.old.flights ++ record { message = message; label = label } ∷ [] }
+    {
+        let pushed = self.messages.push(message);
+        prove!(pushed.is_ok());
+        let labelled = self.labels.push(label);
+        prove!(labelled.is_ok());
+    }
+
+    /// Takes a message out.
+    #[tactic(auto, using(crate::proofs::Flights::flights))]
+    fn remove(&mut self, place: usize)
+        requires { place < length self.old.flights }
+        ensures flights { self.new.flights ≡ remove self.old.flights place }
+        ensures room { QueueHasRoom self.new }
+    {
+        self.messages.remove(place);
+        self.labels.remove(place);
+    }
+}
+
+fn message_at(messages: &[Message], place: usize) -> Option<Message>
+    ensures { result ≡ slice_get messages.now place }
+{
+    messages.get(place).copied()
+}
+
+fn label_at(labels: &[u32], place: usize) -> Option<u32>
+    ensures { result ≡ slice_get labels.now place }
+{
+    labels.get(place).copied()
+}
+
+/// A queue for each ordered pair of hosts.
+#[derive(Drop)]
+pub struct Flying {
+    queues: Vec<Queue>,
+}
+
+impl Model for Flying {
+    ghost use Rattle.net_world.specs.declared.flying.TheConstants.{PAIRS};
+    ghost use Rattle.std.specs.Prelude.{List, ◌≡◌, length};
+    ghost use Rattle.net_world.specs.Flying.{Queue};
+
+    ghost Value = { List Queue };
+
+    ghost view = { λ f. f.queues.items };
+
+    ghost invariant = { λ f. length f.queues.items ≡ PAIRS };
+}
+
+fn place_of(from: HostId, to: HostId) -> usize
+    requires from { from.0 < HOSTS }
+    requires to { to.0 < HOSTS }
+    ensures place { result ≡ pair_place from to }
+    ensures within { result < PAIRS }
+{
+    HOSTS * from.0 as usize + to.0 as usize
+}
+
+impl Flying {
+    /// Nothing is in flight.
+    pub fn new(alloc: Global) -> Result<Flying, OutOfMemory>
+        ensures { IfOk result (λ flying. flights_of flying ≡ replicate PAIRS []) }
+    {
+        let mut queues = Vec::new(alloc);
+        for made in 0..PAIRS {
+            prove!(made < PAIRS);
+            if queues.push(Queue::new(alloc)).is_err() {
+                return Err(OutOfMemory);
+            }
+        }
+        Ok(Flying { queues })
+    }
+
+    /// The messages in flight from a host to a host, the oldest first.
+    #[tactic(auto, using(crate::proofs::Queues::flights_at_queue))]
+    pub fn messages(&self, from: HostId, to: HostId) -> &[Message]
+        requires from { from.0 < HOSTS }
+        requires to { to.0 < HOSTS }
+        ensures messages { result.now
+            ≡ map (λ flight. flight.message) (flights_at (flights_of self.now) (pair_place from to)) }
+        ensures count { length self.now ≡ PAIRS }
+    {
+        let place = place_of(from, to);
+        self.queues[place].messages()
+    }
+
+    /// The message in flight from a host to a host at a place, from the oldest, with its label.
+    #[tactic(auto, using(crate::proofs::Queues::flights_at_queue))]
+    pub fn flight(&self, from: HostId, to: HostId, place: usize) -> Option<(Message, u32)>
+        requires from { from.0 < HOSTS }
+        requires to { to.0 < HOSTS }
+        ensures flight { MatchOption result
+            (slice_get (flights_at (flights_of self.now) (pair_place from to)) place ≡ None)
+            (λ found. slice_get (flights_at (flights_of self.now) (pair_place from to)) place
+            ≡ Some (record { message = found.0; label = found.1 })) }
+    {
+        let pair = place_of(from, to);
+        self.queues[pair].flight(place)
+    }
+
+    /// Makes room for one more message from a host to a host, and changes nothing else, also after an error.
+    #[tactic(auto, using(crate::proofs::Queues::reserving))]
+    pub fn reserve(&mut self, from: HostId, to: HostId) -> Result<(), OutOfMemory>
+        requires from { from.0 < HOSTS }
+        requires to { to.0 < HOSTS }
+        ensures room { OnOk result (HasRoom self.new (pair_place from to)) }
+        ensures flights { flights_of self.new ≡ flights_of self.old }
+        ensures others { (place : ℕ) → HasRoom self.old place → HasRoom self.new place }
+    {
+        let place = place_of(from, to);
+        self.queues[place].reserve()
+    }
+
+    /// Makes room for one more message from a host to each other, and changes nothing else, also after an error.
+    pub fn reserve_from(&mut self, from: HostId) -> Result<(), OutOfMemory>
+        requires { from.0 < HOSTS }
+        ensures room { OnOk result ((to : HostId) → to.0 < HOSTS → HasRoom self.new (pair_place from to)) }
+        ensures flights { flights_of self.new ≡ flights_of self.old }
+    {
+        for to in 0..HOSTS as u8 {
+            self.reserve(from, HostId(to))?;
+        }
+        Ok(())
+    }
+
+    /// Adds a message with its label, for which there is room.
+    #[tactic(auto, using(crate::proofs::Queues::pushing))]
+    pub fn push(&mut self, from: HostId, to: HostId, message: Message, label: u32)
+        requires from { from.0 < HOSTS }
+        requires to { to.0 < HOSTS }
+        requires room { HasRoom self.old (pair_place from to) }
+        ensures flights { flights_of self.new ≡ slice_set (flights_of self.old) (pair_place from to)
+            (flights_at (flights_of self.old) (pair_place from to) ++ record { message = message; label = label } ∷ []) }
+        ensures count { length self.old ≡ PAIRS }
+    {
+        let place = place_of(from, to);
+        self.queues[place].push(message, label);
+    }
+
+    /// Takes a message out.
+    #[tactic(auto, using(crate::proofs::Queues::removing))]
+    pub fn remove(&mut self, from: HostId, to: HostId, at: usize)
+        requires from { from.0 < HOSTS }
+        requires to { to.0 < HOSTS }
+        requires there { at < length (flights_at (flights_of self.old) (pair_place from to)) }
+        ensures flights { flights_of self.new ≡ slice_set (flights_of self.old) (pair_place from to)
+            (remove (flights_at (flights_of self.old) (pair_place from to)) at) }
+        ensures room { (place : ℕ) → HasRoom self.old place → HasRoom self.new place }
+        ensures count { length self.old ≡ PAIRS }
+    {
+        let place = place_of(from, to);
+        self.queues[place].remove(at);
+    }
+}

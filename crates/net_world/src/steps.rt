@@ -1,0 +1,130 @@
+//! The events that move a world on.
+
+ghost use Rattle.std.specs.Prelude.{◌≡◌, ◌≢◌, ◌<◌, ◌+◌, ◌↔◌, ℕ, length, None, Some, OnOk, OnErr, IfOk, IfErr, IfSome};
+ghost use Rattle.std.specs.Prelude.{IsErrOf, IsSomeAnd, IsTrue, slice_get, MatchOption};
+ghost use Rattle.host_code.specs.Sound.{IsOther};
+ghost use Rattle.host_core.specs.Fits.{SentFits, TokensFit};
+ghost use Rattle.host_core.specs.Host.{state_of};
+ghost use Rattle.host_core.specs.Taking.{IsTaking};
+ghost use Rattle.host_core.specs.Turn.{IsTurn, label_of_turn};
+ghost use Rattle.net_world.specs.Flying.{HasRoom, pair_place};
+ghost use Rattle.net_world.specs.Told.{ToldHasRoom};
+ghost use Rattle.net_world.specs.World.{IsStep, refusal_of, mover, not_bad, not_there, host_busy, no_such_token};
+ghost use Rattle.net_world.specs.World.{misbehaves, without_flight, after_sending, after_telling, letter_of};
+ghost use Rattle.net_world.specs.Fits.{WorldFits, HostsFit, HasOwnToken, world_of, host_at};
+ghost use Rattle.net_world.specs.Steps.{IsReady, IsActive, HaveMade, IsStuck, HasStepped, ChangesOnly, HasNoMemory};
+ghost use Rattle.net_world.specs.Steps.{IsAnswer, HasStopped, IsTakeable, IsActable, IsRefused, CannotRest};
+
+use crate::moves::{deliver_at, label_of, turn_at};
+use crate::world::{EventError, World};
+use event_text::{BadMessage, Event};
+use host_code::{Code, Message};
+use host_core::{Host, Sent};
+use js_base::{HostId, OutOfMemory};
+
+impl World {
+    /// Makes an event happen. After an error the world is as before, except that a host whose own step had no memory
+    /// answers no more.
+    ///
+    /// # Errors
+    /// For a take `NotThere` where there is no such message, or the host misbehaves; then `HostBusy` where it runs a
+    /// thread. For a turn `NotThere` where the host misbehaves, is none of the code's, or runs no thread. For an act
+    /// `NotBad` where the sender does not misbehave; then `NotThere` where the target misbehaves or is no host of the
+    /// code; then `HostBusy`; then `NoSuchToken` with the count of tokens sent. After these `Stopped` where the host
+    /// answers no more.
+    pub fn apply(&mut self, code: &Code, event: &Event) -> Result<(), EventError>
+        requires fits { WorldFits code.now self.old }
+        requires own { HasOwnToken (world_of self.old) event.now }
+        ensures ok { OnOk result (IsStep code.now (world_of self.old) event.now (world_of self.new)) }
+        ensures not_bad { IsErrOf result EventError.NotBad ↔
+            (refusal_of (world_of self.old) event.now ≡ Some not_bad) }
+        ensures not_there { IsErrOf result EventError.NotThere ↔
+            (refusal_of (world_of self.old) event.now ≡ Some not_there) }
+        ensures busy { IsErrOf result EventError.HostBusy ↔
+            (refusal_of (world_of self.old) event.now ≡ Some host_busy) }
+        ensures no_token { (count : ℕ) → IsErrOf result (EventError.NoSuchToken count) ↔
+            (refusal_of (world_of self.old) event.now ≡ Some (no_such_token count)) }
+        ensures stopped { IsErrOf result EventError.Stopped ↔ IsStuck self.old event.now }
+        ensures err { OnErr result (world_of self.new ≡ world_of self.old) }
+        // A refused event changes nothing at all.
+        ensures kept { IfErr result (λ error. error ≢ EventError.OutOfMemory → self.new ≡ self.old) }
+        // Where memory ran out no host has changed, or the event's host had none and answers no more.
+        ensures out_of_memory { IsErrOf result EventError.OutOfMemory → HasNoMemory self.old event.now self.new }
+        // No host but that of the event changes.
+        ensures others { ChangesOnly (mover event.now) self.old.hosts self.new.hosts }
+        // An event is one more step, and stops no host.
+        ensures made { OnOk result ((n : ℕ) → HaveMade n self.old.hosts → HaveMade (n + 1) self.new.hosts) }
+        ensures fits { WorldFits code.now self.new }
+    {
+        match *event {
+            Event::Take(from, to, place) => self.take(code, from, to, place),
+            Event::Turn(host) => self.turn(code, host),
+            Event::Act(from, to, made) => self.act(code, from, to, made),
+        }
+    }
+
+    /// A host takes a message in flight.
+    fn take(&mut self, code: &Code, from: HostId, to: HostId, place: u64) -> Result<(), EventError>
+        requires fits { WorldFits code.now self.old }
+        ensures answer { IsAnswer code.now self.old (Event.Take from to place) result self.new }
+        ensures made { OnOk result ((n : ℕ) → HaveMade n self.old.hosts → HaveMade (n + 1) self.new.hosts) }
+        ensures others { ChangesOnly to self.old.hosts self.new.hosts }
+        ensures fits { WorldFits code.now self.new }
+    {
+        let (message, label) = self.takeable(from, to, place)?;
+        if self.reserve_to(to, from).is_err() {
+            return Err(EventError::OutOfMemory);
+        }
+        let Ok(sent) = self.deliver(code, to, from, message) else {
+            return Err(EventError::OutOfMemory);
+        };
+        self.take_out(from, to, place);
+        self.post(to, Some(label), sent);
+        Ok(())
+    }
+
+    /// A host runs one instruction.
+    fn turn(&mut self, code: &Code, host: HostId) -> Result<(), EventError>
+        requires fits { WorldFits code.now self.old }
+        ensures answer { IsAnswer code.now self.old (Event.Turn host) result self.new }
+        ensures made { OnOk result ((n : ℕ) → HaveMade n self.old.hosts → HaveMade (n + 1) self.new.hosts) }
+        ensures others { ChangesOnly host self.old.hosts self.new.hosts }
+        ensures fits { WorldFits code.now self.new }
+    {
+        let label = self.runnable(code, host)?;
+        if self.reserve_from(host).is_err() {
+            return Err(EventError::OutOfMemory);
+        }
+        let Ok(sent) = self.run(code, host) else {
+            return Err(EventError::OutOfMemory);
+        };
+        self.post(host, label, sent);
+        Ok(())
+    }
+
+    /// A misbehaving host sends a host a message, which is taken at once.
+    fn act(
+        &mut self,
+        code: &Code,
+        from: HostId,
+        to: HostId,
+        made: BadMessage,
+    ) -> Result<(), EventError>
+        requires fits { WorldFits code.now self.old }
+        requires own { HasOwnToken (world_of self.old) (Event.Act from to made) }
+        ensures answer { IsAnswer code.now self.old (Event.Act from to made) result self.new }
+        ensures made { OnOk result ((n : ℕ) → HaveMade n self.old.hosts → HaveMade (n + 1) self.new.hosts) }
+        ensures others { ChangesOnly to self.old.hosts self.new.hosts }
+        ensures fits { WorldFits code.now self.new }
+    {
+        let message = self.actable(from, to, made)?;
+        if self.reserve_told().is_err() {
+            return Err(EventError::OutOfMemory);
+        }
+        let Ok(sent) = self.deliver(code, to, from, message) else {
+            return Err(EventError::OutOfMemory);
+        };
+        self.tell(to, sent);
+        Ok(())
+    }
+}
