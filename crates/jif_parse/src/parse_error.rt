@@ -1,6 +1,8 @@
 //! Why tokens are no program.
 
 use jif_grammar::What;
+use js_base::OutOfMemory;
+use std::alloc::{AllocError, AllocFailed};
 use thiserror::Error;
 
 /// Why tokens were not parsed.
@@ -17,4 +19,37 @@ pub enum ParseError {
     /// There are too many of something.
     #[error("too many {0:?}")]
     TooMany(What),
+}
+
+impl From<OutOfMemory> for ParseError {
+    ghost use Rattle.std.specs.Prelude.{◌≡◌};
+    ghost use Rattle.jif_parse.specs.declared.parse_error.ParseError.TheVariants as fault;
+
+    ghost from_gives = { λ _ e. e ≡ fault.OutOfMemory };
+
+    fn from(_error: OutOfMemory) -> ParseError {
+        ParseError::OutOfMemory
+    }
+}
+
+impl From<AllocError> for ParseError {
+    ghost use Rattle.std.specs.Prelude.{◌≡◌};
+    ghost use Rattle.jif_parse.specs.declared.parse_error.ParseError.TheVariants as fault;
+
+    ghost from_gives = { λ _ e. e ≡ fault.OutOfMemory };
+
+    fn from(_error: AllocError) -> ParseError {
+        ParseError::OutOfMemory
+    }
+}
+
+impl<T: Drop> From<AllocFailed<T>> for ParseError {
+    ghost use Rattle.std.specs.Prelude.{◌≡◌};
+    ghost use Rattle.jif_parse.specs.declared.parse_error.ParseError.TheVariants as fault;
+
+    ghost from_gives = { λ _ e. e ≡ fault.OutOfMemory };
+
+    fn from(_error: AllocFailed<T>) -> ParseError {
+        ParseError::OutOfMemory
+    }
 }
