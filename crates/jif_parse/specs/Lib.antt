@@ -1,4 +1,5 @@
+pub mod Failing
 pub mod Counting
+pub mod Starts
 pub mod Reading
 pub mod Phrases
-pub mod Starts

@@ -26,11 +26,7 @@ use Rattle.jif_parse.specs.declared.cursor.Cursor.{Cursor}
 use Rattle.jif_parse.specs.declared.endings.Ending.{Ending}
 use Rattle.jif_parse.specs.declared.endings.Ending.TheVariants as ending
 use Rattle.jif_parse.specs.declared.parse_error.ParseError.{ParseError}
-use Rattle.jif_parse.specs.declared.parse_error.ParseError.TheVariants as fault
 use Rattle.jif_parse.specs.Reading.{Moves, Passes, IsNextSymbol, Takes, Fails}
-
-abbrev pub IsOutOfMemory : ParseError → Type 0
-IsOutOfMemory error = error ≡ fault.OutOfMemory
 
 -- ---- symbols and names
 

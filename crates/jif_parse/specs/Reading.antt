@@ -40,7 +40,7 @@ pub record Moves (old new : Cursor) (count : ℕ) : Type 0 where
   pub rest : new.rest.now ≡ drop count old.rest.now
   pub at : new.at ≡ old.at + count
 
--- One token further, where one is left; and the counts as this says. 
+-- One token further, where one is left; and the counts as this says.
 pub record Steps (old new : Cursor) : Type 0 where
   pub rest : new.rest.now ≡ behind old
   pub at : new.at + length new.rest.now ≡ old.at + length old.rest.now

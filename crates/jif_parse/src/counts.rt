@@ -6,7 +6,9 @@ ghost use Rattle.jif_parse.specs.Counting.{beginning_of, HasCounted, IsPast};
 
 use crate::ParseError;
 use jif_grammar::What;
-use js_base::limits::{ARRAY_SIZE, ELEMENTS, EXPRESSION_NODES, FIELDS, METHODS, PARAMETERS, STATEMENTS, VARIABLES};
+use js_base::limits::{
+    ARRAY_SIZE, ELEMENTS, EXPRESSION_NODES, FIELDS, METHODS, PARAMETERS, STATEMENTS, VARIABLES,
+};
 
 /// What has begun so far: of the last method, its parameters and its variables, which are parameters and locals; of the
 /// last statement, its nodes; and all else in all.

@@ -1,18 +1,13 @@
 //! Where the parser stands among the tokens.
 
-ghost use Rattle.std.specs.Prelude.{◌≡◌, ◌≤◌, ◌+◌, ◌↔◌, ◌⊎◌, [], IsTrue, IfOk, IfErr, IfSome, IfNone, length};
-ghost use Rattle.jif_parse.specs.Counting.{beginning_of};
-ghost use Rattle.jif_parse.specs.Reading.{IsNext, IsNextSymbol, IsNextName, Steps, Passes, Counted, IsOver};
-ghost use Rattle.jif_grammar.specs.DraftShapes.{name_shape};
-ghost use Rattle.jif_grammar.specs.Drafts.{name_at};
-ghost use Rattle.jif_parse.specs.Phrases.{ReadsName, PassesSymbol, IsOutOfMemory};
+ghost use Rattle.std.specs.Prelude.{◌≤◌, ◌+◌, length};
 
 use crate::ParseError;
 use crate::counts::{Begins, Counts};
-use jif_lex::{Name, Symbol, Token, TokenKind};
+use crate::names::name_draft;
+use jif_lex::{Symbol, Token, TokenKind};
 use jif_tree::NameDraft;
 use js_base::limits::NESTING;
-use js_base::text::owned_text;
 use std::alloc::Global;
 
 /// The tokens that are left, the number of the first of them, and what has begun.
@@ -25,6 +20,11 @@ pub struct Cursor<'a> {
 }
 
 impl<'a> Cursor<'a> {
+    ghost use Rattle.std.specs.Prelude.{◌≡◌, ◌≤◌, ◌+◌, ◌↔◌, ◌⊎◌, [], IsTrue, IfOk, IfErr, IfSome, IfNone, length};
+    ghost use Rattle.jif_parse.specs.Counting.{beginning_of};
+    ghost use Rattle.jif_parse.specs.Reading.{IsNext, IsNextSymbol, IsNextName, Steps, Passes, Counted, IsOver};
+    ghost use Rattle.jif_parse.specs.Phrases.{ReadsName, PassesSymbol};
+
     /// The next token.
     pub fn next(&self) -> Option<&'a Token>
         ensures there { IfSome result (λ token. IsNext self.now token.now) }
@@ -125,13 +125,4 @@ impl<'a> Cursor<'a> {
         self.pass();
         Ok(draft)
     }
-}
-
-/// A draft of the name at this place.
-pub fn name_draft(alloc: Global, name: &Name, at: u32) -> Result<NameDraft, ParseError>
-    ensures draft { IfOk result (λ draft. name_shape draft ≡ name_at at name.now) }
-    ensures memory { IfErr result IsOutOfMemory }
-{
-    let text = owned_text(alloc, name.as_str())?;
-    Ok(NameDraft { text, at })
 }

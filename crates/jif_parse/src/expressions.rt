@@ -3,7 +3,8 @@
 ghost use Rattle.std.specs.Prelude.{◌≡◌, ◌≤◌, IfOk, IfErr};
 ghost use Rattle.js_base.specs.declared.limits.TheConstants.{NESTING};
 ghost use Rattle.jif_grammar.specs.DraftShapes.{expr_shape, binary_shape};
-ghost use Rattle.jif_parse.specs.Phrases.{IsOutOfMemory, ReadsExpr, FailsExpr, closing_of, ReadsUpTo, FailsUpTo};
+ghost use Rattle.jif_parse.specs.Failing.{IsOutOfMemory};
+ghost use Rattle.jif_parse.specs.Phrases.{ReadsExpr, FailsExpr, closing_of, ReadsUpTo, FailsUpTo};
 ghost use Rattle.jif_parse.specs.Phrases.{ReadsArgs, FailsArgs};
 
 use crate::ParseError;

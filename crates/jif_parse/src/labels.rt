@@ -49,8 +49,7 @@ pub fn parts(alloc: Global, cursor: &mut Cursor) -> Result<LabelDraft, ParseErro
 }
 
 /// A policy with what ends it, and whether that is the semicolon before more parts.
-fn policy(alloc: Global, cursor: &mut Cursor) -> Result<(PolicyDraft, bool), ParseError>
-{
+fn policy(alloc: Global, cursor: &mut Cursor) -> Result<(PolicyDraft, bool), ParseError> {
     let owner = cursor.name(alloc)?;
     cursor.expect(Symbol::Colon)?;
     let readers = names_or_none(alloc, cursor)?;
@@ -63,8 +62,7 @@ fn policy(alloc: Global, cursor: &mut Cursor) -> Result<(PolicyDraft, bool), Par
 }
 
 /// Who trusts, with the brace behind them.
-fn trust(alloc: Global, cursor: &mut Cursor) -> Result<Vec<NameDraft>, ParseError>
-{
+fn trust(alloc: Global, cursor: &mut Cursor) -> Result<Vec<NameDraft>, ParseError> {
     cursor.expect(Symbol::Question)?;
     cursor.expect(Symbol::Colon)?;
     let members = names_or_none(alloc, cursor)?;
@@ -73,8 +71,7 @@ fn trust(alloc: Global, cursor: &mut Cursor) -> Result<Vec<NameDraft>, ParseErro
 }
 
 /// Names joined by commas, if any name is next.
-fn names_or_none(alloc: Global, cursor: &mut Cursor) -> Result<Vec<NameDraft>, ParseError>
-{
+fn names_or_none(alloc: Global, cursor: &mut Cursor) -> Result<Vec<NameDraft>, ParseError> {
     if cursor.is_name_next() {
         names(alloc, cursor)
     } else {

@@ -6,6 +6,7 @@ mod cursor;
 mod endings;
 mod expressions;
 mod labels;
+mod names;
 mod operands;
 mod operators;
 mod parse_error;

@@ -7,16 +7,18 @@ ghost use Rattle.jif_lex.specs.declared.token.Symbol.TheVariants.{LeftParenthesi
 ghost use Rattle.jif_grammar.specs.DraftShapes.{expr_shape, label_shape};
 ghost use Rattle.jif_grammar.specs.Drafts.{signed_shape, relabelled_shape};
 ghost use Rattle.jif_grammar.specs.Operators.{sign_symbol, change_word};
+ghost use Rattle.jif_parse.specs.Failing.{IsOutOfMemory};
 ghost use Rattle.jif_parse.specs.Reading.{IsNextKind, IsNextSymbol};
-ghost use Rattle.jif_parse.specs.Phrases.{IsOutOfMemory, ReadsExpr, FailsExpr};
+ghost use Rattle.jif_parse.specs.Phrases.{ReadsExpr, FailsExpr};
 ghost use Rattle.jif_parse.specs.Starts.{Starts, sign_of, change_of};
 
 use crate::ParseError;
 use crate::counts::Begins;
-use crate::cursor::{Cursor, name_draft};
+use crate::cursor::Cursor;
 use crate::endings::Ending;
 use crate::expressions::up_to;
 use crate::labels::label;
+use crate::names::name_draft;
 use crate::starts::{Change, Sign, Start, start_of};
 use jif_lex::{Name, Symbol};
 use jif_tree::{ExprDraft, LabelDraft};
