@@ -59,11 +59,10 @@ pub record Counted (old new : Cursor) (nesting : ℕ) (beginning : Beginning) : 
 -- ---- what was due
 
 -- What was due becomes what is left, and whatever is due later the tokens are refused for the same cause, or for none.
-abbrev pub Takes : Cursor → Cursor → List Nested → List Nested → Type 0
-Takes old new due left =
-    (later : List Nested) (t : Tally) → IsTally old.counts t → (after : Tally) × IsTally new.counts after
-    × (refusal_from (going (due ++ later) t) old.at (kinds old.rest.now)
-    ≡ refusal_from (going (left ++ later) after) new.at (kinds new.rest.now))
+pub record Takes (old new : Cursor) (due left : List Nested) : Type 0 where
+  pub same : (later : List Nested) (t : Tally) → IsTally old.counts t → (after : Tally) × IsTally new.counts after
+      × (refusal_from (going (due ++ later) t) old.at (kinds old.rest.now)
+      ≡ refusal_from (going (left ++ later) after) new.at (kinds new.rest.now))
 
 -- Whatever is due later, the tokens are refused.
 abbrev pub Refuses : Cursor → List Nested → Refusal → Type 0
@@ -78,9 +77,8 @@ IsErrorOf (too_deep n) error = error ≡ fault.TooDeep
 IsErrorOf (too_many what n) error = error ≡ fault.TooMany what
 
 -- memory ran out, or the tokens are refused
-abbrev pub Fails : Cursor → List Nested → ParseError → Type 0
-Fails old due error =
-    (error ≡ fault.OutOfMemory) ⊎ ((refusal : Refusal) × IsErrorOf refusal error × Refuses old due refusal)
+pub record Fails (old : Cursor) (due : List Nested) (error : ParseError) : Type 0 where
+  pub why : (error ≡ fault.OutOfMemory) ⊎ ((refusal : Refusal) × IsErrorOf refusal error × Refuses old due refusal)
 
 -- a limit is passed at the next token, where this begins
 abbrev pub IsOver : Cursor → ℕ → Beginning → ParseError → Type 0

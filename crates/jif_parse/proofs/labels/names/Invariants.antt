@@ -1,0 +1,8 @@
+use Rattle.std.proofs.Common.{length}
+use Rattle.jif_parse.proofs.labels.names.Given as goal
+
+abbrev pub invariant-loop-names : goal.invariant-loop-names
+invariant-loop-names l = ?
+
+abbrev pub decreases-loop-names : goal.decreases-loop-names
+decreases-loop-names l = length l.cursor.rest.now
