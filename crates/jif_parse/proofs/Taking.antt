@@ -20,6 +20,9 @@ use Rattle.jif_parse.proofs.Limits.{any_nesting, no_excess}
 
 -- ---- one after the other
 
+pub takes_nothing : (cursor : Cursor) (due : List Nested) → Takes cursor cursor due due
+takes_nothing cursor due = record { same = λ later t h. (t, h, refl) }
+
 pub takes_then : {old middle new : Cursor} {due between left : List Nested} → Takes old middle due between →
     Takes middle new between left → Takes old new due left
 takes_then first second = record {

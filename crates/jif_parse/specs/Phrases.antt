@@ -4,6 +4,7 @@ use Rattle.jif_tree.specs.declared.draft.ExprDraft.{ExprDraft}
 use Rattle.jif_tree.specs.declared.draft.LabelDraft.{LabelDraft}
 use Rattle.jif_tree.specs.declared.draft.NameDraft.{NameDraft}
 use Rattle.jif_tree.specs.declared.draft.PolicyDraft.{PolicyDraft}
+use Rattle.js_base.specs.declared.limits.TheConstants.{NESTING}
 use Rattle.js_base.specs.declared.binary_operator.BinOp.{BinOp}
 use Rattle.jif_lex.specs.declared.token.TokenKind.{TokenKind}
 use Rattle.jif_lex.specs.declared.token.TokenKind.TheVariants.{Name}
@@ -60,12 +61,12 @@ pub record ReadsNames (old new : Cursor) (drafts : List NameDraft) : Type 0 wher
   pub drafts_are : map name_shape drafts ≡ names_at old.at names
   pub moves : Moves old new (length (names_tokens names))
   pub ends : ¬ IsNextSymbol new Comma
-  pub takes : (list : NameList) (depth : ℕ) →
+  pub takes : (list : NameList) (depth : ℕ) → depth ≤ NESTING →
       Takes old new (nested_at depth a_name ∷ nested_at depth (after_name_of list) ∷ [])
       (nested_at depth (after_name_of list) ∷ [])
 
 abbrev pub FailsNames : Cursor → ParseError → Type 0
-FailsNames old error = (list : NameList) (depth : ℕ) →
+FailsNames old error = (list : NameList) (depth : ℕ) → depth ≤ NESTING →
     Fails old (nested_at depth a_name ∷ nested_at depth (after_name_of list) ∷ []) error
 
 -- ---- labels
@@ -77,10 +78,10 @@ pub record ReadsParts (old new : Cursor) (draft : LabelDraft) : Type 0 where
   pub written : kinds old.rest.now ≡ joined_then (symbol Semicolon) part_then label (symbol RightBrace ∷ kinds new.rest.now)
   pub draft_is : label_shape draft ≡ record { policies = policies_at old.at label; trust = trust_at old.at label }
   pub moves : Moves old new (length (parts_tokens label) + 1)
-  pub takes : (depth : ℕ) → Takes old new (nested_at depth first_part ∷ []) []
+  pub takes : (depth : ℕ) → depth ≤ NESTING → Takes old new (nested_at depth first_part ∷ []) []
 
 abbrev pub FailsParts : Cursor → ParseError → Type 0
-FailsParts old error = (depth : ℕ) → Fails old (nested_at depth first_part ∷ []) error
+FailsParts old error = (depth : ℕ) → depth ≤ NESTING → Fails old (nested_at depth first_part ∷ []) error
 
 pub record ReadsLabel (old new : Cursor) (draft : LabelDraft) : Type 0 where
   pub label : LabelPhrase
@@ -88,10 +89,10 @@ pub record ReadsLabel (old new : Cursor) (draft : LabelDraft) : Type 0 where
   pub written : kinds old.rest.now ≡ label_then label (kinds new.rest.now)
   pub draft_is : label_shape draft ≡ label_at old.at label
   pub moves : Moves old new (label_width label)
-  pub takes : (depth : ℕ) → Takes old new (nested_at depth due.label ∷ []) []
+  pub takes : (depth : ℕ) → depth ≤ NESTING → Takes old new (nested_at depth due.label ∷ []) []
 
 abbrev pub FailsLabel : Cursor → ParseError → Type 0
-FailsLabel old error = (depth : ℕ) → Fails old (nested_at depth due.label ∷ []) error
+FailsLabel old error = (depth : ℕ) → depth ≤ NESTING → Fails old (nested_at depth due.label ∷ []) error
 
 -- ---- expressions
 
