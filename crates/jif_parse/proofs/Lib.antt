@@ -5,3 +5,4 @@ pub mod Moving
 pub mod Fixed
 pub mod Lists
 pub mod NameLists
+pub mod PartLists

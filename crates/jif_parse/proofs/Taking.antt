@@ -1,5 +1,5 @@
 -- Readers one after the other, and single steps.
-use Rattle.std.proofs.Common.{◌≡◌, ℕ, ◌≤◌, ◌+◌, List, [], ◌∷◌, ◌++◌, append_assoc, Option, Some, None, refl, ap, sym, subst}
+use Rattle.std.proofs.Common.{◌≡◌, ℕ, ◌≤◌, ◌+◌, List, [], ◌∷◌, ◌++◌, drop, append_assoc, Option, Some, None, refl, ap, sym, subst}
 use Rattle.std.proofs.Common.{◌∙◌, inl, inr}
 use Rattle.std.specs.Option.{option_map}
 use Rattle.js_base.specs.declared.limits.TheConstants.{NESTING}
@@ -15,7 +15,7 @@ use Rattle.jif_parse.specs.declared.cursor.Cursor.{Cursor}
 use Rattle.jif_parse.specs.declared.parse_error.ParseError.{ParseError}
 use Rattle.jif_parse.specs.declared.parse_error.ParseError.TheVariants as fault
 use Rattle.jif_parse.specs.Counting.{IsTally, HasCounted}
-use Rattle.jif_parse.specs.Reading.{Takes, Refuses, Fails, IsErrorOf, IsOver}
+use Rattle.jif_parse.specs.Reading.{behind, Takes, Refuses, Fails, IsErrorOf, IsOver}
 use Rattle.jif_parse.proofs.Limits.{any_nesting, no_excess}
 
 -- ---- one after the other
@@ -139,7 +139,7 @@ fails_unexpected old error first tells other = record {
 -- ---- the same verdict by other things that are due
 
 same_from : (first other : Nested) (later : List Nested) (t : Tally) (n : ℕ) (tokens : List Token) →
-    ((kind : TokenKind) (more : List TokenKind) → kinds tokens ≡ kind ∷ more →
+    ((kind : TokenKind) → kinds tokens ≡ kind ∷ kinds (drop 1 tokens) →
     walk_behind (option_map (λ s. (marked_by first kind, nested_after first kind s ++ later))
     (due_after_token first.due kind)) t n
     ≡ walk_behind (option_map (λ s. (marked_by other kind, nested_after other kind s ++ later))
@@ -147,4 +147,21 @@ same_from : (first other : Nested) (later : List Nested) (t : Tally) (n : ℕ) (
     refusal_from (going (first ∷ later) t) n (kinds tokens) ≡ refusal_from (going (other ∷ later) t) n (kinds tokens)
 same_from first other later t n [] same = refl
 same_from first other later t n (token ∷ tokens) same =
-    ap (λ w. refusal_from w (n + 1) (kinds tokens)) (same token.kind (kinds tokens) refl)
+    ap (λ w. refusal_from w (n + 1) (kinds tokens)) (same token.kind refl)
+
+-- the token does the same for either
+abbrev pub SameStep : Nested → Nested → TokenKind → Type 0
+SameStep first other kind =
+    (later : List Nested) (t : Tally) (n : ℕ) →
+    walk_behind (option_map (λ s. (marked_by first kind, nested_after first kind s ++ later))
+    (due_after_token first.due kind)) t n
+    ≡ walk_behind (option_map (λ s. (marked_by other kind, nested_after other kind s ++ later))
+    (due_after_token other.due kind)) t n
+
+pub takes_same : (old : Cursor) (first other : Nested) →
+    ((kind : TokenKind) → kinds old.rest.now ≡ kind ∷ kinds (behind old) → SameStep first other kind) →
+    Takes old old (first ∷ []) (other ∷ [])
+takes_same old first other same = record {
+  same = λ later t h.
+      (t, h, same_from first other later t old.at old.rest.now (λ kind is. same kind is later t old.at));
+}

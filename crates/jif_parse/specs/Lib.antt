@@ -2,4 +2,5 @@ pub mod Failing
 pub mod Counting
 pub mod Starts
 pub mod Reading
+pub mod Parts
 pub mod Phrases

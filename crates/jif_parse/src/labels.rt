@@ -1,6 +1,9 @@
 //! Names and labels.
 
 ghost use Rattle.std.specs.Prelude.{IfOk, IfErr};
+ghost use Rattle.jif_lex.specs.declared.token.Symbol.TheVariants.{Question};
+ghost use Rattle.jif_parse.specs.Reading.{IsNextSymbol};
+ghost use Rattle.jif_parse.specs.Parts.{ReadsAnyNames, FailsAnyNames, FailsPart, ReadsPolicy, ReadsTrust};
 ghost use Rattle.jif_parse.specs.Phrases.{ReadsNames, FailsNames, ReadsParts, FailsParts, ReadsLabel, FailsLabel};
 
 use crate::ParseError;
@@ -49,7 +52,10 @@ pub fn parts(alloc: Global, cursor: &mut Cursor) -> Result<LabelDraft, ParseErro
 }
 
 /// A policy with what ends it, and whether that is the semicolon before more parts.
-fn policy(alloc: Global, cursor: &mut Cursor) -> Result<(PolicyDraft, bool), ParseError> {
+fn policy(alloc: Global, cursor: &mut Cursor) -> Result<(PolicyDraft, bool), ParseError>
+    ensures read { IfOk result (λ read. ReadsPolicy cursor.old cursor.new read.0 read.1) }
+    ensures fails { IfErr result (FailsPart cursor.old) }
+{
     let owner = cursor.name(alloc)?;
     cursor.expect(Symbol::Colon)?;
     let readers = names_or_none(alloc, cursor)?;
@@ -61,9 +67,13 @@ fn policy(alloc: Global, cursor: &mut Cursor) -> Result<(PolicyDraft, bool), Par
     Ok((PolicyDraft { owner, readers }, false))
 }
 
-/// Who trusts, with the brace behind them.
-fn trust(alloc: Global, cursor: &mut Cursor) -> Result<Vec<NameDraft>, ParseError> {
-    cursor.expect(Symbol::Question)?;
+/// Who trusts, from the `?` to the brace behind them.
+fn trust(alloc: Global, cursor: &mut Cursor) -> Result<Vec<NameDraft>, ParseError>
+    requires { IsNextSymbol cursor.old Question }
+    ensures read { IfOk result (λ drafts. ReadsTrust cursor.old cursor.new drafts.items) }
+    ensures fails { IfErr result (FailsPart cursor.old) }
+{
+    cursor.pass();
     cursor.expect(Symbol::Colon)?;
     let members = names_or_none(alloc, cursor)?;
     cursor.expect(Symbol::RightBrace)?;
@@ -71,7 +81,10 @@ fn trust(alloc: Global, cursor: &mut Cursor) -> Result<Vec<NameDraft>, ParseErro
 }
 
 /// Names joined by commas, if any name is next.
-fn names_or_none(alloc: Global, cursor: &mut Cursor) -> Result<Vec<NameDraft>, ParseError> {
+fn names_or_none(alloc: Global, cursor: &mut Cursor) -> Result<Vec<NameDraft>, ParseError>
+    ensures read { IfOk result (λ drafts. ReadsAnyNames cursor.old cursor.new drafts.items) }
+    ensures fails { IfErr result (FailsAnyNames cursor.old) }
+{
     if cursor.is_name_next() {
         names(alloc, cursor)
     } else {
