@@ -11,6 +11,7 @@ use Rattle.jif_grammar.specs.Marks.{Beginning, Tally, Marked, mark, after_beginn
 use Rattle.jif_grammar.specs.Programs.{Refusal, unexpected}
 use Rattle.jif_grammar.specs.Nesting.{Nested, marked_by, nested_after}
 use Rattle.jif_grammar.specs.Verdicts.{Walk, going, refused, excess, excess_at, refusal_from, walk_behind, walk_within}
+use Rattle.jif_grammar.specs.Verdicts.{walk_on}
 use Rattle.jif_parse.specs.declared.cursor.Cursor.{Cursor}
 use Rattle.jif_parse.specs.declared.parse_error.ParseError.{ParseError}
 use Rattle.jif_parse.specs.declared.parse_error.ParseError.TheVariants as fault
@@ -37,21 +38,27 @@ pub takes_before : {old new : Cursor} {due left : List Nested} (more : List Nest
     Takes old new (due ++ more) (left ++ more)
 takes_before {old} {new} {due} {left} more takes = record {
   same = λ later t h.
-      let one = takes.same (more ++ later) t h in
-      (one.0, one.1,
-      ap (λ d. refusal_from (going d t) old.at (kinds old.rest.now)) (append_assoc due more later) ∙ one.2
-      ∙ ap (λ d. refusal_from (going d one.0) new.at (kinds new.rest.now)) (sym (append_assoc left more later)));
+      let one = takes.same (more ++ later) t h in (
+        one.0,
+        one.1,
+        ap (λ d. refusal_from (going d t) old.at (kinds old.rest.now)) (append_assoc due more later) ∙ one.2
+            ∙ ap (λ d. refusal_from (going d one.0) new.at (kinds new.rest.now)) (sym (append_assoc left more later)),
+      );
 }
 
 pub fails_then : {old middle : Cursor} {due between : List Nested} {error : ParseError} →
     Takes old middle due between → Fails middle between error → Fails old due error
 fails_then takes fails = record {
   why = elim fails.why [
-    inl memory ↦ inl memory
+    | inl memory ↦ inl memory
     | inr told ↦
-        inr (told.0, told.1, λ later t h.
-        let one = takes.same later t h in
-        one.2 ∙ told.2 later one.0 one.1)
+        inr (
+          told.0,
+          told.1,
+          λ later t h.
+              let one = takes.same later t h in
+              one.2 ∙ told.2 later one.0 one.1,
+        )
   ];
 }
 
@@ -59,11 +66,15 @@ pub fails_before : {old : Cursor} {due : List Nested} {error : ParseError} (more
     Fails old due error → Fails old (due ++ more) error
 fails_before {old} {due} more fails = record {
   why = elim fails.why [
-    inl memory ↦ inl memory
+    | inl memory ↦ inl memory
     | inr told ↦
-        inr (told.0, told.1, λ later t h.
-        ap (λ d. refusal_from (going d t) old.at (kinds old.rest.now)) (append_assoc due more later)
-        ∙ told.2 (more ++ later) t h)
+        inr (
+          told.0,
+          told.1,
+          λ later t h.
+              ap (λ d. refusal_from (going d t) old.at (kinds old.rest.now)) (append_assoc due more later)
+              ∙ told.2 (more ++ later) t h,
+        )
   ];
 }
 
@@ -94,13 +105,15 @@ takes_token {old} {new} first kind sooner nesting beginning is_next at counted n
   same = λ later t h.
       let token : Marked = mark beginning nesting kind in
       let within = any_nesting new.counts (after_beginning t beginning) nesting (counted t h) in
-      let behind = nested_after first kind sooner ++ later in
-      (after_token t token, within,
-      ap (λ ks. refusal_from (going (first ∷ later) t) old.at ks) is_next
-      ∙ walk_step first later t old.at kind (kinds new.rest.now) sooner token is_due marked
-      ∙ ap (λ o. refusal_from (walk_within o behind (after_token t token) old.at) (old.at + 1) (kinds new.rest.now))
-      (no_excess new.counts (after_token t token) within nested)
-      ∙ ap (λ n. refusal_from (going behind (after_token t token)) n (kinds new.rest.now)) (sym at));
+      let behind = nested_after first kind sooner ++ later in (
+        after_token t token,
+        within,
+        ap (λ ks. refusal_from (going (first ∷ later) t) old.at ks) is_next
+            ∙ walk_step first later t old.at kind (kinds new.rest.now) sooner token is_due marked
+            ∙ ap (λ o. refusal_from (walk_within o behind (after_token t token) old.at) (old.at + 1) (kinds new.rest.now))
+            (no_excess new.counts (after_token t token) within nested)
+            ∙ ap (λ n. refusal_from (going behind (after_token t token)) n (kinds new.rest.now)) (sym at),
+      );
 }
 
 -- a due token that passes a limit
@@ -109,12 +122,16 @@ pub fails_at_limit : {old : Cursor} {error : ParseError} (first : Nested) (kind 
     IsOver old nesting beginning error → due_after_token first.due kind ≡ Some sooner →
     marked_by first kind ≡ mark beginning nesting kind → Fails old (first ∷ []) error
 fails_at_limit {old} {error} first kind more sooner nesting beginning is_next over is_due marked = record {
-  why = inr (excess_at over.0 old.at, over.1, λ later t h.
-  let token : Marked = mark beginning nesting kind in
-  let behind = nested_after first kind sooner ++ later in
-  ap (λ ks. refusal_from (going (first ∷ later) t) old.at ks) is_next
-  ∙ walk_step first later t old.at kind more sooner token is_due marked
-  ∙ ap (λ o. refusal_from (walk_within o behind (after_token t token) old.at) (old.at + 1) more) (over.2 t h));
+  why = inr (
+    excess_at over.0 old.at,
+    over.1,
+    λ later t h.
+        let token : Marked = mark beginning nesting kind in
+        let behind = nested_after first kind sooner ++ later in
+        ap (λ ks. refusal_from (going (first ∷ later) t) old.at ks) is_next
+        ∙ walk_step first later t old.at kind more sooner token is_due marked
+        ∙ ap (λ o. refusal_from (walk_within o behind (after_token t token) old.at) (old.at + 1) more) (over.2 t h),
+  );
 }
 
 -- ---- tokens that are not due
@@ -164,4 +181,20 @@ pub takes_same : (old : Cursor) (first other : Nested) →
 takes_same old first other same = record {
   same = λ later t h.
       (t, h, same_from first other later t old.at old.rest.now (λ kind is. same kind is later t old.at));
+}
+
+-- the next token does the same for one thing that is due as for two others
+pub takes_alike : (old : Cursor) (first other : Nested) (more : List Nested) (kind : TokenKind) →
+    kinds old.rest.now ≡ kind ∷ kinds (behind old) →
+    ((later : List Nested) (t : Tally) (n : ℕ) →
+    walk_on (first ∷ later) t n kind ≡ walk_on (other ∷ more ++ later) t n kind) →
+    Takes old old (first ∷ []) (other ∷ more)
+takes_alike old first other more kind is same = record {
+  same = λ later t h. (
+    t,
+    h,
+    ap (λ ks. refusal_from (going (first ∷ later) t) old.at ks) is
+        ∙ ap (λ w. refusal_from w (old.at + 1) (kinds (behind old))) (same later t old.at)
+        ∙ ap (λ ks. refusal_from (going (other ∷ more ++ later) t) old.at ks) (sym is),
+  );
 }

@@ -51,8 +51,9 @@ pub fn parts(alloc: Global, cursor: &mut Cursor) -> Result<LabelDraft, ParseErro
     })
 }
 
-/// A policy with what ends it, and whether that is the semicolon before more parts.
+/// A policy with what ends it, and whether that is the semicolon before more parts. It does not begin with `?`.
 fn policy(alloc: Global, cursor: &mut Cursor) -> Result<(PolicyDraft, bool), ParseError>
+    requires { ¬ IsNextSymbol cursor.old Question }
     ensures read { IfOk result (λ read. ReadsPolicy cursor.old cursor.new read.0 read.1) }
     ensures fails { IfErr result (FailsPart cursor.old) }
 {
