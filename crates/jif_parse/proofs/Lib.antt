@@ -6,3 +6,5 @@ pub mod Fixed
 pub mod Lists
 pub mod NameLists
 pub mod PartLists
+pub mod Behind
+pub mod Exprs
