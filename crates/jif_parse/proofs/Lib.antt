@@ -8,3 +8,4 @@ pub mod NameLists
 pub mod PartLists
 pub mod Behind
 pub mod Exprs
+pub mod Tight
