@@ -15,10 +15,12 @@ use Rattle.jif_grammar.specs.Due.{links, after_operand_name, due_after_token}
 use Rattle.jif_grammar.specs.Marks.{Marked, mark, node}
 use Rattle.jif_grammar.specs.Nesting.{Nested, nested_at, marked_by, nested_after}
 use Rattle.jif_parse.specs.declared.cursor.Cursor.{Cursor}
+use Rattle.jif_parse.specs.declared.endings.Ending.{Ending}
+use Rattle.jif_parse.specs.declared.endings.Ending.TheVariants as ending
 use Rattle.jif_parse.specs.declared.parse_error.ParseError.{ParseError}
 use Rattle.jif_parse.specs.declared.parse_error.ParseError.TheVariants as fault
 use Rattle.jif_parse.specs.Reading.{IsNextKind, IsNextSymbol, Passes, Counted, IsOver, Takes, Fails}
-use Rattle.jif_parse.specs.Phrases.{PassesSymbol, operand_due, links_due, StopsAt, closing_symbol}
+use Rattle.jif_parse.specs.Phrases.{PassesSymbol, operand_due, links_due, StopsAt, closing_of, closing_symbol}
 use Rattle.jif_parse.proofs.Taking.{takes_same, SameStep, fails_at_limit}
 use Rattle.jif_parse.proofs.Moving.{stepped, takes_passed, takes_counted, fails_other}
 use Rattle.jif_parse.proofs.Fixed.{step_symbol}
@@ -343,3 +345,9 @@ takes_as_links old closing depth inner other =
     takes_same old (record { due = after_operand_name closing; depth = depth; inner = inner })
     (nested_at depth (links closing))
     (λ kind is. same_behind_name closing depth inner kind (λ same. other (subst (IsNextKind old) same is)))
+
+pub no_comma : (last : Ending) (cursor : Cursor) → IsNoComma (closing_of last) cursor
+no_comma ending.Semicolon cursor = tt
+no_comma ending.Comma cursor = tt
+no_comma ending.Bracket cursor = tt
+no_comma ending.Parenthesis cursor = tt

@@ -45,15 +45,22 @@ width_signed sign operand = omega (arith, of_expr_width (signed sign operand) []
 pub width_binary : (operator : BinOp) (left right : ExprPhrase) →
     expr_width (binary operator left right) ≡ expr_width left + 1 + expr_width right
 width_binary operator left right =
-    omega (arith, of_expr_width (binary operator left right) [],
-    of_expr_width left (symbol (operator_symbol operator) ∷ expr_then right []), of_expr_width right [])
+    omega (
+      arith,
+      of_expr_width (binary operator left right) [],
+      of_expr_width left (symbol (operator_symbol operator) ∷ expr_then right []),
+      of_expr_width right [],
+    )
 
 pub width_relabelled : (change : Change) (inner : ExprPhrase) (label : LabelPhrase) →
     expr_width (relabelled change inner label) ≡ expr_width inner + label_width label + 4
 width_relabelled change inner label =
-    omega (arith, of_expr_width (relabelled change inner label) [],
-    of_expr_width inner (symbol symbols.Comma ∷ label_then label (symbol symbols.RightParenthesis ∷ [])),
-    of_label_width label (symbol symbols.RightParenthesis ∷ []))
+    omega (
+      arith,
+      of_expr_width (relabelled change inner label) [],
+      of_expr_width inner (symbol symbols.Comma ∷ label_then label (symbol symbols.RightParenthesis ∷ [])),
+      of_label_width label (symbol symbols.RightParenthesis ∷ []),
+    )
 
 -- ---- operators
 

@@ -1,5 +1,5 @@
 -- Operands: what each begins with, and what is due behind it.
-use Rattle.std.proofs.Common.{◌≡◌, ℕ, suc, pos, ◌≤◌, ◌<◌, ◌+◌, List, [], ◌∷◌, ◌++◌, length, Some, None, refl, ap, sym, subst, ◌∙◌}
+use Rattle.std.proofs.Common.{◌≡◌, ℕ, ℤ, suc, pos, ◌≤◌, ◌<◌, ◌+◌, List, [], ◌∷◌, ◌++◌, length, Some, None, refl, ap, sym, subst, ◌∙◌}
 use Rattle.std.proofs.Common.{arith, ◌⊎◌, inl, inr}
 use Rattle.std.proofs.Math.Numerals.{add-one}
 use Rattle.js_base.specs.declared.limits.TheConstants.{NESTING}
@@ -16,7 +16,7 @@ use Rattle.jif_grammar.specs.Due.{Due, Closing, at_comma, at_bracket, at_parenth
 use Rattle.jif_grammar.specs.Due.{exactly, left_parenthesis, right_parenthesis, due_after_token, relabelled_operand}
 use Rattle.jif_grammar.specs.Marks.{nothing, node, mark}
 use Rattle.jif_grammar.specs.Nesting.{Nested, nested_at, marked_by, nested_after}
-use Rattle.jif_grammar.specs.DraftShapes.{expr_shape, variable_shape, element_shape, label_shape, name_shape}
+use Rattle.jif_grammar.specs.DraftShapes.{expr_shape, number_shape, variable_shape, element_shape, label_shape, name_shape}
 use Rattle.jif_grammar.specs.Drafts.{expr_at, expr_width, label_at, label_width, name_at, signed_shape, relabelled_shape}
 use Rattle.jif_grammar.specs.Unmarked.{expr_then, label_then}
 use Rattle.jif_tree.specs.declared.draft.ExprDraft as code
@@ -46,21 +46,24 @@ stops_tight cursor operator is = below_tightest operator
 
 -- ---- numbers and variables
 
-pub number_read : {old new : Cursor} {depth inner : ℕ} (n : ℕ) → IsNextKind old (token.Number (pos n)) →
-    Counted old new inner node → ReadsExpr old new 6 depth inner (code.Number (pos n))
-number_read {old} {new} {depth} {inner} n is counted =
-    let one = stepped (token.Number (pos n)) is counted.steps in
+pub number_read : {old new : Cursor} {depth inner : ℕ} (draft : ExprDraft) (first : Token) (n : ℤ) (m : ℕ) →
+    IsNext old first → first.kind ≡ token.Number n → n ≡ pos m → expr_shape draft ≡ number_shape n →
+    Counted old new inner node → ReadsExpr old new 6 depth inner draft
+number_read {old} {new} {depth} {inner} draft first n m next is value shape counted =
+    let known : IsNextKind old (token.Number (pos m)) =
+    ap kinds next ∙ ap (λ k. k ∷ kinds (behind old)) (is ∙ ap token.Number value) in
+    let one = stepped (token.Number (pos m)) known counted.steps in
     record {
-      expr = number n;
+      expr = number m;
       grouped = tt;
       tight = omega arith;
       written = one.is_next;
-      draft_is = refl;
+      draft_is = shape ∙ ap number_shape value;
       moves = one.moves;
       stops = stops_tight new;
       takes = λ closing.
-          takes_counted (operand_at closing depth inner) (token.Number (pos n)) (links closing ∷ []) inner node is counted
-          refl refl;
+          takes_counted (operand_at closing depth inner) (token.Number (pos m)) (links closing ∷ []) inner node known
+          counted refl refl;
     }
 
 takes_word : {old new : Cursor} (closing : Closing) (depth inner : ℕ) (name : List ℕ) →

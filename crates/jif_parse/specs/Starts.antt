@@ -1,5 +1,6 @@
 -- What operands begin with.
-use Rattle.std.specs.Prelude.{◌≡◌, ℕ, pos, None}
+use Rattle.std.specs.Prelude.{◌≡◌, ℕ, pos, ◌≤ℤ◌, None}
+use Rattle.js_base.specs.declared.limits.TheConstants.{LARGEST_NUMBER}
 use Rattle.jif_lex.specs.declared.token.TokenKind.{TokenKind}
 use Rattle.jif_lex.specs.declared.token.TokenKind.TheVariants as token
 use Rattle.jif_lex.specs.declared.token.Symbol.TheVariants.{LeftParenthesis}
@@ -23,7 +24,7 @@ change_of Acceptance = phrases.acceptance
 
 -- what an operand begins with, by its first token
 abbrev pub Starts : TokenKind → Start → Type 0
-Starts kind (start.Number n) = (kind ≡ token.Number n) × ((m : ℕ) × (n ≡ pos m))
+Starts kind (start.Number n) = (kind ≡ token.Number n) × ((m : ℕ) × (n ≡ pos m)) × (n ≤ℤ LARGEST_NUMBER)
 Starts kind (start.Name name) = kind ≡ token.Name name.now
 Starts kind start.Parenthesis = kind ≡ token.Symbol LeftParenthesis
 Starts kind (start.Sign sign) = kind ≡ token.Symbol (sign_symbol (sign_of sign))

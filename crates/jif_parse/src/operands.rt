@@ -4,7 +4,7 @@ ghost use Rattle.std.specs.Prelude.{◌≡◌, ◌≤◌, IfOk, IfErr};
 ghost use Rattle.js_base.specs.declared.limits.TheConstants.{NESTING};
 ghost use Rattle.jif_lex.specs.declared.token.TokenKind.TheVariants as token;
 ghost use Rattle.jif_lex.specs.declared.token.Symbol.TheVariants.{LeftParenthesis};
-ghost use Rattle.jif_grammar.specs.DraftShapes.{expr_shape, label_shape};
+ghost use Rattle.jif_grammar.specs.DraftShapes.{expr_shape, number_shape, element_shape, name_shape, label_shape};
 ghost use Rattle.jif_grammar.specs.Drafts.{signed_shape, relabelled_shape};
 ghost use Rattle.jif_grammar.specs.Operators.{sign_symbol, change_word};
 ghost use Rattle.jif_parse.specs.Failing.{IsOutOfMemory};
@@ -21,7 +21,7 @@ use crate::labels::label;
 use crate::names::name_draft;
 use crate::starts::{Change, Sign, Start, start_of};
 use jif_lex::{Name, Symbol};
-use jif_tree::{ExprDraft, LabelDraft};
+use jif_tree::{ExprDraft, LabelDraft, NameDraft};
 use std::alloc::Global;
 
 /// An operand of operators, with the signs before it. Around it stand so many constructs, and the inner ones have the
@@ -43,7 +43,7 @@ pub fn operand(
     match start_of(&token.kind) {
         Start::Number(number) => {
             cursor.take(inner, Begins::Node)?;
-            Ok(ExprDraft::Number(number))
+            Ok(number_draft(number))
         }
         Start::Name(name) => named(alloc, cursor, name, depth, inner),
         Start::Parenthesis => parenthesized(alloc, cursor, depth, inner),
@@ -51,6 +51,12 @@ pub fn operand(
         Start::Change(change) => relabelled(alloc, cursor, change, depth, inner),
         Start::Other => Err(cursor.unexpected()),
     }
+}
+
+fn number_draft(number: i64) -> ExprDraft
+    ensures { expr_shape result ≡ number_shape number }
+{
+    ExprDraft::Number(number)
 }
 
 /// A variable or an element, whose name is next.
@@ -74,7 +80,15 @@ fn named(
     }
     cursor.take(inner + 1, Begins::Nothing)?;
     let index = up_to(alloc, cursor, Ending::Bracket, inner + 1)?;
-    Ok(ExprDraft::Element(name, Box::new(alloc, index)?))
+    element(alloc, name, index)
+}
+
+fn element(alloc: Global, name: NameDraft, index: ExprDraft) -> Result<ExprDraft, ParseError>
+    ensures draft { IfOk result (λ draft. expr_shape draft ≡ element_shape (name_shape name) (expr_shape index)) }
+    ensures memory { IfErr result IsOutOfMemory }
+{
+    let index = Box::new(alloc, index)?;
+    Ok(ExprDraft::Element(name, index))
 }
 
 /// An expression between parentheses, of which the first is next.
