@@ -1,28 +1,26 @@
 -- What is due behind an operand: operators, and what ends an expression.
-use Rattle.std.proofs.Common.{◌≡◌, ℕ, suc, ◌≤◌, ◌<◌, ◌+◌, List, [], ◌∷◌, ◌++◌, Option, Some, None, refl, ap, sym, subst, ◌∙◌, arith}
+use Rattle.std.proofs.Common.{◌≡◌, ℕ, ◌≤◌, ◌<◌, List, [], ◌∷◌, Some, None, refl, subst, arith}
 use Rattle.js_base.specs.declared.binary_operator.BinOp.{BinOp}
 use Rattle.js_base.specs.declared.binary_operator.BinOp.TheVariants as operators
 use Rattle.js_base.specs.declared.limits.TheConstants.{NESTING}
 use Rattle.jif_lex.specs.declared.token.TokenKind.{TokenKind}
 use Rattle.jif_lex.specs.declared.token.TokenKind.TheVariants as token
-use Rattle.jif_lex.specs.declared.token.Symbol.{Symbol}
 use Rattle.jif_lex.specs.declared.token.Symbol.TheVariants as symbols
 use Rattle.label_lattice.specs.Written.{kinds, symbol}
 use Rattle.jif_grammar.specs.Operators.{operator_symbol, operator_level}
-use Rattle.jif_grammar.specs.Due as due
-use Rattle.jif_grammar.specs.Due.{Due, Closing, at_semicolon, at_comma, at_bracket, at_parenthesis, at_argument, operand}
+use Rattle.jif_grammar.specs.Due.{Closing, at_semicolon, at_comma, at_bracket, at_parenthesis, at_argument, operand}
 use Rattle.jif_grammar.specs.Due.{links, after_operand_name, due_after_token}
-use Rattle.jif_grammar.specs.Marks.{Marked, mark, node}
-use Rattle.jif_grammar.specs.Nesting.{Nested, nested_at, marked_by, nested_after}
+use Rattle.jif_grammar.specs.Marks.{mark, node}
+use Rattle.jif_grammar.specs.Nesting.{nested_at, marked_by}
 use Rattle.jif_parse.specs.declared.cursor.Cursor.{Cursor}
 use Rattle.jif_parse.specs.declared.endings.Ending.{Ending}
 use Rattle.jif_parse.specs.declared.endings.Ending.TheVariants as ending
 use Rattle.jif_parse.specs.declared.parse_error.ParseError.{ParseError}
 use Rattle.jif_parse.specs.declared.parse_error.ParseError.TheVariants as fault
-use Rattle.jif_parse.specs.Reading.{IsNextKind, IsNextSymbol, Passes, Counted, IsOver, Takes, Fails}
+use Rattle.jif_parse.specs.Reading.{IsNextKind, IsNextSymbol, Counted, IsOver, Takes, Fails}
 use Rattle.jif_parse.specs.Phrases.{PassesSymbol, operand_due, links_due, StopsAt, closing_of, closing_symbol}
 use Rattle.jif_parse.proofs.Taking.{takes_same, SameStep, fails_at_limit}
-use Rattle.jif_parse.proofs.Moving.{stepped, takes_passed, takes_counted, fails_other}
+use Rattle.jif_parse.proofs.Moving.{takes_passed, takes_counted, fails_other}
 use Rattle.jif_parse.proofs.Fixed.{step_symbol}
 
 -- ---- levels

@@ -1,19 +1,16 @@
 -- Expressions: a first operand, and an operator with an operand more.
-use Rattle.std.proofs.Common.{◌≡◌, ℕ, suc, ◌≤◌, ◌<◌, ◌+◌, List, [], ◌∷◌, ◌++◌, length, Some, None, refl, ap, sym, subst, ◌∙◌, arith}
-use Rattle.std.proofs.Common.{pos}
+use Rattle.std.proofs.Common.{◌≡◌, ℕ, ◌≤◌, ◌+◌, List, [], ◌∷◌, ap, ◌∙◌, arith}
 use Rattle.js_base.specs.declared.binary_operator.BinOp.{BinOp}
 use Rattle.js_base.specs.declared.limits.TheConstants.{NESTING}
-use Rattle.jif_lex.specs.declared.token.TokenKind.{TokenKind}
-use Rattle.jif_lex.specs.declared.token.TokenKind.TheVariants as token
 use Rattle.jif_lex.specs.declared.token.Symbol.TheVariants as symbols
 use Rattle.label_lattice.specs.Written.{kinds, symbol}
-use Rattle.jif_grammar.specs.Phrases.{ExprPhrase, LabelPhrase, number, variable, element, parenthesized, signed, binary}
+use Rattle.jif_grammar.specs.Phrases.{ExprPhrase, LabelPhrase, element, parenthesized, signed, binary}
 use Rattle.jif_grammar.specs.Phrases.{relabelled, Sign, Change}
-use Rattle.jif_grammar.specs.Operators.{operator_symbol, operator_level, sign_symbol, change_word}
+use Rattle.jif_grammar.specs.Operators.{operator_symbol, operator_level}
 use Rattle.jif_grammar.specs.Grouping.{level, IsGrouped}
 use Rattle.jif_grammar.specs.Due.{Closing}
 use Rattle.jif_grammar.specs.Marks.{node}
-use Rattle.jif_grammar.specs.DraftShapes.{ExprShape, expr_shape, binary_shape}
+use Rattle.jif_grammar.specs.DraftShapes.{expr_shape, binary_shape}
 use Rattle.jif_grammar.specs.Drafts.{expr_at, expr_width, label_width}
 use Rattle.jif_grammar.specs.Unmarked.{expr_then, label_then}
 use Rattle.jif_grammar.proofs.Widths.{of_expr_width, of_label_width}
@@ -21,7 +18,7 @@ use Rattle.jif_tree.specs.declared.draft.ExprDraft.{ExprDraft}
 use Rattle.jif_parse.specs.declared.cursor.Cursor.{Cursor}
 use Rattle.jif_parse.specs.declared.parse_error.ParseError.{ParseError}
 use Rattle.jif_parse.specs.declared.parse_error.ParseError.TheVariants as fault
-use Rattle.jif_parse.specs.Reading.{behind, IsNextSymbol, Moves, Counted, IsOver, Takes, Fails}
+use Rattle.jif_parse.specs.Reading.{behind, IsNextSymbol, Moves, Counted, IsOver, Takes}
 use Rattle.jif_parse.specs.Phrases.{PassesSymbol, operand_due, links_due, StopsAt, ReadsExpr, FailsExpr, closing_symbol}
 use Rattle.jif_parse.specs.Phrases.{ReadsUpTo, FailsUpTo}
 use Rattle.jif_parse.proofs.Taking.{takes_then, fails_then}

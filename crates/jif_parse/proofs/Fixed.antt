@@ -1,19 +1,19 @@
 -- Symbols and names that are due.
-use Rattle.std.proofs.Common.{◌≡◌, ℕ, ◌≤◌, List, [], ◌∷◌, Some, None, refl, ap, sym, ◌∙◌, ◌⊎◌, inl, inr}
+use Rattle.std.proofs.Common.{◌≡◌, ℕ, ◌≤◌, [], ◌∷◌, Some, None, refl, ap, ◌∙◌, ◌⊎◌, inl, inr}
 use Rattle.js_base.specs.declared.limits.TheConstants.{NESTING}
 use Rattle.jif_lex.specs.declared.token.TokenKind.{TokenKind}
 use Rattle.jif_lex.specs.declared.token.TokenKind.TheVariants as token
 use Rattle.jif_lex.specs.declared.token.Symbol.{Symbol}
 use Rattle.jif_lex.specs.declared.token.Symbol.TheVariants as symbols
 use Rattle.label_lattice.specs.Written.{kinds}
-use Rattle.jif_grammar.specs.Due.{Due, exactly, a_name, Fixed, left_parenthesis, right_parenthesis, left_brace, right_brace}
+use Rattle.jif_grammar.specs.Due.{exactly, a_name, Fixed, left_parenthesis, right_parenthesis, left_brace, right_brace}
 use Rattle.jif_grammar.specs.Due.{right_bracket, semicolon, colon, assign, fixed_symbol, after_fixed, due_after_token}
-use Rattle.jif_grammar.specs.Nesting.{Nested, nested_at}
+use Rattle.jif_grammar.specs.Nesting.{nested_at}
 use Rattle.jif_tree.specs.declared.draft.NameDraft.{NameDraft}
 use Rattle.jif_parse.specs.declared.cursor.Cursor.{Cursor}
 use Rattle.jif_parse.specs.declared.parse_error.ParseError.{ParseError}
 use Rattle.jif_parse.specs.declared.parse_error.ParseError.TheVariants as fault
-use Rattle.jif_parse.specs.Reading.{behind, IsNextKind, IsNextSymbol, IsNextName, Moves, Takes, Fails}
+use Rattle.jif_parse.specs.Reading.{behind, IsNextKind, IsNextSymbol, IsNextName, Takes, Fails}
 use Rattle.jif_parse.specs.Phrases.{PassesSymbol, ReadsName}
 use Rattle.jif_parse.proofs.Taking.{out_of_memory}
 use Rattle.jif_parse.proofs.Moving.{Stepped, stepped, takes_passed, fails_other}

@@ -9,3 +9,4 @@ pub mod PartLists
 pub mod Behind
 pub mod Exprs
 pub mod Tight
+pub mod ArgLists

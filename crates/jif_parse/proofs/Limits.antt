@@ -2,7 +2,7 @@
 use Rattle.std.proofs.Common.{◌≡◌, ℕ, ◌≤◌, None, arith}
 use Rattle.std.proofs.lemmas.Bool.Decides.{nat_tests}
 use Rattle.js_base.specs.declared.limits.TheConstants.{NESTING}
-use Rattle.jif_grammar.specs.Marks.{Beginning, Tally, after_beginning}
+use Rattle.jif_grammar.specs.Marks.{Tally}
 use Rattle.jif_grammar.specs.Verdicts.{excess}
 use Rattle.jif_parse.specs.declared.counts.Counts.{Counts}
 use Rattle.jif_parse.specs.Counting.{IsTally}

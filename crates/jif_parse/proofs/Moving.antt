@@ -1,5 +1,5 @@
 -- Where a reader stands behind what it read.
-use Rattle.std.proofs.Common.{◌≡◌, ℕ, suc, ◌≤◌, ◌<◌, ◌+◌, List, [], ◌∷◌, ◌++◌, length, drop, refl, ap, sym, subst, ◌∙◌, arith, Some, None}
+use Rattle.std.proofs.Common.{◌≡◌, ℕ, suc, ◌≤◌, ◌<◌, ◌+◌, List, [], ◌∷◌, length, drop, refl, ap, sym, subst, ◌∙◌, arith, Some, None}
 use Rattle.std.proofs.lemmas.List.{drop-drop, length-map, length-drop}
 use Rattle.js_base.specs.declared.limits.TheConstants.{NESTING}
 use Rattle.jif_lex.specs.declared.token.Token.{Token}
@@ -11,8 +11,8 @@ use Rattle.jif_grammar.specs.Nesting.{Nested, marked_by, nested_after}
 use Rattle.jif_parse.specs.declared.cursor.Cursor.{Cursor}
 use Rattle.jif_parse.specs.declared.parse_error.ParseError.{ParseError}
 use Rattle.jif_parse.specs.declared.parse_error.ParseError.TheVariants as fault
-use Rattle.jif_parse.specs.Counting.{IsTally, HasCounted}
-use Rattle.jif_parse.specs.Reading.{behind, IsNextKind, Moves, Steps, Passes, Counted, Takes, Fails}
+use Rattle.jif_parse.specs.Counting.{IsTally}
+use Rattle.jif_parse.specs.Reading.{behind, IsNextKind, Moves, Steps, Counted, Takes, Fails}
 use Rattle.jif_parse.proofs.Taking.{takes_token, fails_unexpected}
 
 pub stays : (cursor : Cursor) → Moves cursor cursor 0

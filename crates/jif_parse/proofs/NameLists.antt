@@ -1,13 +1,12 @@
 -- Names joined by commas.
-use Rattle.std.proofs.Common.{◌≡◌, ℕ, ◌≤◌, ◌+◌, List, [], ◌∷◌, ◌++◌, length, map, refl, ap, sym, subst, ◌∙◌, arith, Some}
+use Rattle.std.proofs.Common.{◌≡◌, ℕ, ◌≤◌, List, [], ◌∷◌, ◌++◌, length, map, refl, ap, sym, subst, ◌∙◌, arith}
 use Rattle.std.proofs.Common.{◌⊎◌}
 use Rattle.std.specs.Prelude.{⊤}
 use Rattle.std.proofs.lemmas.List.{map-append}
 use Rattle.js_base.specs.declared.limits.TheConstants.{NESTING}
-use Rattle.jif_lex.specs.declared.token.TokenKind.TheVariants as token
 use Rattle.jif_lex.specs.declared.token.Symbol.TheVariants.{Comma}
 use Rattle.label_lattice.specs.Written.{symbol, names_tokens}
-use Rattle.jif_grammar.specs.Due.{Due, a_name, due_after_token}
+use Rattle.jif_grammar.specs.Due.{a_name}
 use Rattle.jif_grammar.specs.Nesting.{Nested, nested_at}
 use Rattle.jif_grammar.specs.Unmarked.{name_then}
 use Rattle.jif_grammar.specs.DraftShapes.{NameShape, name_shape}
@@ -16,13 +15,13 @@ use Rattle.jif_tree.specs.declared.draft.NameDraft.{NameDraft}
 use Rattle.jif_parse.specs.declared.cursor.Cursor.{Cursor}
 use Rattle.jif_parse.specs.declared.parse_error.ParseError.{ParseError}
 use Rattle.jif_parse.specs.declared.parse_error.ParseError.TheVariants as fault
-use Rattle.jif_parse.specs.Reading.{IsNextSymbol, IsNextName, Passes, Takes, Fails}
+use Rattle.jif_parse.specs.Reading.{IsNextSymbol, IsNextName, Passes, Takes}
 use Rattle.jif_parse.specs.Phrases.{ReadsName, ReadsNames, FailsNames, NameList, of_readers, of_members, of_principals}
 use Rattle.jif_parse.specs.Phrases.{after_name_of}
 use Rattle.jif_parse.proofs.Taking.{takes_nothing, takes_then, takes_before, fails_then, fails_before}
 use Rattle.jif_parse.proofs.Moving.{stepped, takes_passed}
 use Rattle.jif_parse.proofs.Fixed.{step_name, takes_name, fails_name}
-use Rattle.jif_parse.proofs.Lists.{ListForm, ItemsSoFar, no_items, one_more, AllItems, last_item}
+use Rattle.jif_parse.proofs.Lists.{ListForm, ItemsSoFar, no_items, one_more, last_item}
 
 abbrev pub names_form : ListForm (List ℕ) NameShape
 names_form = record {

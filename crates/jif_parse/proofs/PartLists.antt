@@ -2,11 +2,9 @@
 use Rattle.std.proofs.Common.{◌≡◌, ℕ, ◌≤◌, ◌+◌, Bool, true, false, List, [], ◌∷◌, ◌++◌, length, map, Option, Some, None}
 use Rattle.std.proofs.Common.{refl, ap, sym, subst, ◌∙◌, arith, ◌⊎◌, inl, inr, ◌≢◌, append_assoc}
 use Rattle.std.proofs.lemmas.List.{map-append, length-append, length-map, append-nil}
-use Rattle.std.specs.Option.{option_map}
 use Rattle.js_base.specs.declared.limits.TheConstants.{NESTING}
 use Rattle.jif_lex.specs.declared.token.TokenKind.{TokenKind}
 use Rattle.jif_lex.specs.declared.token.TokenKind.TheVariants as token
-use Rattle.jif_lex.specs.declared.token.Symbol.{Symbol}
 use Rattle.jif_lex.specs.declared.token.Symbol.TheVariants as symbols
 use Rattle.label_lattice.specs.Written.{kinds, symbol, Part, policy, trust, part_tokens, parts_tokens, names_tokens}
 use Rattle.label_lattice.specs.Written.{TrustIsLast}
@@ -14,9 +12,8 @@ use Rattle.jif_grammar.specs.Due as due
 use Rattle.jif_grammar.specs.Due.{Due, exactly, colon, a_name, a_part, first_part, readers, after_reader, members}
 use Rattle.jif_grammar.specs.Due.{after_member, due_after_token, due_after_symbol}
 use Rattle.jif_grammar.specs.Phrases.{LabelPhrase}
-use Rattle.jif_grammar.specs.Marks.{Tally, plain}
-use Rattle.jif_grammar.specs.Nesting.{Nested, nested_at, marked_by, nested_after}
-use Rattle.jif_grammar.specs.Verdicts.{walk_behind}
+use Rattle.jif_grammar.specs.Marks.{plain}
+use Rattle.jif_grammar.specs.Nesting.{nested_at}
 use Rattle.jif_grammar.specs.Unmarked.{joined_then, part_then, names_then}
 use Rattle.jif_grammar.specs.DraftShapes.{NameShape, PolicyShape, LabelShape, name_shape, policy_shape, label_shape}
 use Rattle.jif_grammar.specs.Drafts.{name_at, names_at, policies_at, trust_at, after_part, label_width}
@@ -26,13 +23,13 @@ use Rattle.jif_tree.specs.declared.draft.LabelDraft.{LabelDraft}
 use Rattle.jif_parse.specs.declared.cursor.Cursor.{Cursor}
 use Rattle.jif_parse.specs.declared.parse_error.ParseError.{ParseError}
 use Rattle.jif_parse.specs.declared.parse_error.ParseError.TheVariants as fault
-use Rattle.jif_parse.specs.Reading.{IsNextKind, IsNextSymbol, IsNextName, Moves, Passes, Takes, Fails}
+use Rattle.jif_parse.specs.Reading.{IsNextKind, IsNextSymbol, IsNextName, Moves, Passes, Takes}
 use Rattle.jif_parse.specs.Phrases.{PassesSymbol, ReadsName, ReadsNames, FailsNames, ReadsParts, FailsParts, ReadsLabel, FailsLabel, of_readers, of_members}
 use Rattle.jif_parse.specs.Parts.{behind_readers, behind_members, EndsNames, ReadsAnyNames, FailsAnyNames, part_end}
 use Rattle.jif_parse.specs.Parts.{parts_left, FailsPart, ReadsPolicy, ReadsTrust}
 use Rattle.jif_parse.proofs.Taking.{takes_nothing, takes_alike, takes_then, takes_before, fails_then, fails_before, takes_same, SameStep, out_of_memory}
-use Rattle.jif_parse.proofs.Moving.{stays, moves_then, moves_as, Stepped, stepped, takes_passed, fails_other}
-use Rattle.jif_parse.proofs.Fixed.{step_symbol, takes_fixed, fails_fixed, step_name, takes_name, fails_name}
+use Rattle.jif_parse.proofs.Moving.{stays, moves_then, moves_as, stepped, takes_passed, fails_other}
+use Rattle.jif_parse.proofs.Fixed.{step_symbol, takes_fixed, fails_fixed, step_name}
 
 -- ---- a policy or who trusts, in place of the first part
 

@@ -1,5 +1,5 @@
 -- Readers one after the other, and single steps.
-use Rattle.std.proofs.Common.{◌≡◌, ℕ, ◌≤◌, ◌+◌, List, [], ◌∷◌, ◌++◌, drop, append_assoc, Option, Some, None, refl, ap, sym, subst}
+use Rattle.std.proofs.Common.{◌≡◌, ℕ, ◌≤◌, ◌+◌, List, [], ◌∷◌, ◌++◌, drop, append_assoc, Some, None, refl, ap, sym}
 use Rattle.std.proofs.Common.{◌∙◌, inl, inr}
 use Rattle.std.specs.Option.{option_map}
 use Rattle.js_base.specs.declared.limits.TheConstants.{NESTING}
@@ -8,15 +8,15 @@ use Rattle.jif_lex.specs.declared.token.TokenKind.{TokenKind}
 use Rattle.label_lattice.specs.Written.{kinds}
 use Rattle.jif_grammar.specs.Due.{Due, due_after_token}
 use Rattle.jif_grammar.specs.Marks.{Beginning, Tally, Marked, mark, after_beginning, after_token}
-use Rattle.jif_grammar.specs.Programs.{Refusal, unexpected}
+use Rattle.jif_grammar.specs.Programs.{unexpected}
 use Rattle.jif_grammar.specs.Nesting.{Nested, marked_by, nested_after}
-use Rattle.jif_grammar.specs.Verdicts.{Walk, going, refused, excess, excess_at, refusal_from, walk_behind, walk_within}
+use Rattle.jif_grammar.specs.Verdicts.{going, excess, excess_at, refusal_from, walk_behind, walk_within}
 use Rattle.jif_grammar.specs.Verdicts.{walk_on}
 use Rattle.jif_parse.specs.declared.cursor.Cursor.{Cursor}
 use Rattle.jif_parse.specs.declared.parse_error.ParseError.{ParseError}
 use Rattle.jif_parse.specs.declared.parse_error.ParseError.TheVariants as fault
-use Rattle.jif_parse.specs.Counting.{IsTally, HasCounted}
-use Rattle.jif_parse.specs.Reading.{behind, Takes, Refuses, Fails, IsErrorOf, IsOver}
+use Rattle.jif_parse.specs.Counting.{HasCounted}
+use Rattle.jif_parse.specs.Reading.{behind, Takes, Fails, IsOver}
 use Rattle.jif_parse.proofs.Limits.{any_nesting, no_excess}
 
 -- ---- one after the other

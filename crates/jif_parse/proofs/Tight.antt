@@ -1,8 +1,7 @@
 -- Operands: what each begins with, and what is due behind it.
-use Rattle.std.proofs.Common.{◌≡◌, ℕ, ℤ, suc, pos, ◌≤◌, ◌<◌, ◌+◌, List, [], ◌∷◌, ◌++◌, length, Some, None, refl, ap, sym, subst, ◌∙◌}
-use Rattle.std.proofs.Common.{arith, ◌⊎◌, inl, inr}
+use Rattle.std.proofs.Common.{◌≡◌, ℕ, ℤ, suc, pos, ◌+◌, List, [], ◌∷◌, ◌++◌, Some, None, refl, ap, sym, subst, ◌∙◌}
+use Rattle.std.proofs.Common.{arith}
 use Rattle.std.proofs.Math.Numerals.{add-one}
-use Rattle.js_base.specs.declared.limits.TheConstants.{NESTING}
 use Rattle.jif_lex.specs.declared.token.Token.{Token}
 use Rattle.jif_lex.specs.declared.token.TokenKind.{TokenKind}
 use Rattle.jif_lex.specs.declared.token.TokenKind.TheVariants as token
@@ -10,7 +9,7 @@ use Rattle.jif_lex.specs.declared.token.Symbol.TheVariants as symbols
 use Rattle.label_lattice.specs.Written.{kinds, symbol}
 use Rattle.jif_grammar.specs.Phrases as phrases
 use Rattle.jif_grammar.specs.Phrases.{ExprPhrase, number, variable, element, parenthesized, signed, relabelled}
-use Rattle.jif_grammar.specs.Operators.{sign_symbol, change_word, operator_level}
+use Rattle.jif_grammar.specs.Operators.{sign_symbol, change_word}
 use Rattle.jif_grammar.specs.Due as due
 use Rattle.jif_grammar.specs.Due.{Due, Closing, at_comma, at_bracket, at_parenthesis, operand, links, after_operand_name}
 use Rattle.jif_grammar.specs.Due.{exactly, left_parenthesis, right_parenthesis, due_after_token, relabelled_operand}
@@ -26,7 +25,7 @@ use Rattle.jif_tree.specs.declared.draft.NameDraft.{NameDraft}
 use Rattle.jif_parse.specs.declared.cursor.Cursor.{Cursor}
 use Rattle.jif_parse.specs.declared.parse_error.ParseError.{ParseError}
 use Rattle.jif_parse.specs.declared.parse_error.ParseError.TheVariants as fault
-use Rattle.jif_parse.specs.Reading.{behind, IsNext, IsNextKind, IsNextSymbol, Counted, IsOver, Takes, Fails}
+use Rattle.jif_parse.specs.Reading.{behind, IsNext, IsNextKind, IsNextSymbol, Counted, IsOver, Takes}
 use Rattle.jif_parse.specs.Phrases.{PassesSymbol, operand_due, links_due, StopsAt, ReadsExpr, FailsExpr, ReadsUpTo}
 use Rattle.jif_parse.specs.Phrases.{FailsUpTo, ReadsLabel, FailsLabel}
 use Rattle.jif_parse.proofs.Taking.{takes_then, takes_before, fails_then, fails_before, fails_at_limit}

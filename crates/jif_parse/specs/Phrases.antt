@@ -1,17 +1,15 @@
 -- Reading phrases: which phrase the tokens were, which draft it is, and what it takes away of what was due.
-use Rattle.std.specs.Prelude.{◌≡◌, ◌≢◌, ◌≤◌, ◌<◌, ◌+◌, ℕ, List, [], ◌∷◌, map, length, ⊤}
+use Rattle.std.specs.Prelude.{◌≡◌, ◌≢◌, ◌≤◌, ◌<◌, ◌+◌, ℕ, List, [], ◌∷◌, map, length}
 use Rattle.jif_tree.specs.declared.draft.ExprDraft.{ExprDraft}
 use Rattle.jif_tree.specs.declared.draft.LabelDraft.{LabelDraft}
 use Rattle.jif_tree.specs.declared.draft.NameDraft.{NameDraft}
-use Rattle.jif_tree.specs.declared.draft.PolicyDraft.{PolicyDraft}
 use Rattle.js_base.specs.declared.limits.TheConstants.{NESTING}
 use Rattle.js_base.specs.declared.binary_operator.BinOp.{BinOp}
-use Rattle.jif_lex.specs.declared.token.TokenKind.{TokenKind}
 use Rattle.jif_lex.specs.declared.token.TokenKind.TheVariants.{Name}
 use Rattle.jif_lex.specs.declared.token.Symbol as symbols
-use Rattle.jif_lex.specs.declared.token.Symbol.TheVariants.{LeftBrace, RightBrace, RightParenthesis, Semicolon, Comma}
-use Rattle.jif_lex.specs.declared.token.Symbol.TheVariants.{Colon, RightBracket}
-use Rattle.label_lattice.specs.Written.{kinds, symbol, Part, part_tokens, parts_tokens, names_tokens, TrustIsLast}
+use Rattle.jif_lex.specs.declared.token.Symbol.TheVariants.{RightBrace, RightParenthesis, Semicolon, Comma}
+use Rattle.jif_lex.specs.declared.token.Symbol.TheVariants.{RightBracket}
+use Rattle.label_lattice.specs.Written.{kinds, symbol, parts_tokens, names_tokens, TrustIsLast}
 use Rattle.jif_grammar.specs.Phrases.{ExprPhrase, LabelPhrase}
 use Rattle.jif_grammar.specs.Operators.{operator_symbol, operator_level}
 use Rattle.jif_grammar.specs.Grouping.{level, IsGrouped, AreGrouped}
@@ -19,7 +17,7 @@ use Rattle.jif_grammar.specs.Due as due
 use Rattle.jif_grammar.specs.Due.{Due, Closing, operand, links, a_name, first_part, a_part, readers, members}
 use Rattle.jif_grammar.specs.Nesting.{Nested, nested_at}
 use Rattle.jif_grammar.specs.Spelling.{args_spelling}
-use Rattle.jif_grammar.specs.DraftShapes.{expr_shape, label_shape, name_shape, policy_shape}
+use Rattle.jif_grammar.specs.DraftShapes.{expr_shape, label_shape, name_shape}
 use Rattle.jif_grammar.specs.Drafts.{expr_at, expr_width, label_at, label_width, policies_at, trust_at, name_at, names_at}
 use Rattle.jif_grammar.specs.Drafts.{args_at}
 use Rattle.jif_grammar.specs.Unmarked.{expr_then, label_then, part_then, joined_then, names_then, args_then}

@@ -1,5 +1,5 @@
 -- What a reader of phrases leaves: it takes what is due away, or tells what the tokens are refused for.
-use Rattle.std.specs.Prelude.{◌≡◌, ◌≤◌, ◌+◌, ◌⊎◌, ℕ, List, [], ◌∷◌, ◌++◌, Option, Some, length, drop}
+use Rattle.std.specs.Prelude.{◌≡◌, ◌≤◌, ◌+◌, ◌⊎◌, ℕ, List, ◌∷◌, ◌++◌, Some, length, drop}
 use Rattle.js_base.specs.declared.limits.TheConstants.{NESTING}
 use Rattle.jif_lex.specs.declared.token.Token.{Token}
 use Rattle.jif_lex.specs.declared.token.TokenKind.{TokenKind}
@@ -11,7 +11,6 @@ use Rattle.jif_grammar.specs.Programs.{Refusal, unexpected, too_deep, too_many}
 use Rattle.jif_grammar.specs.Nesting.{Nested}
 use Rattle.jif_grammar.specs.Verdicts.{going, refusal_from, Excess, excess, excess_at}
 use Rattle.jif_parse.specs.declared.cursor.Cursor.{Cursor}
-use Rattle.jif_parse.specs.declared.counts.Counts.{Counts}
 use Rattle.jif_parse.specs.declared.parse_error.ParseError.{ParseError}
 use Rattle.jif_parse.specs.declared.parse_error.ParseError.TheVariants as fault
 use Rattle.jif_parse.specs.Counting.{IsTally, HasCounted}

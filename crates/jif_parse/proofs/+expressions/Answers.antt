@@ -1,8 +1,8 @@
-use Rattle.std.proofs.Common.{◌≡◌, ap, sym, ◌∙◌, ◌+◌, refl, subst, arith, length, ◌<◌}
+use Rattle.std.proofs.Common.{◌≡◌, ap, sym, ◌∙◌, ◌+◌, subst}
 use Rattle.std.proofs.lemmas.Bool.{false≢true}
 use Rattle.std.proofs.lemmas.Result.{IfOk-weaker, IfErr-weaker}
-use Rattle.jif_grammar.specs.Due.{at_bracket, at_parenthesis}
-use Rattle.jif_grammar.specs.Operators.{operator_level, operator_symbol}
+use Rattle.jif_grammar.specs.Due.{at_parenthesis}
+use Rattle.jif_grammar.specs.Operators.{operator_symbol}
 use Rattle.label_lattice.specs.Written.{symbol}
 use Rattle.jif_grammar.specs.DraftShapes.{expr_shape, number_shape, element_shape, name_shape, label_shape}
 use Rattle.jif_grammar.specs.Drafts.{signed_shape, relabelled_shape}
@@ -11,7 +11,7 @@ use Rattle.jif_parse.specs.Reading.{IsNextSymbol}
 use Rattle.jif_parse.specs.Starts.{sign_of, change_of}
 use Rattle.jif_lex.proofs.Fronts.{kept_value}
 use Rattle.jif_parse.proofs.Exits.{handed_on}
-use Rattle.jif_parse.proofs.Exprs.{first_operand, with_right, operator_fails, right_fails, whole_expr, whole_up_to}
+use Rattle.jif_parse.proofs.Exprs.{with_right, operator_fails, right_fails, whole_up_to}
 use Rattle.jif_parse.proofs.Exprs.{up_to_fails}
 use Rattle.jif_parse.proofs.Moving.{stepped, fewer}
 use Rattle.jif_parse.proofs.Behind.{no_comma}
