@@ -12,8 +12,8 @@ use Rattle.jif_parse.specs.declared.counts.Counts.{Counts}
 use Rattle.jif_parse.specs.declared.parse_error.ParseError.{ParseError}
 use Rattle.jif_parse.specs.declared.parse_error.ParseError.TheVariants as fault
 
--- The counts are those of the tally, and within their limits. Of the tally's nesting nothing is said, since each token has
--- its own.
+-- The counts are those of the tally, and within their limits. Of the tally's nesting nothing is said, since each token
+-- has its own.
 pub record IsTally (counts : Counts) (t : Tally) : Type 0 where
   pub methods : t.methods ≡ counts.methods
   pub statements : t.statements ≡ counts.statements
@@ -50,5 +50,6 @@ HasCounted old new beginning = (t : Tally) → IsTally old t → IsTally new (af
 -- one more of what begins passes the limit that the error tells
 abbrev pub IsPast : Counts → Beginning → ParseError → Type 0
 IsPast old beginning error =
-    (what : What) × (error ≡ fault.TooMany what) × ((t : Tally) (nesting : ℕ) → IsTally old t → nesting ≤ NESTING →
+    (what : What) × (error ≡ fault.TooMany what)
+    × ((t : Tally) (nesting : ℕ) → IsTally old t → nesting ≤ NESTING →
     excess (record (after_beginning t beginning) { nesting = nesting }) ≡ Some (of_count what))

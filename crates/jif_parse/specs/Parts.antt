@@ -66,7 +66,8 @@ pub record ReadsPolicy (old new : Cursor) (draft : PolicyDraft) (more : Bool) : 
   pub written : kinds old.rest.now ≡ part_then (policy owner readers) (symbol (part_end more) ∷ kinds new.rest.now)
   pub draft_is : policy_shape draft ≡ record { owner = name_at old.at owner; readers = names_at (old.at + 2) readers }
   pub moves : Moves old new (length (part_tokens (policy owner readers)) + 1)
-  pub takes : (depth : ℕ) → depth ≤ NESTING → Takes old new (nested_at depth a_part ∷ []) (parts_left more depth)
+  pub takes : (depth : ℕ) → depth ≤ NESTING →
+      Takes old new (nested_at depth a_part ∷ []) (parts_left more depth)
 
 -- who trusts, with the brace behind them
 pub record ReadsTrust (old new : Cursor) (drafts : List NameDraft) : Type 0 where

@@ -18,8 +18,8 @@ use Rattle.jif_grammar.specs.Due.{Due, Closing, operand, links, a_name, first_pa
 use Rattle.jif_grammar.specs.Nesting.{Nested, nested_at}
 use Rattle.jif_grammar.specs.Spelling.{args_spelling}
 use Rattle.jif_grammar.specs.DraftShapes.{expr_shape, label_shape, name_shape}
-use Rattle.jif_grammar.specs.Drafts.{expr_at, expr_width, label_at, label_width, policies_at, trust_at, name_at, names_at}
-use Rattle.jif_grammar.specs.Drafts.{args_at}
+use Rattle.jif_grammar.specs.Drafts.{expr_at, expr_width, label_at, label_width, policies_at, trust_at, name_at}
+use Rattle.jif_grammar.specs.Drafts.{names_at, args_at}
 use Rattle.jif_grammar.specs.Unmarked.{expr_then, label_then, part_then, joined_then, names_then, args_then}
 use Rattle.jif_parse.specs.declared.cursor.Cursor.{Cursor}
 use Rattle.jif_parse.specs.declared.endings.Ending.{Ending}
@@ -73,7 +73,8 @@ FailsNames old error = (list : NameList) (depth : ℕ) → depth ≤ NESTING →
 pub record ReadsParts (old new : Cursor) (draft : LabelDraft) : Type 0 where
   pub label : LabelPhrase
   pub trust_is_last : TrustIsLast label
-  pub written : kinds old.rest.now ≡ joined_then (symbol Semicolon) part_then label (symbol RightBrace ∷ kinds new.rest.now)
+  pub written :
+      kinds old.rest.now ≡ joined_then (symbol Semicolon) part_then label (symbol RightBrace ∷ kinds new.rest.now)
   pub draft_is : label_shape draft ≡ record { policies = policies_at old.at label; trust = trust_at old.at label }
   pub moves : Moves old new (length (parts_tokens label) + 1)
   pub takes : (depth : ℕ) → depth ≤ NESTING → Takes old new (nested_at depth first_part ∷ []) []
@@ -104,7 +105,8 @@ links_due closing depth = nested_at depth (links closing) ∷ []
 
 -- no operator of this level or a tighter one is next
 abbrev pub StopsAt : ℕ → Cursor → Type 0
-StopsAt least cursor = (operator : BinOp) → IsNextSymbol cursor (operator_symbol operator) → operator_level operator < least
+StopsAt least cursor =
+    (operator : BinOp) → IsNextSymbol cursor (operator_symbol operator) → operator_level operator < least
 
 pub record ReadsExpr (old new : Cursor) (least depth inner : ℕ) (draft : ExprDraft) : Type 0 where
   pub expr : ExprPhrase

@@ -1,5 +1,6 @@
 -- What a reader of phrases leaves: it takes what is due away, or tells what the tokens are refused for.
-use Rattle.std.specs.Prelude.{◌≡◌, ◌≤◌, ◌+◌, ◌⊎◌, ℕ, List, ◌∷◌, ◌++◌, Some, length, drop}
+use Rattle.std.specs.Prelude.{◌≡◌, ◌≤◌, ◌+◌, ◌⊎◌, ℕ, List, ◌∷◌, ◌++◌, Some, length}
+use Rattle.std.specs.Prelude.{drop}
 use Rattle.js_base.specs.declared.limits.TheConstants.{NESTING}
 use Rattle.jif_lex.specs.declared.token.Token.{Token}
 use Rattle.jif_lex.specs.declared.token.TokenKind.{TokenKind}
@@ -77,7 +78,8 @@ IsErrorOf (too_many what n) error = error ≡ fault.TooMany what
 
 -- memory ran out, or the tokens are refused
 pub record Fails (old : Cursor) (due : List Nested) (error : ParseError) : Type 0 where
-  pub why : (error ≡ fault.OutOfMemory) ⊎ ((refusal : Refusal) × IsErrorOf refusal error × Refuses old due refusal)
+  pub why :
+      (error ≡ fault.OutOfMemory) ⊎ ((refusal : Refusal) × IsErrorOf refusal error × Refuses old due refusal)
 
 -- a limit is passed at the next token, where this begins
 abbrev pub IsOver : Cursor → ℕ → Beginning → ParseError → Type 0

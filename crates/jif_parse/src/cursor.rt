@@ -20,7 +20,7 @@ pub struct Cursor<'a> {
 }
 
 impl<'a> Cursor<'a> {
-    ghost use Rattle.std.specs.Prelude.{◌≡◌, ◌≤◌, ◌+◌, ◌↔◌, ◌⊎◌, [], IsTrue, IfOk, IfErr, IfSome, IfNone, length};
+    ghost use Rattle.std.specs.Prelude.{◌≡◌, ◌↔◌, ◌⊎◌, [], IsTrue, IfOk, IfErr, IfSome, IfNone};
     ghost use Rattle.jif_parse.specs.Counting.{beginning_of};
     ghost use Rattle.jif_parse.specs.Reading.{IsNext, IsNextSymbol, IsNextName, Steps, Passes, Counted, IsOver};
     ghost use Rattle.jif_parse.specs.Phrases.{ReadsName, PassesSymbol};
@@ -100,7 +100,8 @@ impl<'a> Cursor<'a> {
     /// Steps behind this symbol, which is due.
     pub fn expect(&mut self, symbol: Symbol) -> Result<(), ParseError>
         ensures passed { IfOk result (λ done. PassesSymbol self.old self.new symbol) }
-        ensures other { IfErr result (λ error. (error ≡ ParseError.Unexpected self.old.at) × ¬ IsNextSymbol self.old symbol) }
+        ensures other { IfErr result (λ error. (error ≡ ParseError.Unexpected self.old.at)
+            × ¬ IsNextSymbol self.old symbol) }
     {
         if !self.is_next(symbol) {
             return Err(self.unexpected());

@@ -48,7 +48,8 @@ fn binary(
     left: ExprDraft,
     right: ExprDraft,
 ) -> Result<ExprDraft, ParseError>
-    ensures draft { IfOk result (λ draft. expr_shape draft ≡ binary_shape operator (expr_shape left) (expr_shape right)) }
+    ensures draft { IfOk result (λ draft.
+        expr_shape draft ≡ binary_shape operator (expr_shape left) (expr_shape right)) }
     ensures memory { IfErr result IsOutOfMemory }
 {
     let left = Box::new(alloc, left)?;
