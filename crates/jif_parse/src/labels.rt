@@ -99,7 +99,7 @@ pub fn names(alloc: Global, cursor: &mut Cursor) -> Result<Vec<NameDraft>, Parse
     ensures fails { IfErr result (FailsNames cursor.old) }
 {
     let mut names = Vec::new(alloc);
-    loop {
+    'listed: loop {
         let name = cursor.name(alloc)?;
         names.push(name)?;
         if !cursor.is_next(Symbol::Comma) {
