@@ -10,3 +10,13 @@ pub mod Behind
 pub mod Exprs
 pub mod Tight
 pub mod ArgLists
+pub mod Assigning
+pub mod Blocks
+pub mod Chains
+pub mod Fielding
+pub mod Iteming
+pub mod Methoding
+pub mod Parsing
+pub mod Rows
+pub mod Values
+pub mod Widths

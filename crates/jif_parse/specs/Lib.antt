@@ -4,3 +4,10 @@ pub mod Starts
 pub mod Reading
 pub mod Parts
 pub mod Phrases
+pub mod Fields
+pub mod Items
+pub mod Methods
+pub mod Parsing
+pub mod Statements
+pub mod Widths
+pub mod Words

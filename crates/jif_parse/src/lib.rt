@@ -1,15 +1,25 @@
 //! The parser: the draft that tokens are, or what they are refused for.
 #![tactic(auto)]
 
+mod assignments;
 mod counts;
 mod cursor;
 mod endings;
 mod expressions;
+mod fields;
+mod items;
 mod labels;
+mod laws;
+mod lines;
+mod methods;
 mod names;
 mod operands;
 mod operators;
 mod parse_error;
+mod parser;
 mod starts;
+mod statements;
+mod words;
 
+pub use parser::parse;
 pub use parse_error::ParseError;

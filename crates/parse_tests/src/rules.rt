@@ -1,0 +1,146 @@
+//! Each rule at its least and with all that may be left out, and what breaks it.
+
+use crate::told::{fault, filled};
+use std::test::Fail;
+
+/// Statements of a method whose first seven tokens stand before them, with the place of the fault.
+const STATEMENTS: [(&str, Option<u32>); 62] = [
+    ("int x = 1;", None),
+    ("int{} x = 1;", None),
+    ("int{A:B; ?:C} x = 1;", None),
+    ("int x;", Some(9)),
+    ("int x[1] = 1;", Some(9)),
+    ("int = 1;", Some(8)),
+    ("int{} = 1;", Some(10)),
+    ("x = 1;", None),
+    ("x = y;", None),
+    ("x = y[1];", None),
+    ("x = y[1][2];", Some(13)),
+    ("x[1] = 2;", None),
+    ("x[y[1]] = z[2];", None),
+    ("x[] = 2;", Some(9)),
+    ("x[1] + 2;", Some(11)),
+    ("x = ;", Some(9)),
+    ("x = 1", Some(10)),
+    ("x;", Some(8)),
+    ("1 = x;", Some(7)),
+    ("m();", None),
+    ("m(1);", None),
+    ("m(1, x, -2);", None),
+    ("x = m();", None),
+    ("x = m(1, m[2]);", None),
+    ("m(1,);", Some(11)),
+    ("m(,1);", Some(9)),
+    ("m(1;", Some(10)),
+    ("m() + 1;", Some(10)),
+    ("x = m() + 1;", Some(12)),
+    ("x = 1 + m();", Some(12)),
+    ("x = (m());", Some(11)),
+    ("x[1] = m();", Some(13)),
+    ("int x = m();", Some(11)),
+    ("if (1) { }", None),
+    ("if (1) { x = 1; } else { }", None),
+    ("if (1) { } else { m(); } x = 1;", None),
+    ("if (1) { } else if (1) { }", Some(14)),
+    ("if 1 { }", Some(8)),
+    ("if () { }", Some(9)),
+    ("if (1) x = 1;", Some(11)),
+    ("else { }", Some(7)),
+    ("if (1) { } x = 1; else { }", Some(17)),
+    ("while (1) { }", None),
+    ("while (x) { x = x - 1; }", None),
+    ("while (1) { } else { }", Some(13)),
+    ("{ }", Some(7)),
+    ("return 1;", None),
+    ("x = 1; return x;", None),
+    ("return;", Some(8)),
+    ("return 1; x = 1;", Some(10)),
+    ("if (1) { return 1; }", Some(12)),
+    ("x = a || b && c == d < e + f * !g;", None),
+    ("x = 1 != 2 <= 3 >= 4 > 5 - 6 / 7 % 8;", None),
+    ("x = ((1));", None),
+    ("x = - - ! 1;", None),
+    ("x = declassify(1, {});", None),
+    ("x = endorse(a + b, {A:B; ?:}) * 2;", None),
+    ("x = declassify(1);", Some(12)),
+    ("x = declassify 1;", Some(10)),
+    ("x = endorse(1, A);", Some(13)),
+    ("x = 1 = 2;", Some(10)),
+    ("x = + 1;", Some(9)),
+];
+
+/// Programs with the place of the fault.
+const PROGRAMS: [(&str, Option<u32>); 52] = [
+    ("", None),
+    ("int{} f;", None),
+    ("int{} f", Some(4)),
+    ("int f;", Some(1)),
+    ("int{} f = 0;", None),
+    ("int{} f = 007;", None),
+    ("int{} f = -9223372036854775807;", None),
+    ("int{} f = --1;", Some(6)),
+    ("int{} f = 1 + 1;", Some(6)),
+    ("int{} f = x;", Some(5)),
+    ("int{} f[1];", None),
+    ("int{} f[65536];", None),
+    ("int{} f[0];", Some(5)),
+    ("int{} f[000];", Some(5)),
+    ("int{} f[-1];", Some(5)),
+    ("int{} f[x];", Some(5)),
+    ("int{} f[1] = 0;", Some(7)),
+    ("int{A:} f;", None),
+    ("int{A:B} f;", None),
+    ("int{A:B,C} f;", None),
+    ("int{A:B,} f;", Some(6)),
+    ("int{A:;B:} f;", None),
+    ("int{A:;} f;", Some(5)),
+    ("int{?:} f;", None),
+    ("int{?:A,B} f;", None),
+    ("int{A:;?:} f;", None),
+    ("int{?:;A:} f;", Some(4)),
+    ("int{?:;?:} f;", Some(4)),
+    ("int{A} f;", Some(3)),
+    ("int{:A} f;", Some(2)),
+    ("int{;} f;", Some(2)),
+    ("void m{}(){}", None),
+    ("int{} m{}(){}", None),
+    ("void{} m{}(){}", Some(1)),
+    ("void m(){}", Some(2)),
+    ("void m{A:B; ?:C}(){}", None),
+    ("void m{}(int{} a){}", None),
+    ("void m{}(int{} a, int{A:} b){}", None),
+    ("void m{}(int{} a,){}", Some(10)),
+    ("void m{}(int a){}", Some(6)),
+    ("void m{}(a){}", Some(5)),
+    ("void m{}() where authority(A){}", None),
+    ("void m{}() where authority(A, B){}", None),
+    ("void m{}() where authority(){}", Some(9)),
+    ("void m{}() where authority(A,){}", Some(11)),
+    ("void m{}() authority(A){}", Some(6)),
+    ("void m{}() where (A){}", Some(7)),
+    ("void m{}();", Some(6)),
+    ("void m{}(){} ;", Some(8)),
+    (
+        "int{} f; void m{}(){} int{} g; int{} n{}(){ return 1; }",
+        None,
+    ),
+    ("void", Some(1)),
+    ("x", Some(0)),
+];
+
+/// What follows `void m{}(){` in these is a statement, and a brace follows it.
+#[test]
+fn takes_programs_and_names_the_first_fault(rt: HostRuntime) -> Result<(), Fail> {
+    for (text, place) in PROGRAMS {
+        assert_eq!(rt; fault(rt.alloc(), text)?, place, "in {text:?}");
+    }
+    for (statement, place) in STATEMENTS {
+        let text = filled(rt.alloc(), "void m{}(){", statement, 1, "}")?;
+        assert_eq!(rt;
+            fault(rt.alloc(), text.as_str())?,
+            place,
+            "in {statement:?}"
+        );
+    }
+    Ok(())
+}
