@@ -2,7 +2,8 @@
 
 ghost use Rattle.std.specs.Prelude.{IfOk, IfErr};
 ghost use Rattle.jif_grammar.specs.Marks.{node, statement, local, parameter, method, plain_field, array, elements};
-ghost use Rattle.jif_parse.specs.Counting.{beginning_of, HasCounted, IsPast};
+ghost use Rattle.jif_grammar.specs.Marks.{tally_at_start};
+ghost use Rattle.jif_parse.specs.Counting.{beginning_of, HasCounted, IsPast, IsTally};
 
 use crate::ParseError;
 use jif_grammar::What;
@@ -46,7 +47,9 @@ pub enum Begins {
 
 impl Counts {
     /// What has begun before the first token.
-    pub fn none() -> Counts {
+    pub fn none() -> Counts
+        ensures { IsTally result tally_at_start }
+    {
         Counts {
             methods: 0,
             statements: 0,
