@@ -16,7 +16,8 @@ use Rattle.jif_grammar.specs.Marks as marks
 use Rattle.jif_grammar.specs.Marks.{Beginning, nothing, plain_field, array, elements, parameter, local, statement}
 use Rattle.jif_grammar.specs.Marks.{node, Marked, mark}
 
--- `depth` counts the constructs that are open around what is due, and `inner` has those and the signs before an operand.
+-- `depth` counts the constructs that are open around what is due, and `inner` has those and the signs before an
+-- operand.
 pub record Nested : Type 0 where
   pub due : Due
   pub depth : ℕ

@@ -1,5 +1,6 @@
 -- What tokens are refused for, found token by token.
-use Rattle.std.specs.Prelude.{ℕ, ◌+◌, nat_lt, ◌||◌, if◌then◌else◌, List, [], ◌∷◌, Option, Some, None}
+use Rattle.std.specs.Prelude.{ℕ, ◌+◌, nat_lt, ◌||◌, if◌then◌else◌, List, [], ◌∷◌, Option, Some}
+use Rattle.std.specs.Prelude.{None}
 use Rattle.jif_lex.specs.declared.token.Token.{Token}
 use Rattle.jif_lex.specs.declared.token.TokenKind.{TokenKind}
 use Rattle.js_base.specs.declared.limits.TheConstants.{FIELDS, METHODS, PARAMETERS, VARIABLES, STATEMENTS}
@@ -51,8 +52,8 @@ walk_behind (Some (token, due)) t n = walk_within (excess (after_token t token))
 abbrev pub walk_on : List Nested → Tally → ℕ → TokenKind → Walk
 walk_on due t n kind = walk_behind (nested_next due kind) t n
 
--- What the tokens are refused for that begin with token n; `None` where they end what is due, and whatever follows it is
--- whole, and all within the limits.
+-- What the tokens are refused for that begin with token n; `None` where they end what is due, and whatever follows it
+-- is whole, and all within the limits.
 abbrev pub refusal_from : Walk → ℕ → List TokenKind → Option Refusal
 refusal_from (refused refusal) n kinds = Some refusal
 refusal_from (going due t) n (kind ∷ kinds) = refusal_from (walk_on due t n kind) (n + 1) kinds

@@ -1,6 +1,7 @@
 //! Laws of the grammar, for whoever reads programs. The calls do nothing.
 
-ghost use Rattle.std.specs.Prelude.{◌≡◌, ◌+◌, ◌<◌, ◌≤◌, ℕ, List, [], length, take, Option, Some, None};
+ghost use Rattle.std.specs.Prelude.{◌≡◌, ◌+◌, ◌<◌, ◌≤◌, ℕ, List, [], length, take, Option, Some};
+ghost use Rattle.std.specs.Prelude.{None};
 ghost use Rattle.jif_lex.specs.declared.token.Token.{Token};
 ghost use Rattle.jif_lex.specs.declared.token.TokenKind.{TokenKind};
 ghost use Rattle.label_lattice.specs.Written.{Part, kinds, names_tokens, part_tokens};

@@ -140,11 +140,11 @@ labelled_read {old} {a} {b} {new} {label} {name} opened parts read =
     let first = step_symbol opened in
     let last = step_name read in
     let label_is : kinds old.rest.now ≡ label_then parts.label (kinds b.rest.now) =
-        first.is_next ∙ ap (λ ks. symbol LeftBrace ∷ ks) parts.written in
+    first.is_next ∙ ap (λ ks. symbol LeftBrace ∷ ks) parts.written in
     let moved = moves_then first.moves parts.moves in
     let width = label_width_is parts.label in
     let place : b.at ≡ old.at + length (optional_label_spelling 0 (Some parts.label)) =
-        omega (arith, moved.at, width) in
+    omega (arith, moved.at, width) in
     record {
       label = Some parts.label;
       name = read.name;
@@ -249,7 +249,7 @@ local_read {old} {a} {b} {c} {new} {label} {name} {value} {depth} w nested next 
     let before = length (optional_label_spelling 0 read.label) in
     let name_place : a.at + before ≡ old.at + 1 + before = omega (arith, first.moves.at) in
     let value_place : c.at ≡ old.at + 1 + before + 2 =
-        omega (arith, first.moves.at, read.moves.at, equals.moves.at) in
+    omega (arith, first.moves.at, read.moves.at, equals.moves.at) in
     let label_is = read.label_is ∙ ap (λ at. optional_label_at at read.label) first.moves.at in
     let name_is = read.name_is ∙ ap (λ at. name_at at read.name) name_place in
     let value_is = up_to.draft_is ∙ ap (λ at. expr_at at up_to.expr) value_place in

@@ -111,7 +111,7 @@ one_more {old} {now} {new} {depth} {drafts} {draft} w so_far read =
       written = so_far.written ∙ ap (block_then first) read.kind.written ∙ sym (chain_then first second (kinds new.rest.now));
       drafts_are = λ lines has behind.
           let start : record { at = draft.at; line = draft.line } ≡ start_at lines now.at =
-              cc (read.at, read.line lines (lines_moved lines so_far.moves has)) in
+          cc (read.at, read.line lines (lines_moved lines so_far.moves has)) in
           ap block_shape (append_assoc drafts (draft ∷ []) behind)
           ∙ so_far.drafts_are lines has (draft ∷ behind)
           ∙ ap (block_at lines old.at first) (ap (λ s. statement_shape draft.kind s (block_shape behind)) start
@@ -142,7 +142,7 @@ pub falls : {old new : Cursor} {depth : ℕ} {draft : StmtDraft} → BeginsState
     length new.rest.now < length old.rest.now
 falls {old} {new} begins read =
     let some : 0 < length old.rest.now =
-        omega (arith, ap length begins.1, length-map old.rest.now (λ (token : Token). token.kind)) in
+    omega (arith, ap length begins.1, length-map old.rest.now (λ (token : Token). token.kind)) in
     omega (arith, ap length read.kind.moves.rest, length-drop (block_width read.kind.block) old.rest.now, read.kind.some)
 
 -- ---- nested blocks

@@ -67,18 +67,25 @@ pub whole_then : {a b c : Cursor} {p q : List Nested} → TakesWhole a b p → T
 whole_then {a} {b} {c} {p} {q} first second = record {
   same = λ t is.
       let one = first.same t is in
-      let two = second.same [] one.0 one.1 in
-      (two.0, two.1, one.2 ∙ ap (λ d. refusal_from (going d one.0) b.at (kinds b.rest.now)) (sym (append-nil p)) ∙ two.2
-      ∙ ap (λ d. refusal_from (going d two.0) c.at (kinds c.rest.now)) (append-nil q));
+      let two = second.same [] one.0 one.1 in (
+        two.0,
+        two.1,
+        one.2 ∙ ap (λ d. refusal_from (going d one.0) b.at (kinds b.rest.now)) (sym (append-nil p)) ∙ two.2
+            ∙ ap (λ d. refusal_from (going d two.0) c.at (kinds c.rest.now)) (append-nil q),
+      );
 }
 
 pub whole_fails : {a b : Cursor} {p : List Nested} {error : ParseError} → TakesWhole a b p → Fails b p error → FailsWhole a error
 whole_fails {a} {b} {p} first fails = record {
   why = elim fails.why [
-    inl memory ↦ inl memory
-    | inr told ↦ inr (told.0, told.1, λ t is.
-        let one = first.same t is in
-        one.2 ∙ ap (λ d. refusal_from (going d one.0) b.at (kinds b.rest.now)) (sym (append-nil p)) ∙ told.2 [] one.0 one.1)
+    | inl memory ↦ inl memory
+    | inr told ↦ inr (
+      told.0,
+      told.1,
+      λ t is.
+          let one = first.same t is in
+          one.2 ∙ ap (λ d. refusal_from (going d one.0) b.at (kinds b.rest.now)) (sym (append-nil p)) ∙ told.2 [] one.0 one.1,
+    )
   ];
 }
 
@@ -93,7 +100,7 @@ whole_whole first second = record {
 pub later_item_fails : {a b : Cursor} {error : ParseError} → TakesWhole a b [] → FailsWhole b error → FailsWhole a error
 later_item_fails first fails = record {
   why = elim fails.why [
-    inl memory ↦ inl memory
+    | inl memory ↦ inl memory
     | inr told ↦ inr (told.0, told.1, λ t is. let one = first.same t is in one.2 ∙ told.2 one.0 one.1)
   ];
 }
@@ -114,11 +121,14 @@ item_step : {old new : Cursor} (kind : TokenKind) (sooner : List Nested) (beginn
 item_step {old} {new} kind sooner beginning step counted walks = record {
   same = λ t is.
       let after = after_token t (mark beginning 0 kind) in
-      let within = any_nesting new.counts (after_beginning t beginning) 0 (counted t is) in
-      (after, within, ap (refusal_from (going [] t) old.at) step.is_next ∙ walks t old.at (kinds new.rest.now)
-      ∙ ap (λ o. refusal_from (walk_within o sooner after old.at) (old.at + 1) (kinds new.rest.now))
-      (no_excess new.counts after within none_nested)
-      ∙ ap (λ n. refusal_from (going sooner after) n (kinds new.rest.now)) (sym step.moves.at));
+      let within = any_nesting new.counts (after_beginning t beginning) 0 (counted t is) in (
+        after,
+        within,
+        ap (refusal_from (going [] t) old.at) step.is_next ∙ walks t old.at (kinds new.rest.now)
+            ∙ ap (λ o. refusal_from (walk_within o sooner after old.at) (old.at + 1) (kinds new.rest.now))
+            (no_excess new.counts after within none_nested)
+            ∙ ap (λ n. refusal_from (going sooner after) n (kinds new.rest.now)) (sym step.moves.at),
+      );
 }
 
 int_taken : {old a : Cursor} → IsNextKind old (Word Int) → Passes old a → TakesWhole old a behind_int
@@ -134,10 +144,14 @@ void_taken {old} {a} next counted =
 pub void_over : {old : Cursor} {error : ParseError} → IsNextKind old (Word Void) → IsOver old 0 marks.method error →
     FailsWhole old error
 void_over {old} next over = record {
-  why = inr (excess_at over.0 old.at, over.1, λ t is.
-  let after = after_token t (mark marks.method 0 (Word Void)) in
-  ap (refusal_from (going [] t) old.at) next
-  ∙ ap (λ o. refusal_from (walk_within o behind_void after old.at) (old.at + 1) (kinds (behind old))) (over.2 t is));
+  why = inr (
+    excess_at over.0 old.at,
+    over.1,
+    λ t is.
+        let after = after_token t (mark marks.method 0 (Word Void)) in
+        ap (refusal_from (going [] t) old.at) next
+        ∙ ap (λ o. refusal_from (walk_within o behind_void after old.at) (old.at + 1) (kinds (behind old))) (over.2 t is),
+  );
 }
 
 no_item : (t : Tally) (n : ℕ) (kind : TokenKind) (more : List TokenKind) → ¬ (kind ≡ Word Int) → ¬ (kind ≡ Word Void) →
@@ -161,8 +175,12 @@ not_next old written other kind more is same = other (next_kind old written more
 pub item_unexpected : {old : Cursor} {error : ParseError} → ¬ (old.rest.now ≡ []) → ¬ IsNextKind old (Word Int) →
     ¬ IsNextKind old (Word Void) → error ≡ fault.Unexpected old.at → FailsWhole old error
 item_unexpected {old} some no_int no_void tells = record {
-  why = inr (unexpected old.at, tells, λ t is. unexpected_first t old.at old.rest.now some (not_next old (Word Int) no_int)
-  (not_next old (Word Void) no_void));
+  why = inr (
+    unexpected old.at,
+    tells,
+    λ t is. unexpected_first t old.at old.rest.now some (not_next old (Word Int) no_int)
+        (not_next old (Word Void) no_void),
+  );
 }
 
 -- ---- fields
@@ -201,8 +219,12 @@ field_read {old} {a} {b} {new} {label} {name} {ending} w next passes read last =
     let place : a.at + label_width read.label ≡ old.at + 1 + label_width read.label = omega (arith, first.moves.at) in
     let name_is = read.name_is ∙ ap (λ at. name_at at read.name) place in
     let width : length (item_spelling (field phrase)) ≡ label_width read.label + length (field_end_spelling last.ending) + 2 =
-        omega (arith, w.item (field phrase) [], w.label read.label (Name read.name ∷ field_end_then last.ending []),
-        field_end_width last.ending) in
+    omega (
+      arith,
+      w.item (field phrase) [],
+      w.label read.label (Name read.name ∷ field_end_then last.ending []),
+      field_end_width last.ending,
+    ) in
     record {
       item = field phrase;
       sound = (read.sound, last.sound);
@@ -228,9 +250,15 @@ method_width w phrase =
     let end = result_then phrase.result (symbol RightBrace ∷ []) in
     let body = symbol LeftBrace ∷ block_then phrase.body end in
     let rest = symbol RightParenthesis ∷ authority_then phrase.authority body in
-    omega (arith, w.item (method phrase) [], w.head phrase.kind phrase.name phrase.begin (tail_then phrase []),
-    w.params phrase.params rest, w.authority phrase.authority body, w.block phrase.body end,
-    result_then_width w phrase.result)
+    omega (
+      arith,
+      w.item (method phrase) [],
+      w.head phrase.kind phrase.name phrase.begin (tail_then phrase []),
+      w.params phrase.params rest,
+      w.authority phrase.authority body,
+      w.block phrase.body end,
+      result_then_width w phrase.result,
+    )
 
 -- a method, by its head and what follows
 pub method_read : {old t new : Cursor} {result : Option LabelDraft} {name : NameDraft} {begin : LabelDraft} {line : ℕ}
@@ -268,7 +296,7 @@ method_read {old} {t} {new} {result} {name} {begin} {line} tail kind name_phrase
     let at_params : t.at + 1 ≡ params_place = omega (arith, moves.at) in
     let at_authority : t.at + 5 + length (params_spelling read.params) ≡ authority_place + 3 = omega (arith, moves.at) in
     let at_body : t.at + 3 + length (params_spelling read.params) + length (authority_spelling read.authority) ≡ body_place =
-        omega (arith, moves.at) in
+    omega (arith, moves.at) in
     let params_are = read.params_are ∙ ap (λ at. params_at at read.params) at_params in
     let authority_is = read.authority_is ∙ ap (λ at. names_at at read.authority) at_authority in
     record {
@@ -388,13 +416,17 @@ int_read {old} {a} {b} {c} {d} {new} {label} {begin} {name} {line} tail w line_i
     let third = stepped (symbol LeftBrace) brace counted.steps in
     let width_of_begin = label_width_is parts.label in
     let head : length (head_spelling (Some read.label) read.name parts.label)
-        ≡ label_width read.label + label_width parts.label + 2 =
-        omega (arith, w.head (Some read.label) read.name parts.label [],
-        w.label read.label (Name read.name ∷ label_then parts.label []), w.label parts.label []) in
+    ≡ label_width read.label + label_width parts.label + 2 =
+    omega (
+      arith,
+      w.head (Some read.label) read.name parts.label [],
+      w.label read.label (Name read.name ∷ label_then parts.label []),
+      w.label parts.label [],
+    ) in
     let name_place : a.at + label_width read.label ≡ method_name_place old.at (Some read.label) =
-        omega (arith, first.moves.at) in
+    omega (arith, first.moves.at) in
     let begin_place : c.at ≡ method_name_place old.at (Some read.label) + 1 + 1 =
-        omega (arith, first.moves.at, read.moves.at, third.moves.at) in
+    omega (arith, first.moves.at, read.moves.at, third.moves.at) in
     method_read tail (Some read.label) read.name parts.label w line_is read.sound parts.trust_is_last
     (first.is_next ∙ ap (λ ks. Word Int ∷ ks) (read.written
     ∙ ap (λ ks. label_then read.label (Name read.name ∷ ks)) (third.is_next

@@ -244,7 +244,7 @@ param_read {old} {a} {new} {label} {name} w next counted read =
     let place : a.at + label_width read.label ≡ old.at + 1 + label_width read.label = omega (arith, first.moves.at) in
     let name_is = read.name_is ∙ ap (λ at. name_at at read.name) place in
     let width : length (param_spelling param) ≡ label_width read.label + 2 =
-        omega (arith, w.param param [], w.label read.label (Name read.name ∷ [])) in
+    omega (arith, w.param param [], w.label read.label (Name read.name ∷ [])) in
     record {
       param = param;
       sound = read.sound;
@@ -268,8 +268,11 @@ params_form = record {
   shapes = params_at;
   IsSound = AreParams;
   width_one = λ param. refl;
-  width_more = λ param next params. omega (arith, length-append (param_spelling param)
-      (marks.plain 0 (symbol Comma) ∷ params_spelling (next ∷ params)));
+  width_more = λ param next params. omega (
+    arith,
+    length-append (param_spelling param)
+        (marks.plain 0 (symbol Comma) ∷ params_spelling (next ∷ params)),
+  );
   shapes_none = λ at. refl;
   shapes_more = λ at param params. refl;
 }
@@ -294,7 +297,7 @@ behind_param : {old now new : Cursor} {drafts : List ParamDraft} {draft : ParamD
     ReadsParam now new draft → Takes old new params_due after_param_due
 behind_param so_far read =
     elim so_far.takes [
-      inl first ↦ takes_then first.0 read.takes_first
+      | inl first ↦ takes_then first.0 read.takes_first
       | inr next ↦ takes_then next (takes_before after_param_due read.takes_next)
     ]
 
@@ -302,7 +305,7 @@ pub params_fail : {old now : Cursor} {drafts : List ParamDraft} {error : ParseEr
     FailsParam now error → FailsParams old error
 params_fail so_far fails =
     elim so_far.takes [
-      inl first ↦ fails_then first.0 (fails.first first.1)
+      | inl first ↦ fails_then first.0 (fails.first first.1)
       | inr next ↦ fails_then next (fails_before after_param_due fails.next)
     ]
 
@@ -311,8 +314,8 @@ pub params_more : {old now behind_it new : Cursor} {drafts : List ParamDraft} {d
     IsNextSymbol behind_it Comma → Passes behind_it new → ParamsSoFar old new after
 params_more {old} {now} {behind_it} {new} {drafts} {draft} after are so_far read is passes =
     let shapes : map param_shape after ≡ map param_shape drafts ++ params_form.shape now.at read.param ∷ [] =
-        ap (map param_shape) are ∙ map-append param_shape drafts (draft ∷ [])
-        ∙ ap (λ s. map param_shape drafts ++ s ∷ []) read.draft_is in
+    ap (map param_shape) are ∙ map-append param_shape drafts (draft ∷ [])
+    ∙ ap (λ s. map param_shape drafts ++ s ∷ []) read.draft_is in
     record {
       items = subst (λ ss. ItemsSoFar params_form old new ss) (sym shapes)
           (one_more {behind = behind_it} {new = new} read.param so_far.items read.written read.moves (read.sound, tt)
@@ -371,7 +374,7 @@ pub moved_falls : {old new : Cursor} {count : ℕ} (kind : TokenKind) (more : Li
     0 < count → Moves old new count → length new.rest.now < length old.rest.now
 moved_falls {old} {new} {count} kind more is some moves =
     let any : 0 < length old.rest.now =
-        omega (arith, ap length is, length-map old.rest.now (λ (token : Token). token.kind)) in
+    omega (arith, ap length is, length-map old.rest.now (λ (token : Token). token.kind)) in
     omega (arith, ap length moves.rest, length-drop count old.rest.now)
 
 pub params_fall : {now behind_it new : Cursor} {draft : ParamDraft} → ReadsParam now behind_it draft →
@@ -500,8 +503,12 @@ authority_width : (names : List (List ℕ)) → ¬ (names ≡ []) →
     length (authority_spelling names) ≡ length (names_tokens names) + 4
 authority_width [] some = absurd (some refl)
 authority_width (name ∷ names) some =
-    omega (arith, length-append (map (marks.plain 0) (names_tokens (name ∷ names)))
-    (marks.plain 0 (symbol RightParenthesis) ∷ []), length-map (names_tokens (name ∷ names)) (marks.plain 0))
+    omega (
+      arith,
+      length-append (map (marks.plain 0) (names_tokens (name ∷ names)))
+          (marks.plain 0 (symbol RightParenthesis) ∷ []),
+      length-map (names_tokens (name ∷ names)) (marks.plain 0),
+    )
 
 pub authority_read : {old a b c d e new : Cursor} {drafts : List NameDraft} → PassesWord old a Where →
     PassesWord a b Authority → PassesSymbol b c LeftParenthesis → ReadsNames c d drafts →

@@ -33,7 +33,7 @@ pub found : {start : Cursor} {made : Draft} (tokens : List Token) → Starts sta
 found {start} {made} tokens starts accepted spelled read =
     let line : Token → ℕ = λ token. token.line in
     let has : HasLines (line_at tokens) start =
-        λ k. ap (λ xs. get_or (map line xs) k 0) starts.rest ∙ ap (line_at tokens) (omega (arith, starts.at)) in
+    λ k. ap (λ xs. get_or (map line xs) k 0) starts.rest ∙ ap (line_at tokens) (omega (arith, starts.at)) in
     let spells = spelled read.program read.sound (ap kinds (sym starts.rest) ∙ read.written) in
     let none : refusal_of tokens ≡ None = cc (read.accepted tally_at_start starts.counts, starts.rest, starts.at) in
     let shape = read.draft_is (line_at tokens) has in
@@ -54,7 +54,7 @@ pub refused_by : {start : Cursor} {error : ParseError} (tokens : List Token) →
     IsRefusedBy tokens error
 refused_by {start} {error} tokens starts law fails =
     elim fails.why [
-      inl memory ↦ subst (IsRefusedBy tokens) (sym memory) tt
+      | inl memory ↦ subst (IsRefusedBy tokens) (sym memory) tt
       | inr told ↦
           let some : refusal_of tokens ≡ Some told.0 = cc (told.2 tally_at_start starts.counts, starts.rest, starts.at) in
           by_refusal tokens error told.0 told.1 (law told.0 some)

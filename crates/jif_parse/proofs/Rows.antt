@@ -29,9 +29,9 @@ if_shape guard first second start rest =
     let row = first_row (kind.If guard first second) in
     let other = second_row (kind.If guard first second) in
     ap (λ x. branch_shape start (expr_shape guard) x (row_shape other.1) rest)
-        (row_of_list row.1 ∙ ap block_shape (kind.items_hidden-the_row-StmtDraft-0 first))
+    (row_of_list row.1 ∙ ap block_shape (kind.items_hidden-the_row-StmtDraft-0 first))
     ∙ ap (λ x. branch_shape start (expr_shape guard) (block_shape first.items) x rest)
-        (row_of_list other.1 ∙ ap block_shape (kind.items_hidden-the_row-StmtDraft-0 second))
+    (row_of_list other.1 ∙ ap block_shape (kind.items_hidden-the_row-StmtDraft-0 second))
 
 pub while_shape : (guard : ExprDraft) (body : Vec StmtDraft Global) (start : Start) (rest : BlockShape) →
     statement_shape (kind.While guard body) start rest
@@ -39,4 +39,4 @@ pub while_shape : (guard : ExprDraft) (body : Vec StmtDraft Global) (start : Sta
 while_shape guard body start rest =
     let row = first_row (kind.While guard body) in
     ap (λ x. loop_shape start (expr_shape guard) x rest)
-        (row_of_list row.1 ∙ ap block_shape (kind.items_hidden-the_row-StmtDraft-0 body))
+    (row_of_list row.1 ∙ ap block_shape (kind.items_hidden-the_row-StmtDraft-0 body))

@@ -20,8 +20,13 @@ pub declaration_width : (w : Widths) (label : Option LabelPhrase) (name : List �
     ≡ length (optional_label_spelling 0 label) + expr_width value + block_width rest + 4
 declaration_width w label name value rest =
     let behind = symbol Semicolon ∷ block_then rest [] in
-    omega (arith, w.block (declaration label name value rest) [], w.block rest [], w.expr value behind,
-    w.optional_label label (Name name ∷ symbol Assign ∷ expr_then value behind))
+    omega (
+      arith,
+      w.block (declaration label name value rest) [],
+      w.block rest [],
+      w.expr value behind,
+      w.optional_label label (Name name ∷ symbol Assign ∷ expr_then value behind),
+    )
 
 pub assignment_width : (w : Widths) (name : List ℕ) (value : ExprPhrase) (rest : BlockPhrase) →
     block_width (assignment name value rest) ≡ expr_width value + block_width rest + 3
@@ -34,8 +39,13 @@ pub element_assignment_width : (w : Widths) (name : List ℕ) (index value : Exp
     ≡ expr_width index + expr_width value + block_width rest + 5
 element_assignment_width w name index value rest =
     let behind = symbol Semicolon ∷ block_then rest [] in
-    omega (arith, w.block (element_assignment name index value rest) [], w.block rest [], w.expr value behind,
-    w.expr index (symbol RightBracket ∷ symbol Assign ∷ expr_then value behind))
+    omega (
+      arith,
+      w.block (element_assignment name index value rest) [],
+      w.block rest [],
+      w.expr value behind,
+      w.expr index (symbol RightBracket ∷ symbol Assign ∷ expr_then value behind),
+    )
 
 pub call_width : (w : Widths) (name : List ℕ) (args : List ExprPhrase) (rest : BlockPhrase) →
     block_width (call name args rest) ≡ length (args_spelling 0 args) + block_width rest + 4
@@ -55,8 +65,11 @@ guarded_width : (w : Widths) (guard : ExprPhrase) (block : BlockPhrase) (rest : 
     ≡ expr_width guard + block_width block + length rest + 3
 guarded_width w guard block rest =
     let behind = symbol RightBrace ∷ rest in
-    omega (arith, w.block block behind,
-    w.expr guard (symbol RightParenthesis ∷ symbol LeftBrace ∷ block_then block behind))
+    omega (
+      arith,
+      w.block block behind,
+      w.expr guard (symbol RightParenthesis ∷ symbol LeftBrace ∷ block_then block behind),
+    )
 
 pub branch_width : (w : Widths) (guard : ExprPhrase) (first rest : BlockPhrase) →
     block_width (branch guard first rest) ≡ expr_width guard + block_width first + block_width rest + 5
@@ -68,8 +81,13 @@ pub branch_else_width : (w : Widths) (guard : ExprPhrase) (first second rest : B
     ≡ expr_width guard + block_width first + block_width second + block_width rest + 8
 branch_else_width w guard first second rest =
     let behind = symbol RightBrace ∷ block_then rest [] in
-    omega (arith, w.block (branch_else guard first second rest) [], w.block rest [], w.block second behind,
-    guarded_width w guard first (Word Else ∷ symbol LeftBrace ∷ block_then second behind))
+    omega (
+      arith,
+      w.block (branch_else guard first second rest) [],
+      w.block rest [],
+      w.block second behind,
+      guarded_width w guard first (Word Else ∷ symbol LeftBrace ∷ block_then second behind),
+    )
 
 pub loop_width : (w : Widths) (guard : ExprPhrase) (body rest : BlockPhrase) →
     block_width (loop guard body rest) ≡ expr_width guard + block_width body + block_width rest + 5
@@ -83,46 +101,51 @@ chain_at w lines at end second behind = rw add-zero refl
 chain_at w lines at (declaration label name value rest) second behind =
     let place = at + 1 + length (optional_label_spelling 0 label) + 3 + expr_width value in
     let same : place + block_width rest ≡ at + block_width (declaration label name value rest) =
-        omega (arith, declaration_width w label name value rest) in
+    omega (arith, declaration_width w label name value rest) in
     cc (chain_at w lines place rest second behind, same)
 chain_at w lines at (assignment name value rest) second behind =
     let place = at + 3 + expr_width value in
     let same : place + block_width rest ≡ at + block_width (assignment name value rest) =
-        omega (arith, assignment_width w name value rest) in
+    omega (arith, assignment_width w name value rest) in
     cc (chain_at w lines place rest second behind, same)
 chain_at w lines at (element_assignment name index value rest) second behind =
     let place = at + 4 + expr_width index + 1 + expr_width value in
     let same : place + block_width rest ≡ at + block_width (element_assignment name index value rest) =
-        omega (arith, element_assignment_width w name index value rest) in
+    omega (arith, element_assignment_width w name index value rest) in
     cc (chain_at w lines place rest second behind, same)
 chain_at w lines at (call name args rest) second behind =
     let place = at + 4 + length (args_spelling 0 args) in
     let same : place + block_width rest ≡ at + block_width (call name args rest) =
-        omega (arith, call_width w name args rest) in
+    omega (arith, call_width w name args rest) in
     cc (chain_at w lines place rest second behind, same)
 chain_at w lines at (call_into into name args rest) second behind =
     let place = at + 6 + length (args_spelling 0 args) in
     let same : place + block_width rest ≡ at + block_width (call_into into name args rest) =
-        omega (arith, call_into_width w into name args rest) in
+    omega (arith, call_into_width w into name args rest) in
     cc (chain_at w lines place rest second behind, same)
 chain_at w lines at (branch guard one rest) second behind =
     let place = at + 4 + expr_width guard + 1 + block_width one in
     let same : place + block_width rest ≡ at + block_width (branch guard one rest) =
-        omega (arith, branch_width w guard one rest) in
+    omega (arith, branch_width w guard one rest) in
     cc (chain_at w lines place rest second behind, same)
 chain_at w lines at (branch_else guard one other rest) second behind =
     let place = at + 4 + expr_width guard + 3 + block_width one + 1 + block_width other in
     let same : place + block_width rest ≡ at + block_width (branch_else guard one other rest) =
-        omega (arith, branch_else_width w guard one other rest) in
+    omega (arith, branch_else_width w guard one other rest) in
     cc (chain_at w lines place rest second behind, same)
 chain_at w lines at (loop guard body rest) second behind =
     let place = at + 4 + expr_width guard + 1 + block_width body in
     let same : place + block_width rest ≡ at + block_width (loop guard body rest) =
-        omega (arith, loop_width w guard body rest) in
+    omega (arith, loop_width w guard body rest) in
     cc (chain_at w lines place rest second behind, same)
 
 pub chain_width : (w : Widths) (first second : BlockPhrase) →
     block_width (chain first second) ≡ block_width first + block_width second
 chain_width w first second =
-    omega (arith, w.block (chain first second) [], w.block first (block_then second []), w.block second [],
-    ap length (chain_then first second []))
+    omega (
+      arith,
+      w.block (chain first second) [],
+      w.block first (block_then second []),
+      w.block second [],
+      ap length (chain_then first second []),
+    )

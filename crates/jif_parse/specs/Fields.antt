@@ -49,7 +49,8 @@ FailsSize old error = Fails old size_due error
 pub record ReadsFirst (old new : Cursor) (value : ℤ) : Type 0 where
   pub negative : Bool
   pub first : ℕ
-  pub written : kinds old.rest.now ≡ sign_then negative (Number (pos first) ∷ symbol Semicolon ∷ kinds new.rest.now)
+  pub written : kinds old.rest.now ≡ sign_then negative
+      (Number (pos first) ∷ symbol Semicolon ∷ kinds new.rest.now)
   pub value_is : value ≡ first_value (set negative first)
   pub moves : Moves old new (length (sign_of_number negative) + 2)
   pub takes : Takes old new (nested_at 0 due.first_value ∷ []) []

@@ -1,5 +1,6 @@
 -- Reading statements: which they were, which drafts they are, and what they take away of what was due.
-use Rattle.std.specs.Prelude.{◌≡◌, ◌<◌, ◌≤◌, ◌+◌, ℕ, suc, List, [], ◌∷◌, ◌++◌, map, length, get_or, Option, ⊤}
+use Rattle.std.specs.Prelude.{◌≡◌, ◌<◌, ◌≤◌, ◌+◌, ℕ, suc, List, [], ◌∷◌, ◌++◌, map}
+use Rattle.std.specs.Prelude.{length, get_or, Option, ⊤}
 use Rattle.std.specs.Option.{option_map}
 use Rattle.js_base.specs.declared.limits.TheConstants.{NESTING}
 use Rattle.jif_lex.specs.declared.token.TokenKind.{TokenKind}
@@ -62,7 +63,8 @@ pub record ReadsLocalName (old new : Cursor) (label_draft : Option LabelDraft) (
       (nested_at depth (exactly due.assign) ∷ nested_at depth (operand at_semicolon) ∷ [])
 
 abbrev pub FailsLocalName : Cursor → ParseError → Type 0
-FailsLocalName old error = (depth : ℕ) → depth ≤ NESTING → Fails old (nested_at depth due.after_int ∷ []) error
+FailsLocalName old error = (depth : ℕ) → depth ≤ NESTING →
+    Fails old (nested_at depth due.after_int ∷ []) error
 
 -- a name and a parenthesis are next
 abbrev pub IsCallNext : Cursor → List ℕ → Type 0
@@ -73,7 +75,8 @@ IsCallNext cursor name =
 pub record ReadsAssignment (old new : Cursor) (depth : ℕ) (name : NameDraft) (draft : StmtKindDraft) : Type 0 where
   pub block : List ℕ → BlockPhrase
   pub sound : (n : List ℕ) → IsBlock (block n)
-  pub written : (n : List ℕ) → Name n ∷ symbol Assign ∷ kinds old.rest.now ≡ block_then (block n) (kinds new.rest.now)
+  pub written : (n : List ℕ) →
+      Name n ∷ symbol Assign ∷ kinds old.rest.now ≡ block_then (block n) (kinds new.rest.now)
   pub draft_is : (lines : ℕ → ℕ) (at : ℕ) (n : List ℕ) (behind : BlockShape) → at + 2 ≡ old.at →
       name_shape name ≡ name_at at n →
       statement_shape draft (start_at lines at) behind ≡ block_at lines at (block n) behind
@@ -96,7 +99,8 @@ pub record ReadsCall (old new : Cursor) (depth : ℕ) (drafts : List ExprDraft) 
   pub takes : Takes old new (nested_at depth due.args ∷ nested_at depth (exactly due.semicolon) ∷ []) []
 
 abbrev pub FailsCall : Cursor → ℕ → ParseError → Type 0
-FailsCall old depth error = Fails old (nested_at depth due.args ∷ nested_at depth (exactly due.semicolon) ∷ []) error
+FailsCall old depth error =
+    Fails old (nested_at depth due.args ∷ nested_at depth (exactly due.semicolon) ∷ []) error
 
 -- an index behind its bracket, and the value that is assigned there
 abbrev pub element_due : ℕ → List Nested

@@ -29,4 +29,3 @@ pub record Widths : Type 0 where
       length (head_then kind name begin rest) ≡ length (head_spelling kind name begin) + length rest
   pub item : (item : ItemPhrase) (rest : List TokenKind) →
       length (item_then item rest) ≡ length (item_spelling item) + length rest
-

@@ -6,7 +6,8 @@ ghost use Rattle.jif_lex.specs.declared.token.Word.TheVariants.{Int};
 ghost use Rattle.jif_lex.specs.declared.token.TokenKind.TheVariants as token;
 ghost use Rattle.jif_parse.specs.Reading.{IsNextKind};
 ghost use Rattle.jif_parse.specs.Statements.{ReadsKind, FailsStatement, ReadsLocalName, FailsLocalName};
-ghost use Rattle.jif_parse.specs.Statements.{ReadsAssignment, FailsAssignment, ReadsElement, FailsElement, ReadsCall, FailsCall};
+ghost use Rattle.jif_parse.specs.Statements.{ReadsAssignment, FailsAssignment, ReadsElement, FailsElement, ReadsCall};
+ghost use Rattle.jif_parse.specs.Statements.{FailsCall};
 ghost use Rattle.jif_parse.specs.Statements.{IsCallNext};
 
 use crate::ParseError;
@@ -22,11 +23,7 @@ use jif_tree::{ExprDraft, LabelDraft, NameDraft, StmtKindDraft};
 use std::alloc::Global;
 
 /// A declaration of a local, whose `int` is next. So many constructs are open around it.
-pub fn local(
-    alloc: Global,
-    cursor: &mut Cursor,
-    depth: usize,
-) -> Result<StmtKindDraft, ParseError>
+pub fn local(alloc: Global, cursor: &mut Cursor, depth: usize) -> Result<StmtKindDraft, ParseError>
     requires nested { depth ≤ NESTING }
     requires next { IsNextKind cursor.old (token.Word Int) }
     ensures read { IfOk result (ReadsKind cursor.old cursor.new depth) }

@@ -21,5 +21,5 @@ mod starts;
 mod statements;
 mod words;
 
-pub use parser::parse;
 pub use parse_error::ParseError;
+pub use parser::parse;

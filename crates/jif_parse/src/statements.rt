@@ -103,11 +103,7 @@ fn statement_kind(
 
 /// An `if`, which is next, with its `else` where one follows.
 #[cycle(statements)]
-fn branch(
-    alloc: Global,
-    cursor: &mut Cursor,
-    depth: usize,
-) -> Result<StmtKindDraft, ParseError>
+fn branch(alloc: Global, cursor: &mut Cursor, depth: usize) -> Result<StmtKindDraft, ParseError>
     requires nested { depth ≤ NESTING }
     requires next { IsNextKind cursor.old (token.Word If) }
     ensures read { IfOk result (ReadsKind cursor.old cursor.new depth) }
@@ -127,11 +123,7 @@ fn branch(
 
 /// A `while`, which is next.
 #[cycle(statements)]
-fn repetition(
-    alloc: Global,
-    cursor: &mut Cursor,
-    depth: usize,
-) -> Result<StmtKindDraft, ParseError>
+fn repetition(alloc: Global, cursor: &mut Cursor, depth: usize) -> Result<StmtKindDraft, ParseError>
     requires nested { depth ≤ NESTING }
     requires next { IsNextKind cursor.old (token.Word While) }
     ensures read { IfOk result (ReadsKind cursor.old cursor.new depth) }
@@ -162,11 +154,7 @@ fn guarded(
 
 /// A block with its braces. So many constructs are open within it.
 #[cycle(statements)]
-fn braced(
-    alloc: Global,
-    cursor: &mut Cursor,
-    depth: usize,
-) -> Result<Vec<StmtDraft>, ParseError>
+fn braced(alloc: Global, cursor: &mut Cursor, depth: usize) -> Result<Vec<StmtDraft>, ParseError>
     requires { depth ≤ NESTING + 1 }
     ensures read { IfOk result (λ drafts. ReadsBraced cursor.old cursor.new depth drafts.items) }
     ensures fails { IfErr result (FailsBraced cursor.old depth) }

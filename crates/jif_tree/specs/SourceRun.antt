@@ -1,5 +1,6 @@
 -- What a program does when it is run plainly, with no hosts: one statement a step, on one store.
-use Rattle.std.specs.Prelude.{◌≡◌, ℕ, ◌<◌, zero, suc, ◌==◌, if◌then◌else◌, ℤ, pos, List, [], ◌∷◌, ◌++◌, map}
+use Rattle.std.specs.Prelude.{◌≡◌, ℕ, ◌<◌, zero, suc, ◌==◌, if◌then◌else◌, ℤ, pos, List, []}
+use Rattle.std.specs.Prelude.{◌∷◌, ◌++◌, map}
 use Rattle.std.specs.Prelude.{length, unwrap_or, Option, Some, None, slice_get, slice_set}
 use Rattle.std.specs.Option.{option_map}
 use Rattle.js_base.specs.declared.ids.VarId.{VarId}
@@ -115,7 +116,8 @@ kept call (Some into) (Some result) = keep call into result ∷ []
 kept call into result = []
 
 -- the configuration after a call was made
-abbrev pub after_call : Program → Configuration → ℕ → ℕ → List ℤ → Option VarId → List Item → Configuration
+abbrev pub after_call : Program → Configuration → ℕ → ℕ → List ℤ → Option VarId → List Item →
+    Configuration
 after_call program c call method values into behind =
     let called = method_at program method in
     record {
@@ -138,7 +140,8 @@ calls_after_return program c call value = left_by (slice_get c.calls call)
 
 -- What a statement of a call leaves whose operands have these values, where these items were pending behind it. `again`
 -- is the item of the statement itself, which a `while` puts back.
-abbrev pub executed : Program → Configuration → ℕ → Item → StmtKind → List ℤ → List Item → Configuration
+abbrev pub executed : Program → Configuration → ℕ → Item → StmtKind → List ℤ → List Item →
+    Configuration
 executed program c call again (kind.Let x value) values behind =
     record c { calls = calls_after c.calls call x.0 (value_at values 0); pending = behind }
 executed program c call again (kind.SetField field value) values behind =

@@ -1,5 +1,6 @@
 -- All hosts, what is in flight between them, and what each event leaves.
-use Rattle.std.specs.Prelude.{◌≡◌, ℕ, ◌+◌, ℤ, Bool, true, false, ◌==◌, if◌then◌else◌, List, [], ◌∷◌, ◌++◌, length, map}
+use Rattle.std.specs.Prelude.{◌≡◌, ℕ, ◌+◌, ℤ, Bool, true, false, ◌==◌, if◌then◌else◌, List, []}
+use Rattle.std.specs.Prelude.{◌∷◌, ◌++◌, length, map}
 use Rattle.std.specs.Prelude.{Option, Some, None, IsSome, is_some, slice_get, slice_set, remove, IsTrue, IsSomeAnd}
 use Rattle.std.specs.Int.{bit_at}
 use Rattle.js_base.specs.declared.ids.HostId.{HostId}
@@ -17,8 +18,8 @@ use Rattle.event_text.specs.declared.event.BadMessage.{BadMessage}
 use Rattle.net_world.specs.Flying.{Flight, Flying, with_flights}
 use Rattle.net_world.specs.Told.{SentMessage, tokens_in, message_made}
 
--- For each host of the code its state, or nothing where it misbehaves; what is in flight between obeying hosts; and what
--- misbehaving hosts were sent, in order.
+-- For each host of the code its state, or nothing where it misbehaves; what is in flight between obeying hosts; and
+-- what misbehaving hosts were sent, in order.
 pub record WorldShape : Type 0 where
   pub hosts : List (Option HostShape)
   pub flying : Flying
@@ -199,7 +200,8 @@ host_before code store bad number row =
     if bit_at bad number == 1 then None else Some (host_at_start code store row.key (record { 0 = number }))
 
 -- the hosts from a number on
-abbrev pub hosts_before : CodeShape → List (List ℤ) → ℕ → ℕ → List declared_hosts.HostShape → List (Option HostShape)
+abbrev pub hosts_before : CodeShape → List (List ℤ) → ℕ → ℕ → List declared_hosts.HostShape →
+    List (Option HostShape)
 hosts_before code store bad number [] = []
 hosts_before code store bad number (row ∷ rows) =
     host_before code store bad number row ∷ hosts_before code store bad (number + 1) rows

@@ -1,6 +1,7 @@
 //! What is in flight between the hosts.
 
-ghost use Rattle.std.specs.Prelude.{◌≡◌, ◌+◌, ◌-◌, ◌<◌, ◌≤◌, ℕ, [], ◌∷◌, ◌++◌, length, map, remove, slice_get};
+ghost use Rattle.std.specs.Prelude.{◌≡◌, ◌+◌, ◌-◌, ◌<◌, ◌≤◌, ℕ, [], ◌∷◌, ◌++◌};
+ghost use Rattle.std.specs.Prelude.{length, map, remove, slice_get};
 ghost use Rattle.std.specs.Prelude.{slice_set, replicate, IfOk, OnOk, MatchOption, None, Some};
 ghost use Rattle.js_base.specs.declared.ids.HostId.{HostId};
 ghost use Rattle.net_world.specs.Flying.{Flight, Queue, QueueHasRoom, HasRoom, pair_place, flights_of, flights_at};
@@ -219,7 +220,8 @@ impl Flying {
         requires to { to.0 < HOSTS }
         requires room { HasRoom self.old (pair_place from to) }
         ensures flights { flights_of self.new ≡ slice_set (flights_of self.old) (pair_place from to)
-            (flights_at (flights_of self.old) (pair_place from to) ++ record { message = message; label = label } ∷ []) }
+            (flights_at (flights_of self.old) (pair_place from to)
+            ++ record { message = message; label = label } ∷ []) }
         ensures count { length self.old ≡ PAIRS }
     {
         let place = place_of(from, to);

@@ -1,6 +1,7 @@
 //! What becomes of the messages of an event.
 
-ghost use Rattle.std.specs.Prelude.{◌≡◌, ◌<◌, ◌+◌, ℕ, length, OnOk, OnErr, IfOk, IfSome, IsSomeAnd, slice_get, IsSome};
+ghost use Rattle.std.specs.Prelude.{◌≡◌, ◌<◌, ◌+◌, ℕ, length, OnOk, OnErr, IfOk, IfSome, IsSomeAnd};
+ghost use Rattle.std.specs.Prelude.{slice_get, IsSome};
 ghost use Rattle.js_base.specs.declared.ids.HostId.{HostId};
 ghost use Rattle.host_code.specs.Sound.{IsOther};
 ghost use Rattle.host_core.specs.Fits.{SentFits, TokensFit};
@@ -117,7 +118,8 @@ impl World {
         self.flying.remove(from, to, place as usize);
     }
 
-    /// What a host sends is told to a misbehaving host, or is in flight with its label to another. There is room for it.
+    /// What a host sends is told to a misbehaving host, or is in flight with its label to another. There is room for
+    /// it.
     pub(crate) fn post(&mut self, from: HostId, label: Option<u32>, sent: Sent)
         requires from { from.0 < length self.old.hosts }
         requires room { IfSome sent (λ letter.

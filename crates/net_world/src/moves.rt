@@ -1,6 +1,7 @@
 //! The step of one host among all.
 
-ghost use Rattle.std.specs.Prelude.{◌≡◌, ◌+◌, ℕ, None, OnOk, OnErr, IfOk, IfSome, IsSome, IsSomeAnd, slice_set, Some};
+ghost use Rattle.std.specs.Prelude.{◌≡◌, ◌+◌, ℕ, None, OnOk, OnErr, IfOk, IfSome, IsSome, IsSomeAnd};
+ghost use Rattle.std.specs.Prelude.{slice_set, Some};
 ghost use Rattle.host_code.specs.Sound.{IsOther, IsLabel};
 ghost use Rattle.host_core.specs.Fits.{SentFits, TokensFit};
 ghost use Rattle.host_core.specs.Host.{state_of, IsStopped};

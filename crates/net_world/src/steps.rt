@@ -1,6 +1,7 @@
 //! The events that move a world on.
 
-ghost use Rattle.std.specs.Prelude.{◌≡◌, ◌≢◌, ◌<◌, ◌+◌, ◌↔◌, ℕ, length, None, Some, OnOk, OnErr, IfOk, IfErr, IfSome};
+ghost use Rattle.std.specs.Prelude.{◌≡◌, ◌≢◌, ◌<◌, ◌+◌, ◌↔◌, ℕ, length, None, Some, OnOk};
+ghost use Rattle.std.specs.Prelude.{OnErr, IfOk, IfErr, IfSome};
 ghost use Rattle.std.specs.Prelude.{IsErrOf, IsSomeAnd, IsTrue, slice_get, MatchOption};
 ghost use Rattle.host_code.specs.Sound.{IsOther};
 ghost use Rattle.host_core.specs.Fits.{SentFits, TokensFit};

@@ -1,6 +1,7 @@
 //! All hosts, what is in flight between them, and what misbehaving hosts were sent.
 
-ghost use Rattle.std.specs.Prelude.{◌≡◌, ◌<◌, ◌≤◌, ◌↔◌, ◌+◌, IfOk, IfSome, IsTrue, length, map, option_copied, slice_get};
+ghost use Rattle.std.specs.Prelude.{◌≡◌, ◌<◌, ◌≤◌, ◌↔◌, ◌+◌, IfOk, IfSome, IsTrue, length};
+ghost use Rattle.std.specs.Prelude.{map, option_copied, slice_get};
 ghost use Rattle.js_base.specs.declared.ids.HostId.{HostId};
 ghost use Rattle.net_world.specs.World.{world_at_start, has_halted, host_before, hosts_before, AreHostsOf};
 ghost use Rattle.net_world.specs.Fits.{WorldFits, HostsFit, PresentFits, states_of, world_of, host_at};
@@ -43,8 +44,8 @@ pub enum EventError {
     Stopped,
 }
 
-/// All hosts, and what is in flight between them. A misbehaving host has no state: it may send whatever it can make, and
-/// what it is sent is kept.
+/// All hosts, and what is in flight between them. A misbehaving host has no state: it may send whatever it can make,
+/// and what it is sent is kept.
 #[derive(Drop)]
 pub struct World {
     pub(crate) root: HostId,

@@ -29,8 +29,8 @@ returns-then-is_next-clause-read c =
     let same : pos 0 -ℤ z ≡ neg_ℤ z = omega (arith, ints) in
     let is = c.in_ok-first.ensures.read.value_is in
     let both : SFits w64 (neg_ℤ z) =
-        subst (λ (x : ℤ). SFits w64 (neg_ℤ x)) (sym is)
-        (neg_fits c.in_ok-first.ensures.read.number (subst (SFits w64) is fits)) in
+    subst (λ (x : ℤ). SFits w64 (neg_ℤ x)) (sym is)
+    (neg_fits c.in_ok-first.ensures.read.number (subst (SFits w64) is fits)) in
     rw (to_z-of_z w64 z fits, same, to_z-of_z w64 (neg_ℤ z) both) (negative_read (record { is_next = c.if-is_next.ensures.0 refl; passes = c.pass.ensures }) c.in_ok-first.ensures.read
     c.in_ok-expect.ensures.passed)
 

@@ -38,4 +38,3 @@ returns-clause-read c =
     subst (ReadsSize c.args.cursor.now c.expect-2.new.self) (sym c.in-Ok.ensures.1)
     (size_read c.in-Some.number (omega (arith, c.if-number-eq0.false)) c.in-Some.ensures.found c.in_ok-take.ensures.counted c.in_ok-expect.ensures.passed
     c.in_ok-expect-2.ensures.passed)
-

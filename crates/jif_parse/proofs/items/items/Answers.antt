@@ -25,4 +25,3 @@ loop-alloc-preserved c =
 pub returns-clause-read : goal.returns-clause-read
 returns-clause-read c =
     all_items c.loop-alloc.invariant (none_left c.loop-alloc.cursor.rest.now c.loop-alloc-test.ensures)
-

@@ -30,4 +30,3 @@ pub returns-clause-read : goal.returns-clause-read
 returns-clause-read c =
     void_read c.in_ok-tail.tail c.widths_of_phrases.ensures c.next_line-line.ensures c.requires c.in_ok-take.ensures.counted
     c.in_ok-name.ensures.read c.in_ok-begin.ensures.read c.in_ok-tail.ensures.read
-

@@ -48,4 +48,3 @@ pub returns-clause-read : goal.returns-clause-read
 returns-clause-read c =
     authority_read c.in_ok-expect_word.ensures.passed c.in_ok-expect_word-2.ensures.passed c.in_ok-expect.ensures.passed
     c.in_ok-names.ensures.read c.in_ok-expect-2.ensures.passed c.in_ok-expect-3.ensures.passed
-

@@ -29,4 +29,3 @@ returns-in_err-expect-clause-fails c =
 pub returns-clause-read : goal.returns-clause-read
 returns-clause-read c =
     body_without_return c.in_ok-body.ensures.read c.in_ok-expect.ensures.passed
-

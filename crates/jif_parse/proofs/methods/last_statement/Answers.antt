@@ -19,4 +19,3 @@ pub returns-clause-read : goal.returns-clause-read
 returns-clause-read c =
     return_read c.requires c.next_line-line.ensures c.in_ok-take.ensures.counted c.in_ok-value.ensures.read
     c.in_ok-expect.ensures.passed
-

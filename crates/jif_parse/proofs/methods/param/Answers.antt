@@ -23,4 +23,3 @@ pub returns-clause-read : goal.returns-clause-read
 returns-clause-read c =
     param_read c.widths_of_phrases.ensures (c.if-not-is_word_next.ensures.0 refl) c.in_ok-take.ensures.counted
     c.in_ok-label.ensures.read
-

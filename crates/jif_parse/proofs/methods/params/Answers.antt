@@ -39,4 +39,3 @@ pub loop-params-preserved : goal.loop-params-preserved
 loop-params-preserved c =
     params_more c.push.new.self.items c.in_ok-push.ensures.items c.loop-params.invariant c.in_ok-param.ensures.read
     (c.if-not-is_next.ensures.0 refl) c.pass-in-loop-params.ensures
-

@@ -31,4 +31,3 @@ pub returns-clause-read : goal.returns-clause-read
 returns-clause-read c =
     tail_read _ c.in_ok-expect.ensures.passed c.in_ok-params.ensures.read c.in_ok-authority.ensures.read
     c.in_ok-body.ensures.read
-

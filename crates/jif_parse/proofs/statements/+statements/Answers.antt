@@ -142,7 +142,7 @@ statements-loop-alloc-smaller t c = falls (c.loop-alloc-test.ensures.0 refl) c.i
 pub statements-loop-alloc-preserved : goal.statements-loop-alloc-preserved
 statements-loop-alloc-preserved t c =
     rw c.in_ok-push.ensures.items
-        (one_more c.widths_of_phrases.ensures c.loop-alloc.invariant c.in_ok-draft.ensures.read)
+    (one_more c.widths_of_phrases.ensures c.loop-alloc.invariant c.in_ok-draft.ensures.read)
 
 pub statements-returns-clause-read : goal.statements-returns-clause-read
 statements-returns-clause-read t c =
