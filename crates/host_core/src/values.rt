@@ -1,6 +1,6 @@
 //! The values of expressions.
 
-ghost use Rattle.std.specs.Prelude.{◌≡◌, ◌∷◌, ◌<◌, ◌≤◌, ◌+◌, [], length, MatchOption};
+ghost use Rattle.std.specs.Prelude.{◌≡◌, ◌∷◌, ◌<◌, ◌≤◌, ◌+◌, drop, length, pos, slice_index_or};
 ghost use Rattle.host_stores.specs.Stores.{variable_of};
 ghost use Rattle.host_core.specs.Values.{after_binary, values_after_node, value_of_nodes};
 
@@ -8,112 +8,114 @@ use host_code::{MOST_NODES, Node};
 use host_stores::Stores;
 use jif_tree::{binary_value, inverted, negated};
 use js_base::{BinOp, FrameId};
-use std::marker::Model;
 
-/// Some values, at most as many as an expression has nodes. The one that was made last stands first.
-#[derive(Drop)]
-struct Values {
-    /// The values stand at the end of these.
-    items: [i64; MOST_NODES],
-    first: usize,
-}
-
-impl Model for Values {
-    ghost use Rattle.std.specs.Prelude.{◌≡◌, ◌≤◌, ℤ, List, drop, length};
-    ghost use Rattle.host_code.specs.declared.code_expr.TheConstants.{MOST_NODES};
-
-    ghost Value = { List ℤ };
-
-    ghost view = { λ v. drop v.first v.items };
-
-    ghost invariant = { λ v. (v.first ≤ MOST_NODES) × (length v.items ≡ MOST_NODES) };
-}
-
-impl Values {
-    /// No values.
-    fn none() -> Values
-        ensures { result ≡ [] }
-    {
-        Values {
-            items: [0; MOST_NODES],
-            first: MOST_NODES,
-        }
-    }
-
-    /// One more value, which stands first.
-    fn push(&mut self, value: i64)
-        requires { length self.old < MOST_NODES }
-        ensures { self.new ≡ value ∷ self.old }
-    {
-        self.first -= 1;
-        self.items[self.first] = value;
-    }
-
-    /// Takes the first value away.
-    fn pop(&mut self) -> Option<i64>
-        ensures { MatchOption result ((self.old ≡ []) × (self.new ≡ []))
-            (λ value. self.old ≡ value ∷ self.new) }
-    {
-        if self.first == MOST_NODES {
-            return None;
-        }
-        let value = self.items[self.first];
-        self.first += 1;
-        Some(value)
-    }
-}
+/// The nodes of a short expression, at most.
+const FEW_NODES: usize = 8;
 
 /// The value of an expression's nodes, where the variables are those of the frame.
 pub fn value_of(nodes: &[Node], stores: &Stores, frame: FrameId, temporaries: &[i64]) -> i64
     requires { length nodes.now ≤ MOST_NODES }
     ensures { result ≡ value_of_nodes (variable_of stores.now frame) temporaries.now nodes.now }
 {
-    let mut values = Values::none();
-    for node in nodes {
-        run_node(&mut values, *node, stores, frame, temporaries);
-    }
-    match values.pop() {
-        Some(value) => value,
-        None => 0,
+    // Room for the most nodes takes longer to clear than a short expression takes to run.
+    if nodes.len() <= FEW_NODES {
+        let mut room = [0; FEW_NODES];
+        value_within(&mut room, nodes, stores, frame, temporaries)
+    } else {
+        let mut room = [0; MOST_NODES];
+        value_within(&mut room, nodes, stores, frame, temporaries)
     }
 }
 
-/// What a node leaves of the values.
-fn run_node(values: &mut Values, node: Node, stores: &Stores, frame: FrameId, temporaries: &[i64])
-    requires { length values.old < MOST_NODES }
-    ensures values { values.new
-        ≡ values_after_node (variable_of stores.now frame) temporaries.now node values.old }
-    ensures one_more { length values.new ≤ length values.old + 1 }
+/// The value of nodes, with room for so many values. The values so far stand at the end of the room, and the one that
+/// was made last stands first.
+fn value_within(
+    room: &mut [i64],
+    nodes: &[Node],
+    stores: &Stores,
+    frame: FrameId,
+    temporaries: &[i64],
+) -> i64
+    requires { length nodes.now ≤ length room.old }
+    ensures { result ≡ value_of_nodes (variable_of stores.now frame) temporaries.now nodes.now }
+{
+    let mut first = room.len();
+    for node in nodes {
+        first = run_node(room, first, *node, stores, frame, temporaries);
+    }
+    room.get(first).copied().unwrap_or(0)
+}
+
+/// What a node leaves of the values from a place on: they stand from the place that is answered on.
+fn run_node(
+    room: &mut [i64],
+    first: usize,
+    node: Node,
+    stores: &Stores,
+    frame: FrameId,
+    temporaries: &[i64],
+) -> usize
+    requires some { 0 < first }
+    requires within { first ≤ length room.old }
+    ensures values { drop result room.new
+        ≡ values_after_node (variable_of stores.now frame) temporaries.now node (drop first room.old) }
+    ensures within { result ≤ length room.old }
+    ensures one_more { first ≤ result + 1 }
 {
     match node {
-        Node::Number(number) => values.push(number),
-        Node::Var(var) => values.push(stores.var(frame, var)),
-        Node::Temp(number) => values.push(temporaries.get(number as usize).copied().unwrap_or(0)),
+        Node::Number(number) => push(room, first, number),
+        Node::Var(var) => push(room, first, stores.var(frame, var)),
+        Node::Temp(number) => {
+            let value = temporaries.get(number as usize).copied().unwrap_or(0);
+            push(room, first, value)
+        }
         Node::Not => {
-            if let Some(value) = values.pop() {
-                values.push(inverted(value));
+            if first < room.len() {
+                room[first] = inverted(room[first]);
             }
+            first
         }
         Node::Negate => {
-            if let Some(value) = values.pop() {
-                values.push(negated(value));
+            if first < room.len() {
+                room[first] = negated(room[first]);
             }
+            first
         }
-        Node::Binary(op) => run_binary(values, op),
+        Node::Binary(op) => run_binary(room, first, op),
     }
+}
+
+/// One more value, which stands first.
+fn push(room: &mut [i64], first: usize, value: i64) -> usize
+    requires some { 0 < first }
+    requires within { first ≤ length room.old }
+    ensures values { drop result room.new ≡ value ∷ drop first room.old }
+    ensures first { result + 1 ≡ first }
+{
+    room[first - 1] = value;
+    first - 1
 }
 
 /// What a binary operator leaves of the values. Nothing changes where there are fewer than two.
-fn run_binary(values: &mut Values, op: BinOp)
-    requires { length values.old < MOST_NODES }
-    ensures values { values.new ≡ after_binary op values.old }
-    ensures no_more { length values.new ≤ length values.old }
+fn run_binary(room: &mut [i64], first: usize, op: BinOp) -> usize
+    requires { first ≤ length room.old }
+    ensures values { drop result room.new ≡ after_binary op (drop first room.old) }
+    ensures within { result ≤ length room.old }
+    ensures no_more { first ≤ result }
 {
-    let Some(right) = values.pop() else {
-        return;
-    };
-    match values.pop() {
-        Some(left) => values.push(binary_value(op, left, right)),
-        None => values.push(right),
+    if room.len() - first < 2 {
+        return first;
     }
+    let right = value_at(room, first);
+    let left = value_at(room, first + 1);
+    room[first + 1] = binary_value(op, left, right);
+    first + 1
+}
+
+/// The value at a place.
+fn value_at(room: &[i64], place: usize) -> i64
+    requires { place < length room.now }
+    ensures { result ≡ slice_index_or room.now place (pos 0) }
+{
+    room[place]
 }
