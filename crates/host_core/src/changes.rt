@@ -104,6 +104,8 @@ impl Host {
 
     /// A thread waits for the answer to the next request of an instruction, from the host that is asked. Gives the
     /// request.
+    // A thread is large, and in a call of its own it would be copied once more.
+    #[inline(always)]
     pub(crate) fn wait(
         &mut self,
         at: u32,

@@ -100,6 +100,8 @@ impl Host {
     }
 
     /// A variable of a frame becomes a value.
+    // A thread is large, and in a call of its own it would be copied once more.
+    #[inline(always)]
     pub(crate) fn assign(
         &mut self,
         mut thread: Thread,
