@@ -1,3 +1,4 @@
+pub mod Choosing
 pub mod FirstForm
 pub mod Fitting
 pub mod Flights
@@ -6,5 +7,6 @@ pub mod Present
 pub mod Queues
 pub mod Same
 pub mod Starts
+pub mod StepLaws
 pub mod StepsOf
 pub mod ToldTokens

@@ -76,7 +76,7 @@ answers world host ready = λ stopped.
     let at = has_some (host_at world host) IsReady ready in
     at.2.1 (subst (λ o. IsSomeAnd o IsStopped) at.1 stopped)
 
-take_not_refused : (flight : Option Flight) (state : Option HostShape) (found : Flight) → flight ≡ Some found →
+pub take_not_refused : (flight : Option Flight) (state : Option HostShape) (found : Flight) → flight ≡ Some found →
     IsSomeAnd state (λ s. s.running ≡ None) → refusal_of_take flight state ≡ None
 take_not_refused flight None found there rests = absurd rests
 take_not_refused flight (Some state) found there rests = rw (there, rests) refl
@@ -89,7 +89,7 @@ take_due world from to place found takeable = record {
   answers = answers world to takeable.host;
 }
 
-act_not_refused : (bad : Bool) (state : Option HostShape) (count : ℕ) (made : Option Message) (m : Message) →
+pub act_not_refused : (bad : Bool) (state : Option HostShape) (count : ℕ) (made : Option Message) (m : Message) →
     IsTrue bad → made ≡ Some m → IsSomeAnd state (λ s. s.running ≡ None) →
     refusal_of_act bad state (refusal_of_token count made) ≡ None
 act_not_refused false state count made m bad makes rests = absurd (cc)

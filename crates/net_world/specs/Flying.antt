@@ -1,13 +1,13 @@
 -- What is in flight between the hosts, and how the program keeps it: a queue for each ordered pair of 16 hosts.
-use Rattle.std.specs.Prelude.{ℕ, ◌+◌, ◌*◌, ◌<◌, ◌==◌, ◌&&◌, if◌then◌else◌, nat_lt, List, []}
-use Rattle.std.specs.Prelude.{◌∷◌, map, IsSomeAnd}
+use Rattle.std.specs.Prelude.{ℕ, ◌+◌, ◌*◌, ◌<◌, ◌==◌, ◌&&◌, if◌then◌else◌, nat_lt, List}
+use Rattle.std.specs.Prelude.{[], ◌∷◌, map, IsSomeAnd}
 use Rattle.std.specs.Prelude.{unwrap_or, slice_get}
 use Rattle.js_base.specs.declared.ids.HostId.{HostId}
 use Rattle.js_base.specs.declared.limits.TheConstants.{HOSTS}
 use Rattle.host_code.specs.declared.message.Message.{Message}
 
 -- A message in flight, with the place of the label that it carries among the code's labels: that of the instruction
--- that sent it, and for an answer that of the request.
+-- that sent it, and for an answer that of the message that it answers.
 pub record Flight : Type 0 where
   pub message : Message
   pub label : ℕ

@@ -1,6 +1,6 @@
 -- What the parts of an event find and leave: the tests before it, the step of its host, and its answer.
-use Rattle.std.specs.Prelude.{◌≡◌, ◌≢◌, ◌⊎◌, ◌≤◌, ℕ, false, List, length, Option, Some, None}
-use Rattle.std.specs.Prelude.{IsSome, IsTrue}
+use Rattle.std.specs.Prelude.{◌≡◌, ◌≢◌, ◌⊎◌, ◌≤◌, ℕ, false, List, length, Option, Some}
+use Rattle.std.specs.Prelude.{None, IsSome, IsTrue}
 use Rattle.std.specs.Prelude.{IsSomeAnd, IfSome, slice_get, slice_set, Result, Ok, Err}
 use Rattle.js_base.specs.declared.ids.HostId.{HostId}
 use Rattle.host_code.specs.declared.message.Message.{Message}

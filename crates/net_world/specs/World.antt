@@ -1,6 +1,6 @@
 -- All hosts, what is in flight between them, and what each event leaves.
-use Rattle.std.specs.Prelude.{◌≡◌, ℕ, ◌+◌, ℤ, Bool, true, false, ◌==◌, if◌then◌else◌, List, []}
-use Rattle.std.specs.Prelude.{◌∷◌, ◌++◌, length, map}
+use Rattle.std.specs.Prelude.{◌≡◌, ℕ, ◌+◌, ℤ, Bool, true, false, ◌==◌, if◌then◌else◌, List}
+use Rattle.std.specs.Prelude.{[], ◌∷◌, ◌++◌, length, map}
 use Rattle.std.specs.Prelude.{Option, Some, None, IsSome, is_some, slice_get, slice_set, remove, IsTrue, IsSomeAnd}
 use Rattle.std.specs.Int.{bit_at}
 use Rattle.js_base.specs.declared.ids.HostId.{HostId}

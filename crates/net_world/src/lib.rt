@@ -1,8 +1,10 @@
 //! All hosts at once: what each runs, what is in flight between them, and the events that move them on.
 #![tactic(auto)]
 
+mod choice;
 pub mod first;
 mod flying;
+pub mod laws;
 mod mail;
 mod moves;
 mod refusals;

@@ -1,7 +1,7 @@
 //! Why an event is refused.
 
-ghost use Rattle.std.specs.Prelude.{◌≡◌, ◌↔◌, None, Some, OnOk, IfOk, IfErr, IsTrue, IsSomeAnd, slice_get};
-ghost use Rattle.std.specs.Prelude.{MatchOption};
+ghost use Rattle.std.specs.Prelude.{◌≡◌, ◌↔◌, None, Some, OnOk, IfOk, IfErr, IsTrue, IsSomeAnd};
+ghost use Rattle.std.specs.Prelude.{slice_get, MatchOption};
 ghost use Rattle.host_core.specs.Host.{state_of};
 ghost use Rattle.host_core.specs.Turn.{label_of_turn};
 ghost use Rattle.net_world.specs.World.{misbehaves};
@@ -79,8 +79,8 @@ impl World {
 
     /// A host that runs no thread.
     fn resting(&self, host: HostId) -> Result<&Host, EventError>
-        ensures ok { IfOk result
-            (λ there. (host_at self.now host ≡ Some there.now) × (there.now.running ≡ None)) }
+        ensures ok { IfOk result (λ there.
+            (host_at self.now host ≡ Some there.now) × (there.now.running ≡ None)) }
         ensures err { IfErr result (CannotRest (host_at self.now host)) }
     {
         let Some(there) = self.host(host) else {

@@ -1,0 +1,39 @@
+//! What holds of every world. The calls do nothing: their contracts are the laws.
+
+ghost use Rattle.std.specs.Prelude.{◌≡◌, ◌≢◌, ◌++◌, ◌↔◌, None, List, slice_get};
+ghost use Rattle.js_base.specs.declared.ids.HostId.{HostId};
+ghost use Rattle.event_text.specs.declared.event.Event.{Event};
+ghost use Rattle.host_code.specs.Code.{CodeShape};
+ghost use Rattle.net_world.specs.Told.{SentMessage};
+ghost use Rattle.net_world.specs.World.{WorldShape, IsStep, IsRun, refusal_of, mover, misbehaves};
+
+/// What an event leaves is determined, and it leaves most of the world alone.
+pub fn step_laws()
+    // An event leaves one world.
+    ensures one { (code : CodeShape) (world first second : WorldShape) (event : Event) →
+        IsStep code world event first → IsStep code world event second → first ≡ second }
+    // What happens is not refused.
+    ensures not_refused { (code : CodeShape) (world after : WorldShape) (event : Event) →
+        IsStep code world event after → refusal_of world event ≡ None }
+    // It is the step of one host.
+    ensures others { (code : CodeShape) (world after : WorldShape) (event : Event) (host : HostId) →
+        IsStep code world event after → host.0 ≢ (mover event).0 →
+        slice_get after.hosts host.0 ≡ slice_get world.hosts host.0 }
+    // The same hosts misbehave.
+    ensures misbehaving { (code : CodeShape) (world after : WorldShape) (event : Event) (host : HostId) →
+        IsStep code world event after → misbehaves after host ≡ misbehaves world host }
+    // What misbehaving hosts were sent is only added to.
+    ensures told { (code : CodeShape) (world after : WorldShape) (event : Event) →
+        IsStep code world event after → (more : List SentMessage) × (after.sent ≡ world.sent ++ more) }
+{}
+
+/// What events leave is determined, and lists of events compose.
+pub fn run_laws()
+    ensures one { (code : CodeShape) (world first second : WorldShape) (events : List Event) →
+        IsRun code world events first → IsRun code world events second → first ≡ second }
+    ensures joined { (code : CodeShape) (world middle after : WorldShape) (events later : List Event) →
+        IsRun code world events middle → IsRun code middle later after → IsRun code world (events ++ later) after }
+    ensures split { (code : CodeShape) (world after : WorldShape) (events later : List Event) →
+        IsRun code world (events ++ later) after →
+        (middle : WorldShape) × IsRun code world events middle × IsRun code middle later after }
+{}
