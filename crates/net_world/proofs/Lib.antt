@@ -6,6 +6,7 @@ pub mod Letters
 pub mod Present
 pub mod Queues
 pub mod Same
+pub mod Shapes
 pub mod Starts
 pub mod StepLaws
 pub mod StepsOf

@@ -1,5 +1,5 @@
 -- A turn leaves a host its number, and an answer goes to the host that asked.
-use Rattle.std.proofs.Common.{◌≡◌, Bool, true, false, List, [], ◌∷◌, refl, sym, ap, ◌∙◌, subst}
+use Rattle.std.proofs.Common.{◌≡◌, ℕ, Bool, true, false, List, [], ◌∷◌, refl, sym, ap, ◌∙◌, subst}
 use Rattle.std.specs.Prelude.{Option, Some, None, IfSome, if◌then◌else◌, ◌==◌}
 use Rattle.js_base.specs.declared.ids.HostId.{HostId}
 use Rattle.js_base.specs.declared.ids.FieldId.{FieldId}
@@ -18,7 +18,7 @@ use Rattle.host_code.specs.declared.message.Message.TheVariants as message
 use Rattle.host_code.specs.Thread.{ThreadShape}
 use Rattle.host_code.specs.Code.{CodeShape, CodeFieldShape, halt, field_at, entry_at, instruction_at}
 use Rattle.host_core.specs.Host.{HostShape, Outcome, with_running, after_pop, after_entering}
-use Rattle.host_core.specs.Taking.{IsTaking, after_taking, after_passing}
+use Rattle.host_core.specs.Taking.{IsTaking, after_taking, after_passing, after_answer}
 use Rattle.host_core.specs.Turn.{IsTurn, IsTurnOf, IsRunning, after_operation, after_read, after_put, after_own_push}
 use Rattle.host_core.specs.Turn.{after_ask, after_go, after_own_call, after_return, after_back}
 
@@ -69,7 +69,7 @@ me_return host thread variable value None passes = refl
 me_return host thread variable value (Some held) passes =
     either (held.host.0 == host.me.0) _ _ host.me refl (either passes _ _ host.me refl refl)
 
-me_entering : (host : HostShape) (there : Option Entry) (frame : FrameId) (token : Token) →
+pub me_entering : (host : HostShape) (there : Option Entry) (frame : FrameId) (token : Token) →
     (after_entering host there frame token).me ≡ host.me
 me_entering host None frame token = refl
 me_entering host (Some there) frame token = refl
@@ -123,6 +123,33 @@ me_turn_of code host (Some thread) outcome turns =
 pub me_turn : (code : CodeShape) (host : HostShape) (outcome : Outcome) → IsTurn code host outcome →
     outcome.state.me ≡ host.me
 me_turn code host outcome turns = me_turn_of code host host.running outcome turns
+
+me_answer : (host : HostShape) (place : Option ℕ) (answered : ThreadShape → ThreadShape) →
+    (after_answer host place answered).me ≡ host.me
+me_answer host None answered = refl
+me_answer host (Some place) answered = refl
+
+me_passing : (code : CodeShape) (host : HostShape) (from : HostId) (m : Message) →
+    (after_passing code host from m).state.me ≡ host.me
+me_passing code host from (message.Get request field index) = refl
+me_passing code host from (message.Set request field index value) = refl
+me_passing code host from (message.Forward request frame variable value) = refl
+me_passing code host from (message.Sync request frame entry token) = refl
+me_passing code host from (message.Rgoto frame entry token) = me_entering host (entry_at code entry) frame token
+me_passing code host from (message.Lgoto token) = me_pop code host host.entries
+me_passing code host from (message.Value request value) = me_answer host _ _
+me_passing code host from (message.Ack request) = me_answer host _ _
+me_passing code host from (message.Token request token) = me_answer host _ _
+
+me_by_check : (code : CodeShape) (host : HostShape) (from : HostId) (m : Message) (passes : Bool) →
+    (after_taking code host from m passes).state.me ≡ host.me
+me_by_check code host from m true = me_passing code host from m
+me_by_check code host from m false = refl
+
+pub me_taking : (code : CodeShape) (host : HostShape) (from : HostId) (m : Message) (outcome : Outcome) →
+    IsTaking code host from m outcome → outcome.state.me ≡ host.me
+me_taking code host from m outcome takes =
+    ap (λ (o : Outcome). o.state.me) (sym takes.2) ∙ me_by_check code host from m takes.0
 
 -- ---- answers
 

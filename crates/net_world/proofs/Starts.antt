@@ -24,7 +24,7 @@ started code rows bad store world states empty nothing =
     ∙ ap (λ sent. record { hosts = states_of world.hosts; flying = λ from to. []; sent = sent }) nothing
     ∙ ap (λ hosts. record { hosts = hosts; flying = λ from to. []; sent = [] }) states
 
-nothing_sent : (code : CodeShape) (rows : List declared_hosts.HostShape) (bad : ℕ) (store : List (List ℤ)) →
+pub nothing_sent : (code : CodeShape) (rows : List declared_hosts.HostShape) (bad : ℕ) (store : List (List ℤ)) →
     MailFits code (world_at_start code rows bad store)
 nothing_sent code rows bad store = record {
   flying = λ from to k d lt. absurd (omega arith);

@@ -140,6 +140,29 @@ sending_hosts : (world : WorldShape) (from : HostId) (letter : Option Letter) �
 sending_hosts world from None = refl
 sending_hosts world from (Some letter) = either_hosts (misbehaves world letter.to) _ _ world refl refl
 
+pub take_puts : (code : CodeShape) (world after : WorldShape) (from to : HostId) (place : ℕ)
+    (step : IsTakeStep code world from to place after) →
+    after.hosts ≡ slice_set world.hosts to.0 (Some step.outcome.state)
+take_puts code world after from to place step =
+    ap (λ (w : WorldShape). w.hosts) (sym step.leaves)
+    ∙ sending_hosts (with_state (without_flight world from to place) to step.outcome.state) to
+    (letter_of (Some step.flight.label) step.outcome.sent)
+
+pub turn_puts : (code : CodeShape) (world after : WorldShape) (host : HostId)
+    (step : IsTurnStep code world host after) →
+    after.hosts ≡ slice_set world.hosts host.0 (Some step.outcome.state)
+turn_puts code world after host step =
+    ap (λ (w : WorldShape). w.hosts) (sym step.leaves)
+    ∙ sending_hosts (with_state world host step.outcome.state) host
+    (letter_of (label_of_turn code step.state) step.outcome.sent)
+
+pub act_puts : (code : CodeShape) (world after : WorldShape) (from to : HostId) (made : BadMessage)
+    (step : IsActStep code world from to made after) →
+    after.hosts ≡ slice_set world.hosts to.0 (Some step.outcome.state)
+act_puts code world after from to made step =
+    ap (λ (w : WorldShape). w.hosts) (sym step.leaves)
+    ∙ telling_hosts (with_state world to step.outcome.state) to step.outcome.sent
+
 -- a step puts a state in the place of one
 record HasPut (world : WorldShape) (host : HostId) (after : WorldShape) : Type 0 where
   before : HostShape
@@ -153,27 +176,19 @@ puts_state code world after (Take from to place) step = record {
   before = step.state;
   state = step.outcome.state;
   obeys = step.obeys;
-  puts =
-      ap (λ (w : WorldShape). w.hosts) (sym step.leaves)
-      ∙ sending_hosts (with_state (without_flight world from to place) to step.outcome.state) to
-      (letter_of (Some step.flight.label) step.outcome.sent);
+  puts = take_puts code world after from to place step;
 }
 puts_state code world after (Turn host) step = record {
   before = step.state;
   state = step.outcome.state;
   obeys = step.obeys;
-  puts =
-      ap (λ (w : WorldShape). w.hosts) (sym step.leaves)
-      ∙ sending_hosts (with_state world host step.outcome.state) host
-      (letter_of (label_of_turn code step.state) step.outcome.sent);
+  puts = turn_puts code world after host step;
 }
 puts_state code world after (Act from to made) step = record {
   before = step.state;
   state = step.outcome.state;
   obeys = step.obeys;
-  puts =
-      ap (λ (w : WorldShape). w.hosts) (sym step.leaves)
-      ∙ telling_hosts (with_state world to step.outcome.state) to step.outcome.sent;
+  puts = act_puts code world after from to made step;
 }
 
 pub others_stay : (code : CodeShape) (world after : WorldShape) (event : Event) (host : HostId) →

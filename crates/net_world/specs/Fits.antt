@@ -12,10 +12,10 @@ use Rattle.host_code.specs.Code.{CodeShape}
 use Rattle.host_code.specs.Sound.{IsHost, IsOther, IsLabel}
 use Rattle.host_code.specs.Messages.{MessageFits}
 use Rattle.host_core.specs.Host.{HostShape, HostModel, state_of}
-use Rattle.host_core.specs.Fits.{HostFits}
+use Rattle.host_core.specs.Fits.{HostFits, StateFits}
 use Rattle.net_world.specs.Flying.{Flight, Queue, flights_of, flying_of}
 use Rattle.net_world.specs.Told.{SentMessage, ToldShape}
-use Rattle.net_world.specs.World.{WorldShape, present, misbehaves}
+use Rattle.net_world.specs.World.{WorldShape, present, state_at, misbehaves}
 
 -- the root host, the hosts, a queue for each pair of hosts, and what misbehaving hosts were sent
 pub record WorldModel : Type 0 where
@@ -70,6 +70,17 @@ pub record WorldFits (code : CodeShape) (world : WorldModel) : Type 0 where
   pub count : length world.hosts ≡ length code.hosts
   pub hosts : HostsFit code world.hosts
   pub mail : MailFits code (world_of world)
+
+-- ---- the same of the definitions alone
+
+pub record IsStateOf (code : CodeShape) (number : HostId) (state : HostShape) : Type 0 where
+  pub me : state.me ≡ number
+  pub fits : StateFits code state
+
+pub record ShapeFits (code : CodeShape) (world : WorldShape) : Type 0 where
+  pub count : length world.hosts ≡ length code.hosts
+  pub states : (number : HostId) → IfSome (state_at world number) (IsStateOf code number)
+  pub mail : MailFits code world
 
 -- ---- what a misbehaving host may present as its own
 

@@ -1,11 +1,15 @@
 //! What holds of every world. The calls do nothing: their contracts are the laws.
 
-ghost use Rattle.std.specs.Prelude.{◌≡◌, ◌≢◌, ◌++◌, ◌↔◌, None, List, slice_get};
+ghost use Rattle.std.specs.Prelude.{◌≡◌, ◌≢◌, ◌++◌, ℕ, ℤ, None, List, All, slice_get};
 ghost use Rattle.js_base.specs.declared.ids.HostId.{HostId};
 ghost use Rattle.event_text.specs.declared.event.Event.{Event};
 ghost use Rattle.host_code.specs.Code.{CodeShape};
+ghost use Rattle.host_code.specs.Sound.{IsSoundCode};
+ghost use Rattle.host_decl.specs.Hosts.{HostShape};
+ghost use Rattle.net_world.specs.Fits.{WorldModel, WorldFits, ShapeFits, HasOwnToken, world_of};
 ghost use Rattle.net_world.specs.Told.{SentMessage};
 ghost use Rattle.net_world.specs.World.{WorldShape, IsStep, IsRun, refusal_of, mover, misbehaves};
+ghost use Rattle.net_world.specs.World.{AreHostsOf, world_at_start};
 
 /// What an event leaves is determined, and it leaves most of the world alone.
 pub fn step_laws()
@@ -25,6 +29,21 @@ pub fn step_laws()
     // What misbehaving hosts were sent is only added to.
     ensures told { (code : CodeShape) (world after : WorldShape) (event : Event) →
         IsStep code world event after → (more : List SentMessage) × (after.sent ≡ world.sent ++ more) }
+{}
+
+/// The states, what is in flight and what misbehaving hosts were sent fit the code from the start on.
+pub fn fits_laws()
+    ensures start { (code : CodeShape) (rows : List HostShape) (bad : ℕ) (store : List (List ℤ)) →
+        IsSoundCode code → AreHostsOf code rows → ShapeFits code (world_at_start code rows bad store) }
+    ensures step { (code : CodeShape) (world after : WorldShape) (event : Event) →
+        IsSoundCode code → ShapeFits code world → HasOwnToken world event → IsStep code world event after →
+        ShapeFits code after }
+    ensures run { (code : CodeShape) (world after : WorldShape) (events : List Event) →
+        IsSoundCode code → ShapeFits code world → All (HasOwnToken world) events → IsRun code world events after →
+        ShapeFits code after }
+    // What a world of the program keeps is no less.
+    ensures world { (code : CodeShape) (world : WorldModel) → WorldFits code world →
+        ShapeFits code (world_of world) }
 {}
 
 /// What events leave is determined, and lists of events compose.

@@ -1,0 +1,14 @@
+use Rattle.net_world.proofs.Shapes.{shape_at_start, shape_step, shape_run, shape_of_world}
+use Rattle.net_world.proofs.laws.fits_laws.Goals as goal
+
+pub returns-clause-start : goal.returns-clause-start
+returns-clause-start c = λ code rows bad store sound same. shape_at_start code rows bad store sound same
+
+pub returns-clause-step : goal.returns-clause-step
+returns-clause-step c = λ code world after event sound fits own step. shape_step code world after event sound fits own step
+
+pub returns-clause-world : goal.returns-clause-world
+returns-clause-world c = λ code world fits. shape_of_world code world fits
+
+pub returns-clause-run : goal.returns-clause-run
+returns-clause-run c = λ code world after events sound fits own run. shape_run code world after events sound fits own run
