@@ -27,8 +27,8 @@ pub fn step_laws()
     ensures misbehaving { (code : CodeShape) (world after : WorldShape) (event : Event) (host : HostId) →
         IsStep code world event after → misbehaves after host ≡ misbehaves world host }
     // What misbehaving hosts were sent is only added to.
-    ensures told { (code : CodeShape) (world after : WorldShape) (event : Event) →
-        IsStep code world event after → (more : List SentMessage) × (after.sent ≡ world.sent ++ more) }
+    ensures told { (code : CodeShape) (world after : WorldShape) (event : Event) → IsStep code world event after →
+        (more : List SentMessage) × (after.sent ≡ world.sent ++ more) }
 {}
 
 /// The states, what is in flight and what misbehaving hosts were sent fit the code from the start on.
@@ -39,8 +39,8 @@ pub fn fits_laws()
         IsSoundCode code → ShapeFits code world → HasOwnToken world event → IsStep code world event after →
         ShapeFits code after }
     ensures run { (code : CodeShape) (world after : WorldShape) (events : List Event) →
-        IsSoundCode code → ShapeFits code world → All (HasOwnToken world) events → IsRun code world events after →
-        ShapeFits code after }
+        IsSoundCode code → ShapeFits code world → All (HasOwnToken world) events →
+        IsRun code world events after → ShapeFits code after }
     // What a world of the program keeps is no less.
     ensures world { (code : CodeShape) (world : WorldModel) → WorldFits code world →
         ShapeFits code (world_of world) }

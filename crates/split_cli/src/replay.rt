@@ -21,8 +21,8 @@ use host_decl::{Hosts, HostsError, read_hosts};
 use jif_tree::{Program, Store};
 use js_base::OutOfMemory;
 use js_base::limits::{HOSTS_BYTES, PROGRAM_BYTES, SCRIPT_BYTES};
-use net_world::first::events::{EventsError, read_events};
 use net_world::first::code::Code;
+use net_world::first::events::{EventsError, read_events};
 use net_world::first::world::{EventError, World};
 use std::alloc::Global;
 

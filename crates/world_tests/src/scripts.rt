@@ -1,8 +1,8 @@
 //! Scripts of events, and how messages are printed.
 
 use js_base::{FieldId, HostId, RequestId};
-use net_world::first::events::{Event, EventsError, message_text, read_events};
 use net_world::first::code::{Code, CodeField, Message, Part};
+use net_world::first::events::{Event, EventsError, message_text, read_events};
 use std::alloc::{AllocError, Global};
 use std::test::Fail;
 

@@ -2,8 +2,8 @@
 
 use jif_tree::{Program, Store};
 use js_base::{FieldId, HostId, MethodId, StmtId};
-use net_world::first::events::Event;
 use net_world::first::code::{Code, CodeField, Instr, Op, Part};
+use net_world::first::events::Event;
 use net_world::first::world::{EventError, World};
 use std::alloc::Global;
 use std::test::Fail;
