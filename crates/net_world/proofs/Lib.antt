@@ -3,6 +3,7 @@ pub mod FirstForm
 pub mod Fitting
 pub mod Flights
 pub mod Letters
+pub mod Named
 pub mod Present
 pub mod Queues
 pub mod Same

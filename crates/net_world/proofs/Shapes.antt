@@ -16,7 +16,7 @@ use Rattle.event_text.specs.declared.event.Event.{Event}
 use Rattle.host_code.specs.declared.message.Message.{Message}
 use Rattle.event_text.specs.declared.event.Event.TheVariants.{Take, Turn, Act}
 use Rattle.host_code.specs.declared.instruction.Instr.{Instr}
-use Rattle.host_code.specs.Code.{CodeShape, CodeHostShape, instruction_at, entry_at, halt}
+use Rattle.host_code.specs.Code.{CodeShape, instruction_at, entry_at, halt}
 use Rattle.host_code.specs.Sound.{IsHost, IsOther, IsLabel, IsSoundCode}
 use Rattle.host_code.specs.Thread.{ThreadShape}
 use Rattle.host_core.specs.Host.{HostShape, HostModel, Outcome, after_push, new_token, state_of}
@@ -28,7 +28,7 @@ use Rattle.host_core.proofs.StartKept.{idle_fits, root_fits}
 use Rattle.host_core.proofs.TakingKept.{taking_kept}
 use Rattle.host_core.proofs.TurnKept.{turn_kept}
 use Rattle.net_world.specs.World.{WorldShape, IsStep, IsRun, IsTakeStep, IsTurnStep, IsActStep, AreHostsOf, world_at_start}
-use Rattle.net_world.specs.World.{host_before, hosts_before, given, present, state_at, with_state, without_flight}
+use Rattle.net_world.specs.World.{named_host, host_before, hosts_before, given, present, state_at, with_state, without_flight}
 use Rattle.net_world.specs.World.{misbehaves}
 use Rattle.net_world.specs.Fits.{WorldModel, WorldFits, PresentFits, ShapeFits, IsStateOf, MailFits, HasOwnToken}
 use Rattle.net_world.specs.Fits.{OwnToken, OwnTokenIn}
@@ -101,9 +101,7 @@ length_before code store bad number (row ∷ rows) = ap suc (length_before code 
 
 rows_count : (code : CodeShape) (rows : List declared_hosts.HostShape) → AreHostsOf code rows →
     length rows ≡ length code.hosts
-rows_count code rows same =
-    let named : declared_hosts.HostShape → CodeHostShape = λ row. record { name = row.name; label = row.label } in
-    sym (length-map rows named) ∙ ap length same
+rows_count code rows same = sym (length-map rows named_host) ∙ ap length same
 
 pub shape_at_start : (code : CodeShape) (rows : List declared_hosts.HostShape) (bad : ℕ) (store : List (List ℤ)) →
     IsSoundCode code → AreHostsOf code rows → ShapeFits code (world_at_start code rows bad store)

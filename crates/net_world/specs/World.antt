@@ -7,7 +7,7 @@ use Rattle.js_base.specs.declared.ids.HostId.{HostId}
 use Rattle.capability.specs.declared.token.Token.{Token}
 use Rattle.host_decl.specs.Hosts as declared_hosts
 use Rattle.host_code.specs.declared.message.Message.{Message}
-use Rattle.host_code.specs.Code.{CodeShape}
+use Rattle.host_code.specs.Code.{CodeShape, CodeHostShape}
 use Rattle.host_core.specs.Host.{HostShape, Outcome, Letter, with_label}
 use Rattle.host_core.specs.Start.{host_at_start}
 use Rattle.host_core.specs.Taking.{IsTaking}
@@ -190,9 +190,13 @@ refusal_of world (Act from to made) =
 
 -- ---- the start
 
+-- a host of a host file, as a code has it
+abbrev pub named_host : declared_hosts.HostShape → CodeHostShape
+named_host row = record { name = row.name; label = row.label }
+
 -- the hosts of the code are those of a host file, with their names and labels
 abbrev pub AreHostsOf : CodeShape → List declared_hosts.HostShape → Type 0
-AreHostsOf code rows = map (λ row. record { name = row.name; label = row.label }) rows ≡ code.hosts
+AreHostsOf code rows = map named_host rows ≡ code.hosts
 
 -- A host before the first event, with its key. Bit h of the word says that host h misbehaves.
 abbrev pub host_before : CodeShape → List (List ℤ) → ℕ → ℕ → declared_hosts.HostShape → Option HostShape

@@ -6,10 +6,12 @@ pub mod first;
 mod flying;
 pub mod laws;
 mod mail;
+mod matching;
 mod moves;
 mod refusals;
 mod steps;
 mod told;
 mod world;
 
+pub use matching::are_hosts_of;
 pub use world::{EventError, World};
