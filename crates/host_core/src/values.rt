@@ -1,6 +1,7 @@
 //! The values of expressions.
 
-ghost use Rattle.std.specs.Prelude.{◌≡◌, ◌∷◌, ◌<◌, ◌≤◌, ◌+◌, drop, length, pos, slice_index_or};
+ghost use Rattle.std.specs.Prelude.{◌≡◌, ◌∷◌, ◌<◌, ◌≤◌, ◌+◌, drop, length, pos};
+ghost use Rattle.std.specs.Prelude.{slice_index_or};
 ghost use Rattle.host_stores.specs.Stores.{variable_of};
 ghost use Rattle.host_core.specs.Values.{after_binary, values_after_node, value_of_nodes};
 
