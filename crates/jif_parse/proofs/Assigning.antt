@@ -1,7 +1,6 @@
 -- Statements without blocks, put together from what was read.
-use Rattle.std.proofs.Common.{◌≡◌, ◌≤◌, ◌<◌, ℕ, ◌+◌, ◌⊎◌, List, [], ◌∷◌, ◌++◌, drop, length, Option, Some, None, refl, ap, sym}
-use Rattle.std.proofs.Common.{◌∙◌, arith, map, Vec, Global, inl, inr, add-zero, length-append}
-use Rattle.std.specs.Option.{option_map}
+use Rattle.std.proofs.Common.{◌≡◌, ◌≤◌, ℕ, ◌+◌, ◌⊎◌, List, [], ◌∷◌, ◌++◌, length, Option, Some, None, refl, ap, sym}
+use Rattle.std.proofs.Common.{◌∙◌, arith, Vec, Global, inl, inr, add-zero, length-append}
 use Rattle.std.proofs.lemmas.List.{length-map}
 use Rattle.js_base.specs.declared.limits.TheConstants.{NESTING}
 use Rattle.jif_lex.specs.declared.token.TokenKind.{TokenKind}
@@ -24,12 +23,12 @@ use Rattle.jif_grammar.specs.Marks as marks
 use Rattle.jif_grammar.specs.Nesting.{Nested, nested_at, nested_all}
 use Rattle.jif_grammar.specs.Spelling.{args_spelling, optional_label_spelling}
 use Rattle.jif_grammar.specs.Unmarked.{args_then, expr_then, label_then, optional_label_then}
-use Rattle.jif_grammar.specs.Drafts.{expr_at, expr_width, args_at, name_at, label_width, policies_at, trust_at, optional_label_at, start_at, block_width}
-use Rattle.jif_grammar.specs.DraftShapes.{expr_shape, name_shape, label_shape}
+use Rattle.jif_grammar.specs.Drafts.{expr_at, expr_width, args_at, name_at, label_width, policies_at, trust_at, optional_label_at}
+use Rattle.jif_grammar.specs.DraftShapes.{name_shape}
 use Rattle.jif_parse.specs.declared.cursor.Cursor.{Cursor}
 use Rattle.jif_parse.specs.declared.parse_error.ParseError.{ParseError}
 use Rattle.jif_parse.specs.declared.parse_error.ParseError.TheVariants as fault
-use Rattle.jif_parse.specs.Reading.{behind, IsNextKind, IsNextSymbol, IsNextName, Takes, Fails, Moves, Passes, Counted, IsOver}
+use Rattle.jif_parse.specs.Reading.{behind, IsNextKind, IsNextSymbol, IsNextName, Takes, Counted, IsOver}
 use Rattle.jif_parse.specs.Phrases.{PassesSymbol, ReadsName, ReadsArgs, ReadsUpTo, FailsUpTo, ReadsParts, FailsParts}
 use Rattle.jif_parse.specs.Statements.{ReadsCall, FailsCall, ReadsElement, FailsElement, element_due, ReadsLocalName}
 use Rattle.jif_parse.specs.Statements.{FailsLocalName, ReadsAssignment, FailsAssignment, IsCallNext, ReadsKind}

@@ -1,6 +1,6 @@
 -- Statements one after the other, and nested blocks, put together from what was read.
-use Rattle.std.proofs.Common.{◌≡◌, ◌≤◌, ◌<◌, ℕ, suc, ◌+◌, ◌⊎◌, List, [], ◌∷◌, ◌++◌, drop, length, map, get_or, Some, None, refl}
-use Rattle.std.proofs.Common.{ap, sym, subst, ◌∙◌, arith, Vec, Global, append_assoc, inl, inr, length-drop, add-zero}
+use Rattle.std.proofs.Common.{◌≡◌, ◌≤◌, ◌<◌, ℕ, suc, ◌+◌, List, [], ◌∷◌, ◌++◌, drop, length, map, get_or, None, refl}
+use Rattle.std.proofs.Common.{ap, sym, subst, ◌∙◌, arith, Vec, Global, append_assoc, length-drop}
 use Rattle.std.proofs.lemmas.List.{length-map, drop-map, get_or-drop, append-nil}
 use Rattle.js_base.specs.declared.limits.TheConstants.{NESTING}
 use Rattle.jif_lex.specs.declared.token.Token.{Token}
@@ -8,7 +8,6 @@ use Rattle.jif_lex.specs.declared.token.TokenKind.{TokenKind}
 use Rattle.jif_lex.specs.declared.token.TokenKind.TheVariants as token
 use Rattle.jif_lex.specs.declared.token.TokenKind.TheVariants.{Name, Number, Word}
 use Rattle.jif_lex.specs.declared.token.Word.TheVariants.{Int, If, Else, While}
-use Rattle.jif_lex.specs.declared.token.Word.TheVariants as words
 use Rattle.jif_lex.specs.declared.token.Symbol.TheVariants.{LeftBrace, RightBrace, LeftParenthesis, RightParenthesis}
 use Rattle.jif_lex.specs.declared.token.Symbol.TheVariants as symbols
 use Rattle.label_lattice.specs.Written.{kinds, symbol}
@@ -25,8 +24,7 @@ use Rattle.jif_grammar.specs.Marks as marks
 use Rattle.jif_grammar.specs.Marks.{Tally}
 use Rattle.jif_grammar.specs.Nesting.{Nested, nested_at}
 use Rattle.jif_grammar.specs.Verdicts.{going, refusal_from, walk_on}
-use Rattle.jif_grammar.specs.DraftShapes.{Start, BlockShape, statement_shape, block_shape, end_shape, branch_shape}
-use Rattle.jif_grammar.specs.DraftShapes.{loop_shape, expr_shape}
+use Rattle.jif_grammar.specs.DraftShapes.{statement_shape, block_shape, end_shape}
 use Rattle.jif_grammar.specs.Drafts.{expr_at, expr_width, start_at, block_at, block_width}
 use Rattle.jif_grammar.specs.Unmarked.{expr_then, block_then}
 use Rattle.jif_parse.specs.declared.cursor.Cursor.{Cursor}
@@ -34,12 +32,12 @@ use Rattle.jif_parse.specs.declared.parse_error.ParseError.{ParseError}
 use Rattle.jif_parse.specs.declared.parse_error.ParseError.TheVariants as fault
 use Rattle.jif_parse.specs.Reading.{behind, IsNext, IsNextKind, IsNextSymbol, Takes, Fails, Moves, Passes, Counted, IsOver}
 use Rattle.jif_parse.specs.Phrases.{PassesSymbol, ReadsUpTo, FailsUpTo}
-use Rattle.jif_parse.specs.Statements.{HasLines, StartsStatement, BeginsStatement, statements_due, ReadsKind}
+use Rattle.jif_parse.specs.Statements.{HasLines, BeginsStatement, statements_due, ReadsKind}
 use Rattle.jif_parse.specs.Statements.{ReadsStatement, FailsStatement, ReadsStatements, ReadsBraced, FailsBraced}
 use Rattle.jif_parse.specs.Statements.{braced_due, ReadsGuarded, FailsGuarded, guarded_due}
 use Rattle.jif_parse.specs.Widths.{Widths}
-use Rattle.jif_parse.proofs.Taking.{takes_then, takes_before, fails_then, fails_before, fails_at_limit, out_of_memory}
-use Rattle.jif_parse.proofs.Moving.{moves_then, moves_as, stepped, Stepped, takes_passed, takes_counted, fails_other, next_kind}
+use Rattle.jif_parse.proofs.Taking.{takes_then, takes_before, fails_then, fails_before, fails_at_limit}
+use Rattle.jif_parse.proofs.Moving.{moves_then, moves_as, stepped, takes_passed, takes_counted, fails_other}
 use Rattle.jif_parse.proofs.Fixed.{takes_fixed, fails_fixed, step_symbol}
 use Rattle.jif_parse.proofs.Chains.{chain, chain_then, IsBlock_chain}
 use Rattle.jif_parse.proofs.Widths.{chain_at, chain_width, branch_width, branch_else_width, loop_width}

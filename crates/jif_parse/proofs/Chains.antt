@@ -1,5 +1,5 @@
 -- Statements one after the other: those of a first block and then those of a second.
-use Rattle.std.proofs.Common.{◌≡◌, ℕ, ◌+◌, List, [], ◌∷◌, ◌++◌, refl, ap, ◌∙◌, sym, arith}
+use Rattle.std.proofs.Common.{◌≡◌, List, [], ◌∷◌, ◌++◌, refl, ap}
 use Rattle.jif_lex.specs.declared.token.TokenKind.{TokenKind}
 use Rattle.jif_tree.specs.declared.draft.StmtDraft.{StmtDraft}
 use Rattle.jif_grammar.specs.Phrases.{BlockPhrase, end, declaration, assignment, element_assignment, call}
@@ -7,7 +7,6 @@ use Rattle.jif_grammar.specs.Phrases.{call_into, branch, branch_else, loop}
 use Rattle.jif_grammar.specs.Grouping.{IsBlock}
 use Rattle.jif_grammar.specs.Unmarked.{block_then}
 use Rattle.jif_grammar.specs.DraftShapes.{BlockShape, statement_shape, block_shape, end_shape}
-use Rattle.jif_grammar.specs.Drafts.{block_at, block_width}
 
 abbrev pub chain : BlockPhrase → BlockPhrase → BlockPhrase
 chain end second = second

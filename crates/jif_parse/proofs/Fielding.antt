@@ -1,10 +1,10 @@
 -- What follows the name of a field, put together from what was read.
-use Rattle.std.proofs.Common.{◌≡◌, ◌≤◌, ◌<◌, ℕ, zero, suc, ◌+◌, ◌⊎◌, List, [], ◌∷◌, ◌++◌, length, Bool, true, false, Some, None, refl}
-use Rattle.std.proofs.Common.{ap, sym, ◌∙◌, arith, inl, inr, ℤ, pos, negsuc}
+use Rattle.std.proofs.Common.{◌≡◌, ◌<◌, ℕ, zero, suc, ◌+◌, List, [], ◌∷◌, length, Bool, true, false, Some, None, refl}
+use Rattle.std.proofs.Common.{ap, ◌∙◌, arith, inr, ℤ, pos, negsuc}
 use Rattle.std.specs.Prelude.{neg_ℤ}
 use mir.Syntax.{w64}
 use mir.Val.{SFits}
-use Rattle.js_base.specs.declared.limits.TheConstants.{NESTING, ARRAY_SIZE}
+use Rattle.js_base.specs.declared.limits.TheConstants.{ARRAY_SIZE}
 use Rattle.jif_lex.specs.declared.token.TokenKind.{TokenKind}
 use Rattle.jif_lex.specs.declared.token.TokenKind.TheVariants as token
 use Rattle.jif_lex.specs.declared.token.TokenKind.TheVariants.{Number}
@@ -18,12 +18,11 @@ use Rattle.jif_grammar.specs.Marks as marks
 use Rattle.jif_grammar.specs.Programs.{too_many}
 use Rattle.jif_grammar.specs.Nesting.{Nested, nested_at}
 use Rattle.jif_grammar.specs.Spelling.{field_end_spelling, sign_of_number}
-use Rattle.jif_grammar.specs.Drafts.{size_of, is_array, first_value}
+use Rattle.jif_grammar.specs.Drafts.{size_of}
 use Rattle.jif_parse.specs.declared.cursor.Cursor.{Cursor}
-use Rattle.jif_parse.specs.declared.fields.FieldEnding.{FieldEnding}
 use Rattle.jif_parse.specs.declared.parse_error.ParseError.{ParseError}
 use Rattle.jif_parse.specs.declared.parse_error.ParseError.TheVariants as fault
-use Rattle.jif_parse.specs.Reading.{behind, IsNextKind, IsNextSymbol, Takes, Fails, Moves, Passes, Counted, IsOver}
+use Rattle.jif_parse.specs.Reading.{behind, IsNextKind, IsNextSymbol, Takes, Counted, IsOver}
 use Rattle.jif_parse.specs.Phrases.{PassesSymbol}
 use Rattle.jif_parse.specs.Fields.{ReadsFieldEnd, FailsFieldEnd, size_due, ReadsSize, FailsSize, ReadsFirst, FailsFirst}
 use Rattle.jif_parse.specs.Fields.{ReadsNumber, FailsNumber}

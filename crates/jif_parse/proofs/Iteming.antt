@@ -1,22 +1,18 @@
 -- Fields and methods, put together from what was read.
-use Rattle.std.proofs.Common.{◌≡◌, ◌≤◌, ◌<◌, ℕ, ◌+◌, ◌-◌, ◌⊎◌, get_or, true, false, List, [], ◌∷◌, ◌++◌, length, map, Option, Some, None, refl}
+use Rattle.std.proofs.Common.{◌≡◌, ◌<◌, ℕ, ◌+◌, ◌-◌, ◌⊎◌, get_or, true, false, List, [], ◌∷◌, ◌++◌, length, map, Option, Some, None, refl}
 use Rattle.std.proofs.Common.{ap, sym, subst, ◌∙◌, arith, append_assoc, inl, inr}
 use Rattle.std.proofs.lemmas.List.{append-nil, map-append}
 use Rattle.std.specs.Option.{option_map}
 use Rattle.std.specs.Bool.{◌==◌}
 use Rattle.std.proofs.lemmas.Bool.Decides.{nat_tests}
-use Rattle.js_base.specs.declared.limits.TheConstants.{NESTING}
 use Rattle.jif_lex.specs.declared.token.Token.{Token}
 use Rattle.jif_lex.specs.declared.token.TokenKind.{TokenKind}
-use Rattle.jif_lex.specs.declared.token.TokenKind.TheVariants as token
 use Rattle.jif_lex.specs.declared.token.TokenKind.TheVariants.{Name, Word}
 use Rattle.jif_lex.specs.declared.token.Word.TheVariants.{Int, Void}
-use Rattle.jif_lex.specs.declared.token.Symbol.TheVariants.{LeftBrace, RightBrace, LeftParenthesis, RightParenthesis}
+use Rattle.jif_lex.specs.declared.token.Symbol.TheVariants.{LeftBrace, RightBrace, RightParenthesis}
 use Rattle.jif_lex.specs.declared.token.Symbol.TheVariants.{Semicolon}
 use Rattle.label_lattice.specs.Written.{kinds, symbol, TrustIsLast}
 use Rattle.jif_tree.specs.declared.draft.Draft.{Draft}
-use Rattle.jif_tree.specs.declared.draft.FieldDraft.{FieldDraft}
-use Rattle.jif_tree.specs.declared.draft.MethodDraft.{MethodDraft}
 use Rattle.jif_tree.specs.declared.draft.LabelDraft.{LabelDraft}
 use Rattle.jif_tree.specs.declared.draft.NameDraft.{NameDraft}
 use Rattle.jif_grammar.specs.Phrases.{LabelPhrase, ExprPhrase, FieldEnd, unset, sized, set, FieldPhrase, MethodPhrase}
@@ -26,18 +22,17 @@ use Rattle.jif_grammar.specs.Due as due
 use Rattle.jif_grammar.specs.Due.{Due, item_due, due_after_token, method_rest}
 use Rattle.jif_grammar.specs.Marks as marks
 use Rattle.jif_grammar.specs.Marks.{Beginning, Tally, Marked, mark, after_beginning, after_token}
-use Rattle.jif_grammar.specs.Programs.{Refusal, unexpected}
-use Rattle.jif_grammar.specs.Nesting.{Nested, nested_at, nested_all, begins_item}
-use Rattle.jif_grammar.specs.Verdicts.{going, excess, excess_at, refusal_from, walk_behind, walk_within}
-use Rattle.jif_grammar.specs.Spelling.{field_end_spelling, head_spelling, item_spelling, optional_label_spelling}
+use Rattle.jif_grammar.specs.Programs.{unexpected}
+use Rattle.jif_grammar.specs.Nesting.{Nested, nested_at, nested_all}
+use Rattle.jif_grammar.specs.Verdicts.{going, excess, excess_at, refusal_from, walk_within}
+use Rattle.jif_grammar.specs.Spelling.{field_end_spelling, head_spelling, item_spelling}
 use Rattle.jif_grammar.specs.Spelling.{params_spelling, authority_spelling, result_spelling}
-use Rattle.jif_grammar.specs.DraftShapes.{LabelShape, label_shape, name_shape, field_shape, method_shape, draft_shape, param_shape}
-use Rattle.jif_grammar.specs.DraftShapes.{block_shape}
-use Rattle.jif_grammar.specs.Drafts.{label_at, label_width, name_at, policies_at, trust_at, optional_label_at, field_at, method_at}
+use Rattle.jif_grammar.specs.DraftShapes.{label_shape, name_shape, field_shape, method_shape}
+use Rattle.jif_grammar.specs.Drafts.{label_at, label_width, name_at, policies_at, trust_at, optional_label_at}
 use Rattle.jif_grammar.specs.Drafts.{method_name_place, after_item, fields_at, methods_at, block_width, block_at, result_at}
 use Rattle.jif_grammar.specs.Drafts.{params_at, names_at}
 use Rattle.jif_grammar.specs.Unmarked.{label_then, head_then, tail_then, field_end_then, item_then, program_then}
-use Rattle.jif_grammar.specs.Unmarked.{params_then, authority_then, block_then, result_then}
+use Rattle.jif_grammar.specs.Unmarked.{authority_then, block_then, result_then}
 use Rattle.jif_parse.specs.declared.cursor.Cursor.{Cursor}
 use Rattle.jif_parse.specs.declared.fields.FieldEnding.{FieldEnding}
 use Rattle.jif_parse.specs.declared.items.ItemDraft.{ItemDraft}
@@ -50,13 +45,13 @@ use Rattle.jif_parse.specs.Reading.{behind, IsNextKind, IsNextSymbol, IsNextName
 use Rattle.jif_parse.specs.Phrases.{ReadsName, ReadsLabel, FailsLabel, ReadsParts, FailsParts}
 use Rattle.jif_parse.specs.Statements.{HasLines}
 use Rattle.jif_parse.specs.Fields.{ReadsFieldEnd, FailsFieldEnd}
-use Rattle.jif_parse.specs.Methods.{named_due, ReadsNamed, FailsNamed, tail_due, ReadsTail, FailsTail}
+use Rattle.jif_parse.specs.Methods.{ReadsNamed, FailsNamed, tail_due, ReadsTail, FailsTail}
 use Rattle.jif_parse.specs.Items.{TakesWhole, FailsWhole, IsItemDraft, ReadsItem, HasAdded, ReadsItems}
 use Rattle.jif_parse.specs.Widths.{Widths}
 use Rattle.jif_parse.proofs.Limits.{any_nesting, no_excess}
-use Rattle.jif_parse.proofs.Taking.{takes_then, takes_before, fails_then, fails_before, fails_at_limit, takes_nothing}
-use Rattle.jif_parse.proofs.Moving.{moves_then, moves_as, stepped, Stepped, takes_passed, takes_counted, next_kind, stays}
-use Rattle.jif_parse.proofs.Fixed.{step_symbol, step_name, takes_name, fails_name}
+use Rattle.jif_parse.proofs.Taking.{takes_before, fails_before, fails_at_limit}
+use Rattle.jif_parse.proofs.Moving.{moves_then, moves_as, stepped, Stepped, takes_counted, next_kind, stays}
+use Rattle.jif_parse.proofs.Fixed.{step_name, takes_name, fails_name}
 use Rattle.jif_parse.proofs.Blocks.{lines_moved}
 use Rattle.jif_parse.proofs.Assigning.{label_width_is}
 use Rattle.jif_parse.proofs.Methoding.{none_nested, moved_falls, result_width}

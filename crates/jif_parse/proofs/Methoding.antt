@@ -1,6 +1,6 @@
 -- Methods, put together from what was read.
-use Rattle.std.proofs.Common.{◌≡◌, ◌≤◌, ◌<◌, ℕ, suc, ◌+◌, ◌⊎◌, List, [], ◌∷◌, ◌++◌, drop, length, map, Option, Some, None, refl}
-use Rattle.std.proofs.Common.{ap, sym, subst, ◌∙◌, arith, append_assoc, inl, inr, length-drop, length-append, add-zero}
+use Rattle.std.proofs.Common.{◌≡◌, ◌≤◌, ◌<◌, ℕ, ◌+◌, ◌⊎◌, List, [], ◌∷◌, ◌++◌, length, map, Some, None, refl}
+use Rattle.std.proofs.Common.{ap, sym, subst, ◌∙◌, arith, inl, inr, length-drop, length-append}
 use Rattle.std.proofs.lemmas.List.{length-map, append-nil, map-append}
 use Rattle.js_base.specs.declared.limits.TheConstants.{NESTING}
 use Rattle.jif_lex.specs.declared.token.Token.{Token}
@@ -8,8 +8,6 @@ use Rattle.jif_lex.specs.declared.token.TokenKind.{TokenKind}
 use Rattle.jif_lex.specs.declared.token.TokenKind.TheVariants as token
 use Rattle.jif_lex.specs.declared.token.TokenKind.TheVariants.{Name, Word}
 use Rattle.jif_lex.specs.declared.token.Word.TheVariants.{Int, If, While, Return, Where, Authority}
-use Rattle.jif_lex.specs.declared.token.Word.TheVariants as words
-use Rattle.jif_lex.specs.declared.token.Symbol.TheVariants as symbols
 use Rattle.jif_lex.specs.declared.token.Symbol.TheVariants.{LeftBrace, RightBrace, LeftParenthesis, RightParenthesis, Comma}
 use Rattle.jif_lex.specs.declared.token.Symbol.TheVariants.{Semicolon}
 use Rattle.label_lattice.specs.Written.{kinds, symbol, names_tokens}
@@ -26,17 +24,16 @@ use Rattle.jif_grammar.specs.Due.{exactly, operand, at_semicolon, due_after_toke
 use Rattle.jif_grammar.specs.Marks as marks
 use Rattle.jif_grammar.specs.Nesting.{Nested, nested_at}
 use Rattle.jif_grammar.specs.Spelling.{expr_spelling, param_spelling, params_spelling, authority_spelling, result_spelling}
-use Rattle.jif_grammar.specs.DraftShapes.{ParamShape, name_shape, label_shape, param_shape, block_shape, end_shape}
-use Rattle.jif_grammar.specs.DraftShapes.{expr_shape, return_shape}
-use Rattle.jif_grammar.specs.Drafts.{expr_at, expr_width, name_at, names_at, label_at, label_width, params_at, start_at}
+use Rattle.jif_grammar.specs.DraftShapes.{ParamShape, name_shape, param_shape, block_shape}
+use Rattle.jif_grammar.specs.Drafts.{expr_at, expr_width, name_at, names_at, label_at, label_width, params_at}
 use Rattle.jif_grammar.specs.Drafts.{block_at, block_width, result_at}
-use Rattle.jif_grammar.specs.Unmarked.{label_then, expr_then, block_then, names_then, param_then, params_then, result_then}
+use Rattle.jif_grammar.specs.Unmarked.{label_then, expr_then, block_then, names_then, param_then, params_then}
 use Rattle.jif_grammar.specs.Unmarked.{authority_then}
 use Rattle.jif_parse.specs.declared.cursor.Cursor.{Cursor}
 use Rattle.jif_parse.specs.declared.methods.MethodTail.{MethodTail}
 use Rattle.jif_parse.specs.declared.parse_error.ParseError.{ParseError}
 use Rattle.jif_parse.specs.declared.parse_error.ParseError.TheVariants as fault
-use Rattle.jif_parse.specs.Reading.{behind, IsNextKind, IsNextSymbol, IsNextName, Takes, Fails, Moves, Passes, Counted, IsOver}
+use Rattle.jif_parse.specs.Reading.{behind, IsNextKind, IsNextSymbol, IsNextName, Takes, Moves, Passes, Counted, IsOver}
 use Rattle.jif_parse.specs.Phrases.{PassesSymbol, ReadsName, ReadsUpTo, FailsUpTo, ReadsLabel, FailsLabel, ReadsNames}
 use Rattle.jif_parse.specs.Phrases.{FailsNames, of_principals}
 use Rattle.jif_parse.specs.Words.{PassesWord}
@@ -45,11 +42,11 @@ use Rattle.jif_parse.specs.Methods.{named_due, ReadsNamed, FailsNamed, next_para
 use Rattle.jif_parse.specs.Methods.{FailsParam, ReadsParams, FailsParams, ReadsAuthority, FailsAuthority, ReadsReturn}
 use Rattle.jif_parse.specs.Methods.{FailsReturn, ReadsBody, FailsBody, tail_due, ReadsTail, FailsTail}
 use Rattle.jif_parse.specs.Widths.{Widths}
-use Rattle.jif_parse.proofs.Taking.{takes_then, takes_before, fails_then, fails_before, fails_at_limit, out_of_memory}
+use Rattle.jif_parse.proofs.Taking.{takes_then, takes_before, fails_then, fails_before, fails_at_limit}
 use Rattle.jif_parse.proofs.Taking.{takes_nothing}
-use Rattle.jif_parse.proofs.Moving.{moves_then, moves_as, stepped, Stepped, takes_passed, takes_counted, fails_other, next_kind}
+use Rattle.jif_parse.proofs.Moving.{moves_then, moves_as, stepped, Stepped, takes_passed, takes_counted, fails_other}
 use Rattle.jif_parse.proofs.Fixed.{takes_fixed, fails_fixed, step_symbol, step_name, takes_name, fails_name}
-use Rattle.jif_parse.proofs.Lists.{ListForm, ItemsSoFar, AllItems, no_items, one_more, last_item}
+use Rattle.jif_parse.proofs.Lists.{ListForm, ItemsSoFar, no_items, one_more, last_item}
 use Rattle.jif_parse.proofs.Blocks.{lines_moved}
 
 pub none_nested : 0 ≤ NESTING

@@ -1,5 +1,5 @@
 -- What the parser tells of tokens, by what was read of them.
-use Rattle.std.proofs.Common.{◌≡◌, ℕ, ◌+◌, ◌⊎◌, List, Some, None, refl, ap, sym, subst, ◌∙◌, arith, inl, inr, [], map, get_or}
+use Rattle.std.proofs.Common.{◌≡◌, ℕ, List, Some, None, ap, sym, subst, ◌∙◌, arith, inl, inr, [], map, get_or}
 use Rattle.jif_lex.specs.declared.token.Token.{Token}
 use Rattle.jif_tree.specs.declared.draft.Draft.{Draft}
 use Rattle.label_lattice.specs.Written.{kinds}
@@ -13,7 +13,6 @@ use Rattle.jif_grammar.specs.Programs.{IsRefused}
 use Rattle.jif_grammar.specs.Verdicts.{refusal_of}
 use Rattle.jif_parse.specs.declared.cursor.Cursor.{Cursor}
 use Rattle.jif_parse.specs.declared.parse_error.ParseError.{ParseError}
-use Rattle.jif_parse.specs.declared.parse_error.ParseError.TheVariants as fault
 use Rattle.jif_parse.specs.Counting.{IsTally}
 use Rattle.jif_parse.specs.Reading.{IsErrorOf}
 use Rattle.jif_parse.specs.Statements.{HasLines}

@@ -1,5 +1,5 @@
 -- The statements of a nested block, which its draft keeps as a row, are those of the list.
-use Rattle.std.proofs.Common.{◌≡◌, List, [], ◌∷◌, Vec, Global, refl, ap, ◌∙◌}
+use Rattle.std.proofs.Common.{◌≡◌, Vec, Global, refl, ap, ◌∙◌}
 use mathlib.Core.Former.{Count}
 use Rattle.jif_tree.specs.declared.draft.StmtKindDraft as kind
 use Rattle.jif_tree.specs.declared.draft.StmtKindDraft.{StmtKindDraft}

@@ -1,9 +1,8 @@
 -- What stands behind `=` is an expression where no name and parenthesis are next.
-use Rattle.std.proofs.Common.{◌≡◌, ◌≤◌, ℕ, ◌+◌, List, [], ◌∷◌, ◌++◌, Option, Some, None, refl, ap, sym, ◌∙◌, pos, negsuc}
+use Rattle.std.proofs.Common.{◌≡◌, ℕ, ◌+◌, List, [], ◌∷◌, Option, Some, None, refl, ap, pos, negsuc}
 use Rattle.jif_lex.specs.declared.token.Token.{Token}
 use Rattle.jif_lex.specs.declared.token.TokenKind.{TokenKind}
 use Rattle.jif_lex.specs.declared.token.TokenKind.TheVariants as token
-use Rattle.jif_lex.specs.declared.token.Symbol.{Symbol}
 use Rattle.jif_lex.specs.declared.token.Symbol.TheVariants as symbols
 use Rattle.label_lattice.specs.Written.{kinds, symbol}
 use Rattle.jif_grammar.specs.Due as due

@@ -1,5 +1,5 @@
 -- Reading fields and methods.
-use Rattle.std.specs.Prelude.{◌≡◌, ◌+◌, ◌⊎◌, ℕ, List, [], ◌∷◌, ◌++◌, length, Some, None}
+use Rattle.std.specs.Prelude.{◌≡◌, ◌⊎◌, ℕ, List, [], ◌∷◌, ◌++◌, length, Some, None}
 use Rattle.jif_tree.specs.declared.draft.Draft.{Draft}
 use Rattle.label_lattice.specs.Written.{kinds}
 use Rattle.jif_grammar.specs.Phrases.{ItemPhrase, field, method, ProgramPhrase}
@@ -8,7 +8,7 @@ use Rattle.jif_grammar.specs.Marks.{Tally}
 use Rattle.jif_grammar.specs.Nesting.{Nested}
 use Rattle.jif_grammar.specs.Verdicts.{going, refusal_from}
 use Rattle.jif_grammar.specs.Spelling.{item_spelling}
-use Rattle.jif_grammar.specs.DraftShapes.{DraftShape, field_shape, method_shape, draft_shape}
+use Rattle.jif_grammar.specs.DraftShapes.{field_shape, method_shape, draft_shape}
 use Rattle.jif_grammar.specs.Drafts.{field_at, method_at, fields_at, methods_at}
 use Rattle.jif_grammar.specs.Unmarked.{item_then, program_then}
 use Rattle.jif_grammar.specs.Programs.{Refusal}

@@ -1,4 +1,4 @@
-use Rattle.std.proofs.Common.{◌∷◌, refl}
+use Rattle.std.proofs.Common.{refl}
 use Rattle.label_lattice.specs.Written.{kinds}
 use Rattle.jif_parse.proofs.assignments.called_method.Goals as goal
 

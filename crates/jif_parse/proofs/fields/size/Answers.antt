@@ -1,5 +1,4 @@
 use Rattle.std.proofs.Common.{refl, arith, sym, subst}
-use Rattle.std.proofs.lemmas.Bool.{false≢true}
 use Rattle.jif_parse.proofs.Exits.{handed_on}
 use Rattle.jif_parse.specs.Fields.{FailsSize, ReadsSize}
 use Rattle.jif_parse.proofs.Fielding.{no_number, zero_size, size_over, size_fits, size_bracket_fails, size_end_fails, size_read}

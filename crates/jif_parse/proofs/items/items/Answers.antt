@@ -1,5 +1,3 @@
-use Rattle.std.proofs.Common.{refl}
-use Rattle.std.proofs.lemmas.Bool.{false≢true}
 use Rattle.jif_parse.specs.Items.{FailsWhole}
 use Rattle.jif_parse.proofs.Exits.{handed_on}
 use Rattle.jif_parse.proofs.Iteming.{nothing_read, later_item_fails, item_more, item_falls, all_items, none_left}

@@ -1,5 +1,3 @@
-use Rattle.std.proofs.Common.{refl}
-use Rattle.std.proofs.lemmas.Bool.{false≢true}
 use Rattle.jif_parse.specs.Items.{FailsWhole}
 use Rattle.jif_parse.proofs.Exits.{handed_on}
 use Rattle.jif_parse.proofs.Iteming.{void_over, void_name_fails, void_label_fails, void_tail_fails, void_read}

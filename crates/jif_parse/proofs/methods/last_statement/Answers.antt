@@ -1,5 +1,3 @@
-use Rattle.std.proofs.Common.{refl}
-use Rattle.std.proofs.lemmas.Bool.{false≢true}
 use Rattle.jif_parse.proofs.Exits.{handed_on}
 use Rattle.jif_parse.specs.Methods.{FailsReturn}
 use Rattle.jif_parse.proofs.Methoding.{return_value_fails, return_end_fails, return_read}

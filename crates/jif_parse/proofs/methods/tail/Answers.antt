@@ -1,5 +1,3 @@
-use Rattle.std.proofs.Common.{refl}
-use Rattle.std.proofs.lemmas.Bool.{false≢true}
 use Rattle.jif_parse.proofs.Exits.{handed_on}
 use Rattle.jif_parse.specs.Methods.{FailsTail}
 use Rattle.jif_parse.proofs.Methoding.{tail_opening_fails, tail_params_fail, tail_authority_fails, tail_body_fails}

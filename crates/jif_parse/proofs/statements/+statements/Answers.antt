@@ -2,7 +2,7 @@ use Rattle.std.proofs.Common.{arith, refl, rules}
 use Rattle.std.proofs.lemmas.Bool.{false≢true}
 use Rattle.jif_parse.specs.Statements.{FailsStatement, FailsBraced, FailsGuarded}
 use Rattle.jif_parse.proofs.Exits.{handed_on}
-use Rattle.jif_parse.proofs.Blocks.{no_statements, one_more, all_read, later_fails, falls, brace_fails, brace_over}
+use Rattle.jif_parse.proofs.Blocks.{no_statements, one_more, all_read, later_fails, falls, brace_fails}
 use Rattle.jif_parse.proofs.Blocks.{block_fails, block_end_fails, braced_read, guard_opening_fails, guard_fails}
 use Rattle.jif_parse.proofs.Blocks.{guarded_block_fails, guarded_read, while_fails, while_read, if_fails, if_read}
 use Rattle.jif_parse.proofs.Blocks.{else_fails, else_read}
