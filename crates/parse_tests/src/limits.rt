@@ -135,8 +135,7 @@ fn tells_the_first_of_two(rt: HostRuntime) -> Result<(), Fail> {
             0,
             ParseError::Unexpected(5),
         ),
-        // at one token: methods before statements, statements before locals, fields before elements, nesting before
-        // nodes
+        // at one token: methods before statements, statements before locals, fields before elements, and nesting first
         (
             ["", "void m{}(){}", "void m{}(){", "x=1;", "}void"],
             127,

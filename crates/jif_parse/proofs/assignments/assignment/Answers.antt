@@ -1,6 +1,6 @@
 use Rattle.jif_parse.specs.Statements.{FailsAssignment}
 use Rattle.jif_parse.proofs.Exits.{handed_on}
-use Rattle.jif_parse.proofs.Assigning.{assigned_fails, assigned_read, arguments_over, called_fails, called_read}
+use Rattle.jif_parse.proofs.StatementParts.{assigned_fails, assigned_read, arguments_over, called_fails, called_read}
 use Rattle.jif_parse.proofs.assignments.assignment.Goals as goal
 
 pub returns-in_err-value-clause-fails : goal.returns-in_err-value-clause-fails

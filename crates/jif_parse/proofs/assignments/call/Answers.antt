@@ -1,6 +1,6 @@
 use Rattle.jif_parse.specs.Statements.{FailsCall}
 use Rattle.jif_parse.proofs.Exits.{handed_on}
-use Rattle.jif_parse.proofs.Assigning.{call_read, call_fails}
+use Rattle.jif_parse.proofs.StatementParts.{call_read, call_fails}
 use Rattle.jif_parse.proofs.assignments.call.Goals as goal
 
 pub returns-in_err-expect-clause-fails : goal.returns-in_err-expect-clause-fails

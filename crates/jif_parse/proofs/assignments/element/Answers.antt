@@ -1,6 +1,6 @@
 use Rattle.jif_parse.specs.Statements.{FailsElement}
 use Rattle.jif_parse.proofs.Exits.{handed_on}
-use Rattle.jif_parse.proofs.Assigning.{element_read, element_fails_at_symbol, element_fails_at_value}
+use Rattle.jif_parse.proofs.StatementParts.{element_read, element_fails_at_symbol, element_fails_at_value}
 use Rattle.jif_parse.proofs.assignments.element.Goals as goal
 
 pub returns-in_err-expect-clause-fails : goal.returns-in_err-expect-clause-fails

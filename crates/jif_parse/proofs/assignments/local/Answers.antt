@@ -1,6 +1,6 @@
 use Rattle.jif_parse.specs.Statements.{FailsStatement}
 use Rattle.jif_parse.proofs.Exits.{handed_on}
-use Rattle.jif_parse.proofs.Assigning.{local_name_fails, local_fails_at_symbol, local_fails_at_value, local_read}
+use Rattle.jif_parse.proofs.StatementParts.{local_name_fails, local_fails_at_symbol, local_fails_at_value, local_read}
 use Rattle.jif_parse.proofs.assignments.local.Goals as goal
 
 pub returns-in_err-label-clause-fails : goal.returns-in_err-label-clause-fails

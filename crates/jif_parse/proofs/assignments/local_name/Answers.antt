@@ -1,6 +1,6 @@
 use Rattle.jif_parse.specs.Statements.{FailsLocalName}
 use Rattle.jif_parse.proofs.Exits.{handed_on}
-use Rattle.jif_parse.proofs.Assigning.{label_fails, name_fails, labelled_read, bare_name_fails, bare_name_read}
+use Rattle.jif_parse.proofs.StatementParts.{label_fails, name_fails, labelled_read, bare_name_fails, bare_name_read}
 use Rattle.jif_parse.proofs.assignments.local_name.Goals as goal
 use Rattle.std.proofs.Common.{refl}
 use Rattle.std.proofs.lemmas.Bool.{false≢true}

@@ -3,9 +3,9 @@ use Rattle.std.proofs.lemmas.Bool.{false≢true}
 use Rattle.std.proofs.lemmas.Result.{IfOk-weaker, IfErr-weaker}
 use Rattle.jif_parse.specs.Statements.{FailsStatement}
 use Rattle.jif_parse.proofs.Exits.{handed_on}
-use Rattle.jif_parse.proofs.Assigning.{assignment_read, assignment_fails, element_statement_fails}
-use Rattle.jif_parse.proofs.Assigning.{element_statement_read, name_alone_fails, call_statement_fails}
-use Rattle.jif_parse.proofs.Assigning.{call_statement_read}
+use Rattle.jif_parse.proofs.StatementParts.{assignment_read, assignment_fails, element_statement_fails}
+use Rattle.jif_parse.proofs.StatementParts.{element_statement_read, name_alone_fails, call_statement_fails}
+use Rattle.jif_parse.proofs.StatementParts.{call_statement_read}
 use Rattle.jif_parse.proofs.assignments.named.Goals as goal
 
 pub returns-then-is_next-clause-read : goal.returns-then-is_next-clause-read

@@ -6,8 +6,8 @@ use Rattle.std.proofs.Common.{refl}
 use Rattle.std.proofs.lemmas.Bool.{false≢true}
 use Rattle.jif_parse.proofs.Exits.{handed_on}
 use Rattle.jif_parse.specs.Fields.{FailsFieldEnd}
-use Rattle.jif_parse.proofs.Fielding.{unset_over, unset_read, array_over, array_fails, array_read, no_end_fails, set_over}
-use Rattle.jif_parse.proofs.Fielding.{set_fails, set_read}
+use Rattle.jif_parse.proofs.FieldParts.{unset_over, unset_read, array_over, array_fails, array_read, no_end_fails, set_over}
+use Rattle.jif_parse.proofs.FieldParts.{set_fails, set_read}
 use Rattle.jif_parse.proofs.fields.field_ending.Goals as goal
 
 pub returns-in_err-take-clause-fails : goal.returns-in_err-take-clause-fails

@@ -7,8 +7,8 @@ use Rattle.std.proofs.Common.{refl, arith, sym, subst}
 use Rattle.std.proofs.lemmas.Bool.{false≢true}
 use Rattle.jif_parse.proofs.Exits.{handed_on}
 use Rattle.jif_parse.specs.Fields.{FailsFirst}
-use Rattle.jif_parse.proofs.Fielding.{negative_fails, negative_end_fails, negative_read, first_fails, first_end_fails}
-use Rattle.jif_parse.proofs.Fielding.{first_read, neg_fits}
+use Rattle.jif_parse.proofs.FieldParts.{negative_fails, negative_end_fails, negative_read, first_fails, first_end_fails}
+use Rattle.jif_parse.proofs.FieldParts.{first_read, neg_fits}
 use Rattle.jif_parse.proofs.fields.first_value.Goals as goal
 
 pub returns-in_err-first-clause-fails : goal.returns-in_err-first-clause-fails

@@ -1,7 +1,7 @@
 use Rattle.std.proofs.Common.{refl, arith, sym, subst}
 use Rattle.jif_parse.proofs.Exits.{handed_on}
 use Rattle.jif_parse.specs.Fields.{FailsSize, ReadsSize}
-use Rattle.jif_parse.proofs.Fielding.{no_number, zero_size, size_over, size_fits, size_bracket_fails, size_end_fails, size_read}
+use Rattle.jif_parse.proofs.FieldParts.{no_number, zero_size, size_over, size_fits, size_bracket_fails, size_end_fails, size_read}
 use Rattle.jif_parse.proofs.fields.size.Goals as goal
 
 pub returns-in_default-clause-fails : goal.returns-in_default-clause-fails

@@ -5,8 +5,8 @@ use mir.Val.{SFits}
 use Rattle.std.proofs.Common.{refl}
 use Rattle.jif_parse.specs.Items.{FailsWhole}
 use Rattle.jif_parse.proofs.Exits.{handed_on}
-use Rattle.jif_parse.proofs.Iteming.{named_fails, field_end_fails, field_read, int_method_over, begin_fails}
-use Rattle.jif_parse.proofs.Iteming.{int_tail_fails, int_read}
+use Rattle.jif_parse.proofs.ItemLists.{named_fails, field_end_fails, field_read, int_method_over, begin_fails}
+use Rattle.jif_parse.proofs.ItemLists.{int_tail_fails, int_read}
 use Rattle.jif_parse.proofs.items.int_item.Goals as goal
 
 pub returns-in_err-label-clause-fails : goal.returns-in_err-label-clause-fails

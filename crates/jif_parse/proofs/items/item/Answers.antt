@@ -1,5 +1,5 @@
 use Rattle.std.proofs.lemmas.Bool.{false≢true}
-use Rattle.jif_parse.proofs.Iteming.{item_unexpected}
+use Rattle.jif_parse.proofs.ItemLists.{item_unexpected}
 use Rattle.jif_parse.proofs.items.item.Goals as goal
 
 pub returns-clause-fails : goal.returns-clause-fails

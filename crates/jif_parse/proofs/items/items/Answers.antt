@@ -1,6 +1,6 @@
 use Rattle.jif_parse.specs.Items.{FailsWhole}
 use Rattle.jif_parse.proofs.Exits.{handed_on}
-use Rattle.jif_parse.proofs.Iteming.{nothing_read, later_item_fails, item_more, item_falls, all_items, none_left}
+use Rattle.jif_parse.proofs.ItemLists.{nothing_read, later_item_fails, item_more, item_falls, all_items, none_left}
 use Rattle.jif_parse.proofs.items.items.Goals as goal
 
 pub loop-alloc-init : goal.loop-alloc-init

@@ -1,5 +1,5 @@
 use Rattle.std.proofs.Common.{length}
-use Rattle.jif_parse.proofs.Iteming.{ItemsRead}
+use Rattle.jif_parse.proofs.ItemLists.{ItemsRead}
 use Rattle.jif_parse.proofs.items.items.Given as goal
 
 abbrev pub invariant-loop-alloc : goal.invariant-loop-alloc

@@ -1,6 +1,6 @@
 use Rattle.jif_parse.specs.Items.{FailsWhole}
 use Rattle.jif_parse.proofs.Exits.{handed_on}
-use Rattle.jif_parse.proofs.Iteming.{void_over, void_name_fails, void_label_fails, void_tail_fails, void_read}
+use Rattle.jif_parse.proofs.ItemLists.{void_over, void_name_fails, void_label_fails, void_tail_fails, void_read}
 use Rattle.jif_parse.proofs.items.void_method.Goals as goal
 
 pub returns-in_err-take-clause-fails : goal.returns-in_err-take-clause-fails

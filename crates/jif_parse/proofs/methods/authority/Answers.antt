@@ -2,8 +2,8 @@ use Rattle.std.proofs.Common.{refl}
 use Rattle.std.proofs.lemmas.Bool.{false≢true}
 use Rattle.jif_parse.proofs.Exits.{handed_on}
 use Rattle.jif_parse.specs.Methods.{FailsAuthority}
-use Rattle.jif_parse.proofs.Methoding.{no_authority_read, no_where_fails, no_authority_word_fails, authority_opening_fails}
-use Rattle.jif_parse.proofs.Methoding.{principals_fail, principals_end_fail, authority_brace_fails, authority_read}
+use Rattle.jif_parse.proofs.MethodParts.{no_authority_read, no_where_fails, no_authority_word_fails, authority_opening_fails}
+use Rattle.jif_parse.proofs.MethodParts.{principals_fail, principals_end_fail, authority_brace_fails, authority_read}
 use Rattle.jif_parse.proofs.methods.authority.Goals as goal
 
 pub returns-then-is_next-clause-read : goal.returns-then-is_next-clause-read

@@ -1,8 +1,8 @@
 use Rattle.std.proofs.lemmas.Bool.{false≢true}
 use Rattle.jif_parse.proofs.Exits.{handed_on}
 use Rattle.jif_parse.specs.Methods.{FailsBody}
-use Rattle.jif_parse.proofs.Methoding.{body_statements_fail, body_return_fails, body_with_return, body_end_fails}
-use Rattle.jif_parse.proofs.Methoding.{body_without_return}
+use Rattle.jif_parse.proofs.MethodParts.{body_statements_fail, body_return_fails, body_with_return, body_end_fails}
+use Rattle.jif_parse.proofs.MethodParts.{body_without_return}
 use Rattle.jif_parse.proofs.methods.body.Goals as goal
 
 pub returns-in_err-body-clause-fails : goal.returns-in_err-body-clause-fails

@@ -1,6 +1,6 @@
 use Rattle.jif_parse.specs.Methods.{FailsNamed}
 use Rattle.jif_parse.proofs.Exits.{handed_on}
-use Rattle.jif_parse.proofs.Methoding.{name_behind_label_fails, named_read}
+use Rattle.jif_parse.proofs.MethodParts.{name_behind_label_fails, named_read}
 use Rattle.jif_parse.proofs.methods.labelled_name.Goals as goal
 
 pub returns-in_err-name-clause-fails : goal.returns-in_err-name-clause-fails

@@ -1,6 +1,6 @@
 use Rattle.jif_parse.proofs.Exits.{handed_on}
 use Rattle.jif_parse.specs.Methods.{FailsReturn}
-use Rattle.jif_parse.proofs.Methoding.{return_value_fails, return_end_fails, return_read}
+use Rattle.jif_parse.proofs.MethodParts.{return_value_fails, return_end_fails, return_read}
 use Rattle.jif_parse.proofs.methods.last_statement.Goals as goal
 
 pub returns-in_err-value-clause-fails : goal.returns-in_err-value-clause-fails

@@ -2,7 +2,7 @@ use Rattle.std.proofs.Common.{refl}
 use Rattle.std.proofs.lemmas.Bool.{false≢true}
 use Rattle.jif_parse.proofs.Exits.{handed_on}
 use Rattle.jif_parse.specs.Methods.{FailsParam}
-use Rattle.jif_parse.proofs.Methoding.{no_param, param_over, param_fails, param_read}
+use Rattle.jif_parse.proofs.MethodParts.{no_param, param_over, param_fails, param_read}
 use Rattle.jif_parse.proofs.methods.param.Goals as goal
 
 pub returns-then-not-is_word_next-clause-fails : goal.returns-then-not-is_word_next-clause-fails

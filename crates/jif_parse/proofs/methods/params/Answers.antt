@@ -2,8 +2,8 @@ use Rattle.std.proofs.Common.{refl}
 use Rattle.std.proofs.lemmas.Bool.{false≢true}
 use Rattle.jif_parse.proofs.Exits.{handed_on}
 use Rattle.jif_parse.specs.Methods.{FailsParams}
-use Rattle.jif_parse.proofs.Methoding.{params_none_read, no_params, params_fail, params_end_fail, params_end, params_more}
-use Rattle.jif_parse.proofs.Methoding.{params_fall}
+use Rattle.jif_parse.proofs.MethodParts.{params_none_read, no_params, params_fail, params_end_fail, params_end, params_more}
+use Rattle.jif_parse.proofs.MethodParts.{params_fall}
 use Rattle.jif_parse.proofs.methods.params.Goals as goal
 
 pub returns-then-is_next-clause-read : goal.returns-then-is_next-clause-read

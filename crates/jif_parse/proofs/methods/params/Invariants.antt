@@ -1,5 +1,5 @@
 use Rattle.std.proofs.Common.{length}
-use Rattle.jif_parse.proofs.Methoding.{ParamsSoFar}
+use Rattle.jif_parse.proofs.MethodParts.{ParamsSoFar}
 use Rattle.jif_parse.proofs.methods.params.Given as goal
 
 abbrev pub invariant-loop-params : goal.invariant-loop-params

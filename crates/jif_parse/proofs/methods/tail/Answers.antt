@@ -1,7 +1,7 @@
 use Rattle.jif_parse.proofs.Exits.{handed_on}
 use Rattle.jif_parse.specs.Methods.{FailsTail}
-use Rattle.jif_parse.proofs.Methoding.{tail_opening_fails, tail_params_fail, tail_authority_fails, tail_body_fails}
-use Rattle.jif_parse.proofs.Methoding.{tail_read}
+use Rattle.jif_parse.proofs.MethodParts.{tail_opening_fails, tail_params_fail, tail_authority_fails, tail_body_fails}
+use Rattle.jif_parse.proofs.MethodParts.{tail_read}
 use Rattle.jif_parse.proofs.methods.tail.Goals as goal
 
 pub returns-in_err-expect-clause-fails : goal.returns-in_err-expect-clause-fails

@@ -1,6 +1,6 @@
 use Rattle.std.proofs.Common.{refl}
 use Rattle.std.proofs.lemmas.Result.{IfOk-weaker, IfErr-weaker}
-use Rattle.jif_parse.proofs.Parsing.{found, refused_by}
+use Rattle.jif_parse.proofs.FirstVerdict.{found, refused_by}
 use Rattle.jif_parse.proofs.parser.parse.Goals as goal
 
 pub returns-clause-found : goal.returns-clause-found

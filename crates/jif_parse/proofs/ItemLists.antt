@@ -53,8 +53,8 @@ use Rattle.jif_parse.proofs.Taking.{takes_before, fails_before, fails_at_limit}
 use Rattle.jif_parse.proofs.Moving.{moves_then, moves_as, stepped, Stepped, takes_counted, next_kind, stays}
 use Rattle.jif_parse.proofs.Fixed.{step_name, takes_name, fails_name}
 use Rattle.jif_parse.proofs.Blocks.{lines_moved}
-use Rattle.jif_parse.proofs.Assigning.{label_width_is}
-use Rattle.jif_parse.proofs.Methoding.{none_nested, moved_falls, result_width}
+use Rattle.jif_parse.proofs.StatementParts.{label_width_is}
+use Rattle.jif_parse.proofs.MethodParts.{none_nested, moved_falls, result_width}
 
 -- ---- where nothing is due later
 

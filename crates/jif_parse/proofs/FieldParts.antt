@@ -29,7 +29,7 @@ use Rattle.jif_parse.specs.Fields.{ReadsNumber, FailsNumber}
 use Rattle.jif_parse.proofs.Taking.{takes_then, takes_before, fails_then, fails_before, fails_at_limit}
 use Rattle.jif_parse.proofs.Moving.{moves_then, moves_as, stepped, Stepped, takes_passed, takes_counted, fails_other, next_kind}
 use Rattle.jif_parse.proofs.Fixed.{takes_fixed, fails_fixed, step_symbol}
-use Rattle.jif_parse.proofs.Methoding.{none_nested}
+use Rattle.jif_parse.proofs.MethodParts.{none_nested}
 
 -- ---- sizes
 
