@@ -2,6 +2,7 @@
 
 ghost use Rattle.std.specs.Prelude.{◌≡◌, ◌≤◌, IfOk, IfErr};
 ghost use Rattle.js_base.specs.declared.limits.TheConstants.{NESTING};
+ghost use Rattle.jif_grammar.specs.Operators.{tightest_level};
 ghost use Rattle.jif_grammar.specs.DraftShapes.{expr_shape, binary_shape};
 ghost use Rattle.jif_parse.specs.Failing.{IsOutOfMemory};
 ghost use Rattle.jif_parse.specs.Phrases.{ReadsExpr, FailsExpr, closing_of, ReadsUpTo, FailsUpTo};
@@ -27,7 +28,7 @@ pub fn expression(
     least: u32,
     depth: usize,
 ) -> Result<ExprDraft, ParseError>
-    requires loose { least ≤ 6 }
+    requires loose { least ≤ tightest_level }
     requires nested { depth ≤ NESTING }
     ensures read { IfOk result (ReadsExpr cursor.old cursor.new least depth depth) }
     ensures fails { IfErr result (FailsExpr cursor.old depth depth) }

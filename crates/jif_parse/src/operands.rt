@@ -6,7 +6,7 @@ ghost use Rattle.jif_lex.specs.declared.token.TokenKind.TheVariants as token;
 ghost use Rattle.jif_lex.specs.declared.token.Symbol.TheVariants.{LeftParenthesis};
 ghost use Rattle.jif_grammar.specs.DraftShapes.{expr_shape, number_shape, element_shape, name_shape, label_shape};
 ghost use Rattle.jif_grammar.specs.Drafts.{signed_shape, relabelled_shape};
-ghost use Rattle.jif_grammar.specs.Operators.{sign_symbol, change_word};
+ghost use Rattle.jif_grammar.specs.Operators.{sign_symbol, change_word, tightest_level};
 ghost use Rattle.jif_parse.specs.Failing.{IsOutOfMemory};
 ghost use Rattle.jif_parse.specs.Reading.{IsNextKind, IsNextSymbol};
 ghost use Rattle.jif_parse.specs.Phrases.{ReadsExpr, FailsExpr};
@@ -34,7 +34,7 @@ pub fn operand(
     inner: usize,
 ) -> Result<ExprDraft, ParseError>
     requires { inner ≤ NESTING }
-    ensures read { IfOk result (ReadsExpr cursor.old cursor.new 6 depth inner) }
+    ensures read { IfOk result (ReadsExpr cursor.old cursor.new tightest_level depth inner) }
     ensures fails { IfErr result (FailsExpr cursor.old depth inner) }
 {
     let Some(token) = cursor.next() else {
@@ -70,7 +70,7 @@ fn named(
 ) -> Result<ExprDraft, ParseError>
     requires nested { inner ≤ NESTING }
     requires next { IsNextKind cursor.old (token.Name name.now) }
-    ensures read { IfOk result (ReadsExpr cursor.old cursor.new 6 depth inner) }
+    ensures read { IfOk result (ReadsExpr cursor.old cursor.new tightest_level depth inner) }
     ensures fails { IfErr result (FailsExpr cursor.old depth inner) }
 {
     let name = name_draft(alloc, name, cursor.at)?;
@@ -101,7 +101,7 @@ fn parenthesized(
 ) -> Result<ExprDraft, ParseError>
     requires nested { inner ≤ NESTING }
     requires next { IsNextSymbol cursor.old LeftParenthesis }
-    ensures read { IfOk result (ReadsExpr cursor.old cursor.new 6 depth inner) }
+    ensures read { IfOk result (ReadsExpr cursor.old cursor.new tightest_level depth inner) }
     ensures fails { IfErr result (FailsExpr cursor.old depth inner) }
 {
     cursor.take(inner + 1, Begins::Nothing)?;
@@ -119,7 +119,7 @@ fn signed(
 ) -> Result<ExprDraft, ParseError>
     requires nested { inner ≤ NESTING }
     requires next { IsNextSymbol cursor.old (sign_symbol (sign_of sign)) }
-    ensures read { IfOk result (ReadsExpr cursor.old cursor.new 6 depth inner) }
+    ensures read { IfOk result (ReadsExpr cursor.old cursor.new tightest_level depth inner) }
     ensures fails { IfErr result (FailsExpr cursor.old depth inner) }
 {
     cursor.take(inner + 1, Begins::Node)?;
@@ -149,7 +149,7 @@ fn relabelled(
 ) -> Result<ExprDraft, ParseError>
     requires nested { inner ≤ NESTING }
     requires next { IsNextKind cursor.old (token.Word (change_word (change_of change))) }
-    ensures read { IfOk result (ReadsExpr cursor.old cursor.new 6 depth inner) }
+    ensures read { IfOk result (ReadsExpr cursor.old cursor.new tightest_level depth inner) }
     ensures fails { IfErr result (FailsExpr cursor.old depth inner) }
 {
     cursor.take(inner + 1, Begins::Node)?;
