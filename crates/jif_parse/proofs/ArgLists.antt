@@ -26,7 +26,7 @@ use Rattle.jif_parse.proofs.Taking.{takes_then, takes_same, SameStep, fails_then
 use Rattle.jif_parse.proofs.Moving.{moves_then, stepped, takes_passed}
 use Rattle.jif_parse.proofs.Fixed.{step_symbol}
 use Rattle.jif_parse.proofs.Lists.{ListForm, ItemsSoFar, no_items, one_more, last_item}
-use Rattle.jif_parse.proofs.Behind.{takes_closing, closing_fails}
+use Rattle.jif_parse.proofs.BehindOperands.{takes_closing, closing_fails}
 
 abbrev pub args_form : ListForm ExprPhrase ExprShape
 args_form = record {

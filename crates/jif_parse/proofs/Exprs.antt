@@ -24,7 +24,7 @@ use Rattle.jif_parse.specs.Phrases.{ReadsUpTo, FailsUpTo}
 use Rattle.jif_parse.proofs.Taking.{takes_then, fails_then}
 use Rattle.jif_parse.proofs.Moving.{stepped, moves_then, moves_as}
 use Rattle.jif_parse.proofs.Fixed.{step_symbol}
-use Rattle.jif_parse.proofs.Behind.{below_tightest, takes_operator, operator_over, takes_closing, closing_fails, IsNoComma}
+use Rattle.jif_parse.proofs.BehindOperands.{below_tightest, takes_operator, operator_over, takes_closing, closing_fails, IsNoComma}
 
 -- ---- widths
 

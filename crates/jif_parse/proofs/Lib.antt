@@ -6,9 +6,9 @@ pub mod Fixed
 pub mod Lists
 pub mod NameLists
 pub mod PartLists
-pub mod Behind
+pub mod BehindOperands
 pub mod Exprs
-pub mod Tight
+pub mod OperandParts
 pub mod ArgLists
 pub mod StatementParts
 pub mod Blocks

@@ -14,11 +14,11 @@ use Rattle.jif_parse.proofs.Exits.{handed_on}
 use Rattle.jif_parse.proofs.Exprs.{with_right, operator_fails, right_fails, whole_up_to}
 use Rattle.jif_parse.proofs.Exprs.{up_to_fails}
 use Rattle.jif_parse.proofs.Moving.{stepped, fewer}
-use Rattle.jif_parse.proofs.Behind.{no_comma}
-use Rattle.jif_parse.proofs.Tight.{variable_read, bracket_over, index_fails, element_read, parenthesized_fails}
-use Rattle.jif_parse.proofs.Tight.{parenthesized_read, signed_fails, signed_read, change_open_fails}
-use Rattle.jif_parse.proofs.Tight.{change_value_fails, change_label_fails, change_end_fails, relabelled_read}
-use Rattle.jif_parse.proofs.Tight.{number_read, operand_unexpected, nothing_next, other_next}
+use Rattle.jif_parse.proofs.BehindOperands.{no_comma}
+use Rattle.jif_parse.proofs.OperandParts.{variable_read, bracket_over, index_fails, element_read, parenthesized_fails}
+use Rattle.jif_parse.proofs.OperandParts.{parenthesized_read, signed_fails, signed_read, change_open_fails}
+use Rattle.jif_parse.proofs.OperandParts.{change_value_fails, change_label_fails, change_end_fails, relabelled_read}
+use Rattle.jif_parse.proofs.OperandParts.{number_read, operand_unexpected, nothing_next, other_next}
 use Rattle.jif_parse.proofs.+expressions.Goals as goal
 
 pub expressions::expression-returns-in_err-take-clause-fails : goal.expressions::expression-returns-in_err-take-clause-fails

@@ -31,7 +31,7 @@ use Rattle.jif_parse.specs.Phrases.{FailsUpTo, ReadsLabel, FailsLabel}
 use Rattle.jif_parse.proofs.Taking.{takes_then, takes_before, fails_then, fails_before, fails_at_limit}
 use Rattle.jif_parse.proofs.Moving.{stepped, moves_then, moves_as, takes_counted, fails_other}
 use Rattle.jif_parse.proofs.Fixed.{step_symbol, takes_fixed, fails_fixed}
-use Rattle.jif_parse.proofs.Behind.{below_tightest, takes_as_links}
+use Rattle.jif_parse.proofs.BehindOperands.{below_tightest, takes_as_links}
 use Rattle.jif_parse.proofs.Exprs.{width_element, width_parenthesized, width_signed, width_relabelled}
 
 abbrev operand_at : Closing → ℕ → ℕ → Nested
