@@ -73,6 +73,7 @@ fn arguments(alloc: Global, args: &[ExprDraft]) -> Result<String, AllocError> {
     Ok(text)
 }
 
+#[cycle(blocks)]
 fn block(alloc: Global, statements: &[StmtDraft]) -> Result<String, AllocError> {
     let mut text = String::new(alloc);
     for statement in statements {
@@ -83,6 +84,7 @@ fn block(alloc: Global, statements: &[StmtDraft]) -> Result<String, AllocError> 
     Ok(text)
 }
 
+#[cycle(blocks)]
 fn kind(alloc: Global, kind: &StmtKindDraft) -> Result<String, AllocError> {
     match kind {
         StmtKindDraft::Declare {

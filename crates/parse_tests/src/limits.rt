@@ -46,9 +46,9 @@ fn takes_64_levels(rt: HostRuntime) -> Result<(), Fail> {
     ];
     let inner = [0, 0, 0, 0, 0, 0, 0, 0, 0, 1, 0, 0, 0, 0, 0, 0, 0, 0, 3, 3];
     for (parts, more) in nests.into_iter().zip(inner) {
-        let last = nested(rt.alloc(), parts, 64 - more)?;
+        let last = nested(rt.alloc(), parts, 64_usize.saturating_sub(more))?;
         assert_eq!(rt; refusal(rt.alloc(), last.as_str())?, None, "at {parts:?}");
-        let first = nested(rt.alloc(), parts, 65 - more)?;
+        let first = nested(rt.alloc(), parts, 65_usize.saturating_sub(more))?;
         let refused = refusal(rt.alloc(), first.as_str())?;
         assert_eq!(rt; refused, Some(ParseError::TooDeep), "at {parts:?}");
     }
@@ -103,7 +103,7 @@ fn takes_each_limit(rt: HostRuntime) -> Result<(), Fail> {
             None,
             "at {before:?} {filler:?}"
         );
-        let first = filled(rt.alloc(), before, filler, most + 1, after)?;
+        let first = filled(rt.alloc(), before, filler, most.saturating_add(1), after)?;
         let refused = refusal(rt.alloc(), first.as_str())?;
         assert_eq!(rt;
             refused,
