@@ -1,0 +1,15 @@
+//! Laws of names, for whoever resolves programs. The calls do nothing.
+
+ghost use Rattle.std.specs.Prelude.{◌≡◌};
+ghost use Rattle.principals.specs.ActsFor.{Declared, IsDeclared};
+ghost use Rattle.jif_tree.specs.Trees.{ProgramTree};
+ghost use Rattle.jif_grammar.specs.DraftShapes.{DraftShape};
+ghost use Rattle.jif_resolve.specs.Verdicts.{Refusal, IsRefused, IsProgramOf};
+
+/// A draft has one program or is refused for one cause, and never both.
+pub fn resolve_laws()
+    ensures one_refusal { (principals : Declared) (draft : DraftShape) (first second : Refusal) →
+        IsRefused principals draft first → IsRefused principals draft second → first ≡ second }
+    ensures never_both { (principals : Declared) (draft : DraftShape) (tree : ProgramTree) (refusal : Refusal) →
+        IsProgramOf principals draft tree → ¬ IsRefused principals draft refusal }
+{}

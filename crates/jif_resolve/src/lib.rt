@@ -1,0 +1,6 @@
+//! The names of a program: what each stands for, and what is refused.
+#![tactic(auto)]
+
+mod laws;
+
+pub use laws::resolve_laws;
