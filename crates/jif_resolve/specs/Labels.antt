@@ -3,7 +3,7 @@ use Rattle.std.specs.Prelude.{◌≡◌, List, [], ◌∷◌, ◌++◌, map, ℕ
 use Rattle.std.specs.List.{AllZip}
 use Rattle.principals.specs.ActsFor.{Declared}
 use Rattle.label_lattice.specs.declared.label.Label.{Label}
-use Rattle.label_lattice.specs.Label.{IsLabel}
+use Rattle.label_lattice.specs.Over.{IsLabelOver}
 use Rattle.label_lattice.specs.Written.{Part, policy, trust, KnownPart, IsKnownPart, IsMadeOf}
 use Rattle.jif_grammar.specs.DraftShapes.{NameShape, PolicyShape, LabelShape}
 
@@ -24,7 +24,7 @@ parts_of label = map policy_part label.policies ++ trust_parts label.trust
 pub record IsLabelFor (principals : Declared) (written : LabelShape) (label : Label) : Type 0 where
   pub known : List KnownPart
   pub are_known : AllZip (IsKnownPart principals) (parts_of written) known
-  pub is_label : IsLabel label
+  pub over : IsLabelOver principals label
   pub means : IsMadeOf principals known label
 
 -- a label stands in the tree exactly where one is written

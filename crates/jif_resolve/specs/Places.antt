@@ -1,5 +1,7 @@
--- What stands before a place in a method: which names are taken there, which locals are known, and how far it is counted.
-use Rattle.std.specs.Prelude.{ℕ, ◌+◌, Bool, if◌then◌else◌, List, [], ◌∷◌, ◌++◌, map, length, Option, Some, None}
+-- What stands before a place in a method: the names that are taken, the locals that are known, and how far it is
+-- counted.
+use Rattle.std.specs.Prelude.{ℕ, ◌+◌, Bool, if◌then◌else◌, List, [], ◌∷◌, ◌++◌, map, length, Option, Some}
+use Rattle.std.specs.Prelude.{None}
 use Rattle.std.specs.Prelude.{sum}
 use Rattle.std.specs.Str.{bytes_eq}
 use Rattle.js_base.specs.declared.ids.VarId.{VarId}

@@ -152,7 +152,8 @@ pub record IsMethodFor (setting : Setting) (head : Place) (method : MethodShape)
   pub body : IsBlockFor setting (body_place head method) method.body tree.body
 
 -- the trees are these methods, which stand after those
-abbrev pub AreMethodsFor : Declared → List Global → List MethodShape → List MethodShape → List MethodTree → Type 0
+abbrev pub AreMethodsFor : Declared → List Global → List MethodShape → List MethodShape → List MethodTree →
+    Type 0
 AreMethodsFor principals globals before [] trees = trees ≡ []
 AreMethodsFor principals globals before (method ∷ methods) trees =
     (first : MethodTree) × (others : List MethodTree) × (trees ≡ first ∷ others)

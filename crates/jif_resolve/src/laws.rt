@@ -13,3 +13,10 @@ pub fn resolve_laws()
     ensures never_both { (principals : Declared) (draft : DraftShape) (tree : ProgramTree) (refusal : Refusal) →
         IsProgramOf principals draft tree → ¬ IsRefused principals draft refusal }
 {}
+
+/// A draft has one program.
+pub fn program_laws()
+    ensures one_program { (principals : Declared) (draft : DraftShape) (first second : ProgramTree) →
+        IsDeclared principals → IsProgramOf principals draft first → IsProgramOf principals draft second →
+        first ≡ second }
+{}
