@@ -1,1 +1,3 @@
 mod OneProgram
+mod Ranges
+mod Numbers

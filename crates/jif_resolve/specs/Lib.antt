@@ -5,4 +5,5 @@ pub mod Faults
 pub mod Variables
 pub mod Labels
 pub mod Resolved
+pub mod Numbering
 pub mod Verdicts

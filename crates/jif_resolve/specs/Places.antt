@@ -2,7 +2,7 @@
 -- counted.
 use Rattle.std.specs.Prelude.{ℕ, ◌+◌, Bool, if◌then◌else◌, List, [], ◌∷◌, ◌++◌, map, length, Option, Some}
 use Rattle.std.specs.Prelude.{None}
-use Rattle.std.specs.Prelude.{sum}
+use Rattle.std.specs.List.{sum_by}
 use Rattle.std.specs.Str.{bytes_eq}
 use Rattle.js_base.specs.declared.ids.VarId.{VarId}
 use Rattle.principals.specs.ActsFor.{Declared}
@@ -82,7 +82,7 @@ numbered_in method = 1 + statements_in method.body
 
 -- how much stands in these methods
 abbrev pub counted : (MethodShape → ℕ) → List MethodShape → ℕ
-counted amount methods = sum (map amount methods)
+counted amount methods = sum_by amount methods
 
 -- the head of the method after these; call sites are counted from 1
 abbrev pub head_after : List MethodShape → Place

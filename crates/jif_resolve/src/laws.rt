@@ -4,6 +4,7 @@ ghost use Rattle.std.specs.Prelude.{◌≡◌};
 ghost use Rattle.principals.specs.ActsFor.{Declared, IsDeclared};
 ghost use Rattle.jif_tree.specs.Trees.{ProgramTree};
 ghost use Rattle.jif_grammar.specs.DraftShapes.{DraftShape};
+ghost use Rattle.jif_resolve.specs.Numbering.{CountsFrom, statement_numbers, site_numbers};
 ghost use Rattle.jif_resolve.specs.Verdicts.{Refusal, IsRefused, IsProgramOf};
 
 /// A draft has one program or is refused for one cause, and never both.
@@ -14,9 +15,13 @@ pub fn resolve_laws()
         IsProgramOf principals draft tree → ¬ IsRefused principals draft refusal }
 {}
 
-/// A draft has one program.
+/// A draft has one program, whose statements and call sites are numbered in the order of the text.
 pub fn program_laws()
     ensures one_program { (principals : Declared) (draft : DraftShape) (first second : ProgramTree) →
         IsDeclared principals → IsProgramOf principals draft first → IsProgramOf principals draft second →
         first ≡ second }
+    ensures statements { (principals : Declared) (draft : DraftShape) (tree : ProgramTree) →
+        IsProgramOf principals draft tree → CountsFrom 0 (statement_numbers tree) }
+    ensures sites { (principals : Declared) (draft : DraftShape) (tree : ProgramTree) →
+        IsProgramOf principals draft tree → CountsFrom 1 (site_numbers tree) }
 {}
