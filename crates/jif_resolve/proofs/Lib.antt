@@ -1,3 +1,6 @@
 mod OneProgram
 mod Ranges
 mod Numbers
+mod FirstFault
+mod Usable
+mod HasProgram

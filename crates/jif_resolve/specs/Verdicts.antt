@@ -1,10 +1,13 @@
 -- What becomes of a draft: a program, or one refusal.
 use Rattle.std.specs.Prelude.{◌≡◌, ℕ, ◌<◌, ◌⊎◌, List, [], All, Contains, None}
 use Rattle.principals.specs.ActsFor.{Declared}
+use Rattle.label_lattice.specs.declared.label.Label.{Label}
 use Rattle.jif_tree.specs.Trees.{ProgramTree}
-use Rattle.jif_grammar.specs.DraftShapes.{DraftShape}
+use Rattle.jif_grammar.specs.DraftShapes.{LabelShape, DraftShape}
 use Rattle.jif_resolve.specs.Faults.{FaultKind, unknown_name, twice, wrong_type, wrong_count, Fault, faults_of}
 use Rattle.jif_resolve.specs.Meanings.{main_of}
+use Rattle.jif_resolve.specs.Faults.{label_faults}
+use Rattle.jif_resolve.specs.Labels.{IsLabelFor}
 use Rattle.jif_resolve.specs.Resolved.{IsTreeOf}
 
 -- the order of the kinds at one token
@@ -36,3 +39,8 @@ IsRefused principals draft no_main = (faults_of principals draft ≡ []) × (mai
 pub record IsProgramOf (principals : Declared) (draft : DraftShape) (tree : ProgramTree) : Type 0 where
   pub no_faults : faults_of principals draft ≡ []
   pub is_tree : IsTreeOf principals draft tree
+
+-- the names of each label make a label, where they are declared
+abbrev pub HasLabels : Declared → Type 0
+HasLabels principals = (written : LabelShape) → label_faults principals written ≡ [] →
+    (label : Label) × IsLabelFor principals written label
