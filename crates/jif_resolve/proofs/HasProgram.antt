@@ -246,7 +246,7 @@ variables_labelled s head count method result params body =
 -- ---- methods and programs
 
 -- the parts of a method's faults
-clean_parts : (s : Setting) (head : Place) (method : MethodShape) → method_faults s head method ≡ [] →
+pub clean_parts : (s : Setting) (head : Place) (method : MethodShape) → method_faults s head method ≡ [] →
     (optional_label_faults s.principals method.result ≡ []) × (label_faults s.principals method.begin ≡ [])
     × (params_faults s head method.params ≡ []) × (principals_faults s.principals method.authority ≡ [])
     × (fault_where (s.gives && not (ends_in_return method.body)) wrong_type method.name.at ≡ [])

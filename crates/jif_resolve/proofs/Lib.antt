@@ -4,3 +4,6 @@ mod Numbers
 mod FirstFault
 mod Usable
 mod HasProgram
+mod Meant
+mod Within
+mod WellNumbered

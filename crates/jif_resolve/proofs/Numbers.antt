@@ -174,7 +174,7 @@ of_method_sites s head method tree is =
     of_block_sites s (body_place head method) method.body tree.body is.body
     ∙ ap (λ n. range_with_len n (calls_in method.body)) (params_site head method.params)
 
-one_counted : (amount : MethodShape → ℕ) (before : List MethodShape) (method : MethodShape) →
+pub one_counted : (amount : MethodShape → ℕ) (before : List MethodShape) (method : MethodShape) →
     counted amount (before ++ method ∷ []) ≡ counted amount before + amount method
 one_counted amount before method =
     let one : counted amount (method ∷ []) ≡ amount method = omega arith in

@@ -51,7 +51,7 @@ none_in_six us vs xs ys zs ws none =
 pub none_joined : {X : Type 0} (xs ys : List X) → xs ≡ [] → ys ≡ [] → xs ++ ys ≡ []
 none_joined xs ys one two = ap (λ r. r ++ ys) one ∙ two
 
-none_where : (wrong : Bool) (kind : FaultKind) (at : ℕ) → fault_where wrong kind at ≡ [] → wrong ≡ false
+pub none_where : (wrong : Bool) (kind : FaultKind) (at : ℕ) → fault_where wrong kind at ≡ [] → wrong ≡ false
 none_where false kind at none = refl
 none_where true kind at none = absurd cc
 
@@ -68,7 +68,7 @@ each_made faults R made (x ∷ xs) none =
 
 -- ---- principals and labels
 
-true_or_false : (b : Bool) → (b ≡ true) ⊎ (b ≡ false)
+pub true_or_false : (b : Bool) → (b ≡ true) ⊎ (b ≡ false)
 true_or_false true = inl refl
 true_or_false false = inr refl
 
@@ -76,7 +76,7 @@ other_one : (a b : Bool) → a || b ≡ true → a ≡ false → b ≡ true
 other_one true b both not_first = absurd (false≢true (sym not_first))
 other_one false b both not_first = both
 
-not_false : (b : Bool) → not b ≡ false → b ≡ true
+pub not_false : (b : Bool) → not b ≡ false → b ≡ true
 not_false true is = refl
 not_false false is = absurd (false≢true (sym is))
 

@@ -3,6 +3,7 @@
 ghost use Rattle.std.specs.Prelude.{◌≡◌, ◌⊎◌};
 ghost use Rattle.principals.specs.ActsFor.{Declared, IsDeclared};
 ghost use Rattle.jif_tree.specs.Trees.{ProgramTree};
+ghost use Rattle.jif_tree.specs.WellNumbered.{IsWellNumbered};
 ghost use Rattle.jif_grammar.specs.DraftShapes.{DraftShape};
 ghost use Rattle.jif_resolve.specs.Numbering.{CountsFrom, statement_numbers, site_numbers};
 ghost use Rattle.jif_resolve.specs.Verdicts.{Refusal, IsRefused, IsProgramOf, HasLabels};
@@ -22,7 +23,8 @@ pub fn verdict_laws()
         ⊎ ((refusal : Refusal) × IsRefused principals draft refusal) }
 {}
 
-/// A draft has one program, whose statements and call sites are numbered in the order of the text.
+/// A draft has one program. Its statements and call sites are numbered in the order of the text, and each number in it
+/// stands for something of the right kind.
 pub fn program_laws()
     ensures one_program { (principals : Declared) (draft : DraftShape) (first second : ProgramTree) →
         IsDeclared principals → IsProgramOf principals draft first → IsProgramOf principals draft second →
@@ -31,4 +33,6 @@ pub fn program_laws()
         IsProgramOf principals draft tree → CountsFrom 0 (statement_numbers tree) }
     ensures sites { (principals : Declared) (draft : DraftShape) (tree : ProgramTree) →
         IsProgramOf principals draft tree → CountsFrom 1 (site_numbers tree) }
+    ensures well_numbered { (principals : Declared) (draft : DraftShape) (tree : ProgramTree) →
+        IsProgramOf principals draft tree → IsWellNumbered tree }
 {}

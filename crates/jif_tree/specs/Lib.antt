@@ -3,3 +3,4 @@ pub mod SourceRun
 pub mod Store
 pub mod Assignments
 pub mod Trees
+pub mod WellNumbered
