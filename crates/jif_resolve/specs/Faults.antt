@@ -26,10 +26,13 @@ pub record Fault : Type 0 where
   pub at : ℕ
   pub kind : FaultKind
 
+abbrev pub fault : ℕ → FaultKind → Fault
+fault at kind = record { at = at; kind = kind }
+
 -- a fault of this kind, where there is one
 abbrev pub fault_where : Bool → FaultKind → ℕ → List Fault
 fault_where false kind at = []
-fault_where true kind at = record { at = at; kind = kind } ∷ []
+fault_where true kind at = fault at kind ∷ []
 
 -- ---- labels
 

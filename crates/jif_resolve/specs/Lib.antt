@@ -7,3 +7,4 @@ pub mod Labels
 pub mod Resolved
 pub mod Numbering
 pub mod Verdicts
+pub mod Worked

@@ -1,12 +1,16 @@
 //! Laws of names, for whoever resolves programs. The calls do nothing.
 
-ghost use Rattle.std.specs.Prelude.{◌≡◌, ◌⊎◌};
+ghost use Rattle.std.specs.Prelude.{◌≡◌, ◌⊎◌, ◌<◌, [], ◌∷◌, Some, None, codes};
 ghost use Rattle.principals.specs.ActsFor.{Declared, IsDeclared};
 ghost use Rattle.jif_tree.specs.Trees.{ProgramTree};
 ghost use Rattle.jif_tree.specs.WellNumbered.{IsWellNumbered};
 ghost use Rattle.jif_grammar.specs.DraftShapes.{DraftShape};
+ghost use Rattle.jif_resolve.specs.Meanings.{main_of};
+ghost use Rattle.jif_resolve.specs.Faults.{fault, unknown_name, twice, wrong_type, wrong_count, faults_of};
 ghost use Rattle.jif_resolve.specs.Numbering.{CountsFrom, statement_numbers, site_numbers};
-ghost use Rattle.jif_resolve.specs.Verdicts.{Refusal, IsRefused, IsProgramOf, HasLabels};
+ghost use Rattle.jif_resolve.specs.Verdicts.{Refusal, IsRefused, IsProgramOf, HasLabels, rank};
+ghost use Rattle.jif_resolve.specs.Worked.{only_alice, used_after_its_block, used_before_it_is_known};
+ghost use Rattle.jif_resolve.specs.Worked.{declared_in_both_blocks, called_badly, calls_itself, variable_names};
 
 /// A draft has one program or is refused for one cause, and never both.
 pub fn resolve_laws()
@@ -35,4 +39,25 @@ pub fn program_laws()
         IsProgramOf principals draft tree → CountsFrom 1 (site_numbers tree) }
     ensures well_numbered { (principals : Declared) (draft : DraftShape) (tree : ProgramTree) →
         IsProgramOf principals draft tree → IsWellNumbered tree }
+{}
+
+/// The faults of small drafts, and the order of faults at one token.
+pub fn worked_laws()
+    // A local is known up to the end of its block, and from the statement after its declaration.
+    ensures after_block { faults_of only_alice used_after_its_block ≡ fault 21 unknown_name ∷ [] }
+    ensures before_declaration { faults_of only_alice used_before_it_is_known
+        ≡ fault 10 unknown_name ∷ fault 15 unknown_name ∷ [] }
+    // Its name stays taken.
+    ensures both_blocks { faults_of only_alice declared_in_both_blocks ≡ fault 21 twice ∷ [] }
+    // One token may have two faults.
+    ensures bad_call { faults_of only_alice called_badly ≡ fault 29 wrong_type ∷ fault 29 wrong_count ∷ [] }
+    ensures order { (rank unknown_name < rank twice) × (rank twice < rank wrong_type)
+        × (rank wrong_type < rank wrong_count) }
+    // Methods are known before they are declared, and principals are no names of the program.
+    ensures recursion { faults_of only_alice calls_itself ≡ [] }
+    // The result is the last variable of its method.
+    ensures variables { variable_names called_badly
+        ≡ codes "p" ∷ codes "x" ∷ codes "y" ∷ codes "return" ∷ [] }
+    // `main` has no parameters and no result.
+    ensures mains { (main_of calls_itself ≡ Some (record { 0 = 0 })) × (main_of called_badly ≡ None) }
 {}

@@ -3,4 +3,4 @@
 
 mod laws;
 
-pub use laws::{program_laws, resolve_laws, verdict_laws};
+pub use laws::{program_laws, resolve_laws, verdict_laws, worked_laws};
