@@ -8,3 +8,4 @@ pub mod Resolved
 pub mod Numbering
 pub mod Verdicts
 pub mod Worked
+pub mod WellNumbered

@@ -3,7 +3,7 @@
 ghost use Rattle.std.specs.Prelude.{◌≡◌, ◌⊎◌, ◌<◌, [], ◌∷◌, Some, None, codes};
 ghost use Rattle.principals.specs.ActsFor.{Declared, IsDeclared};
 ghost use Rattle.jif_tree.specs.Trees.{ProgramTree};
-ghost use Rattle.jif_tree.specs.WellNumbered.{IsWellNumbered};
+ghost use Rattle.jif_resolve.specs.WellNumbered.{IsWellNumbered};
 ghost use Rattle.jif_grammar.specs.DraftShapes.{DraftShape};
 ghost use Rattle.jif_resolve.specs.Meanings.{main_of};
 ghost use Rattle.jif_resolve.specs.Faults.{fault, unknown_name, twice, wrong_type, wrong_count, faults_of};

@@ -3,4 +3,3 @@ pub mod SourceRun
 pub mod Store
 pub mod Assignments
 pub mod Trees
-pub mod WellNumbered
