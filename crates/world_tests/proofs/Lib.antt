@@ -1,0 +1,2 @@
+pub mod Misbehaving
+pub mod SoundPrograms
