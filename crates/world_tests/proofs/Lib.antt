@@ -1,2 +1,2 @@
-pub mod Misbehaving
+pub mod Missing
 pub mod SoundPrograms

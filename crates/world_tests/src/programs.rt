@@ -9,7 +9,9 @@ ghost use Rattle.world_tests.specs.Programs.{summing, summing_hosts, summing_fie
 ghost use Rattle.world_tests.specs.Programs.{summing_on_t, summing_on_a, counting_on_t, counting_on_p};
 ghost use Rattle.world_tests.specs.Programs.{counting, counting_hosts, counting_fields, counting_entries};
 
-use host_code::{Code, CodeExpr, CodeField, CodeHost, CodeParts, Entry, Instr, Node, Op, Part};
+use host_code::{
+    Code, CodeExpr, CodeField, CodeHost, CodeParts, CodeVar, Entry, Instr, Node, Op, Part,
+};
 use js_base::text::owned_text;
 use js_base::{BinOp, EntryId, FieldId, HostId, OutOfMemory, PrincipalId, StmtId};
 use label_lattice::Label;
@@ -88,17 +90,19 @@ fn summing(alloc: Global, trusted: Label, secret: Label) -> Result<Code, OutOfMe
     ensures { IfOk result (λ code. code ≡ summing trusted secret) }
 {
     let hosts = hosts_of_summing(alloc, trusted, secret)?;
-    let labels = vec![in alloc; trusted, secret]?;
+    let labels = labels_of_summing(alloc, trusted, secret)?;
     let fields = fields_of_summing(alloc)?;
     let entries = entries_of_summing(alloc)?;
     let parts = parts_of_summing(alloc)?;
+    let vars = no_variables(alloc);
+    let sites = no_sites(alloc);
     Ok(Code::new(CodeParts {
         hosts,
         labels,
         fields,
-        vars: Vec::new(alloc),
+        vars,
         entries,
-        sites: Vec::new(alloc),
+        sites,
         parts,
         root: T,
         main: EntryId(1),
@@ -115,6 +119,16 @@ fn hosts_of_summing(
     let t = CodeHost::new(owned_text(alloc, "T")?, trusted);
     let a = CodeHost::new(owned_text(alloc, "A")?, secret);
     Ok(vec![in alloc; t, a]?)
+}
+
+fn labels_of_summing(
+    alloc: Global,
+    trusted: Label,
+    secret: Label,
+) -> Result<Vec<Label>, OutOfMemory>
+    ensures { IfOk result (λ made. made.items ≡ trusted ∷ secret ∷ []) }
+{
+    Ok(vec![in alloc; trusted, secret]?)
 }
 
 fn fields_of_summing(alloc: Global) -> Result<Vec<CodeField>, OutOfMemory>
@@ -186,17 +200,19 @@ fn counting(alloc: Global, trusted: Label, own: Label, bobs: Label) -> Result<Co
     ensures { IfOk result (λ code. code ≡ counting trusted own bobs) }
 {
     let hosts = hosts_of_counting(alloc, trusted, own, bobs)?;
-    let labels = vec![in alloc; trusted, own, bobs]?;
+    let labels = labels_of_counting(alloc, trusted, own, bobs)?;
     let fields = fields_of_counting(alloc)?;
     let entries = entries_of_counting(alloc)?;
     let parts = parts_of_counting(alloc)?;
+    let vars = no_variables(alloc);
+    let sites = no_sites(alloc);
     Ok(Code::new(CodeParts {
         hosts,
         labels,
         fields,
-        vars: Vec::new(alloc),
+        vars,
         entries,
-        sites: Vec::new(alloc),
+        sites,
         parts,
         root: T,
         main: EntryId(1),
@@ -215,6 +231,17 @@ fn hosts_of_counting(
     let p = CodeHost::new(owned_text(alloc, "P")?, bobs);
     let q = CodeHost::new(owned_text(alloc, "Q")?, trusted);
     Ok(vec![in alloc; t, p, q]?)
+}
+
+fn labels_of_counting(
+    alloc: Global,
+    trusted: Label,
+    own: Label,
+    bobs: Label,
+) -> Result<Vec<Label>, OutOfMemory>
+    ensures { IfOk result (λ made. made.items ≡ trusted ∷ own ∷ bobs ∷ []) }
+{
+    Ok(vec![in alloc; trusted, own, bobs]?)
 }
 
 fn fields_of_counting(alloc: Global) -> Result<Vec<CodeField>, OutOfMemory>
@@ -284,6 +311,19 @@ fn counting_on_p(alloc: Global) -> Result<Part, OutOfMemory>
     let put = instr(0, put(alloc, TOTAL, first_and(alloc, 1, BinOp::Add)?)?);
     let back = instr(0, Op::Back);
     Ok(Part::new(vec![in alloc; own, put, back]?))
+}
+
+fn no_variables(alloc: Global) -> Vec<CodeVar>
+    ensures { result.items ≡ [] }
+{
+    Vec::new(alloc)
+}
+
+/// Nothing is called.
+fn no_sites(alloc: Global) -> Vec<HostId>
+    ensures { result.items ≡ [] }
+{
+    Vec::new(alloc)
 }
 
 /// An entry at an instruction of a host.

@@ -1,7 +1,7 @@
 //! What happens in a world, and how it stands.
 
-ghost use Rattle.std.specs.Prelude.{IfOk, IsTrue};
-ghost use Rattle.net_world.specs.Fits.{WorldFits, HasOwnToken, OwnToken, OwnTokenIn, world_of};
+ghost use Rattle.std.specs.Prelude.{◌≡◌, ◌<◌, IfOk, IsTrue, None, length};
+ghost use Rattle.net_world.specs.Fits.{WorldFits, HasOwnToken, OwnToken, OwnTokenIn, world_of, host_at};
 ghost use Rattle.net_world.specs.World.{misbehaves};
 
 use crate::programs::{COUNTER, OTHER, Q, T, TOTAL};
@@ -58,13 +58,26 @@ fn event_of(what: What) -> Event {
     }
 }
 
+fn is_host(code: &Code, host: HostId) -> bool
+    ensures { IsTrue result → host.0 < length code.now.hosts }
+{
+    (host.0 as usize) < code.hosts().len()
+}
+
+/// Whether no obeying host of the code has the number.
+fn is_missing(world: &World, host: HostId) -> bool
+    ensures { IsTrue result → host_at world.now host ≡ None }
+{
+    world.host(host).is_none()
+}
+
 /// Whether a host of the code misbehaves.
-#[tactic(auto, using(crate::proofs::Misbehaving::missing))]
+#[tactic(auto, using(crate::proofs::Missing::missing))]
 fn is_bad(code: &Code, world: &World, host: HostId) -> bool
     requires { WorldFits code.now world.now }
     ensures { IsTrue result → IsTrue (misbehaves (world_of world.now) host) }
 {
-    (host.0 as usize) < code.hosts().len() && world.host(host).is_none()
+    is_host(code, host) && is_missing(world, host)
 }
 
 fn is_own(code: &Code, world: &World, token: &BadToken) -> bool
@@ -213,7 +226,7 @@ fn push_hosts(alloc: Global, text: &mut String, code: &Code, world: &World) -> R
 }
 
 /// How the world stands: whether it has halted, the field, the threads, the stack and the ignored requests of each
-/// obeying host but Q, what is in flight between T and the other host, and what misbehaving hosts were sent.
+/// obeying host, what is in flight between T and the other host, and what misbehaving hosts were sent.
 pub fn state_text(alloc: Global, code: &Code, world: &World) -> Result<String, Fail> {
     let halted = if world.halted() {
         "halted yes"

@@ -5,6 +5,7 @@ pub new-requires : goal.new-requires
 new-requires c =
     rw (
       c.in_ok-hosts.ensures,
+      c.in_ok-labels.ensures,
       c.in_ok-fields.ensures,
       c.in_ok-entries.ensures,
       c.in_ok-parts.ensures,
