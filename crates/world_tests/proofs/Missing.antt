@@ -11,7 +11,7 @@ use Rattle.net_world.specs.World.{given, is_absent, misbehaves}
 none_absent : (hosts : List (Option HostModel)) (place : ℕ) → place < length hosts →
     given (slice_get hosts place) ≡ None → IsTrue (is_absent (slice_get (states_of hosts) place))
 none_absent [] place below none = absurd (omega arith)
-none_absent (None ∷ hosts) zero below none = refl
+none_absent (None ∷ hosts) zero below none = tt
 none_absent (Some host ∷ hosts) zero below none = absurd (let e : Some host ≡ None = none in cc)
 none_absent (host ∷ hosts) (suc place) below none = none_absent hosts place (omega arith) none
 

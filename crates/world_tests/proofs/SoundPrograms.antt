@@ -2,7 +2,7 @@
 use Rattle.std.proofs.Common.{◌≡◌, ℕ, ◌+◌, ◌<◌, ◌≤◌, zero, suc, List, [], ◌∷◌, Some, None}
 use Rattle.std.proofs.Common.{refl, arith, inl, inr, subst, sym}
 use Rattle.std.proofs.Common.{ap, codes, true, false, length, zero-add}
-use Rattle.std.specs.Prelude.{slice_get, ⊤, ⊥, All, ¬◌}
+use Rattle.std.specs.Prelude.{slice_get, ⊤, All}
 use Rattle.std.specs.List.{AllByRecursion}
 use Rattle.std.proofs.lemmas.Bool.{cases_lt}
 use Rattle.std.proofs.lemmas.List.Elements.{All-cons, All-nil}
@@ -87,7 +87,7 @@ three_hosts P first second third host below =
       | inr above ↦ (let is : 2 ≡ host.0 = omega arith in subst at is third)
     ]
 
-IsNamed : CodeHostShape → Type 0
+abbrev IsNamed : CodeHostShape → Type 0
 IsNamed host = IsName host.name × (length host.name ≤ MOST_ITEMS)
 
 -- ---- the sum

@@ -53,20 +53,10 @@ pub const COUNTING_HOSTS: &str = "principals = ['Alice', 'Bob']\n\
     [[host]]\nname = 'P'\nlabel = '{Bob:}'\n\
     [[host]]\nname = 'Q'\nlabel = '{?: Alice}'\n";
 
-fn alice_alone(alloc: Global) -> Result<Principals, Fail> {
-    let alice = owned_text(alloc, "Alice")?;
-    Ok(Principals::new(alloc, &vec![in alloc; alice]?, &[])?)
-}
-
-fn alice_and_bob(alloc: Global) -> Result<Principals, Fail> {
-    let alice = owned_text(alloc, "Alice")?;
-    let bob = owned_text(alloc, "Bob")?;
-    Ok(Principals::new(alloc, &vec![in alloc; alice, bob]?, &[])?)
-}
-
 /// While `n` of T is less than 4, A adds it to its `s`, and T counts. Alice trusts `n`, and she alone may see `s`.
 pub fn summing_code(alloc: Global) -> Result<Code, Fail> {
-    let principals = alice_alone(alloc)?;
+    let name = owned_text(alloc, "Alice")?;
+    let principals = Principals::new(alloc, &vec![in alloc; name]?, &[])?;
     let alice = PrincipalId(0);
     let trusted = Label::empty().with_trust(&principals, &[alice]);
     let secret = Label::empty().with_policy(&principals, alice, &[]);
@@ -76,7 +66,9 @@ pub fn summing_code(alloc: Global) -> Result<Code, Fail> {
 /// T counts its `k` down to 0, P adds one to its `p`, and T sets `k` to 0. Alice alone may see `k` and trusts it, and
 /// Bob alone may see `p`. She trusts Q too, but Q may not see `k`.
 pub fn counting_code(alloc: Global) -> Result<Code, Fail> {
-    let principals = alice_and_bob(alloc)?;
+    let first = owned_text(alloc, "Alice")?;
+    let second = owned_text(alloc, "Bob")?;
+    let principals = Principals::new(alloc, &vec![in alloc; first, second]?, &[])?;
     let (alice, bob) = (PrincipalId(0), PrincipalId(1));
     let trusted = Label::empty().with_trust(&principals, &[alice]);
     let hers = Label::empty().with_policy(&principals, alice, &[]);

@@ -9,4 +9,6 @@ new-requires c =
       c.in_ok-fields.ensures,
       c.in_ok-entries.ensures,
       c.in_ok-parts.ensures,
+      c.no_variables-vars.ensures,
+      c.no_sites-sites.ensures,
     ) (summing_sound c.args.trusted c.args.secret)
