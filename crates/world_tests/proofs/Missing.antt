@@ -1,5 +1,5 @@
 -- A host of the code that is not there misbehaves.
-use Rattle.std.proofs.Common.{◌≡◌, ℕ, ◌<◌, zero, suc, List, [], ◌∷◌, Option, Some, None, length, arith, true}
+use Rattle.std.proofs.Common.{◌≡◌, ℕ, ◌<◌, zero, suc, List, [], ◌∷◌, Option, Some, None, length, arith, refl}
 use Rattle.std.specs.Prelude.{slice_get, IsTrue}
 use Rattle.std.specs.Option.{option_map}
 use Rattle.js_base.specs.declared.ids.HostId.{HostId}
@@ -11,7 +11,7 @@ use Rattle.net_world.specs.World.{given, is_absent, misbehaves}
 none_absent : (hosts : List (Option HostModel)) (place : ℕ) → place < length hosts →
     given (slice_get hosts place) ≡ None → IsTrue (is_absent (slice_get (states_of hosts) place))
 none_absent [] place below none = absurd (omega arith)
-none_absent (None ∷ hosts) zero below none = tt
+none_absent (None ∷ hosts) zero below none = refl
 none_absent (Some host ∷ hosts) zero below none = absurd (let e : Some host ≡ None = none in cc)
 none_absent (host ∷ hosts) (suc place) below none = none_absent hosts place (omega arith) none
 
