@@ -1,7 +1,6 @@
 -- A host of the code that is not there misbehaves.
 use Rattle.std.proofs.Common.{◌≡◌, ℕ, ◌<◌, zero, suc, List, [], ◌∷◌, Option, Some, None, length, arith, refl}
 use Rattle.std.specs.Prelude.{slice_get, IsTrue}
-use Rattle.std.specs.Option.{option_map}
 use Rattle.js_base.specs.declared.ids.HostId.{HostId}
 use Rattle.host_core.specs.Host.{HostModel}
 use Rattle.host_code.specs.Code.{CodeShape}

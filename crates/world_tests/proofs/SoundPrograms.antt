@@ -1,7 +1,7 @@
 -- The code of both programs is sound.
 use Rattle.std.proofs.Common.{◌≡◌, ℕ, ◌+◌, ◌<◌, ◌≤◌, zero, suc, List, [], ◌∷◌, Some, None}
-use Rattle.std.proofs.Common.{refl, arith, inl, inr, subst, sym}
-use Rattle.std.proofs.Common.{ap, codes, true, false, length, zero-add}
+use Rattle.std.proofs.Common.{refl, arith, inl, inr, subst}
+use Rattle.std.proofs.Common.{ap, length, zero-add}
 use Rattle.std.specs.Prelude.{slice_get, ⊤, All}
 use Rattle.std.specs.List.{AllByRecursion}
 use Rattle.std.proofs.lemmas.Bool.{cases_lt}
@@ -11,7 +11,6 @@ use Rattle.js_base.specs.declared.ids.EntryId.{EntryId}
 use Rattle.js_base.specs.declared.ids.HostId.{HostId}
 use Rattle.js_base.specs.Name.{IsName}
 use Rattle.label_lattice.specs.declared.label.Label.{Label}
-use Rattle.host_code.specs.declared.code.Entry.{Entry}
 use Rattle.host_code.specs.declared.code.TheConstants.{MOST_ITEMS}
 use Rattle.host_code.specs.declared.instruction.Instr.{Instr}
 use Rattle.host_code.specs.Code.{CodeShape, CodeHostShape, halt}

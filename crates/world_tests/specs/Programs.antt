@@ -95,7 +95,8 @@ summing_on_t =
 
 abbrev pub summing_on_a : List Instr
 summing_on_a =
-    instr 0 (read total) ∷ instr 0 (read counter) ∷ instr 0 (put total sum_of_temporaries) ∷ instr 0 op.Back ∷ []
+    instr 0 (read total) ∷ instr 0 (read counter)
+    ∷ instr 0 (put total sum_of_temporaries) ∷ instr 0 op.Back ∷ []
 
 abbrev pub summing : Label → Label → CodeShape
 summing trusted secret =
