@@ -3,8 +3,9 @@ use Rattle.std.proofs.Common.{◌≡◌, suc, ◌<◌, ◌⊎◌, inl, inr, List
 use Rattle.std.specs.Prelude.{Contains}
 use Rattle.std.proofs.lemmas.Bool.{cases_lt}
 use Rattle.std.proofs.lemmas.List.Elements.{All-nil, All-cons}
-use Rattle.jif_resolve.specs.Faults.{Fault}
-use Rattle.jif_resolve.specs.Verdicts.{rank, ComesBefore, IsFirst}
+use Rattle.jif_resolve.specs.declared.fault.Fault.{Fault}
+use Rattle.jif_resolve.specs.First.{rank}
+use Rattle.jif_resolve.specs.Verdicts.{ComesBefore, IsFirst}
 
 not_itself : (f : Fault) → ¬ ComesBefore f f
 not_itself f before = grind (arith)

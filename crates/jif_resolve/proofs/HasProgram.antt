@@ -21,11 +21,12 @@ use Rattle.jif_resolve.specs.Counts.{LocalShape, locals_in}
 use Rattle.jif_resolve.specs.Meanings.{Global, globals_of, main_of}
 use Rattle.jif_resolve.specs.Places.{Setting, Place, next_variable, after_statement, after_call, after_declaration}
 use Rattle.jif_resolve.specs.Places.{after_block, after_variable, head_after, body_place, meaning_at}
-use Rattle.jif_resolve.specs.Faults.{Fault, fault_where, label_faults, optional_label_faults, principals_faults}
+use Rattle.jif_resolve.specs.declared.fault.Fault.{Fault}
+use Rattle.jif_resolve.specs.declared.fault.FaultKind.TheVariants.{WrongType}
+use Rattle.jif_resolve.specs.Faults.{fault_where, label_faults, optional_label_faults, principals_faults}
 use Rattle.jif_resolve.specs.Faults.{local_faults, global_faults, variable_faults, array_faults, called_faults}
 use Rattle.jif_resolve.specs.Faults.{into_faults, is_kept, call_faults, expr_faults, block_faults, params_faults}
 use Rattle.jif_resolve.specs.Faults.{ends_in_return, setting_of, method_faults, methods_faults, faults_of}
-use Rattle.jif_resolve.specs.Faults.{wrong_type}
 use Rattle.jif_resolve.specs.Variables.{VariableShape, variables_from, method_variables, result_variables, param_ids}
 use Rattle.jif_resolve.specs.Variables.{result_id}
 use Rattle.jif_resolve.specs.Resolved.{IsExprFor, heading_of, into_tree, IsBlockFor, IsFieldFor}
@@ -144,7 +145,7 @@ block_made s labels p (call_shape start name args into rest) none =
       (method.0, values.0, kept.0, behind.0, refl, method.1, kept.1, values.1, behind.1),
     )
 block_made s labels p (return_shape start value rest) none =
-    let parts = none_in_three (fault_where (not s.gives) wrong_type start.at) (expr_faults s p value)
+    let parts = none_in_three (fault_where (not s.gives) WrongType start.at) (expr_faults s p value)
     (block_faults s (after_statement p) rest) none in
     let first = expr_made s labels p value parts.1 in
     let behind = block_made s labels (after_statement p) rest parts.2 in
@@ -201,7 +202,7 @@ locals_labelled s p (call_shape start name args into rest) none =
     let both = none_in_two (call_faults s p name args into) (block_faults s (after_call p) rest) none in
     locals_labelled s (after_call p) rest both.1
 locals_labelled s p (return_shape start value rest) none =
-    let parts = none_in_three (fault_where (not s.gives) wrong_type start.at) (expr_faults s p value)
+    let parts = none_in_three (fault_where (not s.gives) WrongType start.at) (expr_faults s p value)
     (block_faults s (after_statement p) rest) none in
     locals_labelled s (after_statement p) rest parts.2
 
@@ -249,12 +250,12 @@ variables_labelled s head count method result params body =
 pub clean_parts : (s : Setting) (head : Place) (method : MethodShape) → method_faults s head method ≡ [] →
     (optional_label_faults s.principals method.result ≡ []) × (label_faults s.principals method.begin ≡ [])
     × (params_faults s head method.params ≡ []) × (principals_faults s.principals method.authority ≡ [])
-    × (fault_where (s.gives && not (ends_in_return method.body)) wrong_type method.name.at ≡ [])
+    × (fault_where (s.gives && not (ends_in_return method.body)) WrongType method.name.at ≡ [])
     × (block_faults s (body_place head method) method.body ≡ [])
 clean_parts s head method none =
     none_in_six (optional_label_faults s.principals method.result) (label_faults s.principals method.begin)
     (params_faults s head method.params) (principals_faults s.principals method.authority)
-    (fault_where (s.gives && not (ends_in_return method.body)) wrong_type method.name.at)
+    (fault_where (s.gives && not (ends_in_return method.body)) WrongType method.name.at)
     (block_faults s (body_place head method) method.body) none
 
 all_labelled : (principals : Declared) (globals : List Global) (before methods : List MethodShape) (count : ℕ) →

@@ -15,7 +15,9 @@ use Rattle.label_lattice.specs.declared.label.Label.{Label}
 use Rattle.jif_tree.specs.Trees.{ExprTree, local, scalar, Heading, BlockTree, set_local, set_field}
 use Rattle.jif_grammar.specs.DraftShapes.{NameShape, LabelShape}
 use Rattle.jif_resolve.specs.Meanings.{Meaning, a_local, a_field, an_array, a_method}
-use Rattle.jif_resolve.specs.Faults.{FaultKind, Fault, fault_where, principal_faults, principals_faults}
+use Rattle.jif_resolve.specs.declared.fault.Fault.{Fault}
+use Rattle.jif_resolve.specs.declared.fault.FaultKind.{FaultKind}
+use Rattle.jif_resolve.specs.Faults.{fault_where, principal_faults, principals_faults}
 use Rattle.jif_resolve.specs.Faults.{variable_faults, array_faults, keeper_faults, called_faults}
 use Rattle.jif_resolve.specs.Faults.{optional_label_faults}
 use Rattle.jif_resolve.specs.Labels.{texts, IsOptionalLabelFor}

@@ -23,9 +23,10 @@ use Rattle.jif_resolve.specs.Counts.{locals_in}
 use Rattle.jif_resolve.specs.Meanings.{Meaning, a_local, a_field, an_array, a_method}
 use Rattle.jif_resolve.specs.Places.{Setting, Place, next_variable, after_statement, after_call, after_declaration}
 use Rattle.jif_resolve.specs.Places.{after_block, meaning_at}
+use Rattle.jif_resolve.specs.declared.fault.FaultKind.TheVariants.{WrongType, WrongCount}
 use Rattle.jif_resolve.specs.Faults.{fault_where, optional_label_faults, local_faults, variable_faults, array_faults}
 use Rattle.jif_resolve.specs.Faults.{called_faults, into_faults, is_kept, same_truth, call_faults, expr_faults}
-use Rattle.jif_resolve.specs.Faults.{block_faults, wrong_type, wrong_count}
+use Rattle.jif_resolve.specs.Faults.{block_faults}
 use Rattle.jif_resolve.specs.Resolved.{variable_tree, array_of, local_of, method_of, assignment_tree, IsExprFor}
 use Rattle.jif_resolve.specs.Resolved.{heading_of, into_tree, IsBlockFor}
 use Rattle.jif_resolve.proofs.Meant.{Means, GlobalIs, AreKnownIn, means_at}
@@ -104,10 +105,10 @@ called_in program own at keeps args (Some (a_field field)) method is none made =
 called_in program own at keeps args (Some (an_array field)) method is none made = absurd cc
 called_in program own at keeps args (Some (a_method other params gives)) method is none made =
     let same : other ≡ method = cc in
-    let both = none_in_two (fault_where (not (same_truth keeps gives)) wrong_type at)
-    (fault_where (not (args == params)) wrong_count at) none in
-    let kept = same_when keeps gives (none_where (not (same_truth keeps gives)) wrong_type at both.0) in
-    let counts = same_count args params (none_where (not (args == params)) wrong_count at both.1) in
+    let both = none_in_two (fault_where (not (same_truth keeps gives)) WrongType at)
+    (fault_where (not (args == params)) WrongCount at) none in
+    let kept = same_when keeps gives (none_where (not (same_truth keeps gives)) WrongType at both.0) in
+    let counts = same_count args params (none_where (not (args == params)) WrongCount at both.1) in
     let here : HasMethod program params gives method = subst (HasMethod program params gives) same is in
     subst (λ g. HasMethod program args g method) (sym kept)
     (subst (λ n. HasMethod program n gives method) (sym counts) here)
@@ -263,10 +264,10 @@ block_in program own s size globals p vars known (call_shape start name args int
     )
 block_in program own s size globals p vars known (return_shape start value rest) room none tree
     (x, r, same, one, behind) =
-    let parts = none_in_three (fault_where (not s.gives) wrong_type start.at) (expr_faults s p value)
+    let parts = none_in_three (fault_where (not s.gives) WrongType start.at) (expr_faults s p value)
     (block_faults s (after_statement p) rest) none in
     subst (IsBlockIn program own s.gives) (sym same) (
-      not_false s.gives (none_where (not s.gives) wrong_type start.at parts.0),
+      not_false s.gives (none_where (not s.gives) WrongType start.at parts.0),
       expr_in program own s p globals known value x one,
       block_in program own s size globals (after_statement p) vars known rest room parts.2 r behind,
     )

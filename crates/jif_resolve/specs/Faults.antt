@@ -11,20 +11,12 @@ use Rattle.jif_grammar.specs.DraftShapes.{release_shape, endorsement_shape, Bloc
 use Rattle.jif_grammar.specs.DraftShapes.{declaration_shape, assignment_shape, element_assignment_shape}
 use Rattle.jif_grammar.specs.DraftShapes.{branch_shape, loop_shape, call_shape, return_shape, ParamShape}
 use Rattle.jif_grammar.specs.DraftShapes.{MethodShape, DraftShape}
+use Rattle.jif_resolve.specs.declared.fault.Fault.{Fault}
+use Rattle.jif_resolve.specs.declared.fault.FaultKind.{FaultKind}
+use Rattle.jif_resolve.specs.declared.fault.FaultKind.TheVariants.{UnknownName, Twice, WrongType, WrongCount}
 use Rattle.jif_resolve.specs.Meanings.{Meaning, a_local, a_field, an_array, a_method, Global, has_result, globals_of}
 use Rattle.jif_resolve.specs.Places.{Setting, Place, after_variable, after_statement, after_call}
 use Rattle.jif_resolve.specs.Places.{after_declaration, after_block, head_after, body_place, meaning_at}
-
-pub data FaultKind : Type 0 where
-  unknown_name : FaultKind
-  twice : FaultKind
-  wrong_type : FaultKind
-  wrong_count : FaultKind
-
--- a fault at a token
-pub record Fault : Type 0 where
-  pub at : ℕ
-  pub kind : FaultKind
 
 abbrev pub fault : ℕ → FaultKind → Fault
 fault at kind = record { at = at; kind = kind }
@@ -39,7 +31,7 @@ fault_where true kind at = fault at kind ∷ []
 -- a name that is no declared principal
 abbrev pub principal_faults : Declared → NameShape → List Fault
 principal_faults principals name =
-    fault_where (not (list_any (bytes_eq name.text) principals.names)) unknown_name name.at
+    fault_where (not (list_any (bytes_eq name.text) principals.names)) UnknownName name.at
 
 abbrev pub principals_faults : Declared → List NameShape → List Fault
 principals_faults principals names = flat_map (principal_faults principals) names
@@ -68,40 +60,40 @@ is_global_before globals name =
     list_any (λ other. bytes_eq name.text other.name.text && nat_lt other.name.at name.at) globals
 
 abbrev pub global_faults : List Global → NameShape → List Fault
-global_faults globals name = fault_where (is_global_before globals name) twice name.at
+global_faults globals name = fault_where (is_global_before globals name) Twice name.at
 
 -- A parameter or a local has a name of its own: none of a field, an array or a method, wherever that stands, and none
 -- of an earlier parameter or local of its method.
 abbrev pub local_faults : Setting → Place → NameShape → List Fault
 local_faults setting place name =
     fault_where (list_any (λ global. bytes_eq name.text global.name.text) setting.globals
-    || list_any (bytes_eq name.text) place.earlier) twice name.at
+    || list_any (bytes_eq name.text) place.earlier) Twice name.at
 
 -- ---- used names
 
 -- a name whose value is read or that is assigned to: a plain field, a parameter or a local
 abbrev pub variable_faults : ℕ → Option Meaning → List Fault
-variable_faults at None = fault_where true unknown_name at
+variable_faults at None = fault_where true UnknownName at
 variable_faults at (Some (a_local variable)) = []
 variable_faults at (Some (a_field field)) = []
-variable_faults at (Some (an_array field)) = fault_where true wrong_type at
-variable_faults at (Some (a_method method params gives)) = fault_where true wrong_type at
+variable_faults at (Some (an_array field)) = fault_where true WrongType at
+variable_faults at (Some (a_method method params gives)) = fault_where true WrongType at
 
 -- a name of which an element is read or assigned to
 abbrev pub array_faults : ℕ → Option Meaning → List Fault
-array_faults at None = fault_where true unknown_name at
-array_faults at (Some (a_local variable)) = fault_where true wrong_type at
-array_faults at (Some (a_field field)) = fault_where true wrong_type at
+array_faults at None = fault_where true UnknownName at
+array_faults at (Some (a_local variable)) = fault_where true WrongType at
+array_faults at (Some (a_field field)) = fault_where true WrongType at
 array_faults at (Some (an_array field)) = []
-array_faults at (Some (a_method method params gives)) = fault_where true wrong_type at
+array_faults at (Some (a_method method params gives)) = fault_where true WrongType at
 
 -- a name that keeps the result of a call: a parameter or a local
 abbrev pub keeper_faults : ℕ → Option Meaning → List Fault
-keeper_faults at None = fault_where true unknown_name at
+keeper_faults at None = fault_where true UnknownName at
 keeper_faults at (Some (a_local variable)) = []
-keeper_faults at (Some (a_field field)) = fault_where true wrong_type at
-keeper_faults at (Some (an_array field)) = fault_where true wrong_type at
-keeper_faults at (Some (a_method method params gives)) = fault_where true wrong_type at
+keeper_faults at (Some (a_field field)) = fault_where true WrongType at
+keeper_faults at (Some (an_array field)) = fault_where true WrongType at
+keeper_faults at (Some (a_method method params gives)) = fault_where true WrongType at
 
 abbrev pub same_truth : Bool → Bool → Bool
 same_truth true other = other
@@ -109,12 +101,12 @@ same_truth false other = not other
 
 -- a name that is called with so many arguments: a method with as many parameters, whose result is kept where it has one
 abbrev pub called_faults : ℕ → Bool → ℕ → Option Meaning → List Fault
-called_faults at keeps args None = fault_where true unknown_name at
-called_faults at keeps args (Some (a_local variable)) = fault_where true wrong_type at
-called_faults at keeps args (Some (a_field field)) = fault_where true wrong_type at
-called_faults at keeps args (Some (an_array field)) = fault_where true wrong_type at
+called_faults at keeps args None = fault_where true UnknownName at
+called_faults at keeps args (Some (a_local variable)) = fault_where true WrongType at
+called_faults at keeps args (Some (a_field field)) = fault_where true WrongType at
+called_faults at keeps args (Some (an_array field)) = fault_where true WrongType at
 called_faults at keeps args (Some (a_method method params gives)) =
-    fault_where (not (same_truth keeps gives)) wrong_type at ++ fault_where (not (args == params)) wrong_count at
+    fault_where (not (same_truth keeps gives)) WrongType at ++ fault_where (not (args == params)) WrongCount at
 
 -- ---- expressions
 
@@ -172,7 +164,7 @@ block_faults setting place (loop_shape start guard body rest) =
 block_faults setting place (call_shape start name args into rest) =
     call_faults setting place name args into ++ block_faults setting (after_call place) rest
 block_faults setting place (return_shape start value rest) =
-    fault_where (not setting.gives) wrong_type start.at ++ expr_faults setting place value
+    fault_where (not setting.gives) WrongType start.at ++ expr_faults setting place value
     ++ block_faults setting (after_statement place) rest
 
 -- ---- methods and programs
@@ -204,7 +196,7 @@ abbrev pub method_faults : Setting → Place → MethodShape → List Fault
 method_faults setting head method =
     optional_label_faults setting.principals method.result ++ label_faults setting.principals method.begin
     ++ params_faults setting head method.params ++ principals_faults setting.principals method.authority
-    ++ fault_where (setting.gives && not (ends_in_return method.body)) wrong_type method.name.at
+    ++ fault_where (setting.gives && not (ends_in_return method.body)) WrongType method.name.at
     ++ block_faults setting (body_place head method) method.body
 
 -- the faults of methods that stand after these

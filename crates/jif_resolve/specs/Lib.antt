@@ -1,3 +1,4 @@
+pub mod First
 pub mod Counts
 pub mod Meanings
 pub mod Places

@@ -1,21 +1,16 @@
 -- What becomes of a draft: a program, or one refusal.
-use Rattle.std.specs.Prelude.{◌≡◌, ℕ, ◌<◌, ◌⊎◌, List, [], All, Contains, None}
+use Rattle.std.specs.Prelude.{◌≡◌, ◌<◌, ◌⊎◌, List, [], All, Contains, None}
 use Rattle.principals.specs.ActsFor.{Declared}
 use Rattle.label_lattice.specs.declared.label.Label.{Label}
 use Rattle.jif_tree.specs.Trees.{ProgramTree}
 use Rattle.jif_grammar.specs.DraftShapes.{LabelShape, DraftShape}
-use Rattle.jif_resolve.specs.Faults.{FaultKind, unknown_name, twice, wrong_type, wrong_count, Fault, faults_of}
+use Rattle.jif_resolve.specs.declared.fault.Fault.{Fault}
+use Rattle.jif_resolve.specs.First.{rank}
+use Rattle.jif_resolve.specs.Faults.{faults_of}
 use Rattle.jif_resolve.specs.Meanings.{main_of}
 use Rattle.jif_resolve.specs.Faults.{label_faults}
 use Rattle.jif_resolve.specs.Labels.{IsLabelFor}
 use Rattle.jif_resolve.specs.Resolved.{IsTreeOf}
-
--- the order of the kinds at one token
-abbrev pub rank : FaultKind → ℕ
-rank unknown_name = 0
-rank twice = 1
-rank wrong_type = 2
-rank wrong_count = 3
 
 -- the one at the earlier token comes first, and at one token the one of the lower rank
 abbrev pub ComesBefore : Fault → Fault → Type 0

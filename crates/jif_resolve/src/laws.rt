@@ -6,9 +6,11 @@ ghost use Rattle.jif_tree.specs.Trees.{ProgramTree};
 ghost use Rattle.jif_resolve.specs.WellNumbered.{IsWellNumbered};
 ghost use Rattle.jif_grammar.specs.DraftShapes.{DraftShape};
 ghost use Rattle.jif_resolve.specs.Meanings.{main_of};
-ghost use Rattle.jif_resolve.specs.Faults.{fault, unknown_name, twice, wrong_type, wrong_count, faults_of};
+ghost use Rattle.jif_resolve.specs.declared.fault.FaultKind.TheVariants.{UnknownName, Twice, WrongType, WrongCount};
+ghost use Rattle.jif_resolve.specs.Faults.{fault, faults_of};
+ghost use Rattle.jif_resolve.specs.First.{rank};
 ghost use Rattle.jif_resolve.specs.Numbering.{CountsFrom, statement_numbers, site_numbers};
-ghost use Rattle.jif_resolve.specs.Verdicts.{Refusal, IsRefused, IsProgramOf, HasLabels, rank};
+ghost use Rattle.jif_resolve.specs.Verdicts.{Refusal, IsRefused, IsProgramOf, HasLabels};
 ghost use Rattle.jif_resolve.specs.Worked.{only_alice, used_after_its_block, used_before_it_is_known};
 ghost use Rattle.jif_resolve.specs.Worked.{declared_in_both_blocks, called_badly, calls_itself, variable_names};
 
@@ -44,15 +46,15 @@ pub fn program_laws()
 /// The faults of small drafts, and the order of faults at one token.
 pub fn worked_laws()
     // A local is known up to the end of its block, and from the statement after its declaration.
-    ensures after_block { faults_of only_alice used_after_its_block ≡ fault 21 unknown_name ∷ [] }
+    ensures after_block { faults_of only_alice used_after_its_block ≡ fault 21 UnknownName ∷ [] }
     ensures before_declaration { faults_of only_alice used_before_it_is_known
-        ≡ fault 10 unknown_name ∷ fault 15 unknown_name ∷ [] }
+        ≡ fault 10 UnknownName ∷ fault 15 UnknownName ∷ [] }
     // Its name stays taken.
-    ensures both_blocks { faults_of only_alice declared_in_both_blocks ≡ fault 21 twice ∷ [] }
+    ensures both_blocks { faults_of only_alice declared_in_both_blocks ≡ fault 21 Twice ∷ [] }
     // One token may have two faults.
-    ensures bad_call { faults_of only_alice called_badly ≡ fault 29 wrong_type ∷ fault 29 wrong_count ∷ [] }
-    ensures order { (rank unknown_name < rank twice) × (rank twice < rank wrong_type)
-        × (rank wrong_type < rank wrong_count) }
+    ensures bad_call { faults_of only_alice called_badly ≡ fault 29 WrongType ∷ fault 29 WrongCount ∷ [] }
+    ensures order { (rank UnknownName < rank Twice) × (rank Twice < rank WrongType)
+        × (rank WrongType < rank WrongCount) }
     // Methods are known before they are declared, and principals are no names of the program.
     ensures recursion { faults_of only_alice calls_itself ≡ [] }
     // The result is the last variable of its method.

@@ -1,6 +1,8 @@
 //! The names of a program: what each stands for, and what is refused.
 #![tactic(auto)]
 
+mod fault;
 mod laws;
 
+pub use fault::{Fault, FaultKind};
 pub use laws::{program_laws, resolve_laws, verdict_laws, worked_laws};
