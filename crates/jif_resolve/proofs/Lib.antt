@@ -7,3 +7,4 @@ mod HasProgram
 mod Meant
 mod Within
 mod WellNumbered
+mod Sooner

@@ -2,6 +2,7 @@
 #![tactic(auto)]
 
 mod fault;
+mod labels;
 mod laws;
 
 pub use fault::{Fault, FaultKind};
