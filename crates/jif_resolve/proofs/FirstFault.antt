@@ -7,7 +7,7 @@ use Rattle.jif_resolve.specs.declared.fault.Fault.{Fault}
 use Rattle.jif_resolve.specs.First.{rank}
 use Rattle.jif_resolve.specs.Verdicts.{ComesBefore, IsFirst}
 
-not_itself : (f : Fault) → ¬ ComesBefore f f
+pub not_itself : (f : Fault) → ¬ ComesBefore f f
 not_itself f before = grind (arith)
 
 either : (f g : Fault) → ComesBefore f g ⊎ ¬ ComesBefore f g
@@ -24,7 +24,7 @@ either f g =
       ]
     ]
 
-goes_on : (f g h : Fault) → ComesBefore f g → ComesBefore g h → ComesBefore f h
+pub goes_on : (f g h : Fault) → ComesBefore f g → ComesBefore g h → ComesBefore f h
 goes_on f g h (inl one) (inl two) = inl (omega arith)
 goes_on f g h (inl one) (inr two) = inl (let same : g.at ≡ h.at = two.0 in omega arith)
 goes_on f g h (inr one) (inl two) = inl (let same : f.at ≡ g.at = one.0 in omega arith)
@@ -35,10 +35,10 @@ goes_on f g h (inr one) (inr two) =
     let more : rank g.kind < rank h.kind = two.1 in
     inr (omega arith, omega arith)
 
-contains_head : (f : Fault) (fs : List Fault) → Contains (f ∷ fs) f
+pub contains_head : (f : Fault) (fs : List Fault) → Contains (f ∷ fs) f
 contains_head f fs = search rules
 
-contains_tail : (f g : Fault) (fs : List Fault) → Contains fs g → Contains (f ∷ fs) g
+pub contains_tail : (f g : Fault) (fs : List Fault) → Contains fs g → Contains (f ∷ fs) g
 contains_tail f g fs (k, within, same) =
     let less : k < length fs = within in
     (suc k, (let more : suc k < length (f ∷ fs) = omega arith in more), same)

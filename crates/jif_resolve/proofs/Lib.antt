@@ -8,3 +8,4 @@ mod Meant
 mod Within
 mod WellNumbered
 mod Sooner
+mod FirstByTest

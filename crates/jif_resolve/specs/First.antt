@@ -13,7 +13,7 @@ rank Twice = 1
 rank WrongType = 2
 rank WrongCount = 3
 
--- the one at the earlier token comes first, and at one token the one of the lower rank
+-- whether the first comes before the second, as `ComesBefore` of Verdicts says it
 abbrev pub comes_before : Fault → Fault → Bool
 comes_before first second =
     nat_lt first.at second.at || (first.at == second.at && nat_lt (rank first.kind) (rank second.kind))

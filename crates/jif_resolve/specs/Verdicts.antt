@@ -6,9 +6,8 @@ use Rattle.jif_tree.specs.Trees.{ProgramTree}
 use Rattle.jif_grammar.specs.DraftShapes.{LabelShape, DraftShape}
 use Rattle.jif_resolve.specs.declared.fault.Fault.{Fault}
 use Rattle.jif_resolve.specs.First.{rank}
-use Rattle.jif_resolve.specs.Faults.{faults_of}
+use Rattle.jif_resolve.specs.Faults.{label_faults, faults_of}
 use Rattle.jif_resolve.specs.Meanings.{main_of}
-use Rattle.jif_resolve.specs.Faults.{label_faults}
 use Rattle.jif_resolve.specs.Labels.{IsLabelFor}
 use Rattle.jif_resolve.specs.Resolved.{IsTreeOf}
 

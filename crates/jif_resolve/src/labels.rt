@@ -74,7 +74,8 @@ fn with_trust(
     trust: &Option<Vec<NameDraft>>,
     principals: &Principals,
 ) -> Option<Fault>
-    ensures { result ≡ with_faults first (trust_faults principals.now (option_map (λ names. map name_shape names.items) trust.now)) }
+    ensures { result ≡ with_faults first
+        (trust_faults principals.now (option_map (λ names. map name_shape names.items) trust.now)) }
 {
     match trust {
         None => first,

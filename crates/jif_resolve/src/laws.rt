@@ -1,16 +1,17 @@
 //! Laws of names, for whoever resolves programs. The calls do nothing.
 
-ghost use Rattle.std.specs.Prelude.{◌≡◌, ◌⊎◌, ◌<◌, [], ◌∷◌, Some, None, codes};
+ghost use Rattle.std.specs.Prelude.{◌≡◌, ◌⊎◌, ◌<◌, [], ◌∷◌, Some, None, codes, List};
 ghost use Rattle.principals.specs.ActsFor.{Declared, IsDeclared};
 ghost use Rattle.jif_tree.specs.Trees.{ProgramTree};
 ghost use Rattle.jif_resolve.specs.WellNumbered.{IsWellNumbered};
 ghost use Rattle.jif_grammar.specs.DraftShapes.{DraftShape};
 ghost use Rattle.jif_resolve.specs.Meanings.{main_of};
+ghost use Rattle.jif_resolve.specs.declared.fault.Fault.{Fault};
 ghost use Rattle.jif_resolve.specs.declared.fault.FaultKind.TheVariants.{UnknownName, Twice, WrongType, WrongCount};
 ghost use Rattle.jif_resolve.specs.Faults.{fault, faults_of};
-ghost use Rattle.jif_resolve.specs.First.{rank};
+ghost use Rattle.jif_resolve.specs.First.{rank, with_faults};
 ghost use Rattle.jif_resolve.specs.Numbering.{CountsFrom, statement_numbers, site_numbers};
-ghost use Rattle.jif_resolve.specs.Verdicts.{Refusal, IsRefused, IsProgramOf, HasLabels};
+ghost use Rattle.jif_resolve.specs.Verdicts.{Refusal, IsRefused, IsProgramOf, HasLabels, IsFirst};
 ghost use Rattle.jif_resolve.specs.Worked.{only_alice, used_after_its_block, used_before_it_is_known};
 ghost use Rattle.jif_resolve.specs.Worked.{declared_in_both_blocks, called_badly, calls_itself, variable_names};
 
@@ -41,6 +42,13 @@ pub fn program_laws()
         IsProgramOf principals draft tree → CountsFrom 1 (site_numbers tree) }
     ensures well_numbered { (principals : Declared) (draft : DraftShape) (tree : ProgramTree) →
         IsProgramOf principals draft tree → IsWellNumbered tree }
+{}
+
+/// The fault that is found one by one is the first, and none is found where there is none.
+pub fn first_laws()
+    ensures first { (faults : List Fault) (fault : Fault) →
+        with_faults None faults ≡ Some fault → IsFirst faults fault }
+    ensures none { (faults : List Fault) → with_faults None faults ≡ None → faults ≡ [] }
 {}
 
 /// The faults of small drafts, and the order of faults at one token.

@@ -6,4 +6,4 @@ mod labels;
 mod laws;
 
 pub use fault::{Fault, FaultKind};
-pub use laws::{program_laws, resolve_laws, verdict_laws, worked_laws};
+pub use laws::{first_laws, program_laws, resolve_laws, verdict_laws, worked_laws};
