@@ -12,19 +12,21 @@ use Rattle.principals.specs.ActsFor.{Declared}
 use Rattle.jif_tree.specs.Trees.{FieldTree, MethodTree, ProgramTree}
 use Rattle.jif_resolve.specs.WellNumbered.{is_some, HasField, HasVariable, HasOptionalVariable, HasMethod}
 use Rattle.jif_grammar.specs.DraftShapes.{FieldShape, ParamShape, MethodShape}
-use Rattle.jif_resolve.specs.Meanings.{Meaning, a_local, a_field, an_array, a_method, Global, has_result}
+use Rattle.jif_resolve.specs.Meanings.{Global, has_result}
 use Rattle.jif_resolve.specs.Meanings.{fields_from, methods_from, earlier_of, first_named}
 use Rattle.jif_resolve.specs.Places.{Setting, Place, Known, known_variable, local_or_global, meaning_at, head_after}
 use Rattle.jif_resolve.specs.Faults.{setting_of}
 use Rattle.jif_resolve.specs.Variables.{param_ids}
 use Rattle.jif_resolve.specs.Resolved.{IsFieldFor, IsMethodFor, AreMethodsFor}
+use Rattle.jif_resolve.specs.declared.meaning.Meaning.{Meaning}
+use Rattle.jif_resolve.specs.declared.meaning.Meaning.TheVariants as sense
 
 abbrev pub Means : ProgramTree → MethodId → Option Meaning → Type 0
 Means program own None = ⊤
-Means program own (Some (a_local variable)) = HasVariable program own variable
-Means program own (Some (a_field field)) = HasField program false field
-Means program own (Some (an_array field)) = HasField program true field
-Means program own (Some (a_method method params gives)) = HasMethod program params gives method
+Means program own (Some (sense.Variable variable)) = HasVariable program own variable
+Means program own (Some (sense.Plain field)) = HasField program false field
+Means program own (Some (sense.Array field)) = HasField program true field
+Means program own (Some (sense.Method method params gives)) = HasMethod program params gives method
 
 -- it stands for the same in each method
 abbrev pub GlobalIs : ProgramTree → Global → Type 0
@@ -104,7 +106,7 @@ tail_stands all first item items stands i next is =
     (let same : suc first + i ≡ first + suc i = omega arith in ap (slice_get all) same) ∙ stands (suc i) next is
 
 field_means : (program : ProgramTree) (own : MethodId) (array : Bool) (field : FieldId) →
-    HasField program array field → Means program own (Some (if array then an_array field else a_field field))
+    HasField program array field → Means program own (Some (if array then sense.Array field else sense.Plain field))
 field_means program own true field is = is
 field_means program own false field is = is
 

@@ -10,7 +10,7 @@ use Rattle.jif_grammar.specs.DraftShapes.{declaration_shape, assignment_shape, e
 use Rattle.jif_grammar.specs.DraftShapes.{branch_shape, loop_shape, call_shape, return_shape}
 use Rattle.jif_grammar.specs.DraftShapes.{ParamShape, MethodShape, DraftShape}
 use Rattle.jif_resolve.specs.Counts.{statements_in, calls_in}
-use Rattle.jif_resolve.specs.Meanings.{Meaning, a_local, a_field, an_array, a_method, Global, globals_of}
+use Rattle.jif_resolve.specs.Meanings.{Global, globals_of}
 use Rattle.jif_resolve.specs.Places.{Setting, Place, after_statement, after_call, after_declaration}
 use Rattle.jif_resolve.specs.Places.{after_block, head_after, body_place, meaning_at, counted, numbered_in, after_params}
 use Rattle.jif_resolve.specs.Places.{after_variable}
@@ -20,33 +20,35 @@ use Rattle.jif_resolve.specs.Resolved.{heading_of}
 use Rattle.jif_resolve.specs.Numbering.{block_statements, block_sites, statement_numbers, site_numbers, CountsFrom}
 use Rattle.jif_resolve.specs.Verdicts.{IsProgramOf}
 use Rattle.jif_resolve.proofs.Ranges.{range_after_one, ranges_joined, range_counts}
+use Rattle.jif_resolve.specs.declared.meaning.Meaning.{Meaning}
+use Rattle.jif_resolve.specs.declared.meaning.Meaning.TheVariants as sense
 
 -- ---- assignments
 
 assigned_statements : (heading : Heading) (means : Option Meaning) (value : ExprTree) (rest tree : BlockTree) →
     assignment_tree heading means value rest ≡ Some tree → block_statements tree ≡ heading.id.0 ∷ block_statements rest
 assigned_statements heading None value rest tree is = let clash : None ≡ Some tree = is in cc
-assigned_statements heading (Some (a_local variable)) value rest tree is =
+assigned_statements heading (Some (sense.Variable variable)) value rest tree is =
     let same : set_local heading variable value rest ≡ tree = cc in
     ap block_statements (sym same)
-assigned_statements heading (Some (a_field field)) value rest tree is =
+assigned_statements heading (Some (sense.Plain field)) value rest tree is =
     let same : set_field heading field value rest ≡ tree = cc in
     ap block_statements (sym same)
-assigned_statements heading (Some (an_array field)) value rest tree is = let clash : None ≡ Some tree = is in cc
-assigned_statements heading (Some (a_method method params gives)) value rest tree is =
+assigned_statements heading (Some (sense.Array field)) value rest tree is = let clash : None ≡ Some tree = is in cc
+assigned_statements heading (Some (sense.Method method params gives)) value rest tree is =
     let clash : None ≡ Some tree = is in cc
 
 assigned_sites : (heading : Heading) (means : Option Meaning) (value : ExprTree) (rest tree : BlockTree) →
     assignment_tree heading means value rest ≡ Some tree → block_sites tree ≡ block_sites rest
 assigned_sites heading None value rest tree is = let clash : None ≡ Some tree = is in cc
-assigned_sites heading (Some (a_local variable)) value rest tree is =
+assigned_sites heading (Some (sense.Variable variable)) value rest tree is =
     let same : set_local heading variable value rest ≡ tree = cc in
     ap block_sites (sym same)
-assigned_sites heading (Some (a_field field)) value rest tree is =
+assigned_sites heading (Some (sense.Plain field)) value rest tree is =
     let same : set_field heading field value rest ≡ tree = cc in
     ap block_sites (sym same)
-assigned_sites heading (Some (an_array field)) value rest tree is = let clash : None ≡ Some tree = is in cc
-assigned_sites heading (Some (a_method method params gives)) value rest tree is =
+assigned_sites heading (Some (sense.Array field)) value rest tree is = let clash : None ≡ Some tree = is in cc
+assigned_sites heading (Some (sense.Method method params gives)) value rest tree is =
     let clash : None ≡ Some tree = is in cc
 
 -- ---- blocks

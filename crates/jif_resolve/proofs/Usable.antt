@@ -14,7 +14,6 @@ use Rattle.label_lattice.specs.Written.{IsKnown, AreKnown}
 use Rattle.label_lattice.specs.declared.label.Label.{Label}
 use Rattle.jif_tree.specs.Trees.{ExprTree, local, scalar, Heading, BlockTree, set_local, set_field}
 use Rattle.jif_grammar.specs.DraftShapes.{NameShape, LabelShape}
-use Rattle.jif_resolve.specs.Meanings.{Meaning, a_local, a_field, an_array, a_method}
 use Rattle.jif_resolve.specs.declared.fault.Fault.{Fault}
 use Rattle.jif_resolve.specs.declared.fault.FaultKind.{FaultKind}
 use Rattle.jif_resolve.specs.Faults.{fault_where, principal_faults, principals_faults}
@@ -23,6 +22,8 @@ use Rattle.jif_resolve.specs.Faults.{optional_label_faults}
 use Rattle.jif_resolve.specs.Labels.{texts, IsOptionalLabelFor}
 use Rattle.jif_resolve.specs.Resolved.{variable_tree, array_of, local_of, method_of, assignment_tree}
 use Rattle.jif_resolve.specs.Verdicts.{HasLabels}
+use Rattle.jif_resolve.specs.declared.meaning.Meaning.{Meaning}
+use Rattle.jif_resolve.specs.declared.meaning.Meaning.TheVariants as sense
 
 -- ---- lists of no faults
 
@@ -124,39 +125,39 @@ optional_label principals labels (Some written) none =
 pub use_variable : (at : ℕ) (means : Option Meaning) → variable_faults at means ≡ [] →
     (tree : ExprTree) × (variable_tree means ≡ Some tree)
 use_variable at None none = absurd cc
-use_variable at (Some (a_local variable)) none = (local variable, refl)
-use_variable at (Some (a_field field)) none = (scalar field, refl)
-use_variable at (Some (an_array field)) none = absurd cc
-use_variable at (Some (a_method method params gives)) none = absurd cc
+use_variable at (Some (sense.Variable variable)) none = (local variable, refl)
+use_variable at (Some (sense.Plain field)) none = (scalar field, refl)
+use_variable at (Some (sense.Array field)) none = absurd cc
+use_variable at (Some (sense.Method method params gives)) none = absurd cc
 
 pub use_assigned : (at : ℕ) (heading : Heading) (means : Option Meaning) (value : ExprTree) (rest : BlockTree) →
     variable_faults at means ≡ [] → (tree : BlockTree) × (assignment_tree heading means value rest ≡ Some tree)
 use_assigned at heading None value rest none = absurd cc
-use_assigned at heading (Some (a_local variable)) value rest none = (set_local heading variable value rest, refl)
-use_assigned at heading (Some (a_field field)) value rest none = (set_field heading field value rest, refl)
-use_assigned at heading (Some (an_array field)) value rest none = absurd cc
-use_assigned at heading (Some (a_method method params gives)) value rest none = absurd cc
+use_assigned at heading (Some (sense.Variable variable)) value rest none = (set_local heading variable value rest, refl)
+use_assigned at heading (Some (sense.Plain field)) value rest none = (set_field heading field value rest, refl)
+use_assigned at heading (Some (sense.Array field)) value rest none = absurd cc
+use_assigned at heading (Some (sense.Method method params gives)) value rest none = absurd cc
 
 pub use_array : (at : ℕ) (means : Option Meaning) → array_faults at means ≡ [] →
     (field : FieldId) × (array_of means ≡ Some field)
 use_array at None none = absurd cc
-use_array at (Some (a_local variable)) none = absurd cc
-use_array at (Some (a_field field)) none = absurd cc
-use_array at (Some (an_array field)) none = (field, refl)
-use_array at (Some (a_method method params gives)) none = absurd cc
+use_array at (Some (sense.Variable variable)) none = absurd cc
+use_array at (Some (sense.Plain field)) none = absurd cc
+use_array at (Some (sense.Array field)) none = (field, refl)
+use_array at (Some (sense.Method method params gives)) none = absurd cc
 
 pub use_keeper : (at : ℕ) (means : Option Meaning) → keeper_faults at means ≡ [] →
     (variable : VarId) × (local_of means ≡ Some variable)
 use_keeper at None none = absurd cc
-use_keeper at (Some (a_local variable)) none = (variable, refl)
-use_keeper at (Some (a_field field)) none = absurd cc
-use_keeper at (Some (an_array field)) none = absurd cc
-use_keeper at (Some (a_method method params gives)) none = absurd cc
+use_keeper at (Some (sense.Variable variable)) none = (variable, refl)
+use_keeper at (Some (sense.Plain field)) none = absurd cc
+use_keeper at (Some (sense.Array field)) none = absurd cc
+use_keeper at (Some (sense.Method method params gives)) none = absurd cc
 
 pub use_called : (at : ℕ) (keeps : Bool) (args : ℕ) (means : Option Meaning) →
     called_faults at keeps args means ≡ [] → (method : MethodId) × (method_of means ≡ Some method)
 use_called at keeps args None none = absurd cc
-use_called at keeps args (Some (a_local variable)) none = absurd cc
-use_called at keeps args (Some (a_field field)) none = absurd cc
-use_called at keeps args (Some (an_array field)) none = absurd cc
-use_called at keeps args (Some (a_method method params gives)) none = (method, refl)
+use_called at keeps args (Some (sense.Variable variable)) none = absurd cc
+use_called at keeps args (Some (sense.Plain field)) none = absurd cc
+use_called at keeps args (Some (sense.Array field)) none = absurd cc
+use_called at keeps args (Some (sense.Method method params gives)) none = (method, refl)

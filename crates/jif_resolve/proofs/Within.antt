@@ -20,7 +20,6 @@ use Rattle.jif_grammar.specs.DraftShapes.{release_shape, endorsement_shape, Bloc
 use Rattle.jif_grammar.specs.DraftShapes.{declaration_shape, assignment_shape, element_assignment_shape}
 use Rattle.jif_grammar.specs.DraftShapes.{branch_shape, loop_shape, call_shape, return_shape}
 use Rattle.jif_resolve.specs.Counts.{locals_in}
-use Rattle.jif_resolve.specs.Meanings.{Meaning, a_local, a_field, an_array, a_method}
 use Rattle.jif_resolve.specs.Places.{Setting, Place, next_variable, after_statement, after_call, after_declaration}
 use Rattle.jif_resolve.specs.Places.{after_block, meaning_at}
 use Rattle.jif_resolve.specs.declared.fault.FaultKind.TheVariants.{WrongType, WrongCount}
@@ -31,52 +30,54 @@ use Rattle.jif_resolve.specs.Resolved.{variable_tree, array_of, local_of, method
 use Rattle.jif_resolve.specs.Resolved.{heading_of, into_tree, IsBlockFor}
 use Rattle.jif_resolve.proofs.Meant.{Means, GlobalIs, AreKnownIn, means_at}
 use Rattle.jif_resolve.proofs.Usable.{none_in_two, none_in_three, none_in_four, none_where, not_false}
+use Rattle.jif_resolve.specs.declared.meaning.Meaning.{Meaning}
+use Rattle.jif_resolve.specs.declared.meaning.Meaning.TheVariants as sense
 
 -- ---- uses of a name
 
 variable_in : (program : ProgramTree) (own : MethodId) (means : Option Meaning) (tree : ExprTree) →
     Means program own means → variable_tree means ≡ Some tree → IsExprIn program own tree
 variable_in program own None tree is made = absurd cc
-variable_in program own (Some (a_local variable)) tree is made =
+variable_in program own (Some (sense.Variable variable)) tree is made =
     let same : local variable ≡ tree = cc in subst (IsExprIn program own) same is
-variable_in program own (Some (a_field field)) tree is made =
+variable_in program own (Some (sense.Plain field)) tree is made =
     let same : scalar field ≡ tree = cc in subst (IsExprIn program own) same is
-variable_in program own (Some (an_array field)) tree is made = absurd cc
-variable_in program own (Some (a_method method params gives)) tree is made = absurd cc
+variable_in program own (Some (sense.Array field)) tree is made = absurd cc
+variable_in program own (Some (sense.Method method params gives)) tree is made = absurd cc
 
 array_in : (program : ProgramTree) (own : MethodId) (means : Option Meaning) (field : FieldId) →
     Means program own means → array_of means ≡ Some field → HasField program true field
 array_in program own None field is made = absurd cc
-array_in program own (Some (a_local variable)) field is made = absurd cc
-array_in program own (Some (a_field other)) field is made = absurd cc
-array_in program own (Some (an_array other)) field is made =
+array_in program own (Some (sense.Variable variable)) field is made = absurd cc
+array_in program own (Some (sense.Plain other)) field is made = absurd cc
+array_in program own (Some (sense.Array other)) field is made =
     let same : other ≡ field = cc in subst (HasField program true) same is
-array_in program own (Some (a_method method params gives)) field is made = absurd cc
+array_in program own (Some (sense.Method method params gives)) field is made = absurd cc
 
 assigned_in : (program : ProgramTree) (own : MethodId) (gives : Bool) (heading : Heading) (means : Option Meaning)
     (value : ExprTree) (rest tree : BlockTree) → Means program own means → IsExprIn program own value →
     IsBlockIn program own gives rest → assignment_tree heading means value rest ≡ Some tree →
     IsBlockIn program own gives tree
 assigned_in program own gives heading None value rest tree is one behind made = absurd cc
-assigned_in program own gives heading (Some (a_local variable)) value rest tree is one behind made =
+assigned_in program own gives heading (Some (sense.Variable variable)) value rest tree is one behind made =
     let same : set_local heading variable value rest ≡ tree = cc in
     subst (IsBlockIn program own gives) same (is, one, behind)
-assigned_in program own gives heading (Some (a_field field)) value rest tree is one behind made =
+assigned_in program own gives heading (Some (sense.Plain field)) value rest tree is one behind made =
     let same : set_field heading field value rest ≡ tree = cc in
     subst (IsBlockIn program own gives) same (is, one, behind)
-assigned_in program own gives heading (Some (an_array field)) value rest tree is one behind made = absurd cc
-assigned_in program own gives heading (Some (a_method method params g)) value rest tree is one behind made = absurd cc
+assigned_in program own gives heading (Some (sense.Array field)) value rest tree is one behind made = absurd cc
+assigned_in program own gives heading (Some (sense.Method method params g)) value rest tree is one behind made = absurd cc
 
 kept_in : (program : ProgramTree) (own : MethodId) (means : Option Meaning) (kept : Option VarId) →
     Means program own means → option_map Some (local_of means) ≡ Some kept →
     (is_some kept ≡ true) × HasOptionalVariable program own kept
 kept_in program own None kept is made = absurd cc
-kept_in program own (Some (a_local variable)) kept is made =
+kept_in program own (Some (sense.Variable variable)) kept is made =
     let same : Some variable ≡ kept = cc in
     (ap is_some (sym same), subst (HasOptionalVariable program own) same is)
-kept_in program own (Some (a_field other)) kept is made = absurd cc
-kept_in program own (Some (an_array other)) kept is made = absurd cc
-kept_in program own (Some (a_method method params gives)) kept is made = absurd cc
+kept_in program own (Some (sense.Plain other)) kept is made = absurd cc
+kept_in program own (Some (sense.Array other)) kept is made = absurd cc
+kept_in program own (Some (sense.Method method params gives)) kept is made = absurd cc
 
 into_in : (program : ProgramTree) (own : MethodId) (s : Setting) (p : Place) (into : Option NameShape)
     (kept : Option VarId) → AllByRecursion (GlobalIs program) s.globals → AreKnownIn program own p.known →
@@ -100,10 +101,10 @@ called_in : (program : ProgramTree) (own : MethodId) (at : ℕ) (keeps : Bool) (
     (method : MethodId) → Means program own means → called_faults at keeps args means ≡ [] →
     method_of means ≡ Some method → HasMethod program args keeps method
 called_in program own at keeps args None method is none made = absurd cc
-called_in program own at keeps args (Some (a_local variable)) method is none made = absurd cc
-called_in program own at keeps args (Some (a_field field)) method is none made = absurd cc
-called_in program own at keeps args (Some (an_array field)) method is none made = absurd cc
-called_in program own at keeps args (Some (a_method other params gives)) method is none made =
+called_in program own at keeps args (Some (sense.Variable variable)) method is none made = absurd cc
+called_in program own at keeps args (Some (sense.Plain field)) method is none made = absurd cc
+called_in program own at keeps args (Some (sense.Array field)) method is none made = absurd cc
+called_in program own at keeps args (Some (sense.Method other params gives)) method is none made =
     let same : other ≡ method = cc in
     let both = none_in_two (fault_where (not (same_truth keeps gives)) WrongType at)
     (fault_where (not (args == params)) WrongCount at) none in

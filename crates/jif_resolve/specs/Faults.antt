@@ -14,9 +14,11 @@ use Rattle.jif_grammar.specs.DraftShapes.{MethodShape, DraftShape}
 use Rattle.jif_resolve.specs.declared.fault.Fault.{Fault}
 use Rattle.jif_resolve.specs.declared.fault.FaultKind.{FaultKind}
 use Rattle.jif_resolve.specs.declared.fault.FaultKind.TheVariants.{UnknownName, Twice, WrongType, WrongCount}
-use Rattle.jif_resolve.specs.Meanings.{Meaning, a_local, a_field, an_array, a_method, Global, has_result, globals_of}
+use Rattle.jif_resolve.specs.Meanings.{Global, has_result, globals_of}
 use Rattle.jif_resolve.specs.Places.{Setting, Place, after_variable, after_statement, after_call}
 use Rattle.jif_resolve.specs.Places.{after_declaration, after_block, head_after, body_place, meaning_at}
+use Rattle.jif_resolve.specs.declared.meaning.Meaning.{Meaning}
+use Rattle.jif_resolve.specs.declared.meaning.Meaning.TheVariants as sense
 
 abbrev pub fault : ℕ → FaultKind → Fault
 fault at kind = record { at = at; kind = kind }
@@ -74,26 +76,26 @@ local_faults setting place name =
 -- a name whose value is read or that is assigned to: a plain field, a parameter or a local
 abbrev pub variable_faults : ℕ → Option Meaning → List Fault
 variable_faults at None = fault_where true UnknownName at
-variable_faults at (Some (a_local variable)) = []
-variable_faults at (Some (a_field field)) = []
-variable_faults at (Some (an_array field)) = fault_where true WrongType at
-variable_faults at (Some (a_method method params gives)) = fault_where true WrongType at
+variable_faults at (Some (sense.Variable variable)) = []
+variable_faults at (Some (sense.Plain field)) = []
+variable_faults at (Some (sense.Array field)) = fault_where true WrongType at
+variable_faults at (Some (sense.Method method params gives)) = fault_where true WrongType at
 
 -- a name of which an element is read or assigned to
 abbrev pub array_faults : ℕ → Option Meaning → List Fault
 array_faults at None = fault_where true UnknownName at
-array_faults at (Some (a_local variable)) = fault_where true WrongType at
-array_faults at (Some (a_field field)) = fault_where true WrongType at
-array_faults at (Some (an_array field)) = []
-array_faults at (Some (a_method method params gives)) = fault_where true WrongType at
+array_faults at (Some (sense.Variable variable)) = fault_where true WrongType at
+array_faults at (Some (sense.Plain field)) = fault_where true WrongType at
+array_faults at (Some (sense.Array field)) = []
+array_faults at (Some (sense.Method method params gives)) = fault_where true WrongType at
 
 -- a name that keeps the result of a call: a parameter or a local
 abbrev pub keeper_faults : ℕ → Option Meaning → List Fault
 keeper_faults at None = fault_where true UnknownName at
-keeper_faults at (Some (a_local variable)) = []
-keeper_faults at (Some (a_field field)) = fault_where true WrongType at
-keeper_faults at (Some (an_array field)) = fault_where true WrongType at
-keeper_faults at (Some (a_method method params gives)) = fault_where true WrongType at
+keeper_faults at (Some (sense.Variable variable)) = []
+keeper_faults at (Some (sense.Plain field)) = fault_where true WrongType at
+keeper_faults at (Some (sense.Array field)) = fault_where true WrongType at
+keeper_faults at (Some (sense.Method method params gives)) = fault_where true WrongType at
 
 abbrev pub same_truth : Bool → Bool → Bool
 same_truth true other = other
@@ -102,10 +104,10 @@ same_truth false other = not other
 -- a name that is called with so many arguments: a method with as many parameters, whose result is kept where it has one
 abbrev pub called_faults : ℕ → Bool → ℕ → Option Meaning → List Fault
 called_faults at keeps args None = fault_where true UnknownName at
-called_faults at keeps args (Some (a_local variable)) = fault_where true WrongType at
-called_faults at keeps args (Some (a_field field)) = fault_where true WrongType at
-called_faults at keeps args (Some (an_array field)) = fault_where true WrongType at
-called_faults at keeps args (Some (a_method method params gives)) =
+called_faults at keeps args (Some (sense.Variable variable)) = fault_where true WrongType at
+called_faults at keeps args (Some (sense.Plain field)) = fault_where true WrongType at
+called_faults at keeps args (Some (sense.Array field)) = fault_where true WrongType at
+called_faults at keeps args (Some (sense.Method method params gives)) =
     fault_where (not (same_truth keeps gives)) WrongType at ++ fault_where (not (args == params)) WrongCount at
 
 -- ---- expressions

@@ -4,18 +4,10 @@ use Rattle.std.specs.Prelude.{◌∷◌, ◌++◌, length, Option, Some, None, c
 use Rattle.std.specs.Option.{option_map}
 use Rattle.std.specs.Bool.{nat_lt}
 use Rattle.std.specs.Str.{bytes_eq}
-use Rattle.js_base.specs.declared.ids.FieldId.{FieldId}
 use Rattle.js_base.specs.declared.ids.MethodId.{MethodId}
-use Rattle.js_base.specs.declared.ids.VarId.{VarId}
 use Rattle.jif_grammar.specs.DraftShapes.{NameShape, LabelShape, FieldShape, MethodShape, DraftShape}
-
--- what a name stands for: a local or a parameter, a plain field, an array, or a method, with the number of its
--- parameters and whether it has a result
-pub data Meaning : Type 0 where
-  a_local : VarId → Meaning
-  a_field : FieldId → Meaning
-  an_array : FieldId → Meaning
-  a_method : MethodId → ℕ → Bool → Meaning
+use Rattle.jif_resolve.specs.declared.meaning.Meaning.{Meaning}
+use Rattle.jif_resolve.specs.declared.meaning.Meaning.TheVariants as sense
 
 -- a name that is known in the whole program
 pub record Global : Type 0 where
@@ -28,10 +20,10 @@ has_result (Some label) = true
 
 abbrev pub field_meaning : ℕ → FieldShape → Meaning
 field_meaning number field =
-    if field.array then an_array (record { 0 = number }) else a_field (record { 0 = number })
+    if field.array then sense.Array (record { 0 = number }) else sense.Plain (record { 0 = number })
 
 abbrev pub method_meaning : ℕ → MethodShape → Meaning
-method_meaning number method = a_method (record { 0 = number }) (length method.params) (has_result method.result)
+method_meaning number method = sense.Method (record { 0 = number }) (length method.params) (has_result method.result)
 
 -- the names of fields, of which the first has this number
 abbrev pub fields_from : ℕ → List FieldShape → List Global

@@ -9,7 +9,9 @@ use Rattle.js_base.specs.declared.ids.VarId.{VarId}
 use Rattle.principals.specs.ActsFor.{Declared}
 use Rattle.jif_grammar.specs.DraftShapes.{NameShape, BlockShape, ParamShape, MethodShape}
 use Rattle.jif_resolve.specs.Counts.{locals_in, statements_in, calls_in}
-use Rattle.jif_resolve.specs.Meanings.{Meaning, a_local, Global, has_result, global_meaning}
+use Rattle.jif_resolve.specs.Meanings.{Global, has_result, global_meaning}
+use Rattle.jif_resolve.specs.declared.meaning.Meaning.{Meaning}
+use Rattle.jif_resolve.specs.declared.meaning.Meaning.TheVariants as sense
 
 -- what every place of a method has in common
 pub record Setting : Type 0 where
@@ -108,7 +110,7 @@ known_variable (local ∷ known) name =
 
 abbrev pub local_or_global : Option VarId → Option Meaning → Option Meaning
 local_or_global None global = global
-local_or_global (Some variable) global = Some (a_local variable)
+local_or_global (Some variable) global = Some (sense.Variable variable)
 
 -- what a name stands for at a place, where it stands for something
 abbrev pub meaning_at : Setting → Place → List ℕ → Option Meaning

@@ -19,35 +19,37 @@ use Rattle.jif_grammar.specs.DraftShapes.{declaration_shape, assignment_shape, e
 use Rattle.jif_grammar.specs.DraftShapes.{branch_shape, loop_shape, call_shape, return_shape, FieldShape}
 use Rattle.jif_grammar.specs.DraftShapes.{MethodShape, DraftShape}
 use Rattle.jif_resolve.specs.Variables.{VariableShape, variables_from, param_ids, result_id}
-use Rattle.jif_resolve.specs.Meanings.{Meaning, a_local, a_field, an_array, a_method, Global, globals_of, main_of}
+use Rattle.jif_resolve.specs.Meanings.{Global, globals_of, main_of}
 use Rattle.jif_resolve.specs.Places.{Setting, Place, next_variable, after_statement, after_call, after_declaration}
 use Rattle.jif_resolve.specs.Places.{after_block, head_after, body_place, meaning_at}
 use Rattle.jif_resolve.specs.Faults.{setting_of}
 use Rattle.jif_resolve.specs.Labels.{texts, IsLabelFor, IsOptionalLabelFor}
+use Rattle.jif_resolve.specs.declared.meaning.Meaning.{Meaning}
+use Rattle.jif_resolve.specs.declared.meaning.Meaning.TheVariants as sense
 
 -- ---- what a name becomes; nothing where it can't be used so
 
 abbrev pub variable_tree : Option Meaning → Option ExprTree
-variable_tree (Some (a_local variable)) = Some (local variable)
-variable_tree (Some (a_field field)) = Some (scalar field)
+variable_tree (Some (sense.Variable variable)) = Some (local variable)
+variable_tree (Some (sense.Plain field)) = Some (scalar field)
 variable_tree other = None
 
 abbrev pub array_of : Option Meaning → Option FieldId
-array_of (Some (an_array field)) = Some field
+array_of (Some (sense.Array field)) = Some field
 array_of other = None
 
 abbrev pub local_of : Option Meaning → Option VarId
-local_of (Some (a_local variable)) = Some variable
+local_of (Some (sense.Variable variable)) = Some variable
 local_of other = None
 
 abbrev pub method_of : Option Meaning → Option MethodId
-method_of (Some (a_method method params gives)) = Some method
+method_of (Some (sense.Method method params gives)) = Some method
 method_of other = None
 
 -- the assignment of a value to a name, before the statements behind it
 abbrev pub assignment_tree : Heading → Option Meaning → ExprTree → BlockTree → Option BlockTree
-assignment_tree heading (Some (a_local variable)) value rest = Some (set_local heading variable value rest)
-assignment_tree heading (Some (a_field field)) value rest = Some (set_field heading field value rest)
+assignment_tree heading (Some (sense.Variable variable)) value rest = Some (set_local heading variable value rest)
+assignment_tree heading (Some (sense.Plain field)) value rest = Some (set_field heading field value rest)
 assignment_tree heading other value rest = None
 
 -- ---- expressions

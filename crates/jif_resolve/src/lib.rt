@@ -4,6 +4,9 @@
 mod fault;
 mod labels;
 mod laws;
+mod meaning;
+mod uses;
 
 pub use fault::{Fault, FaultKind};
 pub use laws::{first_laws, program_laws, resolve_laws, verdict_laws, worked_laws};
+pub use meaning::Meaning;
