@@ -1,32 +1,37 @@
-//! The same walk in stock Rust: one host with the rows of the host table that the benchmark's code needs.
-
-use std::hint::black_box;
-use std::process::ExitCode;
-
-const ROUNDS: u64 = 2_000_000;
+//! A host in stock Rust, with the rows of the host table that the benchmarks' code needs, and that code.
 
 const MOST_NODES: usize = 256;
 
 const MOST_CALLS: u64 = 1 << 62;
 
 #[derive(Clone, Copy, PartialEq, Eq)]
-struct HostId(u8);
+pub struct HostId(pub u8);
+
+pub const A: HostId = HostId(0);
+
+pub const B: HostId = HostId(1);
+
+/// The field of A.
+pub const X: u32 = 0;
+
+/// The field of B.
+pub const Y: u32 = 1;
 
 #[derive(Clone, Copy, PartialEq, Eq)]
-struct FrameId {
+pub struct FrameId {
     site: u32,
     count: u64,
 }
 
 #[derive(Clone, Copy, PartialEq, Eq)]
-struct RequestId {
-    at: u32,
-    count: u64,
+pub struct RequestId {
+    pub at: u32,
+    pub count: u64,
 }
 
 #[derive(Clone, Copy)]
 #[allow(dead_code)]
-enum BinOp {
+pub enum BinOp {
     Add,
     Subtract,
     Multiply,
@@ -35,7 +40,7 @@ enum BinOp {
 
 #[derive(Clone, Copy)]
 #[allow(dead_code)]
-enum Node {
+pub enum Node {
     Number(i64),
     Var(u32),
     Temp(u32),
@@ -45,7 +50,7 @@ enum Node {
 }
 
 #[allow(dead_code)]
-enum Op {
+pub enum Op {
     Read(u32, Vec<Node>),
     Let(u32, Vec<Node>),
     Put(u32, Vec<Node>, Vec<Node>),
@@ -53,18 +58,23 @@ enum Op {
     Back,
 }
 
-struct Field {
+pub struct Instr {
+    pub label: u32,
+    op: Op,
+}
+
+pub struct Field {
     host: HostId,
 }
 
-struct Code {
+pub struct Code {
     fields: Vec<Field>,
-    parts: Vec<Vec<Op>>,
+    pub parts: Vec<Vec<Instr>>,
 }
 
 #[derive(Clone, Copy)]
 #[allow(dead_code)]
-struct Token {
+pub struct Token {
     host: HostId,
     frame: FrameId,
     entry: u32,
@@ -72,8 +82,9 @@ struct Token {
     tag: [u8; 16],
 }
 
+#[derive(Clone, Copy)]
 #[allow(dead_code)]
-enum Message {
+pub enum Message {
     Get { request: RequestId, field: u32, index: i64 },
     Set { request: RequestId, field: u32, index: i64, value: i64 },
     Value { request: RequestId, value: i64 },
@@ -83,49 +94,54 @@ enum Message {
 
 #[derive(Clone, Copy, PartialEq, Eq)]
 #[allow(dead_code)]
-enum Awaited {
+pub enum Awaited {
     Value,
     Ack,
     Token,
 }
 
-struct Thread {
-    at: u32,
+pub struct Thread {
+    pub at: u32,
     frame: FrameId,
     temporaries: Vec<i64>,
     held: Option<Token>,
 }
 
-struct Waiting {
+pub struct Waiting {
     thread: Thread,
     awaited: Awaited,
     request: RequestId,
     asked: HostId,
 }
 
-struct VarCell {
+pub struct VarCell {
     frame: FrameId,
     var: u32,
     value: i64,
 }
 
 #[derive(Debug)]
-struct Stopped;
+pub struct Stopped;
 
-struct Host {
+pub struct Host {
     me: HostId,
     rows: Vec<Vec<i64>>,
     cells: Vec<VarCell>,
-    running: Option<Thread>,
+    pub running: Option<Thread>,
     waiting: Vec<Waiting>,
     requests: Vec<u64>,
     /// The values of the expression that is evaluated.
     values: Vec<i64>,
+    /// For each field a word with a bit for each host that may ask for it.
+    gets: Vec<u64>,
+    /// For each field a word with a bit for each host that may set it.
+    sets: Vec<u64>,
     ignored: u64,
-    calls: u64,
+    pub calls: u64,
+    pub stopped: bool,
 }
 
-type Sent = Option<(HostId, Message)>;
+pub type Sent = Option<(HostId, Message)>;
 
 fn binary(op: BinOp, left: i64, right: i64) -> i64 {
     match op {
@@ -174,7 +190,7 @@ impl Host {
         values.pop().unwrap_or(0)
     }
 
-    fn element(&self, field: u32, index: i64) -> i64 {
+    pub fn element(&self, field: u32, index: i64) -> i64 {
         usize::try_from(index)
             .ok()
             .and_then(|index| self.rows.get(field as usize)?.get(index).copied())
@@ -196,9 +212,13 @@ impl Host {
         }
     }
 
+    pub fn is_stopped(&self) -> bool {
+        self.stopped || self.calls >= MOST_CALLS
+    }
+
     /// Counts a call, and makes room for what it may add.
     fn begin(&mut self) -> Result<(), Stopped> {
-        if self.calls >= MOST_CALLS {
+        if self.is_stopped() {
             return Err(Stopped);
         }
         self.waiting.reserve(1);
@@ -215,13 +235,13 @@ impl Host {
         request
     }
 
-    fn turn(&mut self, code: &Code) -> Result<Sent, Stopped> {
+    pub fn turn(&mut self, code: &Code) -> Result<Sent, Stopped> {
         self.begin()?;
         let Some(mut thread) = self.running.take() else {
             return Ok(None);
         };
         let at = thread.at;
-        match &code.parts[self.me.0 as usize][at as usize] {
+        match &code.parts[self.me.0 as usize][at as usize].op {
             Op::Read(field, index) => {
                 let host = code.fields[*field as usize].host;
                 let index = self.value(&thread, index);
@@ -267,12 +287,28 @@ impl Host {
         Ok(None)
     }
 
-    fn deliver(&mut self, from: HostId, message: Message) -> Result<Sent, Stopped> {
+    pub fn deliver(&mut self, from: HostId, message: Message) -> Result<Sent, Stopped> {
         self.begin()?;
-        let (awaited, request) = match &message {
-            Message::Value { request, .. } => (Awaited::Value, *request),
-            Message::Ack { request } => (Awaited::Ack, *request),
-            _ => {
+        let (awaited, request) = match message {
+            Message::Value { request, .. } => (Awaited::Value, request),
+            Message::Ack { request } => (Awaited::Ack, request),
+            Message::Get { request, field, index } => {
+                if !may(&self.gets, field, from) {
+                    self.ignored += 1;
+                    return Ok(None);
+                }
+                let value = self.element(field, index);
+                return Ok(Some((from, Message::Value { request, value })));
+            }
+            Message::Set { request, field, index, value } => {
+                if !may(&self.sets, field, from) {
+                    self.ignored += 1;
+                    return Ok(None);
+                }
+                self.set_element(field, index, value);
+                return Ok(Some((from, Message::Ack { request })));
+            }
+            Message::Lgoto { .. } => {
                 self.ignored += 1;
                 return Ok(None);
             }
@@ -293,68 +329,47 @@ impl Host {
     }
 }
 
-fn bench_code() -> Code {
-    let a = HostId(0);
+/// Whether a host may, by the words of all fields.
+fn may(words: &[u64], field: u32, from: HostId) -> bool {
+    words.get(field as usize).is_some_and(|word| word >> from.0 & 1 == 1)
+}
+
+/// The code: a loop of five instructions on A, one of which asks B.
+pub fn loop_code() -> Code {
     let number = |n| vec![Node::Number(n)];
     let and_one = |node| vec![node, Node::Number(1), Node::Binary(BinOp::Add)];
+    let ops = vec![
+        Op::Read(X, number(0)),
+        Op::Put(X, number(0), and_one(Node::Temp(0))),
+        Op::Let(0, and_one(Node::Var(0))),
+        Op::Put(Y, number(0), number(7)),
+        Op::Branch(number(0), 0),
+        Op::Back,
+    ];
     Code {
-        fields: vec![Field { host: a }, Field { host: HostId(1) }],
-        parts: vec![
-            vec![
-                Op::Read(0, number(0)),
-                Op::Put(0, number(0), and_one(Node::Temp(0))),
-                Op::Let(0, and_one(Node::Var(0))),
-                Op::Put(1, number(0), number(7)),
-                Op::Branch(number(0), 0),
-                Op::Back,
-            ],
-            vec![],
-        ],
+        fields: vec![Field { host: A }, Field { host: B }],
+        parts: vec![ops.into_iter().map(|op| Instr { label: 0, op }).collect(), vec![]],
     }
 }
 
-fn start() -> Host {
+/// The host of a number before the first event. A is the root, and a thread runs there.
+pub fn start(me: HostId) -> Host {
     let frame = FrameId { site: 0, count: 0 };
-    let token = Token { host: HostId(0), frame, entry: 0, serial: 0, tag: [0; 16] };
+    let token = Token { host: A, frame, entry: 0, serial: 0, tag: [0; 16] };
+    let running = (me == A).then_some(Thread { at: 0, frame, temporaries: vec![], held: Some(token) });
+    let words = if me == A { vec![0b11, 0] } else { vec![0, 0b11] };
     Host {
-        me: HostId(0),
-        rows: vec![vec![1], vec![]],
+        me,
+        rows: if me == A { vec![vec![1], vec![]] } else { vec![vec![], vec![1]] },
         cells: vec![],
-        running: Some(Thread { at: 0, frame, temporaries: vec![], held: Some(token) }),
+        running,
         waiting: vec![],
         requests: vec![0; 6],
         values: Vec::with_capacity(MOST_NODES),
+        gets: words.clone(),
+        sets: words,
         ignored: 0,
         calls: 0,
+        stopped: false,
     }
-}
-
-fn round(code: &Code, host: &mut Host, count: u64) -> Result<bool, Stopped> {
-    for _ in 0..4 {
-        if host.running.is_none() {
-            return Ok(false);
-        }
-        black_box(host.turn(code)?);
-    }
-    let request = RequestId { at: 3, count };
-    if host.running.is_some() {
-        return Ok(false);
-    }
-    black_box(host.deliver(HostId(1), Message::Ack { request })?);
-    if host.running.is_none() {
-        return Ok(false);
-    }
-    black_box(host.turn(code)?);
-    Ok(true)
-}
-
-fn main() -> ExitCode {
-    let code = black_box(bench_code());
-    let mut host = start();
-    for count in 0..ROUNDS {
-        if !round(&code, &mut host, count).unwrap_or(false) {
-            return ExitCode::FAILURE;
-        }
-    }
-    if host.element(0, 0) == ROUNDS as i64 + 1 { ExitCode::SUCCESS } else { ExitCode::FAILURE }
 }
