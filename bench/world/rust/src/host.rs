@@ -1,4 +1,4 @@
-//! A host in stock Rust, with the rows of the host table that the benchmarks' code needs, and that code.
+//! A host in stock Rust, with the rows of the host table that the code here needs, and that code.
 
 const MOST_NODES: usize = 256;
 

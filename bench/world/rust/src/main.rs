@@ -1,6 +1,5 @@
 //! The walk of a world of two hosts in stock Rust: bench_world ROUNDS, and with one more word the events are chosen.
 
-#[path = "../host.rs"]
 mod host;
 
 use host::{A, B, Code, Host, HostId, Message, Sent, X, Y, loop_code, start};
