@@ -2,12 +2,6 @@
 #![tactic(auto)]
 
 #[cfg(test)]
-mod misbehaving;
-#[cfg(test)]
-mod programs;
-#[cfg(test)]
-mod runs;
-#[cfg(test)]
 mod scripts;
 #[cfg(test)]
 mod starting_values;
