@@ -1,333 +1,15 @@
 //! The same walk in stock Rust: one host with the rows of the host table that the benchmark's code needs.
 
+mod host;
+
+use host::{A, B, Code, Host, Message, RequestId, Stopped, X, loop_code, start};
 use std::hint::black_box;
 use std::process::ExitCode;
 
 const ROUNDS: u64 = 2_000_000;
 
-const MOST_NODES: usize = 256;
-
-const MOST_CALLS: u64 = 1 << 62;
-
-#[derive(Clone, Copy, PartialEq, Eq)]
-struct HostId(u8);
-
-#[derive(Clone, Copy, PartialEq, Eq)]
-struct FrameId {
-    site: u32,
-    count: u64,
-}
-
-#[derive(Clone, Copy, PartialEq, Eq)]
-struct RequestId {
-    at: u32,
-    count: u64,
-}
-
-#[derive(Clone, Copy)]
-#[allow(dead_code)]
-enum BinOp {
-    Add,
-    Subtract,
-    Multiply,
-    Less,
-}
-
-#[derive(Clone, Copy)]
-#[allow(dead_code)]
-enum Node {
-    Number(i64),
-    Var(u32),
-    Temp(u32),
-    Not,
-    Negate,
-    Binary(BinOp),
-}
-
-#[allow(dead_code)]
-enum Op {
-    Read(u32, Vec<Node>),
-    Let(u32, Vec<Node>),
-    Put(u32, Vec<Node>, Vec<Node>),
-    Branch(Vec<Node>, u32),
-    Back,
-}
-
-struct Field {
-    host: HostId,
-}
-
-struct Code {
-    fields: Vec<Field>,
-    parts: Vec<Vec<Op>>,
-}
-
-#[derive(Clone, Copy)]
-#[allow(dead_code)]
-struct Token {
-    host: HostId,
-    frame: FrameId,
-    entry: u32,
-    serial: u64,
-    tag: [u8; 16],
-}
-
-#[allow(dead_code)]
-enum Message {
-    Get { request: RequestId, field: u32, index: i64 },
-    Set { request: RequestId, field: u32, index: i64, value: i64 },
-    Value { request: RequestId, value: i64 },
-    Ack { request: RequestId },
-    Lgoto { token: Token },
-}
-
-#[derive(Clone, Copy, PartialEq, Eq)]
-#[allow(dead_code)]
-enum Awaited {
-    Value,
-    Ack,
-    Token,
-}
-
-struct Thread {
-    at: u32,
-    frame: FrameId,
-    temporaries: Vec<i64>,
-    held: Option<Token>,
-}
-
-struct Waiting {
-    thread: Thread,
-    awaited: Awaited,
-    request: RequestId,
-    asked: HostId,
-}
-
-struct VarCell {
-    frame: FrameId,
-    var: u32,
-    value: i64,
-}
-
-#[derive(Debug)]
-struct Stopped;
-
-struct Host {
-    me: HostId,
-    rows: Vec<Vec<i64>>,
-    cells: Vec<VarCell>,
-    running: Option<Thread>,
-    waiting: Vec<Waiting>,
-    requests: Vec<u64>,
-    /// The values of the expression that is evaluated.
-    values: Vec<i64>,
-    ignored: u64,
-    calls: u64,
-}
-
-type Sent = Option<(HostId, Message)>;
-
-fn binary(op: BinOp, left: i64, right: i64) -> i64 {
-    match op {
-        BinOp::Add => left.wrapping_add(right),
-        BinOp::Subtract => left.wrapping_sub(right),
-        BinOp::Multiply => left.wrapping_mul(right),
-        BinOp::Less => i64::from(left < right),
-    }
-}
-
-fn variable(cells: &[VarCell], frame: FrameId, var: u32) -> i64 {
-    cells
-        .iter()
-        .find(|cell| cell.frame == frame && cell.var == var)
-        .map_or(0, |cell| cell.value)
-}
-
-impl Host {
-    fn value(&mut self, thread: &Thread, nodes: &[Node]) -> i64 {
-        let values = &mut self.values;
-        values.clear();
-        for node in nodes {
-            match *node {
-                Node::Number(number) => values.push(number),
-                Node::Var(var) => values.push(variable(&self.cells, thread.frame, var)),
-                Node::Temp(temp) => {
-                    values.push(thread.temporaries.get(temp as usize).copied().unwrap_or(0));
-                }
-                Node::Not => {
-                    if let Some(value) = values.pop() {
-                        values.push(i64::from(value == 0));
-                    }
-                }
-                Node::Negate => {
-                    if let Some(value) = values.pop() {
-                        values.push(value.wrapping_neg());
-                    }
-                }
-                Node::Binary(op) => {
-                    if let (Some(right), Some(left)) = (values.pop(), values.pop()) {
-                        values.push(binary(op, left, right));
-                    }
-                }
-            }
-        }
-        values.pop().unwrap_or(0)
-    }
-
-    fn element(&self, field: u32, index: i64) -> i64 {
-        usize::try_from(index)
-            .ok()
-            .and_then(|index| self.rows.get(field as usize)?.get(index).copied())
-            .unwrap_or(0)
-    }
-
-    fn set_element(&mut self, field: u32, index: i64, value: i64) {
-        if let Ok(index) = usize::try_from(index)
-            && let Some(element) = self.rows.get_mut(field as usize).and_then(|row| row.get_mut(index))
-        {
-            *element = value;
-        }
-    }
-
-    fn set_variable(&mut self, frame: FrameId, var: u32, value: i64) {
-        match self.cells.iter_mut().find(|cell| cell.frame == frame && cell.var == var) {
-            Some(cell) => cell.value = value,
-            None => self.cells.push(VarCell { frame, var, value }),
-        }
-    }
-
-    /// Counts a call, and makes room for what it may add.
-    fn begin(&mut self) -> Result<(), Stopped> {
-        if self.calls >= MOST_CALLS {
-            return Err(Stopped);
-        }
-        self.waiting.reserve(1);
-        self.cells.reserve(1);
-        self.calls += 1;
-        Ok(())
-    }
-
-    fn wait(&mut self, at: u32, thread: Thread, awaited: Awaited, asked: HostId) -> RequestId {
-        let count = self.requests[at as usize];
-        self.requests[at as usize] += 1;
-        let request = RequestId { at, count };
-        self.waiting.push(Waiting { thread, awaited, request, asked });
-        request
-    }
-
-    fn turn(&mut self, code: &Code) -> Result<Sent, Stopped> {
-        self.begin()?;
-        let Some(mut thread) = self.running.take() else {
-            return Ok(None);
-        };
-        let at = thread.at;
-        match &code.parts[self.me.0 as usize][at as usize] {
-            Op::Read(field, index) => {
-                let host = code.fields[*field as usize].host;
-                let index = self.value(&thread, index);
-                thread.at += 1;
-                if host != self.me {
-                    let request = self.wait(at, thread, Awaited::Value, host);
-                    return Ok(Some((host, Message::Get { request, field: *field, index })));
-                }
-                let value = self.element(*field, index);
-                thread.temporaries.push(value);
-            }
-            Op::Let(var, value) => {
-                let value = self.value(&thread, value);
-                thread.at += 1;
-                thread.temporaries.clear();
-                self.set_variable(thread.frame, *var, value);
-            }
-            Op::Put(field, index, value) => {
-                let host = code.fields[*field as usize].host;
-                let index = self.value(&thread, index);
-                let value = self.value(&thread, value);
-                thread.at += 1;
-                thread.temporaries.clear();
-                if host != self.me {
-                    let request = self.wait(at, thread, Awaited::Ack, host);
-                    return Ok(Some((host, Message::Set { request, field: *field, index, value })));
-                }
-                self.set_element(*field, index, value);
-            }
-            Op::Branch(guard, target) => {
-                let guard = self.value(&thread, guard);
-                thread.at = if guard == 0 { *target } else { at + 1 };
-                thread.temporaries.clear();
-            }
-            Op::Back => {
-                let Some(token) = thread.held else {
-                    return Ok(None);
-                };
-                return Ok(Some((token.host, Message::Lgoto { token })));
-            }
-        }
-        self.running = Some(thread);
-        Ok(None)
-    }
-
-    fn deliver(&mut self, from: HostId, message: Message) -> Result<Sent, Stopped> {
-        self.begin()?;
-        let (awaited, request) = match &message {
-            Message::Value { request, .. } => (Awaited::Value, *request),
-            Message::Ack { request } => (Awaited::Ack, *request),
-            _ => {
-                self.ignored += 1;
-                return Ok(None);
-            }
-        };
-        let place = self.waiting.iter().position(|waiting| {
-            waiting.awaited == awaited && waiting.request == request && waiting.asked == from
-        });
-        let Some(place) = place else {
-            self.ignored += 1;
-            return Ok(None);
-        };
-        let mut thread = self.waiting.remove(place).thread;
-        if let Message::Value { value, .. } = message {
-            thread.temporaries.push(value);
-        }
-        self.running = Some(thread);
-        Ok(None)
-    }
-}
-
-fn bench_code() -> Code {
-    let a = HostId(0);
-    let number = |n| vec![Node::Number(n)];
-    let and_one = |node| vec![node, Node::Number(1), Node::Binary(BinOp::Add)];
-    Code {
-        fields: vec![Field { host: a }, Field { host: HostId(1) }],
-        parts: vec![
-            vec![
-                Op::Read(0, number(0)),
-                Op::Put(0, number(0), and_one(Node::Temp(0))),
-                Op::Let(0, and_one(Node::Var(0))),
-                Op::Put(1, number(0), number(7)),
-                Op::Branch(number(0), 0),
-                Op::Back,
-            ],
-            vec![],
-        ],
-    }
-}
-
-fn start() -> Host {
-    let frame = FrameId { site: 0, count: 0 };
-    let token = Token { host: HostId(0), frame, entry: 0, serial: 0, tag: [0; 16] };
-    Host {
-        me: HostId(0),
-        rows: vec![vec![1], vec![]],
-        cells: vec![],
-        running: Some(Thread { at: 0, frame, temporaries: vec![], held: Some(token) }),
-        waiting: vec![],
-        requests: vec![0; 6],
-        values: Vec::with_capacity(MOST_NODES),
-        ignored: 0,
-        calls: 0,
-    }
-}
+/// The number of the instruction that asks B.
+const ASKING: u32 = 3;
 
 fn round(code: &Code, host: &mut Host, count: u64) -> Result<bool, Stopped> {
     for _ in 0..4 {
@@ -336,11 +18,11 @@ fn round(code: &Code, host: &mut Host, count: u64) -> Result<bool, Stopped> {
         }
         black_box(host.turn(code)?);
     }
-    let request = RequestId { at: 3, count };
+    let request = RequestId { at: ASKING, count };
     if host.running.is_some() {
         return Ok(false);
     }
-    black_box(host.deliver(HostId(1), Message::Ack { request })?);
+    black_box(host.deliver(B, Message::Ack { request })?);
     if host.running.is_none() {
         return Ok(false);
     }
@@ -349,12 +31,12 @@ fn round(code: &Code, host: &mut Host, count: u64) -> Result<bool, Stopped> {
 }
 
 fn main() -> ExitCode {
-    let code = black_box(bench_code());
-    let mut host = start();
+    let code = black_box(loop_code());
+    let mut host = start(A);
     for count in 0..ROUNDS {
         if !round(&code, &mut host, count).unwrap_or(false) {
             return ExitCode::FAILURE;
         }
     }
-    if host.element(0, 0) == ROUNDS as i64 + 1 { ExitCode::SUCCESS } else { ExitCode::FAILURE }
+    if host.element(X, 0) == ROUNDS as i64 + 1 { ExitCode::SUCCESS } else { ExitCode::FAILURE }
 }

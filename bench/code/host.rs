@@ -59,6 +59,8 @@ pub enum Op {
 }
 
 pub struct Instr {
+    // Only a world reads it.
+    #[allow(dead_code)]
     pub label: u32,
     op: Op,
 }
