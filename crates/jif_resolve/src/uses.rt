@@ -1,7 +1,7 @@
 //! The faults of names that are used: in an expression, in an assignment or in a call.
 
 ghost use Rattle.std.specs.Prelude.{◌≡◌, not};
-ghost use Rattle.jif_resolve.specs.First.{with_faults};
+ghost use Rattle.jif_resolve.specs.First.{with_fault, with_faults};
 ghost use Rattle.jif_resolve.specs.Faults.{variable_faults, array_faults, keeper_faults, called_faults, same_truth};
 ghost use Rattle.jif_resolve.specs.Faults.{fault_where};
 
@@ -13,29 +13,11 @@ pub fn with_variable(first: Option<Fault>, at: u32, meaning: Option<Meaning>) ->
     ensures { result ≡ with_faults first (variable_faults at meaning) }
 {
     match meaning {
-        None => sooner(
-            first,
-            Fault {
-                at,
-                kind: FaultKind::UnknownName,
-            },
-        ),
+        None => with_kind(first, at, FaultKind::UnknownName),
         Some(Meaning::Variable(_)) => first,
         Some(Meaning::Plain(_)) => first,
-        Some(Meaning::Array(_)) => sooner(
-            first,
-            Fault {
-                at,
-                kind: FaultKind::WrongType,
-            },
-        ),
-        Some(Meaning::Method(_, _, _)) => sooner(
-            first,
-            Fault {
-                at,
-                kind: FaultKind::WrongType,
-            },
-        ),
+        Some(Meaning::Array(_)) => with_kind(first, at, FaultKind::WrongType),
+        Some(Meaning::Method(_, _, _)) => with_kind(first, at, FaultKind::WrongType),
     }
 }
 
@@ -44,35 +26,11 @@ pub fn with_array(first: Option<Fault>, at: u32, meaning: Option<Meaning>) -> Op
     ensures { result ≡ with_faults first (array_faults at meaning) }
 {
     match meaning {
-        None => sooner(
-            first,
-            Fault {
-                at,
-                kind: FaultKind::UnknownName,
-            },
-        ),
+        None => with_kind(first, at, FaultKind::UnknownName),
+        Some(Meaning::Variable(_)) => with_kind(first, at, FaultKind::WrongType),
+        Some(Meaning::Plain(_)) => with_kind(first, at, FaultKind::WrongType),
         Some(Meaning::Array(_)) => first,
-        Some(Meaning::Variable(_)) => sooner(
-            first,
-            Fault {
-                at,
-                kind: FaultKind::WrongType,
-            },
-        ),
-        Some(Meaning::Plain(_)) => sooner(
-            first,
-            Fault {
-                at,
-                kind: FaultKind::WrongType,
-            },
-        ),
-        Some(Meaning::Method(_, _, _)) => sooner(
-            first,
-            Fault {
-                at,
-                kind: FaultKind::WrongType,
-            },
-        ),
+        Some(Meaning::Method(_, _, _)) => with_kind(first, at, FaultKind::WrongType),
     }
 }
 
@@ -81,50 +39,12 @@ pub fn with_keeper(first: Option<Fault>, at: u32, meaning: Option<Meaning>) -> O
     ensures { result ≡ with_faults first (keeper_faults at meaning) }
 {
     match meaning {
-        None => sooner(
-            first,
-            Fault {
-                at,
-                kind: FaultKind::UnknownName,
-            },
-        ),
+        None => with_kind(first, at, FaultKind::UnknownName),
         Some(Meaning::Variable(_)) => first,
-        Some(Meaning::Plain(_)) => sooner(
-            first,
-            Fault {
-                at,
-                kind: FaultKind::WrongType,
-            },
-        ),
-        Some(Meaning::Array(_)) => sooner(
-            first,
-            Fault {
-                at,
-                kind: FaultKind::WrongType,
-            },
-        ),
-        Some(Meaning::Method(_, _, _)) => sooner(
-            first,
-            Fault {
-                at,
-                kind: FaultKind::WrongType,
-            },
-        ),
+        Some(Meaning::Plain(_)) => with_kind(first, at, FaultKind::WrongType),
+        Some(Meaning::Array(_)) => with_kind(first, at, FaultKind::WrongType),
+        Some(Meaning::Method(_, _, _)) => with_kind(first, at, FaultKind::WrongType),
     }
-}
-
-/// The first of the faults so far and this one, where something is wrong.
-fn with_fault_where(first: Option<Fault>, wrong: bool, fault: Fault) -> Option<Fault>
-    ensures { result ≡ with_faults first (fault_where wrong fault.kind fault.at) }
-{
-    if wrong { sooner(first, fault) } else { first }
-}
-
-/// Whether a result is kept where there is none, or not kept where there is one.
-fn is_other_truth(keeps: bool, gives: bool) -> bool
-    ensures { result ≡ not (same_truth keeps gives) }
-{
-    if keeps { !gives } else { gives }
 }
 
 /// The same for a name that is called with so many arguments, and whose result is kept or not.
@@ -139,52 +59,39 @@ pub fn with_called(
     ensures { result ≡ with_faults first (called_faults at keeps args meaning) }
 {
     match meaning {
-        None => sooner(
-            first,
-            Fault {
-                at,
-                kind: FaultKind::UnknownName,
-            },
-        ),
-        Some(Meaning::Variable(_)) => sooner(
-            first,
-            Fault {
-                at,
-                kind: FaultKind::WrongType,
-            },
-        ),
-        Some(Meaning::Plain(_)) => sooner(
-            first,
-            Fault {
-                at,
-                kind: FaultKind::WrongType,
-            },
-        ),
-        Some(Meaning::Array(_)) => sooner(
-            first,
-            Fault {
-                at,
-                kind: FaultKind::WrongType,
-            },
-        ),
+        None => with_kind(first, at, FaultKind::UnknownName),
+        Some(Meaning::Variable(_)) => with_kind(first, at, FaultKind::WrongType),
+        Some(Meaning::Plain(_)) => with_kind(first, at, FaultKind::WrongType),
+        Some(Meaning::Array(_)) => with_kind(first, at, FaultKind::WrongType),
         Some(Meaning::Method(_, params, gives)) => {
-            let result = is_other_truth(keeps, gives);
-            let kind = with_fault_where(
-                first,
-                result,
-                Fault {
-                    at,
-                    kind: FaultKind::WrongType,
-                },
-            );
-            with_fault_where(
-                kind,
-                args != params,
-                Fault {
-                    at,
-                    kind: FaultKind::WrongCount,
-                },
-            )
+            let wrong_result = is_other_truth(keeps, gives);
+            let first = with_kind_where(first, wrong_result, at, FaultKind::WrongType);
+            with_kind_where(first, args != params, at, FaultKind::WrongCount)
         }
     }
+}
+
+/// The first of the faults so far and one of this kind at this token.
+fn with_kind(first: Option<Fault>, at: u32, kind: FaultKind) -> Option<Fault>
+    ensures { result ≡ with_fault first (record { at = at; kind = kind }) }
+{
+    sooner(first, Fault { at, kind })
+}
+
+/// The same, where something is wrong.
+fn with_kind_where(first: Option<Fault>, wrong: bool, at: u32, kind: FaultKind) -> Option<Fault>
+    ensures { result ≡ with_faults first (fault_where wrong kind at) }
+{
+    if wrong {
+        with_kind(first, at, kind)
+    } else {
+        first
+    }
+}
+
+/// Whether a result is kept where there is none, or not kept where there is one.
+fn is_other_truth(keeps: bool, gives: bool) -> bool
+    ensures { result ≡ not (same_truth keeps gives) }
+{
+    if keeps { !gives } else { gives }
 }
