@@ -10,7 +10,7 @@ use Rattle.js_base.specs.declared.ids.VarId.{VarId}
 use Rattle.js_base.specs.declared.ids.MethodId.{MethodId}
 use Rattle.principals.specs.ActsFor.{Declared}
 use Rattle.jif_tree.specs.Trees.{FieldTree, MethodTree, ProgramTree}
-use Rattle.jif_resolve.specs.WellNumbered.{is_some, HasField, HasVariable, HasOptionalVariable, HasMethod}
+use Rattle.jif_tree.specs.WellNumbered.{is_some, HasField, HasVariable, HasOptionalVariable, HasMethod}
 use Rattle.jif_grammar.specs.DraftShapes.{FieldShape, ParamShape, MethodShape}
 use Rattle.jif_resolve.specs.Meanings.{Global, has_result}
 use Rattle.jif_resolve.specs.Meanings.{fields_from, methods_from, earlier_of, first_named}

@@ -17,7 +17,7 @@ use Rattle.jif_resolve.specs.Places.{after_variable}
 use Rattle.jif_resolve.specs.Faults.{setting_of}
 use Rattle.jif_resolve.specs.Resolved.{assignment_tree, IsBlockFor, IsMethodFor, AreMethodsFor}
 use Rattle.jif_resolve.specs.Resolved.{heading_of}
-use Rattle.jif_resolve.specs.Numbering.{block_statements, block_sites, statement_numbers, site_numbers, CountsFrom}
+use Rattle.jif_tree.specs.Numbering.{block_statements, block_sites, statement_numbers, site_numbers, CountsFrom}
 use Rattle.jif_resolve.specs.Verdicts.{IsProgramOf}
 use Rattle.jif_resolve.proofs.Ranges.{range_after_one, ranges_joined, range_counts}
 use Rattle.jif_resolve.specs.declared.meaning.Meaning.{Meaning}

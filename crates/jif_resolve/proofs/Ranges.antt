@@ -2,7 +2,7 @@
 use Rattle.std.proofs.Common.{◌≡◌, ℕ, zero, suc, ◌+◌, List, ◌∷◌, ◌++◌, length, ap, sym, ◌∙◌, arith}
 use Rattle.std.specs.List.{range_with_len}
 use Rattle.std.proofs.lemmas.List.FromFn.{length-range_with_len}
-use Rattle.jif_resolve.specs.Numbering.{CountsFrom}
+use Rattle.jif_tree.specs.Numbering.{CountsFrom}
 
 pub range_after_one : (first n : ℕ) → range_with_len first (1 + n) ≡ first ∷ range_with_len (first + 1) n
 range_after_one first n = let e : 1 + n ≡ suc n = omega arith in ap (range_with_len first) e

@@ -11,8 +11,8 @@ use Rattle.js_base.specs.declared.ids.VarId.{VarId}
 use Rattle.js_base.specs.declared.ids.MethodId.{MethodId}
 use Rattle.principals.specs.ActsFor.{Declared}
 use Rattle.jif_tree.specs.Trees.{VarTree, MethodTree, ProgramTree}
-use Rattle.jif_resolve.specs.WellNumbered.{is_some, HasVariable, HasOptionalVariable, HasMethod, IsBlockIn, IsMethodIn}
-use Rattle.jif_resolve.specs.WellNumbered.{AreMethodsIn, IsWellNumbered}
+use Rattle.jif_tree.specs.WellNumbered.{is_some, HasVariable, HasOptionalVariable, HasMethod, IsBlockIn, IsMethodIn}
+use Rattle.jif_tree.specs.WellNumbered.{AreMethodsIn, IsWellNumbered}
 use Rattle.jif_grammar.specs.DraftShapes.{LabelShape, ParamShape, MethodShape, DraftShape}
 use Rattle.jif_resolve.specs.Counts.{LocalShape, locals_in}
 use Rattle.jif_resolve.specs.Meanings.{Global, has_result, fields_from, methods_from, globals_of, is_main, main_from}

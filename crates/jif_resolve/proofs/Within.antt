@@ -12,8 +12,8 @@ use Rattle.js_base.specs.declared.ids.MethodId.{MethodId}
 use Rattle.jif_tree.specs.Trees.{ExprTree, local, scalar}
 use Rattle.jif_tree.specs.Trees.{Heading, BlockTree, set_local, set_field}
 use Rattle.jif_tree.specs.Trees.{ProgramTree}
-use Rattle.jif_resolve.specs.WellNumbered.{is_some, HasField, HasVariable, HasOptionalVariable, HasMethod, IsExprIn}
-use Rattle.jif_resolve.specs.WellNumbered.{IsBlockIn}
+use Rattle.jif_tree.specs.WellNumbered.{is_some, HasField, HasVariable, HasOptionalVariable, HasMethod, IsExprIn}
+use Rattle.jif_tree.specs.WellNumbered.{IsBlockIn}
 use Rattle.jif_grammar.specs.DraftShapes.{NameShape, ExprShape, number_shape, variable_shape}
 use Rattle.jif_grammar.specs.DraftShapes.{element_shape, complement_shape, negation_shape, binary_shape}
 use Rattle.jif_grammar.specs.DraftShapes.{release_shape, endorsement_shape, BlockShape, end_shape}

@@ -6,7 +6,5 @@ pub mod Faults
 pub mod Variables
 pub mod Labels
 pub mod Resolved
-pub mod Numbering
 pub mod Verdicts
 pub mod Worked
-pub mod WellNumbered

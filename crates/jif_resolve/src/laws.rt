@@ -3,14 +3,14 @@
 ghost use Rattle.std.specs.Prelude.{◌≡◌, ◌⊎◌, ◌<◌, [], ◌∷◌, Some, None, codes, List};
 ghost use Rattle.principals.specs.ActsFor.{Declared, IsDeclared};
 ghost use Rattle.jif_tree.specs.Trees.{ProgramTree};
-ghost use Rattle.jif_resolve.specs.WellNumbered.{IsWellNumbered};
+ghost use Rattle.jif_tree.specs.WellNumbered.{IsWellNumbered};
 ghost use Rattle.jif_grammar.specs.DraftShapes.{DraftShape};
 ghost use Rattle.jif_resolve.specs.Meanings.{main_of};
 ghost use Rattle.jif_resolve.specs.declared.fault.Fault.{Fault};
 ghost use Rattle.jif_resolve.specs.declared.fault.FaultKind.TheVariants.{UnknownName, Twice, WrongType, WrongCount};
 ghost use Rattle.jif_resolve.specs.Faults.{fault, faults_of};
 ghost use Rattle.jif_resolve.specs.First.{rank, with_faults};
-ghost use Rattle.jif_resolve.specs.Numbering.{CountsFrom, statement_numbers, site_numbers};
+ghost use Rattle.jif_tree.specs.Numbering.{CountsFrom, statement_numbers, site_numbers};
 ghost use Rattle.jif_resolve.specs.Verdicts.{Refusal, IsRefused, IsProgramOf, HasLabels, IsFirst};
 ghost use Rattle.jif_resolve.specs.Worked.{only_alice, used_after_its_block, used_before_it_is_known};
 ghost use Rattle.jif_resolve.specs.Worked.{declared_in_both_blocks, called_badly, calls_itself, variable_names};
