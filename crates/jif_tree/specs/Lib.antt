@@ -5,3 +5,5 @@ pub mod Assignments
 pub mod Trees
 pub mod Numbering
 pub mod WellNumbered
+pub mod LabelRules
+pub mod WrittenLabels
