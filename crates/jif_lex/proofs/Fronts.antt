@@ -50,7 +50,7 @@ word_like text n is begins =
     word_like_by (take n text) (drop n text) (run_of continues_name text n is)
     (subst P (sym (take-append-drop n text)) begins)
 
-word_longest : (front after : List ℕ) → IsRun continues_name front after → IsWordLike front → IsLongest front after
+pub word_longest : (front after : List ℕ) → IsRun continues_name front after → IsWordLike front → IsLongest front after
 word_longest front after run like = record {
   lexeme = inl like;
   longest = λ more rest is longer. run_longest continues_name front after more rest run is
@@ -93,7 +93,7 @@ are_digits text n is begins =
     digits_by (take n text) (drop n text) (run_of is_ascii_digit text n is)
     (subst P (sym (take-append-drop n text)) begins)
 
-digits_longest : (front after : List ℕ) → IsRun is_ascii_digit front after → AreDigits front → IsLongest front after
+pub digits_longest : (front after : List ℕ) → IsRun is_ascii_digit front after → AreDigits front → IsLongest front after
 digits_longest front after run digits = record {
   lexeme = inr (inl digits);
   longest = λ more rest is longer. run_longest is_ascii_digit front after more rest run is
@@ -188,7 +188,7 @@ open_no_piece text opens no_skip (skipped front) after is piece = no_skip front 
 open_no_piece text opens no_skip (lexeme front kind) after is piece =
     piece.0 (let P : List ℕ → Type 0 = OpensComment in subst P is opens)
 
-comment_class : (text : List ℕ) → OpensComment text → class_of text ≡ other
+pub comment_class : (text : List ℕ) → OpensComment text → class_of text ≡ other
 comment_class text opens = elim opens.1 [ inl a ↦ ap class_of a | inr b ↦ ap class_of b ]
 
 -- what is not skipped and begins with no lexeme begins with a bad byte

@@ -9,3 +9,4 @@ pub mod Skips
 pub mod Texts
 pub mod Reading
 pub mod Sizes
+pub mod Spelling

@@ -2,3 +2,4 @@ pub mod Symbols
 pub mod Tokens
 pub mod Lexing
 pub mod TokenLists
+pub mod Spelled

@@ -4,6 +4,7 @@ ghost use Rattle.std.specs.Prelude.{◌≡◌, ◌≤◌, ℕ, List, length};
 ghost use Rattle.jif_lex.specs.declared.token.Token.{Token};
 ghost use Rattle.jif_lex.specs.Tokens.{Reading, ReadsAs, tokens};
 ghost use Rattle.jif_lex.specs.TokenLists.{AreTokens};
+ghost use Rattle.jif_lex.specs.Spelled.{Spelled, spelled_text, spelled_kinds, AreApart, HasKinds};
 
 use js_base::limits::PROGRAM_BYTES;
 
@@ -17,4 +18,9 @@ pub fn lex_laws()
 pub fn token_laws()
     ensures { (text : List ℕ) (list : List Token) →
         length text ≤ PROGRAM_BYTES → ReadsAs text (tokens list) → AreTokens list }
+{}
+
+/// A text that is put together from the spellings of tokens, each apart from the next part, has these tokens.
+pub fn spelled_laws()
+    ensures { (parts : List Spelled) → AreApart parts → HasKinds (spelled_text parts) (spelled_kinds parts) }
 {}
