@@ -4,7 +4,7 @@ ghost use Rattle.std.specs.Prelude.{◌≡◌, IfOk, length};
 
 use jif_lex::lex;
 use js_base::PrincipalId;
-use label_lattice::{Label, read_label};
+use label_lattice::{Label, label_text, read_label};
 use principals::Principals;
 use std::alloc::Global;
 use std::test::Fail;
@@ -119,6 +119,62 @@ fn reads_labels(rt: HostRuntime) -> Result<(), Fail> {
     ];
     for (text, label) in &labels {
         assert_eq!(rt; label_of(alloc, text, &principals)?, Some(*label));
+    }
+    Ok(())
+}
+
+#[test]
+fn prints_labels(rt: HostRuntime) -> Result<(), Fail> {
+    let alloc = rt.alloc();
+    let apart = three(alloc, false)?;
+    let joint = three(alloc, true)?;
+    let empty = Label::empty();
+    let of_alice = empty.with_policy(&apart, ALICE, &[]);
+    let for_others = empty.with_policy(&joint, BOB, &[BOB, CAROL]);
+
+    let labels = [
+        ("{}", empty, &apart),
+        ("{?: Alice, Bob, Carol}", Label::bottom(&apart), &apart),
+        ("{Alice: Alice}", of_alice, &apart),
+        (
+            "{Alice: Alice, Carol; Carol: Bob, Carol}",
+            empty
+                .with_policy(&apart, CAROL, &[BOB])
+                .with_policy(&apart, ALICE, &[CAROL]),
+            &apart,
+        ),
+        // Alice acts for Bob: hers forbids for him too, and she reads what he may read.
+        (
+            "{Alice: Alice; Bob: Alice}",
+            empty.with_policy(&joint, ALICE, &[]),
+            &joint,
+        ),
+        (
+            "{Bob: Alice, Bob}",
+            empty.with_policy(&joint, BOB, &[]),
+            &joint,
+        ),
+        ("{Bob: Alice, Bob, Carol}", for_others, &joint),
+        (
+            "{?: Alice, Bob}",
+            empty.with_trust(&joint, &[ALICE]),
+            &joint,
+        ),
+        (
+            "{Alice: Alice; ?: Alice}",
+            of_alice.with_trust(&apart, &[ALICE]),
+            &apart,
+        ),
+        (
+            "{Alice: Alice; ?: Bob, Carol}",
+            of_alice.with_trust(&apart, &[CAROL, BOB]),
+            &apart,
+        ),
+    ];
+    for (text, label, principals) in &labels {
+        let printed = label_text(alloc, label, principals)?;
+        assert_eq!(rt; printed.as_str(), *text);
+        assert_eq!(rt; label_of(alloc, printed.as_str(), principals)?, Some(*label));
     }
     Ok(())
 }

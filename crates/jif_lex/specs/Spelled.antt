@@ -1,5 +1,6 @@
 -- Texts that are put together from the spellings of tokens, with blanks where two neighbours would run together.
-use Rattle.std.specs.Prelude.{◌≡◌, ℕ, ◌≤ℤ◌, pos, Bool, true, not, List, [], ◌∷◌, ◌++◌, IsTrue, codes, map, ⊤}
+use Rattle.std.specs.Prelude.{◌≡◌, ℕ, ◌≤ℤ◌, pos, Bool, true, not, IsTrue, ⊤}
+use Rattle.std.specs.Prelude.{List, [], ◌∷◌, ◌++◌, map, codes}
 use Rattle.std.specs.List.{list_any}
 use Rattle.std.specs.Fmt.{signed_decimal}
 use Rattle.std.specs.Str.{bytes_eq}
@@ -30,7 +31,8 @@ IsSpellable (Symbol written) = ⊤
 -- the symbols of two bytes, and what comments begin with
 abbrev pub byte_pairs : List (List ℕ)
 byte_pairs =
-    codes "==" ∷ codes "!=" ∷ codes "<=" ∷ codes ">=" ∷ codes "&&" ∷ codes "||" ∷ codes "//" ∷ codes "/*" ∷ []
+    codes "==" ∷ codes "!=" ∷ codes "<=" ∷ codes ">=" ∷ codes "&&" ∷ codes "||"
+    ∷ codes "//" ∷ codes "/*" ∷ []
 
 -- with the next byte the symbol is a longer one, or opens a comment
 abbrev pub makes_pair : symbol.Symbol → ℕ → Bool

@@ -12,3 +12,4 @@ pub mod PolicyLemmas
 pub mod TokenCuts
 pub mod TrustLemmas
 pub mod Values
+pub mod PrintedLemmas

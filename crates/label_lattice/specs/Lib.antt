@@ -3,3 +3,4 @@ pub mod Lattice
 pub mod Over
 pub mod Written
 pub mod Reading
+pub mod Printed

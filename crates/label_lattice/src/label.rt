@@ -1,7 +1,8 @@
 //! Labels, and what is made of them.
 
-ghost use Rattle.std.specs.Prelude.{◌≡◌, ℕ, ◌<◌, ◌↔◌, IsTrue, List, All, length};
+ghost use Rattle.std.specs.Prelude.{◌≡◌, ℕ, ◌<◌, ◌↔◌, IsTrue, List, All, length, slice_index};
 ghost use Rattle.label_lattice.specs.Label.{ConfFlows, IntegFlows, IsTrustedBy};
+ghost use Rattle.label_lattice.specs.Printed.{forbids_some};
 
 use crate::policy::{acted_for, forbidden_readers};
 use js_base::PrincipalId;
@@ -159,5 +160,28 @@ impl Label {
         ensures { IsTrue result ↔ IsTrustedBy self.now principals }
     {
         bits_within(principals, self.trust)
+    }
+
+    /// Whether this owner forbids some reader.
+    pub(crate) fn forbids_some(&self, owner: PrincipalId) -> bool
+        requires { owner.0 < PRINCIPALS }
+        ensures { result ≡ forbids_some self.now owner.0 }
+    {
+        !bits_within(u64::MAX, self.rows[owner.0 as usize])
+    }
+
+    /// The readers whom this owner allows, a bit for each.
+    pub(crate) fn allowed_by(&self, owner: PrincipalId) -> u64
+        requires { owner.0 < PRINCIPALS }
+        ensures { result ≡ slice_index self.now.rows owner.0 }
+    {
+        self.rows[owner.0 as usize]
+    }
+
+    /// The principals that trust, a bit for each.
+    pub(crate) fn trusting(&self) -> u64
+        ensures { result ≡ self.now.trust }
+    {
+        self.trust
     }
 }

@@ -4,8 +4,10 @@
 mod label;
 mod laws;
 mod policy;
+mod printed;
 mod tokens;
 
 pub use label::{Label, READERS};
 pub use laws::label_laws;
+pub use printed::label_text;
 pub use tokens::read_label;
