@@ -13,3 +13,5 @@ pub mod TokenCuts
 pub mod TrustLemmas
 pub mod Values
 pub mod PrintedLemmas
+pub mod PrintedTokens
+pub mod PrintedMeaning

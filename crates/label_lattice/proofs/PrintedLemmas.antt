@@ -93,7 +93,7 @@ lacks_some word = list_any (λ reader. bit_at word reader == 0) (range_with_len 
 reader_at : (k d : ℕ) → k < 64 → get_or (range_with_len 0 64) k d ≡ k
 reader_at k d within = omega (arith, get_or-range_with_len 0 64 k d within)
 
-lacks_at : (word k : ℕ) → k < 64 → bit_at word k ≡ 0 → lacks_some word ≡ true
+pub lacks_at : (word k : ℕ) → k < 64 → bit_at word k ≡ 0 → lacks_some word ≡ true
 lacks_at word k within clear =
     let at : get_or (range_with_len 0 64) k 0 ≡ k = reader_at k 0 within in
     list_any_at (λ reader. bit_at word reader == 0) (range_with_len 0 64) k 0
@@ -103,7 +103,7 @@ lacks_at word k within clear =
 is_zero : (n : ℕ) → (n == 0) ≡ true → n ≡ 0
 is_zero n is = grind (arith, nat_tests)
 
-lacks_found : (word : ℕ) → lacks_some word ≡ true → (k : ℕ) × (k < 64) × (bit_at word k ≡ 0)
+pub lacks_found : (word : ℕ) → lacks_some word ≡ true → (k : ℕ) × (k < 64) × (bit_at word k ≡ 0)
 lacks_found word lacks =
     let found = Any-from_list_any (λ reader. bit_at word reader == 0) (range_with_len 0 64) lacks in
     let within : found.0 < 64 = omega (arith, found.2, length-range_with_len 0 64) in

@@ -3,10 +3,12 @@ use Rattle.std.specs.Prelude.{ℕ, ◌+◌, ◌==◌, Bool, if◌then◌else◌}
 use Rattle.std.specs.Prelude.{List, [], ◌∷◌, ◌++◌, codes, slice_index}
 use Rattle.std.specs.Int.{bit_at}
 use Rattle.std.specs.List.{list_any, join_by, range_with_len}
+use Rattle.jif_lex.specs.declared.token.Token.{Token}
+use Rattle.jif_lex.specs.Tokens.{ReadsAs, tokens}
 use Rattle.principals.specs.ActsFor.{Declared}
 use Rattle.label_lattice.specs.declared.label.Label.{Label}
 use Rattle.label_lattice.specs.declared.label.TheConstants.{READERS}
-use Rattle.label_lattice.specs.Written.{Part, policy, trust}
+use Rattle.label_lattice.specs.Written.{Part, policy, trust, IsLabelOf}
 
 -- ---- the sets of a label, as tests
 
@@ -66,3 +68,8 @@ printed_part (trust members) = codes "?" ++ codes ": " ++ joined (codes ", ") me
 abbrev pub printed_label : Declared → Label → List ℕ
 printed_label principals label =
     codes "{" ++ join_by printed_part (codes "; ") (printed_parts principals label) ++ codes "}"
+
+-- the text has tokens that are this label, written with names of these principals
+abbrev pub ReadsBack : Declared → Label → Type 0
+ReadsBack principals label =
+    (list : List Token) × ReadsAs (printed_label principals label) (tokens list) × IsLabelOf principals list label

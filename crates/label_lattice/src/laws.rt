@@ -10,8 +10,10 @@ ghost use Rattle.label_lattice.specs.Label.{ForbidsNothing, IsUntrusted, IsBotto
 ghost use Rattle.label_lattice.specs.Lattice.{IsJoin, IsIntegrityMeet, empty_label, bottom_of, join_of, meet_of};
 ghost use Rattle.label_lattice.specs.Over.{IsLabelOver};
 ghost use Rattle.label_lattice.specs.Written.{IsLabelOf};
+ghost use Rattle.label_lattice.specs.Printed.{ReadsBack};
 
 use crate::label::READERS;
+use jif_lex::spelled_laws;
 use principals::acts_for_laws;
 
 /// Laws of labels, for who reasons about them. The call does nothing.
@@ -103,4 +105,14 @@ pub fn label_laws()
         IsLabelOf principals tokens first → IsLabelOf principals tokens second → first ≡ second }
 {
     acts_for_laws();
+}
+
+/// The law of printed labels. The call does nothing.
+pub fn text_laws()
+    // The text of a label over declared principals is read as this label.
+    ensures { (principals : Declared) (label : Label) → IsDeclared principals → IsLabelOver principals label →
+        ReadsBack principals label }
+{
+    acts_for_laws();
+    spelled_laws();
 }
