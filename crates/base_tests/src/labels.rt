@@ -15,18 +15,33 @@ const BOB: PrincipalId = PrincipalId(1);
 
 const CAROL: PrincipalId = PrincipalId(2);
 
-/// Alice, Bob and Carol. Where it is asked for, Alice acts for Bob.
-fn three(alloc: Global, alice_acts_for_bob: bool) -> Result<Principals, Fail>
+/// Alice, Bob and Carol, where the first of each pair acts for the second.
+fn three_with(alloc: Global, pairs: &[(String, String)]) -> Result<Principals, Fail>
     ensures { IfOk result (λ principals. length principals.names ≡ 3) }
 {
     let alice = String::from_str(alloc, "Alice")?;
     let bob = String::from_str(alloc, "Bob")?;
     let carol = String::from_str(alloc, "Carol")?;
+    Ok(Principals::new(alloc, &vec![in alloc; alice, bob, carol]?, pairs)?)
+}
+
+/// A pair of names.
+fn pair(alloc: Global, first: &str, second: &str) -> Result<(String, String), Fail> {
+    Ok((
+        String::from_str(alloc, first)?,
+        String::from_str(alloc, second)?,
+    ))
+}
+
+/// Alice, Bob and Carol. Where it is asked for, Alice acts for Bob.
+fn three(alloc: Global, alice_acts_for_bob: bool) -> Result<Principals, Fail>
+    ensures { IfOk result (λ principals. length principals.names ≡ 3) }
+{
     let mut pairs = Vec::new(alloc);
     if alice_acts_for_bob {
-        pairs.push((alice.clone()?, bob.clone()?))?;
+        pairs.push(pair(alloc, "Alice", "Bob")?)?;
     }
-    Ok(Principals::new(alloc, &vec![in alloc; alice, bob, carol]?, &pairs)?)
+    three_with(alloc, &pairs)
 }
 
 /// The label of a text.
@@ -128,6 +143,9 @@ fn prints_labels(rt: HostRuntime) -> Result<(), Fail> {
     let alloc = rt.alloc();
     let apart = three(alloc, false)?;
     let joint = three(alloc, true)?;
+    let first = pair(alloc, "Alice", "Bob")?;
+    let second = pair(alloc, "Carol", "Bob")?;
+    let both = three_with(alloc, &vec![in alloc; first, second]?)?;
     let empty = Label::empty();
     let of_alice = empty.with_policy(&apart, ALICE, &[]);
     let for_others = empty.with_policy(&joint, BOB, &[BOB, CAROL]);
@@ -155,6 +173,14 @@ fn prints_labels(rt: HostRuntime) -> Result<(), Fail> {
             &joint,
         ),
         ("{Bob: Alice, Bob, Carol}", for_others, &joint),
+        // Alice and Carol forbid for Bob too, and between them allow him nobody.
+        (
+            "{Alice: Alice; Bob: ; Carol: Carol}",
+            empty
+                .with_policy(&both, ALICE, &[])
+                .with_policy(&both, CAROL, &[]),
+            &both,
+        ),
         (
             "{?: Alice, Bob}",
             empty.with_trust(&joint, &[ALICE]),
@@ -174,7 +200,10 @@ fn prints_labels(rt: HostRuntime) -> Result<(), Fail> {
     for (text, label, principals) in &labels {
         let printed = label_text(alloc, label, principals)?;
         assert_eq!(rt; printed.as_str(), *text);
-        assert_eq!(rt; label_of(alloc, printed.as_str(), principals)?, Some(*label));
+        assert_eq!(rt;
+            label_of(alloc, printed.as_str(), principals)?,
+            Some(*label)
+        );
     }
     Ok(())
 }

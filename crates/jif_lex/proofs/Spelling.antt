@@ -11,6 +11,7 @@ use Rattle.std.proofs.lemmas.Bool.{and_parts, and_from, both_ways}
 use Rattle.std.proofs.lemmas.Bool.Decides.{nat_tests}
 use Rattle.std.proofs.lemmas.Fmt.{decimal_is_IsNumeral}
 use Rattle.std.proofs.lemmas.Int.{ints}
+use Rattle.std.proofs.lemmas.List.{append_assoc}
 use Rattle.std.proofs.lemmas.Str.Parse.{digit_from_value}
 use Rattle.js_base.specs.Name.{IsName, starts_name, continues_name}
 use Rattle.js_base.specs.declared.limits.TheConstants.{LARGEST_NUMBER}
@@ -25,7 +26,7 @@ use Rattle.jif_lex.specs.Tokens.{IsWordLike, AreDigits, IsKind, OpensComment, Fi
 use Rattle.jif_lex.specs.Tokens.{skipped, lexeme, IsPieceBefore, CutsTo, tokens_of, line_feeds}
 use Rattle.jif_lex.specs.Spelled.{kind_text, IsSpellable, byte_pairs, makes_pair, ends_before, Spelled, token_part}
 use Rattle.jif_lex.specs.Spelled.{space_part, line_end_part, spelled_text, spelled_kinds, AreApart}
-use Rattle.jif_lex.specs.Spelled.{HasKinds}
+use Rattle.jif_lex.specs.Spelled.{part_text, HasKinds}
 use Rattle.jif_lex.proofs.Begins.{letter, digit, other, class_of, word_class, digits_class, symbol_text_class}
 use Rattle.jif_lex.proofs.Begins.{class_of_front}
 use Rattle.jif_lex.proofs.Fronts.{word_longest, digits_longest, comment_class, all_continue}
@@ -283,3 +284,17 @@ kinds_are at line (line_end_part ∷ parts) =
 pub reads_as_spelled : (parts : List Spelled) → AreApart parts → HasKinds (spelled_text parts) (spelled_kinds parts)
 reads_as_spelled parts apart =
     (tokens_of 0 1 (map piece_of parts), (map piece_of parts, cuts parts apart, refl), kinds_are 0 1 parts)
+
+-- what two texts in a row are
+pub text_append : (front after : List Spelled) → spelled_text (front ++ after) ≡ spelled_text front ++ spelled_text after
+text_append [] after = refl
+text_append (part ∷ front) after =
+    ap (λ (t : List ℕ). part_text part ++ t) (text_append front after)
+    ∙ sym (append_assoc (part_text part) (spelled_text front) (spelled_text after))
+
+pub kinds_append : (front after : List Spelled) →
+    spelled_kinds (front ++ after) ≡ spelled_kinds front ++ spelled_kinds after
+kinds_append [] after = refl
+kinds_append (token_part kind ∷ front) after = ap (λ (ks : List TokenKind). kind ∷ ks) (kinds_append front after)
+kinds_append (space_part ∷ front) after = kinds_append front after
+kinds_append (line_end_part ∷ front) after = kinds_append front after

@@ -1,7 +1,7 @@
 -- The parts of a printed label mean this label.
 use Rattle.std.proofs.Common.{◌≡◌, ℕ, zero, suc, ◌+◌, ◌<◌, ◌≤◌, ◌↔◌, ◌⊎◌, inl, inr, Bool, true, false, List, [], ◌∷◌}
-use Rattle.std.proofs.Common.{◌++◌, map, refl, ap, sym, ◌∙◌, subst, length, get_or, arith}
-use Rattle.std.specs.Prelude.{Some, slice_get, ⊤, All, Any, slice_index, if◌then◌else◌, ◌==◌}
+use Rattle.std.proofs.Common.{◌++◌, refl, ap, sym, ◌∙◌, subst, length, get_or, arith}
+use Rattle.std.specs.Prelude.{Some, slice_get, All, Any, if◌then◌else◌, ◌==◌}
 use Rattle.std.specs.Int.{bit_at}
 use Rattle.std.specs.List.{AllZip}
 use Rattle.std.proofs.lemmas.Bool.{cases_lt}
@@ -10,14 +10,14 @@ use Rattle.std.proofs.lemmas.Bool.Decides.{nat_tests}
 use Rattle.std.proofs.lemmas.List.{get_or_default}
 use Rattle.js_base.specs.declared.ids.PrincipalId.{PrincipalId}
 use Rattle.jif_lex.specs.declared.token.Token.{Token}
-use Rattle.jif_lex.specs.Tokens.{ReadsAs, tokens}
+use Rattle.jif_lex.specs.Tokens.{ReadsAs, Reading, tokens, bad_byte, bad_number}
 use Rattle.jif_lex.specs.Spelled.{Spelled, spelled_text, spelled_kinds, AreApart, HasKinds}
-use Rattle.principals.specs.ActsFor.{Declared, IsDeclared, ActsFor, IsReader, outsider}
+use Rattle.principals.specs.ActsFor.{Declared, IsDeclared, ActsFor, IsReader}
 use Rattle.label_lattice.specs.declared.label.Label.{Label}
-use Rattle.label_lattice.specs.Label.{Forbids, Trusts, KeepsOut, PolicyForbids}
+use Rattle.label_lattice.specs.Label.{Forbids, Trusts, KeepsOut}
 use Rattle.label_lattice.specs.Over.{IsLabelOver, IsForbiddenBy}
-use Rattle.label_lattice.specs.Written.{Part, policy, trust, KnownPart, policy_of, trust_of, IsKnown, AreKnown, IsKnownPart}
-use Rattle.label_lattice.specs.Written.{PartForbids, PartTrusts, IsMadeOf, IsPartsOf, IsLabelOf, TrustIsLast, parts_tokens}
+use Rattle.label_lattice.specs.Written.{Part, policy, KnownPart, policy_of, trust_of, IsKnown, AreKnown, IsKnownPart}
+use Rattle.label_lattice.specs.Written.{PartForbids, PartTrusts, IsPartsOf, IsLabelOf, TrustIsLast, parts_tokens}
 use Rattle.label_lattice.specs.Printed.{each_where, printed_parts, printed_policies, trust_parts, names_where, allows}
 use Rattle.label_lattice.specs.Printed.{is_trusted_by, printed_policy, forbids_some, ReadsBack, printed_label}
 use Rattle.label_lattice.proofs.PrintedLemmas.{lacks_at, lacks_found}
@@ -451,9 +451,54 @@ reads_back itself spelled principals label declared over =
     let parts : List Part = printed_parts principals label in
     let marks : List Spelled = label_marks parts in
     let has = spelled marks (label_apart parts (parts_have principals label declared.spelled)) in
-    let P : List ℕ → Type 0 = λ text. ReadsAs text (tokens has.0) in
-    (has.0, subst P (label_is principals label) has.1, record {
-      inside = parts_tokens parts;
-      braces = has.2 ∙ label_kinds parts;
-      parts = are_parts itself principals label declared over;
-    })
+    let P : List ℕ → Type 0 = λ text. ReadsAs text (tokens has.0) in (
+      has.0,
+      subst P (label_is principals label) has.1,
+      record {
+        inside = parts_tokens parts;
+        braces = has.2 ∙ label_kinds parts;
+        parts = are_parts itself principals label declared over;
+      },
+    )
+
+-- ---- the tests and the sets
+
+pub allows_is : (label : Label) (owner reader : ℕ) → (allows label owner reader ≡ true) ↔ ¬ Forbids label owner reader
+allows_is label owner reader = (
+  λ allowed. not_both label owner reader allowed,
+  λ free. elim (allowed_or_not label owner reader) [ inl clear ↦ absurd (free clear) | inr allowed ↦ allowed ],
+)
+
+pub forbids_some_is : (label : Label) (owner : ℕ) →
+    (forbids_some label owner ≡ true) ↔ ((reader : ℕ) × (reader < 64) × Forbids label owner reader)
+forbids_some_is label owner =
+    (λ some. lacks_found (get_or label.rows owner 0) some, λ found. lacks_at (get_or label.rows owner 0) found.0 found.1 found.2)
+
+pub trusted_is : (label : Label) (principal : ℕ) → (is_trusted_by label principal ≡ true) ↔ Trusts label principal
+trusted_is label principal = (is_one (bit_at label.trust principal), one_is (bit_at label.trust principal))
+
+-- ---- one label for one text
+
+abbrev pub OneReading : Type 0
+OneReading = (text : List ℕ) (first second : Reading) → ReadsAs text first → ReadsAs text second → first ≡ second
+
+abbrev pub WrittenOnce : Type 0
+WrittenOnce = (principals : Declared) (list : List Token) (first second : Label) → IsDeclared principals →
+    IsLabelOver principals first → IsLabelOver principals second → IsLabelOf principals list first →
+    IsLabelOf principals list second → first ≡ second
+
+abbrev list_of : Reading → List Token
+list_of (tokens list) = list
+list_of (bad_byte at) = []
+list_of (bad_number at) = []
+
+pub printed_once : OneReading → WrittenOnce → (principals : Declared) (first second : Label) → IsDeclared principals →
+    IsLabelOver principals first → IsLabelOver principals second → ReadsBack principals first →
+    ReadsBack principals second → printed_label principals first ≡ printed_label principals second → first ≡ second
+printed_once reading written principals first second declared one two read_one read_two same =
+    let P : List ℕ → Type 0 = λ text. ReadsAs text (tokens read_one.0) in
+    let Q : List Token → Type 0 = λ list. IsLabelOf principals list first in
+    let lists : read_one.0 ≡ read_two.0 =
+    ap list_of (reading (printed_label principals second) (tokens read_one.0) (tokens read_two.0)
+    (subst P same read_one.1) read_two.1) in
+    written principals read_two.0 first second declared one two (subst Q lists read_one.2) read_two.2

@@ -1,19 +1,19 @@
 -- The tokens of a printed label.
-use Rattle.std.proofs.Common.{◌≡◌, ℕ, ◌+◌, Bool, true, false, List, [], ◌∷◌, ◌++◌, map, refl, ap, sym, ◌∙◌, codes, subst}
-use Rattle.std.proofs.Common.{length, get_or, arith, zero, suc, ◌<◌}
-use Rattle.std.specs.Prelude.{IsTrue, ⊤, All, if◌then◌else◌}
+use Rattle.std.proofs.Common.{◌≡◌, ℕ, ◌+◌, Bool, true, false, List, [], ◌∷◌, ◌++◌, refl, ap, sym, ◌∙◌, codes, subst}
+use Rattle.std.proofs.Common.{arith, suc}
+use Rattle.std.specs.Prelude.{IsTrue, All, if◌then◌else◌}
 use Rattle.std.specs.List.{AllByRecursion, flat_map, join_by}
 use Rattle.std.proofs.lemmas.List.{append-nil, append_assoc}
 use Rattle.js_base.specs.Name.{IsName}
 use Rattle.jif_lex.specs.declared.token.TokenKind.{TokenKind}
-use Rattle.jif_lex.specs.declared.token.TokenKind.TheVariants.{Name, Symbol}
+use Rattle.jif_lex.specs.declared.token.TokenKind.TheVariants.{Name}
 use Rattle.jif_lex.specs.declared.token.Symbol.TheVariants.{LeftBrace, RightBrace, Colon, Comma, Semicolon, Question}
-use Rattle.jif_lex.specs.Spelled.{Spelled, token_part, space_part, line_end_part, spelled_text, spelled_kinds, AreApart}
-use Rattle.jif_lex.specs.Spelled.{ends_before, part_text, HasKinds}
+use Rattle.jif_lex.specs.Spelled.{Spelled, token_part, space_part, spelled_text, spelled_kinds, AreApart}
+use Rattle.jif_lex.specs.Spelled.{ends_before}
+use Rattle.jif_lex.proofs.Spelling.{text_append, kinds_append}
 use Rattle.principals.specs.ActsFor.{Declared}
 use Rattle.label_lattice.specs.declared.label.Label.{Label}
-use Rattle.label_lattice.specs.Written.{Part, policy, trust, symbol, part_tokens, parts_tokens, names_tokens, name_tokens}
-use Rattle.label_lattice.specs.Written.{with_separator}
+use Rattle.label_lattice.specs.Written.{Part, policy, trust, symbol, part_tokens, parts_tokens, names_tokens}
 use Rattle.label_lattice.specs.Printed.{each_where, joined, printed_part, printed_parts, printed_policies, trust_parts}
 use Rattle.label_lattice.specs.Printed.{names_where, is_trusted_by, printed_policy, printed_label, forbids_some, allows}
 
@@ -44,19 +44,6 @@ parts_marks (part ∷ parts) = part_marks part ++ flat_map next_part parts
 
 abbrev pub label_marks : List Part → List Spelled
 label_marks parts = token_part (symbol LeftBrace) ∷ (parts_marks parts ++ token_part (symbol RightBrace) ∷ [])
-
-text_append : (front after : List Spelled) → spelled_text (front ++ after) ≡ spelled_text front ++ spelled_text after
-text_append [] after = refl
-text_append (part ∷ front) after =
-    ap (λ (t : List ℕ). part_text part ++ t) (text_append front after)
-    ∙ sym (append_assoc (part_text part) (spelled_text front) (spelled_text after))
-
-kinds_append : (front after : List Spelled) →
-    spelled_kinds (front ++ after) ≡ spelled_kinds front ++ spelled_kinds after
-kinds_append [] after = refl
-kinds_append (token_part kind ∷ front) after = ap (λ (ks : List TokenKind). kind ∷ ks) (kinds_append front after)
-kinds_append (space_part ∷ front) after = kinds_append front after
-kinds_append (line_end_part ∷ front) after = kinds_append front after
 
 -- ---- they are the text
 

@@ -4,3 +4,4 @@ pub mod Over
 pub mod Written
 pub mod Reading
 pub mod Printed
+pub mod PrintedExamples

@@ -1,19 +1,20 @@
 //! Laws of labels.
 
-ghost use Rattle.std.specs.Prelude.{◌≡◌, ℕ, ◌<◌, ◌↔◌, List, [], All, length};
+ghost use Rattle.std.specs.Prelude.{◌≡◌, ℕ, ◌<◌, ◌↔◌, List, [], All, IsTrue, length, codes};
 ghost use Rattle.js_base.specs.declared.ids.PrincipalId.{PrincipalId};
 ghost use Rattle.principals.specs.ActsFor.{Declared, ActsFor, IsDeclared};
 ghost use Rattle.jif_lex.specs.declared.token.Token.{Token};
 ghost use Rattle.label_lattice.specs.declared.label.Label.{Label};
-ghost use Rattle.label_lattice.specs.Label.{IsLabel, Trusts, ConfFlows, IntegFlows, Flows};
+ghost use Rattle.label_lattice.specs.Label.{IsLabel, Forbids, Trusts, ConfFlows, IntegFlows, Flows};
 ghost use Rattle.label_lattice.specs.Label.{ForbidsNothing, IsUntrusted, IsBottom, IsPolicy, AddsPolicy};
 ghost use Rattle.label_lattice.specs.Lattice.{IsJoin, IsIntegrityMeet, empty_label, bottom_of, join_of, meet_of};
 ghost use Rattle.label_lattice.specs.Over.{IsLabelOver};
 ghost use Rattle.label_lattice.specs.Written.{IsLabelOf};
-ghost use Rattle.label_lattice.specs.Printed.{ReadsBack};
+ghost use Rattle.label_lattice.specs.Printed.{allows, forbids_some, is_trusted_by, printed_label, ReadsBack};
+ghost use Rattle.label_lattice.specs.PrintedExamples.{alice_and_bob, keeps_bob_out, keeps_all_out};
 
 use crate::label::READERS;
-use jif_lex::spelled_laws;
+use jif_lex::{lex_laws, spelled_laws};
 use principals::acts_for_laws;
 
 /// Laws of labels, for who reasons about them. The call does nothing.
@@ -107,12 +108,31 @@ pub fn label_laws()
     acts_for_laws();
 }
 
-/// The law of printed labels. The call does nothing.
+/// Laws of printed labels. The call does nothing.
 pub fn text_laws()
-    // The text of a label over declared principals is read as this label.
-    ensures { (principals : Declared) (label : Label) → IsDeclared principals → IsLabelOver principals label →
-        ReadsBack principals label }
+    // The tests by which a label is printed are those of its sets.
+    ensures allows { (label : Label) (owner reader : ℕ) →
+        (IsTrue (allows label owner reader) ↔ ¬ Forbids label owner reader) }
+    ensures forbids_some { (label : Label) (owner : ℕ) → (IsTrue (forbids_some label owner) ↔
+        ((reader : ℕ) × (reader < READERS) × Forbids label owner reader)) }
+    ensures trusts { (label : Label) (principal : ℕ) →
+        (IsTrue (is_trusted_by label principal) ↔ Trusts label principal) }
+
+    // The text of a label over declared principals is read as this label, and no other label has it.
+    ensures reads_back { (principals : Declared) (label : Label) → IsDeclared principals →
+        IsLabelOver principals label → ReadsBack principals label }
+    ensures printed_once { (principals : Declared) (first second : Label) → IsDeclared principals →
+        IsLabelOver principals first → IsLabelOver principals second →
+        printed_label principals first ≡ printed_label principals second → first ≡ second }
+
+    // Some labels of Alice and Bob, and how they are printed.
+    ensures worked_empty { printed_label alice_and_bob empty_label ≡ codes "{}" }
+    ensures worked_bottom { printed_label alice_and_bob (bottom_of alice_and_bob) ≡ codes "{?: Alice, Bob}" }
+    ensures worked_policy { printed_label alice_and_bob keeps_bob_out ≡ codes "{Alice: Alice; ?: Alice}" }
+    ensures worked_nobody { printed_label alice_and_bob keeps_all_out ≡ codes "{Alice: ; Bob: Alice, Bob}" }
 {
     acts_for_laws();
+    lex_laws();
     spelled_laws();
+    label_laws();
 }
