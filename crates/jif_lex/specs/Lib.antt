@@ -3,3 +3,4 @@ pub mod Tokens
 pub mod Lexing
 pub mod TokenLists
 pub mod Spelled
+pub mod SpelledExamples

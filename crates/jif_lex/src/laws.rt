@@ -1,10 +1,11 @@
 //! Laws of tokens, for whoever reasons about them. The calls do nothing.
 
-ghost use Rattle.std.specs.Prelude.{◌≡◌, ◌≤◌, ℕ, List, length};
+ghost use Rattle.std.specs.Prelude.{◌≡◌, ◌≤◌, ℕ, List, length, codes};
 ghost use Rattle.jif_lex.specs.declared.token.Token.{Token};
 ghost use Rattle.jif_lex.specs.Tokens.{Reading, ReadsAs, tokens};
 ghost use Rattle.jif_lex.specs.TokenLists.{AreTokens};
 ghost use Rattle.jif_lex.specs.Spelled.{Spelled, spelled_text, spelled_kinds, AreApart, HasKinds};
+ghost use Rattle.jif_lex.specs.SpelledExamples.{small_line, number_and_name, two_slashes, three_equals};
 
 use js_base::limits::PROGRAM_BYTES;
 
@@ -22,5 +23,13 @@ pub fn token_laws()
 
 /// A text that is put together from the spellings of tokens, each apart from the next part, has these tokens.
 pub fn spelled_laws()
-    ensures { (parts : List Spelled) → AreApart parts → HasKinds (spelled_text parts) (spelled_kinds parts) }
+    ensures reads { (parts : List Spelled) → AreApart parts →
+        HasKinds (spelled_text parts) (spelled_kinds parts) }
+
+    // A line of seven tokens, and tokens that run together.
+    ensures worked_text { spelled_text small_line ≡ codes "int x=-7;\n" }
+    ensures worked_line { AreApart small_line }
+    ensures worked_number { ¬ AreApart number_and_name }
+    ensures worked_comment { ¬ AreApart two_slashes }
+    ensures worked_symbols { ¬ AreApart three_equals }
 {}

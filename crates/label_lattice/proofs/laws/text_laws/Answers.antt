@@ -13,13 +13,13 @@ pub returns-clause-trusts : goal.returns-clause-trusts
 returns-clause-trusts c = trusted_is
 
 pub returns-clause-reads_back : goal.returns-clause-reads_back
-returns-clause-reads_back c = reads_back c.acts_for_laws.ensures.reflexive c.spelled_laws.ensures
+returns-clause-reads_back c = reads_back c.acts_for_laws.ensures.reflexive c.spelled_laws.ensures.reads
 
 pub returns-clause-printed_once : goal.returns-clause-printed_once
 returns-clause-printed_once c principals first second declared one two =
     printed_once c.lex_laws.ensures c.label_laws.ensures.written_once principals first second declared one two
-    (reads_back c.acts_for_laws.ensures.reflexive c.spelled_laws.ensures principals first declared one)
-    (reads_back c.acts_for_laws.ensures.reflexive c.spelled_laws.ensures principals second declared two)
+    (reads_back c.acts_for_laws.ensures.reflexive c.spelled_laws.ensures.reads principals first declared one)
+    (reads_back c.acts_for_laws.ensures.reflexive c.spelled_laws.ensures.reads principals second declared two)
 
 pub returns-clause-worked_empty : goal.returns-clause-worked_empty
 unfolding empty_label
