@@ -9,3 +9,5 @@ mod Within
 mod WellNumbered
 mod Sooner
 mod FirstByTest
+mod Cleanly
+mod Parts

@@ -1,6 +1,7 @@
 -- Where there is no fault, what is written has a meaning.
 use Rattle.std.proofs.Common.{◌≡◌, ℕ, zero, suc, Bool, true, false, not, ◌||◌, ◌⊎◌, inl, inr, List, [], ◌∷◌, ◌++◌}
-use Rattle.std.proofs.Common.{Option, Some, None, slice_get, refl, ap, sym, ◌∙◌}
+use Rattle.std.proofs.Common.{Option, Some, None, slice_get, refl, ap, sym, ◌∙◌, subst}
+use Rattle.std.specs.Prelude.{Contains}
 use Rattle.std.specs.List.{AllZip, list_any, flat_map}
 use Rattle.std.specs.Str.{bytes_eq}
 use Rattle.std.proofs.lemmas.Bool.{false≢true}
@@ -11,6 +12,7 @@ use Rattle.js_base.specs.declared.ids.VarId.{VarId}
 use Rattle.js_base.specs.declared.ids.MethodId.{MethodId}
 use Rattle.principals.specs.ActsFor.{Declared}
 use Rattle.label_lattice.specs.Written.{IsKnown, AreKnown}
+use Rattle.label_lattice.proofs.KnownNames.{known_is_held}
 use Rattle.label_lattice.specs.declared.label.Label.{Label}
 use Rattle.jif_tree.specs.Trees.{ExprTree, local, scalar, Heading, BlockTree, set_local, set_field}
 use Rattle.jif_grammar.specs.DraftShapes.{NameShape, LabelShape}
@@ -161,3 +163,10 @@ use_called at keeps args (Some (sense.Variable variable)) none = absurd cc
 use_called at keeps args (Some (sense.Plain field)) none = absurd cc
 use_called at keeps args (Some (sense.Array field)) none = absurd cc
 use_called at keeps args (Some (sense.Method method params gives)) none = (method, refl)
+
+-- a name without a fault is no unknown one
+pub no_unknown : (principals : Declared) (name : NameShape) (text : List ℕ) → principal_faults principals name ≡ [] →
+    text ≡ name.text → ¬ Contains principals.names text → ⊥
+no_unknown principals name text none is unknown =
+    let found = principal_of principals name none in
+    unknown (subst (Contains principals.names) (sym is) (known_is_held principals name.text found.0 found.1))

@@ -5,6 +5,7 @@ pub mod Places
 pub mod Faults
 pub mod Variables
 pub mod Labels
+pub mod Making
 pub mod Resolved
 pub mod Verdicts
 pub mod Worked

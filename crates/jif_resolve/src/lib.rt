@@ -2,9 +2,11 @@
 #![tactic(auto)]
 
 mod fault;
+mod label_of;
 mod labels;
 mod laws;
 mod meaning;
+mod names;
 mod uses;
 
 pub use fault::{Fault, FaultKind};

@@ -15,7 +15,7 @@ use Rattle.label_lattice.proofs.KnownNames.{known_is_held}
 
 -- ---- what a part adds
 
-adds_policy : (principals : Declared) (old new : Label) (owner : PrincipalId) (readers : List PrincipalId) →
+pub adds_policy : (principals : Declared) (old new : Label) (owner : PrincipalId) (readers : List PrincipalId) →
     AddsPolicy old new principals owner readers → SameTrust old new →
     Adds principals (policy_of owner readers) old new
 adds_policy principals old new owner readers adds same = record {
@@ -26,7 +26,7 @@ adds_policy principals old new owner readers adds same = record {
   );
 }
 
-adds_trust : (principals : Declared) (old new : Label) (members : List PrincipalId) → SameForbidden old new →
+pub adds_trust : (principals : Declared) (old new : Label) (members : List PrincipalId) → SameForbidden old new →
     AddsTrust old new principals members → Adds principals (trust_of members) old new
 adds_trust principals old new members same adds = record {
   forbids = λ owner reader owner_in reader_in. (

@@ -22,7 +22,7 @@ use Rattle.label_lattice.proofs.PartLemmas.{no_semicolon, a_part}
 
 -- ---- what the parts so far make
 
-made_of_none : (principals : Declared) (label : Label) → ForbidsNothing label → IsUntrusted label →
+pub made_of_none : (principals : Declared) (label : Label) → ForbidsNothing label → IsUntrusted label →
     IsMadeOf principals [] label
 made_of_none principals label nothing untrusted = record {
   forbids = λ owner reader owner_in reader_in.
@@ -40,7 +40,7 @@ either_more A B C P xs y old new = (there, back)
     back : Any P (xs ++ y ∷ []) → A
     back some = elim (any_cases P xs y some) [ inl before ↦ new.1 (inl (old.1 before)) | inr holds ↦ new.1 (inr holds) ]
 
-made_of_more : (principals : Declared) (known : List KnownPart) (part : KnownPart) (old new : Label) →
+pub made_of_more : (principals : Declared) (known : List KnownPart) (part : KnownPart) (old new : Label) →
     IsMadeOf principals known old → Adds principals part old new → IsMadeOf principals (known ++ part ∷ []) new
 made_of_more principals known part old new is adds = record {
   forbids = λ owner reader owner_in reader_in.
