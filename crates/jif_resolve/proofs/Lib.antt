@@ -11,3 +11,10 @@ mod Sooner
 mod FirstByTest
 mod Cleanly
 mod Parts
+mod GlobalLists
+mod KnownLists
+mod ExprSizes
+mod Rows
+mod Walks
+mod Blocks
+mod MethodWalks

@@ -6,6 +6,11 @@ pub mod Faults
 pub mod Variables
 pub mod Labels
 pub mod Making
+pub mod Contexts
 pub mod Resolved
 pub mod Verdicts
 pub mod Worked
+pub mod Sizes
+pub mod GlobalNames
+pub mod KnownNames
+pub mod Walks

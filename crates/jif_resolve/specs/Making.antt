@@ -1,8 +1,7 @@
 -- What the parts of a program are while it is made: labels to which parts are added one by one, and statements before
 -- those that follow them.
-use Rattle.std.specs.Prelude.{◌≡◌, ℕ, ◌+◌, ◌≤◌, List, length, Some, None}
+use Rattle.std.specs.Prelude.{List}
 use Rattle.std.specs.List.{AllZip}
-use Rattle.js_base.specs.declared.limits.TheConstants.{VARIABLES, STATEMENTS}
 use Rattle.principals.specs.ActsFor.{Declared}
 use Rattle.label_lattice.specs.declared.label.Label.{Label}
 use Rattle.label_lattice.specs.Over.{IsLabelOver}
@@ -10,10 +9,8 @@ use Rattle.label_lattice.specs.Written.{Part, KnownPart, IsKnownPart, IsMadeOf}
 use Rattle.jif_tree.specs.declared.program.Stmt.{Stmt}
 use Rattle.jif_tree.specs.declared.program.StmtKind.{StmtKind}
 use Rattle.jif_tree.specs.Trees.{BlockTree, statement_tree}
-use Rattle.jif_grammar.specs.DraftShapes.{Start, BlockShape, end_shape, declaration_shape, assignment_shape}
-use Rattle.jif_grammar.specs.DraftShapes.{element_assignment_shape, branch_shape, loop_shape, call_shape, return_shape}
-use Rattle.jif_resolve.specs.Counts.{locals_in, statements_in, calls_in}
-use Rattle.jif_resolve.specs.Places.{Setting, Place, after_statement, after_call, after_declaration, after_block}
+use Rattle.jif_grammar.specs.DraftShapes.{Start, BlockShape}
+use Rattle.jif_resolve.specs.Places.{Setting, Place}
 use Rattle.jif_resolve.specs.Resolved.{heading_of, IsBlockFor}
 
 -- ---- labels
@@ -31,21 +28,6 @@ pub record IsOfParts (principals : Declared) (parts : List Part) (label : Label)
 abbrev pub no_start : Start
 no_start = record { at = 0; line = 0 }
 
--- the place behind the statements of a block that has not ended
-abbrev pub after_statements : Place → BlockShape → Place
-after_statements place end_shape = place
-after_statements place (declaration_shape start label name value rest) =
-    after_statements (after_declaration place name) rest
-after_statements place (assignment_shape start name value rest) = after_statements (after_statement place) rest
-after_statements place (element_assignment_shape start name index value rest) =
-    after_statements (after_statement place) rest
-after_statements place (branch_shape start guard first second rest) =
-    after_statements (after_block (after_block (after_statement place) first) second) rest
-after_statements place (loop_shape start guard body rest) =
-    after_statements (after_block (after_statement place) body) rest
-after_statements place (call_shape start name args into rest) = after_statements (after_call place) rest
-after_statements place (return_shape start value rest) = after_statements (after_statement place) rest
-
 -- whatever follows it at the next place, a statement of this shape becomes this kind of statement
 abbrev pub IsKindFor : Setting → Place → Place → (Start → BlockShape → BlockShape) → StmtKind → Type 0
 IsKindFor setting place next shape kind =
@@ -58,11 +40,3 @@ IsStatementFor setting place next shape statement =
     (rest : BlockShape) (behind : BlockTree) → IsBlockFor setting next rest behind →
     IsBlockFor setting place (shape rest)
     (statement_tree statement.kind (record { id = statement.id; line = statement.line }) behind)
-
--- ---- limits
-
--- what stands from a place on keeps the limits of a program
-pub record FitsFrom (place : Place) (block : BlockShape) : Type 0 where
-  pub variables : length place.earlier + length (locals_in block) ≤ VARIABLES
-  pub statements : place.statement + statements_in block ≤ STATEMENTS
-  pub sites : place.site + calls_in block ≤ STATEMENTS

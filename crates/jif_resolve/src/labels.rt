@@ -6,7 +6,7 @@ ghost use Rattle.std.specs.Option.{option_map};
 ghost use Rattle.jif_grammar.specs.DraftShapes.{name_shape, policy_shape, label_shape};
 ghost use Rattle.jif_resolve.specs.First.{with_faults};
 ghost use Rattle.jif_resolve.specs.Faults.{principal_faults, principals_faults, policy_faults, trust_faults};
-ghost use Rattle.jif_resolve.specs.Faults.{label_faults};
+ghost use Rattle.jif_resolve.specs.Faults.{label_faults, optional_label_faults};
 
 use crate::fault::{Fault, FaultKind, sooner};
 use jif_tree::{LabelDraft, NameDraft, PolicyDraft};
@@ -94,4 +94,18 @@ pub fn with_label(
 {
     let policies = with_policies(first, &label.policies, principals);
     with_trust(policies, &label.trust, principals)
+}
+
+/// The same for the names of a label, where one is written.
+pub fn with_optional_label(
+    first: Option<Fault>,
+    label: &Option<LabelDraft>,
+    principals: &Principals,
+) -> Option<Fault>
+    ensures { result ≡ with_faults first (optional_label_faults principals.now (option_map label_shape label.now)) }
+{
+    match label {
+        None => first,
+        Some(label) => with_label(first, label, principals),
+    }
 }

@@ -53,7 +53,7 @@ pub fn with_called(
     first: Option<Fault>,
     at: u32,
     keeps: bool,
-    args: u32,
+    args: usize,
     meaning: Option<Meaning>,
 ) -> Option<Fault>
     ensures { result ≡ with_faults first (called_faults at keeps args meaning) }
@@ -66,7 +66,8 @@ pub fn with_called(
         Some(Meaning::Method(_, params, gives)) => {
             let wrong_result = is_other_truth(keeps, gives);
             let first = with_kind_where(first, wrong_result, at, FaultKind::WrongType);
-            with_kind_where(first, args != params, at, FaultKind::WrongCount)
+            let wrong_count = args != params as usize;
+            with_kind_where(first, wrong_count, at, FaultKind::WrongCount)
         }
     }
 }
@@ -79,7 +80,7 @@ fn with_kind(first: Option<Fault>, at: u32, kind: FaultKind) -> Option<Fault>
 }
 
 /// The same, where something is wrong.
-fn with_kind_where(first: Option<Fault>, wrong: bool, at: u32, kind: FaultKind) -> Option<Fault>
+pub fn with_kind_where(first: Option<Fault>, wrong: bool, at: u32, kind: FaultKind) -> Option<Fault>
     ensures { result ≡ with_faults first (fault_where wrong kind at) }
 {
     if wrong {
