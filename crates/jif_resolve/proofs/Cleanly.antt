@@ -1,6 +1,6 @@
 -- What is made of the items of a list one by one, where none of them has a fault.
 use Rattle.std.proofs.Common.{◌≡◌, ℕ, zero, suc, ◌+◌, ◌<◌, List, [], ◌∷◌, ◌++◌, map, length, take, get_or}
-use Rattle.std.proofs.Common.{sym, ap, ◌∙◌, subst, arith}
+use Rattle.std.proofs.Common.{refl, sym, ap, ◌∙◌, subst, arith}
 use Rattle.std.specs.List.{AllZip, flat_map}
 use Rattle.std.proofs.lemmas.List.{take_more, map-append, append_assoc}
 use Rattle.js_base.proofs.Lists.{zip_push}
@@ -66,6 +66,10 @@ pub goes_on : {X : Type 0} (all front back rest : List X) (x : X) → front ++ b
     (front ++ x ∷ []) ++ rest ≡ all
 goes_on all front back rest x whole next =
     append_assoc front (x ∷ []) rest ∙ ap (λ ys. front ++ ys) (sym next) ∙ whole
+
+pub none_left : {X : Type 0} (xs : List X) → length xs ≡ 0 → xs ≡ []
+none_left [] none = refl
+none_left (x ∷ xs) none = absurd (omega (arith, none))
 
 clean_middle : {X Y : Type 0} (shape : X → Y) (faults : Y → List Fault) (front : List X) (x : X) (back : List X) →
     flat_map faults (map shape (front ++ x ∷ back)) ≡ [] → faults (shape x) ≡ []

@@ -258,7 +258,7 @@ clean_parts s head method none =
     (fault_where (s.gives && not (ends_in_return method.body)) WrongType method.name.at)
     (block_faults s (body_place head method) method.body) none
 
-all_labelled : (principals : Declared) (globals : List Global) (before methods : List MethodShape) (count : ℕ) →
+pub all_labelled : (principals : Declared) (globals : List Global) (before methods : List MethodShape) (count : ℕ) →
     methods_faults principals globals before methods ≡ [] →
     flat_map (variable_label_faults principals) (variables_from count methods) ≡ []
 all_labelled principals globals before [] count none = refl

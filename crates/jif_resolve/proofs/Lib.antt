@@ -18,3 +18,6 @@ mod Rows
 mod Walks
 mod Blocks
 mod MethodWalks
+mod Methods
+mod VariableLists
+mod CleanDrafts

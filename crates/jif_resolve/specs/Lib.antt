@@ -14,3 +14,4 @@ pub mod Sizes
 pub mod GlobalNames
 pub mod KnownNames
 pub mod Walks
+pub mod AddedVariables

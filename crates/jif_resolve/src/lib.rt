@@ -14,11 +14,14 @@ mod labels;
 mod laws;
 mod meaning;
 mod method_faults;
+mod method_of;
 mod names;
 mod plain_statements;
+mod program_of;
 mod scope;
 mod statement_faults;
 mod uses;
+mod variables;
 
 pub use fault::{Fault, FaultKind};
 pub use globals::Globals;
