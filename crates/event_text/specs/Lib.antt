@@ -3,3 +3,4 @@ pub mod Lines
 pub mod Numbers
 pub mod Script
 pub mod Settings
+pub mod Start

@@ -7,7 +7,9 @@ mod lines;
 mod numbers;
 mod script;
 mod settings;
+mod start;
 mod words;
 
 pub use event::{BadMessage, BadToken, Event};
 pub use script::{EventsError, Script, read_events};
+pub use start::read_start;
