@@ -7,3 +7,4 @@ pub mod Numbering
 pub mod WellNumbered
 pub mod LabelRules
 pub mod WrittenLabels
+pub mod Limits

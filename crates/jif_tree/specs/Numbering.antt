@@ -1,4 +1,4 @@
--- The numbers of a program's statements and call sites, in the order of the text.
+-- The numbers of a program's statements and call sites, and the lines of its statements, in the order of the text.
 use Rattle.std.specs.Prelude.{◌≡◌, ℕ, List, [], ◌∷◌, ◌++◌, length}
 use Rattle.std.specs.List.{flat_map, range_with_len}
 use Rattle.jif_tree.specs.Trees.{BlockTree, done, set_local, set_field, set_element, branch, loop, call, give_back}
@@ -28,9 +28,25 @@ block_sites (loop heading guard body rest) = block_sites body ++ block_sites res
 block_sites (call heading site method args into rest) = site.0 ∷ block_sites rest
 block_sites (give_back heading value rest) = block_sites rest
 
+-- the lines of the statements of a block, in the same order
+abbrev pub block_lines : BlockTree → List ℕ
+block_lines done = []
+block_lines (set_local heading variable value rest) = heading.line ∷ block_lines rest
+block_lines (set_field heading field value rest) = heading.line ∷ block_lines rest
+block_lines (set_element heading field index value rest) = heading.line ∷ block_lines rest
+block_lines (branch heading guard first second rest) =
+    heading.line ∷ block_lines first ++ block_lines second ++ block_lines rest
+block_lines (loop heading guard body rest) = heading.line ∷ block_lines body ++ block_lines rest
+block_lines (call heading site method args into rest) = heading.line ∷ block_lines rest
+block_lines (give_back heading value rest) = heading.line ∷ block_lines rest
+
 -- the head of each method, and then its statements
 abbrev pub statement_numbers : ProgramTree → List ℕ
 statement_numbers program = flat_map (λ method. method.head.0 ∷ block_statements method.body) program.methods
+
+-- their lines
+abbrev pub statement_lines : ProgramTree → List ℕ
+statement_lines program = flat_map (λ method. method.line ∷ block_lines method.body) program.methods
 
 abbrev pub site_numbers : ProgramTree → List ℕ
 site_numbers program = flat_map (λ method. block_sites method.body) program.methods
