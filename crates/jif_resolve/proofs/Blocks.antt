@@ -14,7 +14,7 @@ use Rattle.jif_tree.specs.declared.program.Stmt.{Stmt}
 use Rattle.jif_tree.specs.declared.program.StmtKind as made_kind
 use Rattle.jif_tree.specs.declared.program.StmtKind.{StmtKind}
 use Rattle.jif_tree.specs.Trees.{Heading, BlockTree, done, branch, loop, expr_tree, statement_tree, block_tree}
-use Rattle.jif_grammar.specs.DraftShapes.{Start, BlockShape, end_shape, branch_shape, loop_shape}
+use Rattle.jif_grammar.specs.DraftShapes.{Start, end_shape, branch_shape, loop_shape}
 use Rattle.jif_grammar.specs.DraftShapes.{label_shape, name_shape, expr_shape, statement_shape, block_shape}
 use Rattle.jif_resolve.specs.Places.{Setting, Place, after_statement, after_block}
 use Rattle.jif_resolve.specs.Faults.{optional_label_faults, local_faults, expr_faults, block_faults}

@@ -122,7 +122,7 @@ fields_are program principals first (field ∷ fields) (tree ∷ trees) all stan
       (tail_stands program.fields first tree trees stands),
 )
 
-length_of_params : (first : ℕ) (params : List ParamShape) → length (param_ids first params) ≡ length params
+pub length_of_params : (first : ℕ) (params : List ParamShape) → length (param_ids first params) ≡ length params
 length_of_params first [] = refl
 length_of_params first (param ∷ params) = ap suc (length_of_params (suc first) params)
 

@@ -188,7 +188,7 @@ counted_first amount method methods =
     let one : counted amount (method ∷ []) ≡ amount method = omega arith in
     sum_by-append amount (method ∷ []) methods ∙ ap (λ n. n + counted amount methods) one
 
-of_statements : (principals : Declared) (globals : List Global) (before methods : List MethodShape)
+pub of_statements : (principals : Declared) (globals : List Global) (before methods : List MethodShape)
     (trees : List MethodTree) → AreMethodsFor principals globals before methods trees →
     flat_map (λ method. method.head.0 ∷ block_statements method.body) trees
     ≡ range_with_len (counted numbered_in before) (counted numbered_in methods)

@@ -1,7 +1,7 @@
 -- Labels to which parts are added one by one.
 use Rattle.std.proofs.Common.{◌≡◌, ℕ, ◌+◌, ◌<◌, List, [], ◌∷◌, ◌++◌, map, length, take, get_or, sym, ap, ◌∙◌}
 use Rattle.std.proofs.Common.{subst}
-use Rattle.std.specs.List.{AllZip, flat_map}
+use Rattle.std.specs.List.{flat_map}
 use Rattle.std.proofs.lemmas.List.{append-nil, map-append}
 use Rattle.js_base.proofs.Lists.{zip_push}
 use Rattle.js_base.specs.declared.ids.PrincipalId.{PrincipalId}
@@ -15,7 +15,7 @@ use Rattle.label_lattice.proofs.PartLemmas.{adds_policy, adds_trust}
 use Rattle.label_lattice.proofs.PartsLoop.{made_of_none, made_of_more}
 use Rattle.jif_tree.specs.declared.draft.PolicyDraft.{PolicyDraft}
 use Rattle.jif_grammar.specs.DraftShapes.{NameShape, PolicyShape, LabelShape, policy_shape}
-use Rattle.jif_resolve.specs.Labels.{texts, policy_part, trust_parts, parts_of, IsLabelFor}
+use Rattle.jif_resolve.specs.Labels.{texts, policy_part, parts_of, IsLabelFor}
 use Rattle.jif_resolve.specs.Faults.{policy_faults, trust_faults, label_faults}
 use Rattle.jif_resolve.specs.Making.{IsOfParts}
 use Rattle.jif_resolve.proofs.Cleanly.{shapes_more}

@@ -22,7 +22,8 @@ local_variables method block = map (local_variable method) (locals_in block)
 
 -- each name in the labels is that of a declared principal
 abbrev pub AreLabelled : Declared → List VariableShape → Type 0
-AreLabelled principals variables = flat_map (λ variable. optional_label_faults principals variable.label) variables ≡ []
+AreLabelled principals variables =
+    flat_map (λ variable. optional_label_faults principals variable.label) variables ≡ []
 
 -- whatever the variables before are, the new ones are these and then those that were added
 abbrev pub AddsVariables : Declared → List VariableShape → List Var → List Var → Type 0

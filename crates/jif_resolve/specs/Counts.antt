@@ -1,8 +1,27 @@
--- How many locals, statements and calls stand in a block, with those in the blocks inside it.
+-- How many nodes an expression has, and how many locals, statements and calls stand in a block, with those in the
+-- blocks inside it.
 use Rattle.std.specs.Prelude.{ℕ, ◌+◌, List, [], ◌∷◌, ◌++◌, Option}
+use Rattle.jif_grammar.specs.DraftShapes.{ExprShape, number_shape, variable_shape, element_shape, complement_shape}
+use Rattle.jif_grammar.specs.DraftShapes.{negation_shape, binary_shape, release_shape, endorsement_shape}
 use Rattle.jif_grammar.specs.DraftShapes.{NameShape, LabelShape, BlockShape, end_shape, declaration_shape}
 use Rattle.jif_grammar.specs.DraftShapes.{assignment_shape, element_assignment_shape, branch_shape, loop_shape}
 use Rattle.jif_grammar.specs.DraftShapes.{call_shape, return_shape}
+
+-- names and numbers, operators, signs, and changes of labels
+abbrev pub nodes_in : ExprShape → ℕ
+nodes_in (number_shape value) = 1
+nodes_in (variable_shape name) = 1
+nodes_in (element_shape name index) = 1 + nodes_in index
+nodes_in (complement_shape operand) = 1 + nodes_in operand
+nodes_in (negation_shape operand) = 1 + nodes_in operand
+nodes_in (binary_shape operator left right) = 1 + nodes_in left + nodes_in right
+nodes_in (release_shape operand label) = 1 + nodes_in operand
+nodes_in (endorsement_shape operand label) = 1 + nodes_in operand
+
+-- of all arguments of a call
+abbrev pub nodes_in_all : List ExprShape → ℕ
+nodes_in_all [] = 0
+nodes_in_all (arg ∷ args) = nodes_in arg + nodes_in_all args
 
 -- a local as it is declared
 pub record LocalShape : Type 0 where

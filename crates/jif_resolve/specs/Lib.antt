@@ -15,3 +15,4 @@ pub mod GlobalNames
 pub mod KnownNames
 pub mod Walks
 pub mod AddedVariables
+pub mod Refusals

@@ -4,7 +4,9 @@ ghost use Rattle.std.specs.Prelude.{◌≡◌, ◌⊎◌, ◌<◌, [], ◌∷◌
 ghost use Rattle.principals.specs.ActsFor.{Declared, IsDeclared};
 ghost use Rattle.jif_tree.specs.Trees.{ProgramTree};
 ghost use Rattle.jif_tree.specs.WellNumbered.{IsWellNumbered};
+ghost use Rattle.jif_lex.specs.declared.token.Token.{Token};
 ghost use Rattle.jif_grammar.specs.DraftShapes.{DraftShape};
+ghost use Rattle.jif_grammar.specs.Programs as grammar;
 ghost use Rattle.jif_resolve.specs.Meanings.{main_of};
 ghost use Rattle.jif_resolve.specs.declared.fault.Fault.{Fault};
 ghost use Rattle.jif_resolve.specs.declared.fault.FaultKind.TheVariants.{UnknownName, Twice, WrongType, WrongCount};
@@ -12,6 +14,7 @@ ghost use Rattle.jif_resolve.specs.Faults.{fault, faults_of};
 ghost use Rattle.jif_resolve.specs.First.{rank, with_faults};
 ghost use Rattle.jif_tree.specs.Numbering.{CountsFrom, statement_numbers, site_numbers};
 ghost use Rattle.jif_resolve.specs.Verdicts.{Refusal, IsRefused, IsProgramOf, HasLabels, IsFirst};
+ghost use Rattle.jif_resolve.specs.Sizes.{IsSized, IsLimited};
 ghost use Rattle.jif_resolve.specs.Worked.{only_alice, used_after_its_block, used_before_it_is_known};
 ghost use Rattle.jif_resolve.specs.Worked.{declared_in_both_blocks, called_badly, calls_itself, variable_names};
 
@@ -42,6 +45,17 @@ pub fn program_laws()
         IsProgramOf principals draft tree → CountsFrom 1 (site_numbers tree) }
     ensures well_numbered { (principals : Declared) (draft : DraftShape) (tree : ProgramTree) →
         IsProgramOf principals draft tree → IsWellNumbered tree }
+{}
+
+/// A draft of the parser keeps the limits that `resolve` asks for.
+pub fn size_laws()
+    ensures { (list : List Token) (draft : DraftShape) → grammar.IsProgramOf list draft → IsSized draft }
+{}
+
+/// What else a draft of the parser keeps: the sizes of its arrays, its elements, the nodes of its statements, and where
+/// a method returns.
+pub fn limit_laws()
+    ensures limited { (list : List Token) (draft : DraftShape) → grammar.IsProgramOf list draft → IsLimited draft }
 {}
 
 /// The fault that is found one by one is the first, and none is found where there is none.

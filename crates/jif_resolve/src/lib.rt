@@ -18,6 +18,8 @@ mod method_of;
 mod names;
 mod plain_statements;
 mod program_of;
+mod resolve_error;
+mod resolver;
 mod scope;
 mod statement_faults;
 mod uses;
@@ -25,5 +27,9 @@ mod variables;
 
 pub use fault::{Fault, FaultKind};
 pub use globals::Globals;
-pub use laws::{first_laws, program_laws, resolve_laws, verdict_laws, worked_laws};
+pub use laws::{
+    first_laws, limit_laws, program_laws, resolve_laws, size_laws, verdict_laws, worked_laws,
+};
 pub use meaning::Meaning;
+pub use resolve_error::ResolveError;
+pub use resolver::resolve;

@@ -1,6 +1,7 @@
 //! Methods with their numbers.
 
-ghost use Rattle.std.specs.Prelude.{◌≡◌, ◌+◌, [], ◌≤◌, if◌then◌else◌, IfOk, OnOk, Some, None, length, map};
+ghost use Rattle.std.specs.Prelude.{◌≡◌, ◌+◌, [], ◌≤◌, if◌then◌else◌, IfOk, OnOk, Some, None};
+ghost use Rattle.std.specs.Prelude.{length, map};
 ghost use Rattle.jif_tree.specs.Trees.{method_tree};
 ghost use Rattle.jif_grammar.specs.DraftShapes.{param_shape, method_shape, MethodShape, DraftShape};
 ghost use Rattle.jif_resolve.specs.Meanings.{has_result};

@@ -1,6 +1,6 @@
 //! The variables of a program: for each method its parameters, its locals, and its result.
 
-ghost use Rattle.std.specs.Prelude.{◌≡◌, ◌<◌, ◌^◌, ◌∷◌, [], Option, Some, IfOk, OnOk, length, map, codes};
+ghost use Rattle.std.specs.Prelude.{◌≡◌, ◌<◌, ◌^◌, ◌∷◌, [], IfOk, OnOk, length, map};
 ghost use Rattle.std.specs.List.{AllZip};
 ghost use Rattle.std.specs.Option.{option_map};
 ghost use Rattle.jif_tree.specs.Trees.{var_tree};
@@ -74,7 +74,11 @@ fn push_local(
 ) -> Result<(), OutOfMemory>
     requires { optional_label_faults principals.now (option_map label_shape written.now) ≡ [] }
     ensures { OnOk result (AddsVariables principals.now
-        (record { method = method; name = (name_shape name.now).text; label = option_map label_shape written.now } ∷ [])
+        (record {
+          method = method;
+          name = (name_shape name.now).text;
+          label = option_map label_shape written.now;
+        } ∷ [])
         variables.old.items variables.new.items) }
 {
     let label = optional_label_of(alloc, written, principals)?;
@@ -153,12 +157,12 @@ fn push_result(
     let Some(written) = written else {
         return Ok(());
     };
-    let label = label_of(alloc, written, principals)?;
+    let label = Some(label_of(alloc, written, principals)?);
     let name = owned_text(alloc, RESULT)?;
     variables.push(Var {
         method,
         name,
-        label: Some(label),
+        label,
     })?;
     Ok(())
 }

@@ -1,7 +1,7 @@
-use Rattle.std.proofs.Common.{ap, refl, sym, ◌∙◌, arith}
+use Rattle.std.proofs.Common.{ap, refl, ◌∙◌, arith}
 use Rattle.std.specs.Option.{option_map}
 use Rattle.std.proofs.lemmas.Result.{IfOk-weaker}
-use Rattle.jif_grammar.specs.DraftShapes.{label_shape, name_shape, expr_shape}
+use Rattle.jif_grammar.specs.DraftShapes.{label_shape}
 use Rattle.jif_resolve.specs.Contexts.{setting_in}
 use Rattle.jif_resolve.specs.KnownNames.{left}
 use Rattle.jif_resolve.proofs.Walks.{one_count, is_if, is_while, if_count, while_count, first_counted, second_counted}

@@ -2,7 +2,8 @@ use Rattle.std.proofs.Common.{◌<◌, arith}
 use Rattle.jif_grammar.specs.DraftShapes.{name_shape, expr_shape, label_shape}
 use Rattle.jif_resolve.specs.Contexts.{setting_in}
 use Rattle.jif_resolve.proofs.Cleanly.{clean_element, clean_binary, clean_labelled}
-use Rattle.jif_resolve.proofs.ExprSizes.{nodes_in, inner_falls, left_falls, right_falls}
+use Rattle.jif_resolve.specs.Counts.{nodes_in}
+use Rattle.jif_resolve.proofs.ExprSizes.{inner_falls, left_falls, right_falls}
 use Rattle.jif_resolve.proofs.expr_of.+expr_of.Goals as goal
 
 pub expr_of-requires : goal.expr_of-requires

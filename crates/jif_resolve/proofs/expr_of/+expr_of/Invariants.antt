@@ -1,5 +1,5 @@
 use Rattle.jif_grammar.specs.DraftShapes.{expr_shape}
-use Rattle.jif_resolve.proofs.ExprSizes.{nodes_in}
+use Rattle.jif_resolve.specs.Counts.{nodes_in}
 use Rattle.jif_resolve.proofs.expr_of.+expr_of.Given as goal
 
 abbrev pub decreases-expr_of : goal.decreases-expr_of

@@ -1,5 +1,5 @@
 use Rattle.std.proofs.Common.{◌≡◌, ◌+◌, length, map, if◌then◌else◌, Some, None, refl, ap, ◌∙◌, arith}
-use Rattle.jif_grammar.specs.DraftShapes.{name_shape, param_shape, method_shape, block_shape}
+use Rattle.jif_grammar.specs.DraftShapes.{param_shape, method_shape, block_shape}
 use Rattle.jif_resolve.specs.Contexts.{setting_in}
 use Rattle.jif_resolve.specs.Faults.{block_faults}
 use Rattle.jif_resolve.specs.Meanings.{has_result}

@@ -1,7 +1,5 @@
 use Rattle.std.proofs.Common.{◌≡◌, length, ◌∙◌, arith}
 use Rattle.jif_grammar.specs.DraftShapes.{method_shape}
-use Rattle.jif_resolve.specs.Contexts.{setting_in}
-use Rattle.jif_resolve.specs.Faults.{setting_of}
 use Rattle.jif_resolve.proofs.Cleanly.{none_left}
 use Rattle.jif_resolve.proofs.MethodWalks.{gives_is}
 use Rattle.jif_resolve.proofs.Methods.{gives_setting, method_clean, next_counted, next_has_room, methods_more}
