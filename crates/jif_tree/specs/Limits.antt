@@ -1,5 +1,5 @@
 -- The limits of programs.
-use Rattle.std.specs.Prelude.{ℕ, ◌≤◌, All, length}
+use Rattle.std.specs.Prelude.{◌≤◌, All, length}
 use Rattle.js_base.specs.declared.limits.TheConstants.{FIELDS, METHODS, PARAMETERS, STATEMENTS}
 use Rattle.jif_tree.specs.Trees.{ProgramTree}
 use Rattle.jif_tree.specs.Numbering.{statement_numbers}

@@ -6,7 +6,7 @@ use Rattle.label_lattice.specs.declared.label.Label.{Label}
 use Rattle.label_lattice.specs.Over.{IsLabelOver}
 use Rattle.jif_tree.specs.Trees.{ExprTree, number, local, scalar, element, inverted, negated, binary, declassified}
 use Rattle.jif_tree.specs.Trees.{endorsed, BlockTree, done, set_local, set_field, set_element, branch, loop}
-use Rattle.jif_tree.specs.Trees.{call, give_back, VarTree, MethodTree, ProgramTree}
+use Rattle.jif_tree.specs.Trees.{call, give_back, MethodTree, ProgramTree}
 
 abbrev pub written_in : ExprTree → List Label
 written_in (number value) = []

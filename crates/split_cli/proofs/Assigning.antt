@@ -1,5 +1,5 @@
 -- A program whose names are resolved has only assignments of numbers to its fields.
-use Rattle.std.proofs.Common.{◌≡◌, ℕ, ◌+◌, pos, List, [], ◌∷◌, length, subst, arith}
+use Rattle.std.proofs.Common.{◌≡◌, ℕ, ◌+◌, pos, List, [], ◌∷◌, length, subst, ap, arith}
 use Rattle.std.specs.Prelude.{All}
 use Rattle.std.proofs.lemmas.List.{length-map}
 use Rattle.std.proofs.lemmas.List.Elements.{All-nil, All-cons}
@@ -8,7 +8,7 @@ use Rattle.std.proofs.lemmas.Slice.Zip.{AllZip-long}
 use Rattle.principals.specs.ActsFor.{Declared}
 use Rattle.jif_tree.specs.declared.program.Program.{Program}
 use Rattle.jif_tree.specs.declared.program.Stmt.{Stmt}
-use Rattle.jif_tree.specs.Assignments.{AssignsNumber, AssignsNumbers}
+use Rattle.jif_tree.specs.Assignments.{assignment_of, AssignsNumber, AssignsNumbers}
 use Rattle.split_cli.specs.ProgramForm.{FieldForm, AssignmentForm}
 use Rattle.split_cli.specs.Resolution.{IsFieldOf, IsStatementOf, AreStatementsOf, IsProgramOf, names_of}
 
@@ -17,7 +17,7 @@ assigns_number : (names : List (List ℕ)) (number : ℕ) (form : AssignmentForm
 assigns_number names number form statement is = record {
   field = is.field;
   value = pos form.value;
-  is = is.kind;
+  is = ap assignment_of is.kind;
   there = slice_get_within names is.field.0 form.field is.known;
 }
 

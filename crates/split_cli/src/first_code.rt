@@ -3,6 +3,7 @@
 ghost use Rattle.std.specs.Prelude.{◌≡◌, ◌+◌, ◌^◌, ◌<◌, [], ◌∷◌, ◌++◌, IfOk, MatchResult};
 ghost use Rattle.std.specs.Prelude.{length, map, replicate};
 ghost use Rattle.std.specs.String.{string_bytes};
+ghost use Rattle.jif_tree.specs.Assignments.{assignment_of};
 ghost use Rattle.jif_tree.specs.SourceRun.{main_body};
 ghost use Rattle.net_world.specs.first.FirstCode.{IsCodeOf, instruction_of, root_part};
 ghost use Rattle.split_cli.specs.FirstCodes.{HaveNoCode};
@@ -10,9 +11,9 @@ ghost use Rattle.split_cli.specs.FirstCodes.{HaveNoCode};
 mod placement;
 
 use host_decl::{HostRow, Hosts};
-use jif_tree::{Expr, Program, Stmt, StmtKind};
+use jif_tree::{Expr, Program, Stmt, StmtKind, negated};
 use js_base::text::owned_text;
-use js_base::{HostId, OutOfMemory, StmtId};
+use js_base::{FieldId, HostId, OutOfMemory, StmtId};
 use net_world::first::code::{Code, Instr, Op, Part};
 use placement::placed_fields;
 use std::alloc::{AllocFailed, Global};
@@ -108,16 +109,30 @@ fn body_part(alloc: Global, body: &[Stmt], head: StmtId) -> Result<Part, OutOfMe
 fn instruction_of(statement: &Stmt) -> Instr
     ensures { result ≡ instruction_of statement.now }
 {
-    let op = match &statement.kind {
-        StmtKind::SetField {
-            field,
-            value: Expr::Number(number),
-        } => Op::Put(*field, *number),
-        _ => Op::Back,
+    let op = match assignment_of(&statement.kind) {
+        Some((field, number)) => Op::Put(field, number),
+        None => Op::Back,
     };
     Instr {
         statement: statement.id,
         op,
+    }
+}
+
+/// The field and the number, where a statement assigns a number or a negated number to a field.
+pub fn assignment_of(what: &StmtKind) -> Option<(FieldId, i64)>
+    ensures { result ≡ assignment_of what.now }
+{
+    let StmtKind::SetField { field, value } = what else {
+        return None;
+    };
+    match value {
+        Expr::Number(number) => Some((*field, *number)),
+        Expr::Negate(operand) => match &**operand {
+            Expr::Number(number) => Some((*field, negated(*number))),
+            _ => None,
+        },
+        _ => None,
     }
 }
 

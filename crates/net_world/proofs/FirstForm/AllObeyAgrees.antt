@@ -5,9 +5,8 @@ use Rattle.js_base.specs.declared.ids.HostId.{HostId}
 use Rattle.js_base.specs.declared.ids.FieldId.{FieldId}
 use Rattle.js_base.specs.declared.ids.RequestId.{RequestId}
 use Rattle.jif_tree.specs.declared.program.Program.{Program}
+use Rattle.jif_tree.specs.Assignments.{assignment_of}
 use Rattle.jif_tree.specs.declared.program.Stmt.{Stmt}
-use Rattle.jif_tree.specs.declared.program.StmtKind.TheVariants.{SetField}
-use Rattle.jif_tree.specs.declared.program.Expr.TheVariants.{Number}
 use Rattle.jif_tree.specs.SourceRun.{main_body, prefix}
 use Rattle.net_world.specs.declared.first.code.Message.{Message}
 use Rattle.net_world.specs.declared.first.code.Message.TheVariants.{Set, Ack}
@@ -76,7 +75,7 @@ pub record Asks (program : Program) (code : CodeShape) (w : World) (n : ℕ) : T
   pub value : ℤ
   pub place : FieldShape
   pub statement_is : slice_get (main_body program) n ≡ Some statement
-  pub kind_is : statement.kind ≡ SetField field (Number value)
+  pub kind_is : assignment_of statement.kind ≡ Some (field, value)
   pub place_is : slice_get code.fields field.0 ≡ Some place
   pub elsewhere : place.host.0 ≢ code.root.0
   pub waits : IsWaiting code w h (n + 1) request place.host

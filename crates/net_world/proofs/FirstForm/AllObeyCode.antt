@@ -1,15 +1,13 @@
 -- What the code of a program has at the root and at its fields.
-use Rattle.std.proofs.Common.{◌≡◌, ℕ, ◌<◌, ◌≤◌, ℤ, List, [], length, ap, sym, subst, ◌∙◌, arith, Some}
+use Rattle.std.proofs.Common.{◌≡◌, ℕ, ◌<◌, ◌≤◌, ℤ, List, [], length, ap, sym, subst, ◌∙◌, arith, Some, Option}
 use Rattle.std.specs.Prelude.{slice_get, unwrap_or}
 use Rattle.std.proofs.lemmas.List.{length-map}
 use Rattle.js_base.specs.declared.ids.HostId.{HostId}
 use Rattle.js_base.specs.declared.ids.FieldId.{FieldId}
 use Rattle.jif_tree.specs.declared.program.Program.{Program}
 use Rattle.jif_tree.specs.declared.program.Stmt.{Stmt}
-use Rattle.jif_tree.specs.declared.program.StmtKind.TheVariants.{SetField}
-use Rattle.jif_tree.specs.declared.program.Expr.TheVariants.{Number}
 use Rattle.jif_tree.specs.SourceRun.{main_body}
-use Rattle.jif_tree.specs.Assignments.{AssignsNumber}
+use Rattle.jif_tree.specs.Assignments.{assignment_of, AssignsNumber}
 use Rattle.net_world.specs.declared.first.code.Op.TheVariants.{Back}
 use Rattle.net_world.specs.first.Code.{CodeShape, FieldShape, part_of, instruction}
 use Rattle.host_decl.specs.Hosts.{HostShape, HostsShape, names_of}
@@ -18,9 +16,12 @@ use Rattle.net_world.specs.first.AllObey.{IsSet}
 use Rattle.net_world.proofs.FirstForm.AllObeyLists.{get-from_All, get_has, get_within, length-zip, zip_at, get-map_push}
 use Rattle.net_world.proofs.FirstForm.AllObeyLists.{get-map_end}
 
-one_field : (first second : FieldId) (value other : ℤ) →
-    SetField first (Number value) ≡ SetField second (Number other) → first ≡ second
-one_field first second value other same = cc
+one_field : (found : Option (FieldId × ℤ)) (first second : FieldId) (value other : ℤ) →
+    found ≡ Some (first, value) → found ≡ Some (second, other) → first ≡ second
+one_field found first second value other is same =
+    let one : FieldId × ℤ = (first, value) in
+    let two : FieldId × ℤ = (second, other) in
+    let pairs : one ≡ two = cc in ap (λ (pair : FieldId × ℤ). pair.0) pairs
 
 module _ {program : Program} {file : HostsShape} {code : CodeShape} {store : List (List ℤ)}
     (set : IsSet program file code store) where
@@ -68,10 +69,10 @@ module _ {program : Program} {file : HostsShape} {code : CodeShape} {store : Lis
 
   -- a statement's field is in the code
   pub field_there : (n : ℕ) (s : Stmt) (field : FieldId) (value : ℤ) → slice_get (main_body program) n ≡ Some s →
-      s.kind ≡ SetField field (Number value) → (there : FieldShape) × (slice_get code.fields field.0 ≡ Some there)
+      assignment_of s.kind ≡ Some (field, value) → (there : FieldShape) × (slice_get code.fields field.0 ≡ Some there)
   field_there n s field value there kind =
       let sets = assigned n s there in
-      let same : field ≡ sets.field = one_field field sets.field value sets.value (sym kind ∙ sets.is) in
+      let same : field ≡ sets.field = one_field (assignment_of s.kind) field sets.field value sets.value kind sets.is in
       let lt : field.0 < length program.fields.items =
       subst (λ (f : FieldId). f.0 < length program.fields.items) (sym same) sets.there in
       let count = length-zip (IsPlaced file.hosts) program.fields.items code.fields set.code_is.fields in

@@ -7,9 +7,8 @@ use Rattle.std.proofs.lemmas.Option.{slice_get_within}
 use Rattle.js_base.specs.declared.ids.HostId.{HostId}
 use Rattle.js_base.specs.declared.ids.FieldId.{FieldId}
 use Rattle.jif_tree.specs.declared.program.Program.{Program}
+use Rattle.jif_tree.specs.Assignments.{assignment_of}
 use Rattle.jif_tree.specs.declared.program.Stmt.{Stmt}
-use Rattle.jif_tree.specs.declared.program.StmtKind.TheVariants.{SetField}
-use Rattle.jif_tree.specs.declared.program.Expr.TheVariants.{Number}
 use Rattle.jif_tree.specs.Store.{store_after_write}
 use Rattle.jif_tree.specs.SourceRun.{main_body, prefix}
 use Rattle.net_world.specs.declared.first.code.Message.{Message}
@@ -40,7 +39,7 @@ module _ {program : Program} {file : HostsShape} {code : CodeShape} {store : Lis
   -- the root set a field of its own
   turn_here : (r : Runs code w n) →
       (s : Stmt) (field : FieldId) (value : ℤ) (place : FieldShape) → slice_get (main_body program) n ≡ Some s →
-      s.kind ≡ SetField field (Number value) → slice_get code.fields field.0 ≡ Some place →
+      assignment_of s.kind ≡ Some (field, value) → slice_get code.fields field.0 ≡ Some place →
       place.host.0 ≡ code.root.0 →
       Agrees program code store (after_step w code.root (after_turn code code.root r.h)) (suc n)
   turn_here r s field value place there kind at here =
@@ -85,7 +84,7 @@ module _ {program : Program} {file : HostsShape} {code : CodeShape} {store : Lis
   -- the root asked another host to set a field
   turn_there : (r : Runs code w n) →
       (s : Stmt) (field : FieldId) (value : ℤ) (place : FieldShape) → slice_get (main_body program) n ≡ Some s →
-      s.kind ≡ SetField field (Number value) → slice_get code.fields field.0 ≡ Some place →
+      assignment_of s.kind ≡ Some (field, value) → slice_get code.fields field.0 ≡ Some place →
       place.host.0 ≢ code.root.0 →
       Agrees program code store (after_step w code.root (after_turn code code.root r.h)) n
   turn_there r s field value place there kind at elsewhere =

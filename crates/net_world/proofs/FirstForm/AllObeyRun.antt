@@ -7,12 +7,13 @@ use Rattle.js_base.specs.declared.ids.FieldId.{FieldId}
 use Rattle.jif_tree.specs.declared.program.Program.{Program}
 use Rattle.jif_tree.specs.declared.program.Stmt.{Stmt}
 use Rattle.jif_tree.specs.declared.program.StmtKind.{StmtKind}
-use Rattle.jif_tree.specs.declared.program.StmtKind.TheVariants.{SetField}
-use Rattle.jif_tree.specs.declared.program.Expr.TheVariants.{Number}
+use Rattle.jif_tree.specs.declared.program.StmtKind as kind
+use Rattle.jif_tree.specs.declared.program.Expr as expr
+use Rattle.jif_tree.specs.Operators.{negation}
 use Rattle.jif_tree.specs.Store.{store_after_write}
 use Rattle.jif_tree.specs.SourceRun.{Configuration, Item, run, value_of, operands, executed, after_item, after_steps}
 use Rattle.jif_tree.specs.SourceRun.{main_body, configuration_at_start, prefix, HasLength}
-use Rattle.jif_tree.specs.Assignments.{AssignsNumber, AssignsNumbers}
+use Rattle.jif_tree.specs.Assignments.{assignment_of, AssignsNumber, AssignsNumbers}
 
 -- a statement is there, or all statements were done
 pub statement_cases : (body : List Stmt) (n : ℕ) → n ≤ length body →
@@ -39,10 +40,58 @@ abbrev after_kind : Program → Configuration → Stmt → StmtKind → List Ite
 after_kind program c s kind behind =
     executed program c 0 (run 0 s) kind (map (value_of c 0) (operands kind)) behind
 
+written_pair : (c : Configuration) (behind : List Item) (first second : FieldId × ℤ) → first ≡ second →
+    record c { store = store_after_write c.store first.0.0 (pos 0) first.1; pending = behind }
+    ≡ record c { store = store_after_write c.store second.0.0 (pos 0) second.1; pending = behind }
+written_pair c behind first second same =
+    ap (λ (pair : FieldId × ℤ).
+    record c { store = store_after_write c.store pair.0.0 (pos 0) pair.1; pending = behind }) same
+
+-- an assignment writes its number, and goes on behind
+executed_assignment : (program : Program) (c : Configuration) (s : Stmt) (what : StmtKind) (behind : List Item)
+    (field : FieldId) (value : ℤ) → assignment_of what ≡ Some (field, value) →
+    after_kind program c s what behind
+    ≡ record c { store = store_after_write c.store field.0 (pos 0) value; pending = behind }
+executed_assignment program c s (kind.SetField f (expr.Number n)) behind field value is =
+    let found : FieldId × ℤ = (f, n) in
+    let assigned : FieldId × ℤ = (field, value) in
+    let same : found ≡ assigned = cc in written_pair c behind found assigned same
+executed_assignment program c s (kind.SetField f (expr.Negate' p (expr.Number n))) behind field value is =
+    let found : FieldId × ℤ = (f, negation n) in
+    let assigned : FieldId × ℤ = (field, value) in
+    let same : found ≡ assigned = cc in written_pair c behind found assigned same
+executed_assignment program c s (kind.Let _ _) behind field value is = absurd (cc)
+executed_assignment program c s (kind.SetField f (expr.Local _)) behind field value is = absurd (cc)
+executed_assignment program c s (kind.SetField f (expr.Scalar _)) behind field value is = absurd (cc)
+executed_assignment program c s (kind.SetField f (expr.Element' _ _ _)) behind field value is = absurd (cc)
+executed_assignment program c s (kind.SetField f (expr.Not' _ _)) behind field value is = absurd (cc)
+executed_assignment program c s (kind.SetField f (expr.Negate' p (expr.Local _))) behind field value is = absurd (cc)
+executed_assignment program c s (kind.SetField f (expr.Negate' p (expr.Scalar _))) behind field value is = absurd (cc)
+executed_assignment program c s (kind.SetField f (expr.Negate' p (expr.Element' _ _ _))) behind field value is =
+    absurd (cc)
+executed_assignment program c s (kind.SetField f (expr.Negate' p (expr.Not' _ _))) behind field value is = absurd (cc)
+executed_assignment program c s (kind.SetField f (expr.Negate' p (expr.Negate' _ _))) behind field value is =
+    absurd (cc)
+executed_assignment program c s (kind.SetField f (expr.Negate' p (expr.Binary' _ _ _ _ _))) behind field value is =
+    absurd (cc)
+executed_assignment program c s (kind.SetField f (expr.Negate' p (expr.Declassify' _ _ _))) behind field value is =
+    absurd (cc)
+executed_assignment program c s (kind.SetField f (expr.Negate' p (expr.Endorse' _ _ _))) behind field value is =
+    absurd (cc)
+executed_assignment program c s (kind.SetField f (expr.Binary' _ _ _ _ _)) behind field value is = absurd (cc)
+executed_assignment program c s (kind.SetField f (expr.Declassify' _ _ _)) behind field value is = absurd (cc)
+executed_assignment program c s (kind.SetField f (expr.Endorse' _ _ _)) behind field value is = absurd (cc)
+executed_assignment program c s (kind.SetElement _ _ _) behind field value is = absurd (cc)
+executed_assignment program c s (kind.If' _ _ _ _ _) behind field value is = absurd (cc)
+executed_assignment program c s (kind.While' _ _ _) behind field value is = absurd (cc)
+executed_assignment program c s (kind.Call _ _ _ _) behind field value is = absurd (cc)
+executed_assignment program c s (kind.Return _) behind field value is = absurd (cc)
+
 executed_pending : (program : Program) (c : Configuration) (s : Stmt) (fields : ℕ) (behind : List Item) →
     AssignsNumber fields s.kind → (after_kind program c s s.kind behind).pending ≡ behind
 executed_pending program c s fields behind assigns =
-    ap (λ kind. (after_kind program c s kind behind).pending) assigns.is
+    ap (λ after. after.pending)
+    (executed_assignment program c s s.kind behind assigns.field assigns.value assigns.is)
 
 -- each of the statements assigns a number
 abbrev AllAssign : ℕ → List Stmt → Type 0
@@ -79,13 +128,14 @@ pending_after program store n assigns =
     assigns.statements refl
 
 executed_store : (program : Program) (c : Configuration) (s : Stmt) (behind : List Item) (field : FieldId)
-    (value : ℤ) → s.kind ≡ SetField field (Number value) →
+    (value : ℤ) → assignment_of s.kind ≡ Some (field, value) →
     (after_kind program c s s.kind behind).store ≡ store_after_write c.store field.0 (pos 0) value
-executed_store program c s behind field value is = ap (λ kind. (after_kind program c s kind behind).store) is
+executed_store program c s behind field value is =
+    ap (λ after. after.store) (executed_assignment program c s s.kind behind field value is)
 
 -- the n-th step executes the n-th statement
 pub store_after : (program : Program) (store : List (List ℤ)) (n : ℕ) (s : Stmt) (field : FieldId) (value : ℤ) →
-    AssignsNumbers program → slice_get (main_body program) n ≡ Some s → s.kind ≡ SetField field (Number value) →
+    AssignsNumbers program → slice_get (main_body program) n ≡ Some s → assignment_of s.kind ≡ Some (field, value) →
     (prefix program store (suc n)).store ≡ store_after_write (prefix program store n).store field.0 (pos 0) value
 store_after program store n s field value assigns there is =
     let pending = pending_after program store n assigns ∙ ap (map (run 0)) (drop_at (main_body program) n s there) in

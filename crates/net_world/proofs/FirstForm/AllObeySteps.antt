@@ -7,15 +7,14 @@ use Rattle.js_base.specs.declared.ids.HostId.{HostId}
 use Rattle.js_base.specs.declared.ids.FieldId.{FieldId}
 use Rattle.js_base.specs.declared.ids.RequestId.{RequestId}
 use Rattle.jif_tree.specs.declared.program.StmtKind.{StmtKind}
-use Rattle.jif_tree.specs.declared.program.StmtKind.TheVariants.{SetField}
-use Rattle.jif_tree.specs.declared.program.Expr.TheVariants.{Number}
+use Rattle.jif_tree.specs.Assignments.{assignment_of}
 use Rattle.jif_tree.specs.Store.{store_after_write}
 use Rattle.net_world.specs.declared.first.code.Instr.{Instr}
 use Rattle.net_world.specs.declared.first.code.Message.TheVariants.{Set, Ack}
 use Rattle.net_world.specs.declared.first.host.Thread.{Thread}
 use Rattle.net_world.specs.declared.first.host.Waiting.{Waiting}
 use Rattle.net_world.specs.first.Code.{CodeShape, FieldShape, instruction, is_on, is_field_on}
-use Rattle.net_world.specs.first.FirstCode.{op_of}
+use Rattle.net_world.specs.first.FirstCode.{op_of, put_of}
 use Rattle.net_world.specs.first.HostTable.{HostState, without_message_sent, awaits, after_answer, after_taking, thread_after}
 use Rattle.net_world.specs.first.HostTable.{next_request, after_asking, after_put, same_token, top, after_giving_back}
 use Rattle.net_world.specs.first.HostTable.{after_operation, after_running, after_turn_by, after_turn, halt_token, halt_entry}
@@ -30,18 +29,18 @@ turned_at code me h thread i running is = ap (after_turn_by code me h) running �
 
 -- an assignment to a field of this host
 pub put_here : (code : CodeShape) (me : HostId) (h : HostState) (thread : Thread) (kind : StmtKind)
-    (field : FieldId) (value : ℤ) (there : FieldShape) → kind ≡ SetField field (Number value) →
+    (field : FieldId) (value : ℤ) (there : FieldShape) → assignment_of kind ≡ Some (field, value) →
     slice_get code.fields field.0 ≡ Some there →
     there.host.0 ≡ me.0 → after_operation code me h thread (op_of kind)
     ≡ without_message_sent (record h
     { rows = store_after_write h.rows field.0 (pos 0) value; running = Some (thread_after thread) })
 put_here code me h thread kind field value there is at here =
-    ap (λ k. after_operation code me h thread (op_of k)) is ∙ ap (after_put me h thread field value) at
+    ap (λ assigned. after_operation code me h thread (put_of assigned)) is ∙ ap (after_put me h thread field value) at
     ∙ cond-true (there.host.0 == me.0) _ _ (eq-eqb there.host.0 me.0 here)
 
 -- an assignment to a field of another host
 pub put_there : (code : CodeShape) (me : HostId) (h : HostState) (thread : Thread) (kind : StmtKind)
-    (field : FieldId) (value : ℤ) (there : FieldShape) → kind ≡ SetField field (Number value) →
+    (field : FieldId) (value : ℤ) (there : FieldShape) → assignment_of kind ≡ Some (field, value) →
     slice_get code.fields field.0 ≡ Some there →
     there.host.0 ≢ me.0 → after_operation code me h thread (op_of kind)
     ≡ record {
@@ -50,7 +49,7 @@ pub put_there : (code : CodeShape) (me : HostId) (h : HostState) (thread : Threa
           Some (there.host, Set (next_request h thread) field (pos 0) value);
     }
 put_there code me h thread kind field value there is at elsewhere =
-    ap (λ k. after_operation code me h thread (op_of k)) is ∙ ap (after_put me h thread field value) at
+    ap (λ assigned. after_operation code me h thread (put_of assigned)) is ∙ ap (after_put me h thread field value) at
     ∙ cond-false (there.host.0 == me.0) _ _ (ne_eqb there.host.0 me.0 elsewhere)
 
 same_halt_token : (root : HostId) → same_token (halt_token root) (halt_token root) ≡ true

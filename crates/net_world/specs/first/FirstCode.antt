@@ -1,9 +1,10 @@
 -- The code of a program whose `main` assigns numbers to fields: all statements are on the first host, which is the
 -- root, and each field is on the first host that may hold it.
-use Rattle.std.specs.Prelude.{◌≡◌, ℕ, ◌-◌, ◌<◌, List, [], ◌∷◌, ◌++◌, length, map, take, All}
+use Rattle.std.specs.Prelude.{◌≡◌, ℕ, ◌-◌, ◌<◌, ℤ, List, [], ◌∷◌, ◌++◌, length, map, take, All}
 use Rattle.std.specs.Prelude.{replicate, Option, Some}
 use Rattle.std.specs.Prelude.{None, IsSomeAnd, slice_get, string_bytes}
 use Rattle.std.specs.List.{AllZip, AllByRecursion}
+use Rattle.js_base.specs.declared.ids.FieldId.{FieldId}
 use Rattle.js_base.specs.declared.ids.StmtId.{StmtId}
 use Rattle.label_lattice.specs.declared.label.Label.{Label}
 use Rattle.label_lattice.specs.Label.{ConfFlows, IntegFlows}
@@ -12,9 +13,8 @@ use Rattle.jif_tree.specs.declared.program.Field.{Field}
 use Rattle.jif_tree.specs.declared.program.Method.{Method}
 use Rattle.jif_tree.specs.declared.program.Stmt.{Stmt}
 use Rattle.jif_tree.specs.declared.program.StmtKind.{StmtKind}
-use Rattle.jif_tree.specs.declared.program.StmtKind.TheVariants.{SetField}
-use Rattle.jif_tree.specs.declared.program.Expr.TheVariants.{Number}
 use Rattle.jif_tree.specs.SourceRun.{main_body}
+use Rattle.jif_tree.specs.Assignments.{assignment_of}
 use Rattle.net_world.specs.declared.first.code.Instr.{Instr}
 use Rattle.net_world.specs.declared.first.code.Op.{Op}
 use Rattle.net_world.specs.declared.first.code.Op.TheVariants.{Put, Back}
@@ -49,10 +49,13 @@ pub record IsPlaced (hosts : List HostShape) (field : Field) (placed : FieldShap
   pub name : placed.name ≡ string_bytes field.name
   pub host : IsFirstHolder hosts field.label placed.host.0
 
+abbrev pub put_of : Option (FieldId × ℤ) → Op
+put_of (Some assigned) = Put assigned.0 assigned.1
+put_of None = Back
+
 -- Only an assignment of a number to a field has an operation here, and no other statement is in these programs.
 abbrev pub op_of : StmtKind → Op
-op_of (SetField field (Number n)) = Put field n
-op_of _ = Back
+op_of what = put_of (assignment_of what)
 
 -- a statement is one instruction
 abbrev pub instruction_of : Stmt → Instr
