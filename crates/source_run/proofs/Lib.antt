@@ -4,3 +4,8 @@ pub mod Places
 pub mod Agreement
 pub mod Steps
 pub mod OwnCells
+pub mod TreeRuns
+pub mod Lengths
+pub mod BehindItems
+pub mod OneChange
+pub mod ItemOrigins

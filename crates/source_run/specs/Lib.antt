@@ -6,3 +6,7 @@ pub mod Variables
 pub mod Machine
 pub mod Shapes
 pub mod Runs
+pub mod Alike
+pub mod Behind
+pub mod Changes
+pub mod Origins

@@ -4,6 +4,7 @@
 mod calls;
 mod cells;
 mod frames;
+mod laws;
 mod machine;
 mod plain;
 mod tasks;
@@ -12,4 +13,5 @@ mod tests;
 mod values;
 mod windows;
 
+pub use laws::{behind_laws, change_laws, origin_laws, run_laws};
 pub use plain::{RunEnd, run};
