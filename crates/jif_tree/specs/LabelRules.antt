@@ -244,7 +244,7 @@ block_labels setting pc labels (set_element heading field index value rest) =
       parts = part_labels setting pc labels index ++ part_labels setting pc labels value;
       constraints = expr_constraints setting pc labels index ++ expr_constraints setting pc labels value
           ++ flow_of pc (join_of (expr_label setting pc labels index) (expr_label setting pc labels value))
-              (field_label setting.program field) ∷ [];
+          (field_label setting.program field) ∷ [];
     } ∷ block_labels setting pc labels rest
 block_labels setting pc labels (branch heading guard first second rest) =
     let inside = guarded setting pc labels guard in

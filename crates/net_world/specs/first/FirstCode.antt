@@ -1,6 +1,7 @@
 -- The code of a program whose `main` assigns numbers to fields: all statements are on the first host, which is the
 -- root, and each field is on the first host that may hold it.
-use Rattle.std.specs.Prelude.{◌≡◌, ℕ, ◌-◌, ◌<◌, ℤ, List, [], ◌∷◌, ◌++◌, length, map, take, All}
+use Rattle.std.specs.Prelude.{◌≡◌, ℕ, ◌-◌, ◌<◌, ℤ, List}
+use Rattle.std.specs.Prelude.{[], ◌∷◌, ◌++◌, length, map, take, All}
 use Rattle.std.specs.Prelude.{replicate, Option, Some}
 use Rattle.std.specs.Prelude.{None, IsSomeAnd, slice_get, string_bytes}
 use Rattle.std.specs.List.{AllZip, AllByRecursion}
