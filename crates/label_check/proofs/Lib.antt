@@ -1,0 +1,7 @@
+pub mod Failures
+pub mod Releases
+pub mod Asked
+pub mod Arguments
+pub mod Exits
+pub mod Passing
+pub mod Sizes

@@ -1,0 +1,5 @@
+use Rattle.label_check.proofs.Failures.{one_failure, none_fails}
+use Rattle.label_check.proofs.laws.failure_laws.Goals as goal
+
+pub returns : goal.returns
+returns c = record { one_failure = one_failure; none_fails = none_fails }

@@ -1,0 +1,4 @@
+pub mod Checking
+pub mod Parts
+pub mod Places
+pub mod RuleExamples

@@ -1,0 +1,130 @@
+-- Some programs of Alice, to see what the rules of labels ask for and in which order.
+use Rattle.std.specs.Prelude.{ℕ, ◌-◌, ◌^◌, pos, false, List, [], ◌∷◌, Option, Some, None, codes}
+use Rattle.js_base.specs.declared.bits.TheConstants.{WORD_BITS}
+use Rattle.js_base.specs.declared.binary_operator.BinOp.TheVariants.{Equal}
+use Rattle.js_base.specs.declared.ids.FieldId.{FieldId}
+use Rattle.js_base.specs.declared.ids.VarId.{VarId}
+use Rattle.js_base.specs.declared.ids.PrincipalId.{PrincipalId}
+use Rattle.principals.specs.ActsFor.{Declared, outsider}
+use Rattle.label_lattice.specs.declared.label.Label.{Label}
+use Rattle.label_lattice.specs.Lattice.{first_bits, empty_label, bottom_of, join_of}
+use Rattle.jif_tree.specs.Trees.{Heading, ExprTree, number, scalar, binary, declassified, BlockTree, done, set_field}
+use Rattle.jif_tree.specs.Trees.{branch, call, FieldTree, VarTree, MethodTree, ProgramTree}
+use Rattle.jif_tree.specs.LabelRules.{Constraint, may_release, trusted, may_begin, may_flow, Obligation, crossed}
+
+abbrev pub only_alice : Declared
+only_alice = record { names = codes "Alice" ∷ []; pairs = [] }
+
+abbrev pub alice : PrincipalId
+alice = record { 0 = 0 }
+
+-- Alice forbids the outsider, and nobody trusts: `{Alice: Alice}`
+abbrev pub secret : Label
+secret = record { rows = (first_bits WORD_BITS - 2 ^ outsider) ∷ []; trust = 0 }
+
+-- the same, trusted by Alice
+abbrev pub trusted_secret : Label
+trusted_secret = record { rows = (first_bits WORD_BITS - 2 ^ outsider) ∷ []; trust = 2 ^ 0 }
+
+abbrev field : List ℕ → Label → FieldTree
+field name label = record { name = name; label = label; size = 1; array = false; first = pos 0 }
+
+abbrev at : ℕ → Heading
+at place = record { id = record { 0 = place }; line = 1 }
+
+-- `main` alone, over a field `a` of this label and a field `q` of the label `{}`
+abbrev program_of : Label → List PrincipalId → BlockTree → ProgramTree
+program_of label authority body = record {
+  fields = field (codes "a") label ∷ field (codes "q") empty_label ∷ [];
+  vars = [];
+  methods = record {
+    name = codes "main";
+    begin = empty_label;
+    params = [];
+    result = None;
+    authority = authority;
+    head = record { 0 = 0 };
+    line = 1;
+    body = body;
+  } ∷ [];
+  main = record { 0 = 0 };
+}
+
+abbrev a : FieldId
+a = record { 0 = 0 }
+
+abbrev q : FieldId
+q = record { 0 = 1 }
+
+-- `if (a == 1) { q = 1; }`
+abbrev pub guarded_assignment : ProgramTree
+guarded_assignment = program_of secret []
+    (branch (at 1) (binary Equal (scalar a) (number (pos 1))) (set_field (at 2) q (number (pos 1)) done) done done)
+
+-- `q = declassify(a, {});` by the authority of Alice
+abbrev pub released_assignment : ProgramTree
+released_assignment =
+    program_of trusted_secret (alice ∷ []) (set_field (at 1) q (declassified (scalar a) empty_label) done)
+
+abbrev asks : ℕ → Constraint → Obligation
+asks statement constraint = record { statement = record { 0 = statement }; constraint = constraint }
+
+-- the flow at the second statement, from the guard
+abbrev pub guarded_flow : Obligation
+guarded_flow =
+    let guard = join_of secret (bottom_of only_alice) in
+    asks 2 (may_flow (join_of (bottom_of only_alice) (join_of empty_label guard)) empty_label)
+
+-- the program label of the release, which nobody trusts
+abbrev pub release_trust : Obligation
+release_trust = asks 1 (trusted (alice ∷ []) empty_label)
+
+-- the authority to release, the trust of who releases, and then the flow of what is released
+abbrev pub release_asks : List Obligation
+release_asks =
+    let released = crossed (join_of empty_label empty_label) trusted_secret in
+    asks 1 (may_release (alice ∷ []) trusted_secret empty_label) ∷ release_trust
+    ∷ asks 1 (may_flow (join_of released empty_label) empty_label) ∷ []
+
+abbrev variable : ℕ → List ℕ → Label → VarTree
+variable method name label = record { method = record { 0 = method }; name = name; label = Some label }
+
+-- `y = sum(declassify(a, {}), 1);` in `main`, where `sum` has the parameters `x` and `z`, and a result
+abbrev pub released_argument : ProgramTree
+released_argument = record {
+  fields = field (codes "a") trusted_secret ∷ [];
+  vars = variable 0 (codes "x") empty_label ∷ variable 0 (codes "z") secret ∷ variable 0 (codes "return") secret
+      ∷ variable 1 (codes "y") trusted_secret ∷ [];
+  methods = record {
+    name = codes "sum";
+    begin = secret;
+    params = record { 0 = 0 } ∷ record { 0 = 1 } ∷ [];
+    result = Some (record { 0 = 2 });
+    authority = [];
+    head = record { 0 = 0 };
+    line = 1;
+    body = done;
+  } ∷ record {
+    name = codes "main";
+    begin = empty_label;
+    params = [];
+    result = None;
+    authority = alice ∷ [];
+    head = record { 0 = 1 };
+    line = 2;
+    body = call (at 2) (record { 0 = 1 }) (record { 0 = 0 })
+        (declassified (scalar a) empty_label ∷ number (pos 1) ∷ []) (Some (record { 0 = 3 })) done;
+  } ∷ [];
+  main = record { 0 = 1 };
+}
+
+-- what the arguments ask for, the begin label, the arguments from the left, and the result
+abbrev pub call_asks_for : List Obligation
+call_asks_for =
+    asks 2 (may_release (alice ∷ []) trusted_secret empty_label)
+    ∷ asks 2 (trusted (alice ∷ []) empty_label)
+    ∷ asks 2 (may_begin empty_label secret)
+    ∷ asks 2 (may_flow (join_of (crossed (join_of empty_label empty_label) trusted_secret) empty_label) empty_label)
+    ∷ asks 2 (may_flow (join_of (bottom_of only_alice) empty_label) secret)
+    ∷ asks 2 (may_flow (join_of secret empty_label) trusted_secret)
+    ∷ []
