@@ -5,3 +5,4 @@ pub mod Arguments
 pub mod Exits
 pub mod Passing
 pub mod Sizes
+pub mod LabelOrder

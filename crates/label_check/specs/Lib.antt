@@ -2,3 +2,4 @@ pub mod Checking
 pub mod Parts
 pub mod Places
 pub mod RuleExamples
+pub mod RuleLaws

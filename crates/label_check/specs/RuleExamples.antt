@@ -1,15 +1,14 @@
 -- Some programs of Alice, to see what the rules of labels ask for and in which order.
-use Rattle.std.specs.Prelude.{ℕ, ◌-◌, ◌^◌, pos, false, List, [], ◌∷◌, Option, Some, None, codes}
+use Rattle.std.specs.Prelude.{ℕ, ◌-◌, ◌^◌, pos, false, List, [], ◌∷◌, Some, None, codes}
 use Rattle.js_base.specs.declared.bits.TheConstants.{WORD_BITS}
 use Rattle.js_base.specs.declared.binary_operator.BinOp.TheVariants.{Equal}
 use Rattle.js_base.specs.declared.ids.FieldId.{FieldId}
-use Rattle.js_base.specs.declared.ids.VarId.{VarId}
 use Rattle.js_base.specs.declared.ids.PrincipalId.{PrincipalId}
 use Rattle.principals.specs.ActsFor.{Declared, outsider}
 use Rattle.label_lattice.specs.declared.label.Label.{Label}
 use Rattle.label_lattice.specs.Lattice.{first_bits, empty_label, bottom_of, join_of}
-use Rattle.jif_tree.specs.Trees.{Heading, ExprTree, number, scalar, binary, declassified, BlockTree, done, set_field}
-use Rattle.jif_tree.specs.Trees.{branch, call, FieldTree, VarTree, MethodTree, ProgramTree}
+use Rattle.jif_tree.specs.Trees.{Heading, number, scalar, binary, declassified, BlockTree, done, set_field}
+use Rattle.jif_tree.specs.Trees.{branch, call, FieldTree, VarTree, ProgramTree}
 use Rattle.jif_tree.specs.LabelRules.{Constraint, may_release, trusted, may_begin, may_flow, Obligation, crossed}
 
 abbrev pub only_alice : Declared
@@ -71,9 +70,9 @@ asks statement constraint = record { statement = record { 0 = statement }; const
 
 -- the flow at the second statement, from the guard
 abbrev pub guarded_flow : Obligation
-guarded_flow =
-    let guard = join_of secret (bottom_of only_alice) in
-    asks 2 (may_flow (join_of (bottom_of only_alice) (join_of empty_label guard)) empty_label)
+guarded_flow = asks 2
+    (may_flow
+    (join_of (bottom_of only_alice) (join_of empty_label (join_of secret (bottom_of only_alice)))) empty_label)
 
 -- the program label of the release, which nobody trusts
 abbrev pub release_trust : Obligation
@@ -82,9 +81,9 @@ release_trust = asks 1 (trusted (alice ∷ []) empty_label)
 -- the authority to release, the trust of who releases, and then the flow of what is released
 abbrev pub release_asks : List Obligation
 release_asks =
-    let released = crossed (join_of empty_label empty_label) trusted_secret in
     asks 1 (may_release (alice ∷ []) trusted_secret empty_label) ∷ release_trust
-    ∷ asks 1 (may_flow (join_of released empty_label) empty_label) ∷ []
+    ∷ asks 1 (may_flow (join_of (crossed (join_of empty_label empty_label) trusted_secret) empty_label) empty_label)
+    ∷ []
 
 abbrev variable : ℕ → List ℕ → Label → VarTree
 variable method name label = record { method = record { 0 = method }; name = name; label = Some label }

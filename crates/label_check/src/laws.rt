@@ -3,8 +3,17 @@
 ghost use Rattle.std.specs.Prelude.{◌≡◌, List, [], ◌∷◌, All};
 ghost use Rattle.principals.specs.ActsFor.{Declared};
 ghost use Rattle.jif_tree.specs.LabelRules.{Obligation, Meets, IsFirstFailure, obligations};
+ghost use Rattle.label_lattice.specs.declared.label.Label.{Label};
+ghost use Rattle.label_lattice.specs.Label.{Flows};
+ghost use Rattle.label_lattice.specs.Over.{IsLabelOver};
+ghost use Rattle.jif_tree.specs.Trees.{ExprTree, BlockTree};
+ghost use Rattle.jif_tree.specs.LabelRules.{MethodSetting, VariableLabels, expr_label, block_labels};
+ghost use Rattle.jif_tree.specs.WrittenLabels.{written_in, written_in_block};
+ghost use Rattle.label_check.specs.RuleLaws.{AreNamedOver, read_in};
 ghost use Rattle.label_check.specs.RuleExamples.{only_alice, guarded_assignment, guarded_flow, released_assignment};
 ghost use Rattle.label_check.specs.RuleExamples.{release_asks, release_trust, released_argument, call_asks_for};
+
+use label_lattice::label_laws;
 
 /// Of a list of obligations one fails first at most, and none where all are met.
 pub fn failure_laws()
@@ -13,6 +22,23 @@ pub fn failure_laws()
     ensures none_fails { (principals : Declared) (all : List Obligation) (failed : Obligation) →
         All (Meets principals) all → ¬ IsFirstFailure principals all failed }
 {}
+
+/// Laws of the rules, where all labels are labels over the declared principals.
+pub fn label_rule_laws()
+    // The program label of a block flows to that of each statement in it, also in the blocks inside it.
+    ensures above { (setting : MethodSetting) (pc : Label) (labels : VariableLabels) (block : BlockTree) →
+        IsLabelOver setting.principals pc → AreNamedOver setting labels →
+        All (IsLabelOver setting.principals) (written_in_block block) →
+        All (λ one. Flows pc one.pc) (block_labels setting pc labels block) }
+    // The label of each field, array and variable that is read in an expression flows to the label of the expression,
+    // but for what is released or endorsed.
+    ensures read { (setting : MethodSetting) (pc : Label) (labels : VariableLabels) (expr : ExprTree) →
+        IsLabelOver setting.principals pc → AreNamedOver setting labels →
+        All (IsLabelOver setting.principals) (written_in expr) →
+        All (λ label. Flows label (expr_label setting pc labels expr)) (read_in setting labels expr) }
+{
+    label_laws();
+}
 
 /// What some programs ask for, in order.
 pub fn rule_examples()

@@ -16,4 +16,4 @@ mod variables;
 
 pub use check_error::CheckError;
 pub use checker::check;
-pub use laws::{failure_laws, rule_examples};
+pub use laws::{failure_laws, label_rule_laws, rule_examples};
