@@ -1,3 +1,4 @@
+mod Authorities
 mod Begun
 mod Blocks
 mod CleanDrafts

@@ -1,6 +1,6 @@
 //! Laws of names, for whoever resolves programs. The calls do nothing.
 
-ghost use Rattle.std.specs.Prelude.{◌≡◌, ◌⊎◌, ◌<◌, [], ◌∷◌, Some, None, codes, List};
+ghost use Rattle.std.specs.Prelude.{◌≡◌, ◌⊎◌, ◌<◌, [], ◌∷◌, Some, None, codes, length, All, List};
 ghost use Rattle.principals.specs.ActsFor.{Declared, IsDeclared};
 ghost use Rattle.jif_tree.specs.Trees.{ProgramTree};
 ghost use Rattle.jif_tree.specs.WellNumbered.{IsWellNumbered};
@@ -34,7 +34,7 @@ pub fn verdict_laws()
 {}
 
 /// A draft has one program. Its statements and call sites are numbered in the order of the text, and each number in it
-/// stands for something of the right kind.
+/// stands for something of the right kind. The principals of each authority are declared, as the label check asks.
 pub fn program_laws()
     ensures one_program { (principals : Declared) (draft : DraftShape) (first second : ProgramTree) →
         IsDeclared principals → IsProgramOf principals draft first → IsProgramOf principals draft second →
@@ -45,6 +45,9 @@ pub fn program_laws()
         IsProgramOf principals draft tree → CountsFrom 1 (site_numbers tree) }
     ensures well_numbered { (principals : Declared) (draft : DraftShape) (tree : ProgramTree) →
         IsProgramOf principals draft tree → IsWellNumbered tree }
+    ensures authorities { (principals : Declared) (draft : DraftShape) (tree : ProgramTree) →
+        IsProgramOf principals draft tree →
+        All (λ method. All (λ member. member.0 < length principals.names) method.authority) tree.methods }
 {}
 
 /// A draft of the parser keeps the limits that `resolve` asks for.

@@ -1,3 +1,4 @@
+use Rattle.jif_resolve.proofs.Authorities.{authorities}
 use Rattle.jif_resolve.proofs.OneProgram.{one_program}
 use Rattle.jif_resolve.proofs.Numbers.{statements_counted, sites_counted}
 use Rattle.jif_resolve.proofs.WellNumbered.{well_numbered}
@@ -9,4 +10,5 @@ returns c = record {
   statements = statements_counted;
   sites = sites_counted;
   well_numbered = well_numbered;
+  authorities = authorities;
 }
