@@ -1,4 +1,5 @@
 pub mod Failures
+pub mod Causes
 pub mod Releases
 pub mod Asked
 pub mod Arguments

@@ -1,26 +1,35 @@
 //! Laws of the label check, for whoever reasons about refusals. The call does nothing.
 
-ghost use Rattle.std.specs.Prelude.{◌≡◌, List, [], ◌∷◌, All};
+ghost use Rattle.std.specs.Prelude.{◌≡◌, ◌≢◌, List, [], ◌∷◌, All};
 ghost use Rattle.principals.specs.ActsFor.{Declared};
-ghost use Rattle.jif_tree.specs.LabelRules.{Obligation, Meets, IsFirstFailure, obligations};
+ghost use Rattle.jif_tree.specs.LabelRules.{Obligation, Meets, IsFirstFailure, IsWellLabelled, obligations};
 ghost use Rattle.label_lattice.specs.declared.label.Label.{Label};
 ghost use Rattle.label_lattice.specs.Label.{Flows};
 ghost use Rattle.label_lattice.specs.Over.{IsLabelOver};
-ghost use Rattle.jif_tree.specs.Trees.{ExprTree, BlockTree};
+ghost use Rattle.jif_tree.specs.Trees.{ExprTree, BlockTree, ProgramTree};
 ghost use Rattle.jif_tree.specs.LabelRules.{MethodSetting, VariableLabels, expr_label, block_labels};
 ghost use Rattle.jif_tree.specs.WrittenLabels.{written_in, written_in_block};
+ghost use Rattle.label_check.specs.Checking.{IsRefusedFor};
+ghost use Rattle.label_check.specs.declared.check_error.CheckError.{CheckError};
+ghost use Rattle.label_check.specs.declared.check_error.CheckError.TheVariants as error;
 ghost use Rattle.label_check.specs.RuleLaws.{AreNamedOver, read_in};
 ghost use Rattle.label_check.specs.RuleExamples.{only_alice, guarded_assignment, guarded_flow, released_assignment};
 ghost use Rattle.label_check.specs.RuleExamples.{release_asks, release_trust, released_argument, call_asks_for};
 
 use label_lattice::label_laws;
 
-/// Of a list of obligations one fails first at most, and none where all are met.
+/// Of a list of obligations one fails first at most, and none where all are met. So a program is refused for one cause
+/// at most, and for none where it is well labelled. That memory ran out is no cause here.
 pub fn failure_laws()
     ensures one_failure { (principals : Declared) (all : List Obligation) (first second : Obligation) →
         IsFirstFailure principals all first → IsFirstFailure principals all second → first ≡ second }
     ensures none_fails { (principals : Declared) (all : List Obligation) (failed : Obligation) →
         All (Meets principals) all → ¬ IsFirstFailure principals all failed }
+    ensures one_refusal { (principals : Declared) (program : ProgramTree) (first second : CheckError) →
+        IsRefusedFor principals program first → IsRefusedFor principals program second →
+        first ≢ error.OutOfMemory → second ≢ error.OutOfMemory → first ≡ second }
+    ensures never_both { (principals : Declared) (program : ProgramTree) (why : CheckError) →
+        IsWellLabelled principals program → IsRefusedFor principals program why → why ≡ error.OutOfMemory }
 {}
 
 /// Laws of the rules, where all labels are labels over the declared principals.

@@ -8,13 +8,19 @@ ghost use Rattle.source_run.specs.Alike.{RunAlike};
 ghost use Rattle.source_run.specs.Behind.{with_behind};
 ghost use Rattle.source_run.specs.Changes.{ChangesByOne};
 ghost use Rattle.source_run.specs.Origins.{HaveOrigins};
+ghost use Rattle.source_run.specs.Runs.{RunsTo};
+ghost use Rattle.source_run.specs.declared.plain.RunEnd.{RunEnd};
 
-/// Programs with the same tree run alike, and a run has one length at most.
+/// Programs with the same tree run alike, and a run has one length at most. What `run` answers, and the store that it
+/// leaves, are determined by the program, the starting values and the steps, but for want of memory.
 pub fn run_laws()
     ensures same_runs { (program other : Program) → program_tree program ≡ program_tree other →
         RunAlike program other }
     ensures one_length { (program : Program) (store : List (List ℤ)) (m n : ℕ) →
         HasLength program store m → HasLength program store n → m ≡ n }
+    ensures one_answer { (program : Program) (start : List (List ℤ)) (steps : ℕ) (first second : RunEnd)
+        (one other : List (List ℤ)) → RunsTo program start steps first one →
+        RunsTo program start steps second other → (first ≡ second) × (one ≡ other) }
 {}
 
 /// What is pending behind other items is left alone until these are done: until then each step is one of a run of these

@@ -1,9 +1,10 @@
 //! The machine that runs a program: what is left to do, and the frames of the calls that have something left to do.
 
-ghost use Rattle.std.specs.Prelude.{◌≡◌, ◌↔◌, IfOk, IsTrue, OnOk, OnErr, List, ℕ, ℤ, []};
+ghost use Rattle.std.specs.Prelude.{◌≡◌, ◌↔◌, if◌then◌else◌, IfOk, IsTrue, OnOk, OnErr, List, ℕ, ℤ, [], ◌∷◌};
 ghost use Rattle.js_base.specs.declared.ids.VarId.{VarId};
 ghost use Rattle.jif_tree.specs.declared.program.Expr.{Expr};
 ghost use Rattle.jif_tree.specs.Operators.{is_true};
+ghost use Rattle.jif_tree.specs.SourceRun.{method_at, params_of};
 ghost use Rattle.jif_tree.specs.Store.{store_after_write};
 ghost use Rattle.source_run.specs.Cells.{value_in};
 ghost use Rattle.source_run.specs.Values.{value_with};
@@ -11,8 +12,6 @@ ghost use Rattle.source_run.specs.Frames.{cells_at, with_variable, returns_at};
 ghost use Rattle.source_run.specs.Machine.{tasks_of, frames_after_return, with_block, run_all};
 ghost use Rattle.source_run.specs.Windows.{with_cells, blank_of};
 ghost use Rattle.source_run.specs.declared.cells.Cell.{Cell};
-ghost use Rattle.std.specs.Prelude.{if◌then◌else◌, ◌∷◌};
-ghost use Rattle.jif_tree.specs.SourceRun.{method_at, params_of};
 
 use crate::calls::{body_of, frame_of_call, result_of, target_of};
 use crate::frames::Frame;
