@@ -20,3 +20,7 @@ pub mod FirstVerdict
 pub mod Rows
 pub mod Values
 pub mod Widths
+pub mod PrintedSizes
+pub mod PrintedTexts
+pub mod PrintedStatements
+pub mod PrintedMethods

@@ -11,3 +11,7 @@ pub mod Parsing
 pub mod Statements
 pub mod Widths
 pub mod Words
+pub mod PrintedNames
+pub mod PrintedExprs
+pub mod PrintedProgram
+pub mod PrintedBlocks

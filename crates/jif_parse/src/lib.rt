@@ -17,9 +17,11 @@ mod operands;
 mod operators;
 mod parse_error;
 mod parser;
+mod printed;
 mod starts;
 mod statements;
 mod words;
 
 pub use parse_error::ParseError;
 pub use parser::parse;
+pub use printed::program_text;

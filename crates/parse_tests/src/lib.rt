@@ -8,6 +8,8 @@ mod drafts;
 #[cfg(test)]
 mod limits;
 #[cfg(test)]
+mod printed;
+#[cfg(test)]
 mod rules;
 #[cfg(test)]
 mod told;
