@@ -20,7 +20,12 @@ pub mod FirstVerdict
 pub mod Rows
 pub mod Values
 pub mod Widths
+pub mod PrintedPieces
+pub mod PrintedKinds
 pub mod PrintedSizes
 pub mod PrintedTexts
+pub mod PrintedApart
 pub mod PrintedStatements
 pub mod PrintedMethods
+pub mod PrintedPhrases
+pub mod PrintedSpelled

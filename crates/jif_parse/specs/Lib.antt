@@ -15,3 +15,5 @@ pub mod PrintedNames
 pub mod PrintedExprs
 pub mod PrintedProgram
 pub mod PrintedBlocks
+pub mod PrintedBack
+pub mod PrintedExamples

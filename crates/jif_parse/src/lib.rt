@@ -24,4 +24,4 @@ mod words;
 
 pub use parse_error::ParseError;
 pub use parser::parse;
-pub use printed::program_text;
+pub use printed::{program_text, program_text_laws};

@@ -6,11 +6,13 @@ ghost use Rattle.jif_tree.specs.Trees.{program_tree, field_tree};
 ghost use Rattle.jif_parse.specs.PrintedProgram.{printed_program, field_text};
 
 mod exprs;
+mod laws;
 mod methods;
 mod names;
 mod operators;
 mod statements;
 
+pub use crate::printed::laws::program_text_laws;
 use crate::printed::methods::methods_text;
 use crate::printed::names::Names;
 use jif_tree::{Field, Program};

@@ -1,0 +1,11 @@
+use Rattle.std.proofs.Common.{refl}
+use Rattle.label_lattice.specs.Lattice.{empty_label}
+use Rattle.jif_parse.proofs.PrintedKinds.{program_kinds}
+use Rattle.jif_parse.proofs.PrintedApart.{program_apart}
+use Rattle.jif_parse.proofs.PrintedPhrases.{program_grouped}
+use Rattle.jif_parse.proofs.PrintedSpelled.{program_spelled}
+use Rattle.jif_parse.proofs.printed.laws.program_text_laws.Goals as goal
+
+pub returns : goal.returns
+unfolding empty_label
+returns c = record { worked = refl }
