@@ -29,3 +29,7 @@ pub mod PrintedStatements
 pub mod PrintedMethods
 pub mod PrintedPhrases
 pub mod PrintedSpelled
+pub mod PrintedLabels
+pub mod PrintedBackExprs
+pub mod PrintedLists
+pub mod PrintedBackBlocks

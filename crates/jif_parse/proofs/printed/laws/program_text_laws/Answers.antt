@@ -4,6 +4,9 @@ use Rattle.jif_parse.proofs.PrintedKinds.{program_kinds}
 use Rattle.jif_parse.proofs.PrintedApart.{program_apart}
 use Rattle.jif_parse.proofs.PrintedPhrases.{program_grouped}
 use Rattle.jif_parse.proofs.PrintedSpelled.{program_spelled}
+use Rattle.jif_parse.proofs.PrintedLabels.{label_back}
+use Rattle.jif_parse.proofs.PrintedBackExprs.{expr_back}
+use Rattle.jif_parse.proofs.PrintedBackBlocks.{names_at}
 use Rattle.jif_parse.proofs.printed.laws.program_text_laws.Goals as goal
 
 pub returns : goal.returns
