@@ -33,3 +33,4 @@ pub mod PrintedLabels
 pub mod PrintedBackExprs
 pub mod PrintedLists
 pub mod PrintedBackBlocks
+pub mod PrintedBackMethods

@@ -31,7 +31,7 @@ use Rattle.jif_resolve.specs.Places.{Setting, Place, Known, known_variable, loca
 use Rattle.jif_resolve.specs.Places.{after_statement, after_call, after_declaration, after_block}
 use Rattle.jif_resolve.specs.Faults.{fault_where, label_faults, optional_label_faults, local_faults, variable_faults}
 use Rattle.jif_resolve.specs.Faults.{array_faults, keeper_faults, called_faults, same_truth, into_faults, is_kept}
-use Rattle.jif_resolve.specs.Faults.{call_faults, expr_faults, block_faults}
+use Rattle.jif_resolve.specs.Faults.{call_faults, expr_faults, block_faults, ends_in_return}
 use Rattle.jif_resolve.specs.Resolved.{variable_tree, array_of, local_of, method_of, assignment_tree, IsExprFor}
 use Rattle.jif_resolve.specs.Resolved.{heading_of, into_tree, IsBlockFor}
 use Rattle.jif_resolve.specs.Sizes.{HasNoReturn, ReturnsLast}
@@ -319,6 +319,7 @@ pub record BlockBack (g : Given) (p : Place) (n : ℕ) (b : BlockShape) (tree : 
   pub names : local_names fresh ≡ local_names b
   pub statements : statements_in fresh ≡ statements_in b
   pub calls : calls_in fresh ≡ calls_in b
+  pub ends : ends_in_return fresh ≡ ends_in_return b
 
 -- the phrases of a block are that block again, wherever they stand
 pub record BlockMade (g : Given) (p : Place) (n : ℕ) (b : BlockShape) (tree : BlockTree) : Type 0 where
@@ -412,10 +413,10 @@ low_test v n less = grind (arith, nat_tests)
 high_test : (v n : ℕ) → n ≤ v → nat_lt v n ≡ false
 high_test v n more = grind (arith, nat_tests)
 
-three_joined : {X : Type 0} (xs ys zs : List X) → xs ≡ [] → ys ≡ [] → zs ≡ [] → xs ++ ys ++ zs ≡ []
+pub three_joined : {X : Type 0} (xs ys zs : List X) → xs ≡ [] → ys ≡ [] → zs ≡ [] → xs ++ ys ++ zs ≡ []
 three_joined xs ys zs one two three = none_joined (xs ++ ys) zs (none_joined xs ys one two) three
 
-four_joined : {X : Type 0} (xs ys zs ws : List X) → xs ≡ [] → ys ≡ [] → zs ≡ [] → ws ≡ [] → xs ++ ys ++ zs ++ ws ≡ []
+pub four_joined : {X : Type 0} (xs ys zs ws : List X) → xs ≡ [] → ys ≡ [] → zs ≡ [] → ws ≡ [] → xs ++ ys ++ zs ++ ws ≡ []
 four_joined xs ys zs ws one two three four = none_joined (xs ++ ys ++ zs) ws (three_joined xs ys zs one two three) four
 
 assigned_back : (g : Given) (p : Place) (n : ℕ) (start : Start) (name : NameShape) (value : ExprShape) (rest : BlockShape)
@@ -455,6 +456,7 @@ assigned_back g p n start name value rest x r tree names named e after (Some (se
             names = back.names;
             statements = ap (λ k. 1 + k) back.statements;
             calls = back.calls;
+            ends = back.ends;
           }));
     })
 assigned_back g p n start name value rest x r tree names named e after (Some (sense.Plain f)) means made =
@@ -482,6 +484,7 @@ assigned_back g p n start name value rest x r tree names named e after (Some (se
             names = back.names;
             statements = ap (λ k. 1 + k) back.statements;
             calls = back.calls;
+            ends = back.ends;
           });
     })
 assigned_back g p n start name value rest x r tree names named e after (Some (sense.Array f)) means made = absurd cc
@@ -494,7 +497,7 @@ place_after : (p : Place) (at : ℕ) (name : NameShape) (printed : List ℕ) →
     after_declaration p (name_at at printed) ≡ after_declaration p name
 place_after p at name printed same = ap (λ t. after_declaration p (name_at at t)) same
 
-local_clean : (g : Given) (p : Place) (at : ℕ) (name : NameShape) (printed : List ℕ) → printed ≡ name.text →
+pub local_clean : (g : Given) (p : Place) (at : ℕ) (name : NameShape) (printed : List ℕ) → printed ≡ name.text →
     local_faults g.s p name ≡ [] → local_faults (new g) p (name_at at printed) ≡ []
 local_clean g p at name printed same none =
     let test : List Global → List ℕ → Bool =
@@ -565,6 +568,7 @@ declared_back g p n start written name value rest x r n_is there named free e af
             names = ap (λ t. t ∷ local_names left) same ∙ ap (λ ts. name.text ∷ ts) back.names;
             statements = ap (λ k. 1 + k) back.statements;
             calls = back.calls;
+            ends = back.ends;
           }));
     }
 
@@ -750,6 +754,7 @@ branch_back g p n mid aft start guard first second rest test one other behind e 
                 rb.names;
             statements = omega (arith, fb.statements, tb.statements, rb.statements);
             calls = omega (arith, fb.calls, tb.calls, rb.calls);
+            ends = rb.ends;
           }) in
           subst (λ ph. BlockBack g p n b tree (block_at lines at ph result)) phrases whole);
     }
@@ -797,6 +802,7 @@ loop_back g p n aft start guard body rest test one behind e one_none aft_is made
             names = names_joined (locals_in front) (locals_in body) (locals_in left) (locals_in rest) fb.names rb.names;
             statements = omega (arith, fb.statements, rb.statements);
             calls = omega (arith, fb.calls, rb.calls);
+            ends = rb.ends;
           } in
           subst (λ ph. BlockBack g p n b tree (block_at lines at ph result)) phrases whole);
     }
@@ -831,6 +837,7 @@ call_back g p n start name args None rest m values None r names named keeps meth
             names = back.names;
             statements = ap (λ k. 1 + k) back.statements;
             calls = ap (λ k. 1 + k) back.calls;
+            ends = back.ends;
           });
     }
 call_back g p n start name args (Some into) rest m values kept r names named keeps method each long after =
@@ -872,6 +879,7 @@ call_back g p n start name args (Some into) rest m values kept r names named kee
                 names = back.names;
                 statements = ap (λ k. 1 + k) back.statements;
                 calls = ap (λ k. 1 + k) back.calls;
+                ends = back.ends;
               });
         })
 
@@ -880,3 +888,270 @@ zip_long R [] [] all = refl
 zip_long R [] (y ∷ ys) all = absurd all
 zip_long R (x ∷ xs) [] all = absurd all
 zip_long R (x ∷ xs) (y ∷ ys) all = ap suc (zip_long R xs ys all.1)
+
+-- ---- blocks
+
+-- what holds at a place, before the statements of a block
+pub record Stands (g : Given) (p : Place) (n : ℕ) (b : BlockShape) (tree : BlockTree) : Type 0 where
+  pub reach : n ≡ p.first + length p.earlier
+  pub known : KnownAre (naming_of g) n p.known
+  pub locals : LocalsAre (naming_of g) n (locals_in b)
+  pub named : IsNamedBlockShape b
+  pub returns : ReturnsLast b
+  pub clean : block_faults g.s p b ≡ []
+  pub is : IsBlockFor g.s p b tree
+
+pub block_back : (g : Given) (p : Place) (n : ℕ) (b : BlockShape) (tree : BlockTree) → Stands g p n b tree →
+    BlockMade g p n b tree
+block_back g p n end_shape tree stands =
+    let Q : BlockTree → Type 0 = λ t. BlockMade g p n end_shape t in
+    subst Q (sym stands.is) (record {
+      seen = omega arith;
+      named = tt;
+      result = tt;
+      back = λ lines at last. record {
+        again = done;
+        is = refl;
+        same = refl;
+        clean = refl;
+        locals = tt;
+        names = refl;
+        statements = refl;
+        calls = refl;
+        ends = refl;
+      };
+    })
+block_back g p n (declaration_shape start written name value rest) tree stands =
+    let naming : Naming = naming_of g in
+    let x = stands.is.0 in
+    let r = stands.is.1 in
+    let v : VarId = next_variable p in
+    let faults = none_in_four (optional_label_faults g.s.principals written) (local_faults g.s p name)
+    (expr_faults g.s p value) (block_faults g.s (after_declaration p name) rest) stands.clean in
+    let names = names_at naming n g.s p g.globals stands.known in
+    let e = expr_back g.laws g.s g.declared g.others g.same g.program n p names value x stands.named.1 stands.is.3 in
+    let there : IsVariableAt naming v.0 name.text written =
+    subst (λ k. IsVariableAt naming k name.text written) stands.reach stands.locals.0 in
+    let long : length (p.earlier ++ name.text ∷ []) ≡ length p.earlier + length (name.text ∷ []) =
+    length-append p.earlier (name.text ∷ []) in
+    let after = block_back g (after_declaration p name) (suc v.0) rest r (record {
+      reach = omega (arith, long);
+      known = (
+        (name_there naming v name.text written there, omega arith),
+        known_later naming n (suc v.0) p.known (omega (arith, stands.reach)) stands.known,
+      );
+      locals = subst (λ k. LocalsAre naming k (locals_in rest)) (ap suc stands.reach) stands.locals.1;
+      named = stands.named.2;
+      returns = stands.returns;
+      clean = faults.3;
+      is = stands.is.4;
+    }) in
+    let Q : BlockTree → Type 0 = λ t. BlockMade g p n (declaration_shape start written name value rest) t in
+    subst Q (sym stands.is.2)
+    (declared_back g p n start written name value rest x r stands.reach there stands.named.0 faults.1 e after)
+block_back g p n (assignment_shape start name value rest) tree stands =
+    let naming : Naming = naming_of g in
+    let x = stands.is.0 in
+    let r = stands.is.1 in
+    let faults = none_in_three (variable_faults name.at (meaning_at g.s p name.text)) (expr_faults g.s p value)
+    (block_faults g.s (after_statement p) rest) stands.clean in
+    let names = names_at naming n g.s p g.globals stands.known in
+    let e = expr_back g.laws g.s g.declared g.others g.same g.program n p names value x stands.named.1 stands.is.3 in
+    let after = block_back g (after_statement p) n rest r (record {
+      reach = stands.reach;
+      known = stands.known;
+      locals = stands.locals;
+      named = stands.named.2;
+      returns = stands.returns;
+      clean = faults.2;
+      is = stands.is.4;
+    }) in
+    assigned_back g p n start name value rest x r tree names stands.named.0 e after (meaning_at g.s p name.text) refl
+    stands.is.2
+block_back g p n (element_assignment_shape start name index value rest) tree stands =
+    let naming : Naming = naming_of g in
+    let f = stands.is.0 in
+    let i = stands.is.1 in
+    let x = stands.is.2 in
+    let r = stands.is.3 in
+    let faults = none_in_four (array_faults name.at (meaning_at g.s p name.text)) (expr_faults g.s p index)
+    (expr_faults g.s p value) (block_faults g.s (after_statement p) rest) stands.clean in
+    let names = names_at naming n g.s p g.globals stands.known in
+    let own = array_back g.s g.others g.same naming n p names name.text f stands.named.0 (meaning_at g.s p name.text) refl
+    stands.is.5 in
+    let at_index =
+    expr_back g.laws g.s g.declared g.others g.same g.program n p names index i stands.named.1 stands.is.6 in
+    let e = expr_back g.laws g.s g.declared g.others g.same g.program n p names value x stands.named.2 stands.is.7 in
+    let after = block_back g (after_statement p) n rest r (record {
+      reach = stands.reach;
+      known = stands.known;
+      locals = stands.locals;
+      named = stands.named.3;
+      returns = stands.returns;
+      clean = faults.3;
+      is = stands.is.8;
+    }) in
+    let Q : BlockTree → Type 0 = λ t. BlockMade g p n (element_assignment_shape start name index value rest) t in
+    subst Q (sym stands.is.4) (record {
+      seen = after.seen;
+      named = (own.named, at_index.named, e.named, after.named);
+      result = after.result;
+      back = λ lines at last.
+          (let value_place : ℕ = at + 4 + expr_width (expr_phrase naming i) in
+          let back = after.back lines (value_place + 1 + expr_width (expr_phrase naming x)) last in
+          record {
+            again = set_element (heading_of p (start_at lines at)) f i x back.again;
+            is = (f, i, x, back.again, refl, own.is, at_index.is (at + 2), e.is value_place, back.is);
+            same = ap (λ t. set_element (without_line (heading_of p start)) f i x t) back.same;
+            clean = four_joined _ _ _ _ (own.clean at) (at_index.clean (at + 2)) (e.clean value_place) back.clean;
+            locals = back.locals;
+            names = back.names;
+            statements = ap (λ k. 1 + k) back.statements;
+            calls = back.calls;
+            ends = back.ends;
+          });
+    })
+block_back g p n (branch_shape start guard first second rest) tree stands =
+    let naming : Naming = naming_of g in
+    let test = stands.is.0 in
+    let one = stands.is.1 in
+    let other_block = stands.is.2 in
+    let behind = stands.is.3 in
+    let inside = after_statement p in
+    let between = after_block inside first in
+    let faults = none_in_four (expr_faults g.s p guard) (block_faults g.s inside first)
+    (block_faults g.s between second) (block_faults g.s (after_block between second) rest) stands.clean in
+    let names = names_at naming n g.s p g.globals stands.known in
+    let e = expr_back g.laws g.s g.declared g.others g.same g.program n p names guard test stands.named.0 stands.is.5 in
+    let fronts = locals_front naming n (locals_in first ++ locals_in second) (locals_in rest) stands.locals in
+    let backs = locals_behind naming n (locals_in first ++ locals_in second) (locals_in rest) stands.locals in
+    let made = block_back g inside n first one (record {
+      reach = stands.reach;
+      known = stands.known;
+      locals = locals_front naming n (locals_in first) (locals_in second) fronts;
+      named = stands.named.1;
+      returns = nested_last first stands.returns.0;
+      clean = faults.1;
+      is = stands.is.6;
+    }) in
+    let mid : ℕ = seen_behind n one in
+    let also = block_back g between mid second other_block (record {
+      reach = made.seen ∙ ap (λ k. k + length (locals_in first)) stands.reach ∙ sym (reach_after inside first);
+      known = known_later naming n mid p.known (omega (arith, made.seen)) stands.known;
+      locals = subst (λ k. LocalsAre naming k (locals_in second)) (sym made.seen)
+          (locals_behind naming n (locals_in first) (locals_in second) fronts);
+      named = stands.named.2;
+      returns = nested_last second stands.returns.1;
+      clean = faults.2;
+      is = stands.is.7;
+    }) in
+    let aft : ℕ = seen_behind mid other_block in
+    let long : length (locals_in first ++ locals_in second) ≡ length (locals_in first) + length (locals_in second) =
+    length-append (locals_in first) (locals_in second) in
+    let after = block_back g (after_block between second) aft rest behind (record {
+      reach = also.seen ∙ ap (λ k. k + length (locals_in second)) (made.seen
+          ∙ ap (λ k. k + length (locals_in first)) stands.reach ∙ sym (reach_after inside first))
+          ∙ sym (reach_after between second);
+      known = known_later naming n aft p.known (omega (arith, made.seen, also.seen)) stands.known;
+      locals = subst (λ k. LocalsAre naming k (locals_in rest)) (omega (arith, made.seen, also.seen, long)) backs;
+      named = stands.named.3;
+      returns = stands.returns.2;
+      clean = faults.3;
+      is = stands.is.8;
+    }) in
+    let Q : BlockTree → Type 0 = λ t. BlockMade g p n (branch_shape start guard first second rest) t in
+    subst Q (sym stands.is.4)
+    (branch_back g p n mid aft start guard first second rest test one other_block behind e
+    (none_of g.s inside first one stands.returns.0 stands.is.6)
+    (none_of g.s between second other_block stands.returns.1 stands.is.7) refl refl made also after)
+block_back g p n (loop_shape start guard body rest) tree stands =
+    let naming : Naming = naming_of g in
+    let test = stands.is.0 in
+    let one = stands.is.1 in
+    let behind = stands.is.2 in
+    let inside = after_statement p in
+    let faults = none_in_three (expr_faults g.s p guard) (block_faults g.s inside body)
+    (block_faults g.s (after_block inside body) rest) stands.clean in
+    let names = names_at naming n g.s p g.globals stands.known in
+    let e = expr_back g.laws g.s g.declared g.others g.same g.program n p names guard test stands.named.0 stands.is.4 in
+    let made = block_back g inside n body one (record {
+      reach = stands.reach;
+      known = stands.known;
+      locals = locals_front naming n (locals_in body) (locals_in rest) stands.locals;
+      named = stands.named.1;
+      returns = nested_last body stands.returns.0;
+      clean = faults.1;
+      is = stands.is.5;
+    }) in
+    let aft : ℕ = seen_behind n one in
+    let after = block_back g (after_block inside body) aft rest behind (record {
+      reach = made.seen ∙ ap (λ k. k + length (locals_in body)) stands.reach ∙ sym (reach_after inside body);
+      known = known_later naming n aft p.known (omega (arith, made.seen)) stands.known;
+      locals = subst (λ k. LocalsAre naming k (locals_in rest)) (sym made.seen)
+          (locals_behind naming n (locals_in body) (locals_in rest) stands.locals);
+      named = stands.named.2;
+      returns = stands.returns.1;
+      clean = faults.2;
+      is = stands.is.6;
+    }) in
+    let Q : BlockTree → Type 0 = λ t. BlockMade g p n (loop_shape start guard body rest) t in
+    subst Q (sym stands.is.3)
+    (loop_back g p n aft start guard body rest test one behind e
+    (none_of g.s inside body one stands.returns.0 stands.is.5) refl made after)
+block_back g p n (call_shape start name args into rest) tree stands =
+    let naming : Naming = naming_of g in
+    let m = stands.is.0 in
+    let values = stands.is.1 in
+    let kept = stands.is.2 in
+    let r = stands.is.3 in
+    let faults = none_in_two (call_faults g.s p name args into) (block_faults g.s (after_call p) rest) stands.clean in
+    let own = none_in_three (called_faults name.at (is_kept into) (length args) (meaning_at g.s p name.text))
+    (into_faults g.s p into) (flat_map (expr_faults g.s p) args) faults.0 in
+    let names = names_at naming n g.s p g.globals stands.known in
+    let method = method_back g.s g.others g.same naming n p names name m (is_kept into) (length args) stands.named.0
+    (meaning_at g.s p name.text) refl stands.is.5 own.0 in
+    let each =
+    args_back g.laws g.s g.declared g.others g.same g.program n p names args values stands.named.1 stands.is.7 in
+    let after = block_back g (after_call p) n rest r (record {
+      reach = stands.reach;
+      known = stands.known;
+      locals = stands.locals;
+      named = stands.named.3;
+      returns = stands.returns;
+      clean = faults.1;
+      is = stands.is.8;
+    }) in
+    let Q : BlockTree → Type 0 = λ t. BlockMade g p n (call_shape start name args into rest) t in
+    subst Q (sym stands.is.4)
+    (call_back g p n start name args into rest m values kept r names stands.named.2 stands.is.6 method each
+    (zip_long (IsExprFor g.s p) args values stands.is.7) after)
+block_back g p n (return_shape start value rest) tree stands =
+    let naming : Naming = naming_of g in
+    let x = stands.is.0 in
+    let r = stands.is.1 in
+    let faults = none_in_three (fault_where (not g.s.gives) WrongType start.at) (expr_faults g.s p value)
+    (block_faults g.s (after_statement p) rest) stands.clean in
+    let names = names_at naming n g.s p g.globals stands.known in
+    let e = expr_back g.laws g.s g.declared g.others g.same g.program n p names value x stands.named.0 stands.is.3 in
+    let ended : IsBlockFor g.s (after_statement p) end_shape r =
+    subst (λ b. IsBlockFor g.s (after_statement p) b r) stands.returns stands.is.4 in
+    let gives : not g.s.gives ≡ false = none_where (not g.s.gives) WrongType start.at faults.0 in
+    let Q : BlockTree → Type 0 = λ t. BlockMade g p n (return_shape start value rest) t in
+    let last_rest : rest ≡ end_shape = stands.returns in
+    let none : length (locals_in rest) ≡ 0 = ap (λ b. length (locals_in b)) last_rest in
+    subst Q (sym stands.is.2) (record {
+      seen = ap (seen_behind n) ended ∙ omega (arith, none);
+      named = tt;
+      result = e.named;
+      back = λ lines at last. record {
+        again = give_back (heading_of p (start_at lines last)) x done;
+        is = (x, done, refl, e.is (last + 1), refl);
+        same = ap (λ t. give_back (without_line (heading_of p start)) x (block_without_lines t)) (sym ended);
+        clean = three_joined _ _ _ (ap (λ b. fault_where b WrongType last) gives) (e.clean (last + 1)) refl;
+        locals = tt;
+        names = ap local_names (sym last_rest);
+        statements = ap (λ b. 1 + statements_in b) (sym last_rest);
+        calls = ap calls_in (sym last_rest);
+        ends = ap (λ b. ends_in_return (return_shape start value b)) (sym last_rest);
+      };
+    })

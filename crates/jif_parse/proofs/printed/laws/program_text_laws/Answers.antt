@@ -6,7 +6,8 @@ use Rattle.jif_parse.proofs.PrintedPhrases.{program_grouped}
 use Rattle.jif_parse.proofs.PrintedSpelled.{program_spelled}
 use Rattle.jif_parse.proofs.PrintedLabels.{label_back}
 use Rattle.jif_parse.proofs.PrintedBackExprs.{expr_back}
-use Rattle.jif_parse.proofs.PrintedBackBlocks.{names_at}
+use Rattle.jif_parse.proofs.PrintedBackBlocks.{block_back}
+use Rattle.jif_parse.proofs.PrintedBackMethods.{method_back}
 use Rattle.jif_parse.proofs.printed.laws.program_text_laws.Goals as goal
 
 pub returns : goal.returns
