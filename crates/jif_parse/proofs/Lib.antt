@@ -34,3 +34,5 @@ pub mod PrintedBackExprs
 pub mod PrintedLists
 pub mod PrintedBackBlocks
 pub mod PrintedBackMethods
+pub mod PrintedBackGlobals
+pub mod PrintedBackProgram
