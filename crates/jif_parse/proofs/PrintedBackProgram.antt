@@ -1,10 +1,11 @@
 -- The phrases of a program are read as the same program, but for its lines.
-use Rattle.std.proofs.Common.{◌≡◌, ◌<◌, ◌≤◌, ℕ, zero, suc, ◌+◌, ◌&&◌, ◌==◌, not, codes, Bool, true, false, if◌then◌else◌, List, [], ◌∷◌, ◌++◌, map, length, Option, Some, None, refl, ap, sym, ◌∙◌, subst, arith}
+use Rattle.std.proofs.Common.{◌≡◌, ◌<◌, ◌≤◌, ℕ, zero, suc, ℤ, pos, negsuc, ◌+◌, ◌&&◌, ◌==◌, not, codes, Bool, true, false, if◌then◌else◌, List, [], ◌∷◌, ◌++◌, map, length, Option, Some, None, refl, ap, sym, ◌∙◌, subst, arith}
 use Rattle.std.specs.Prelude.{slice_get, ⊤, All}
 use Rattle.std.specs.List.{AllZip, AllByRecursion, flat_map, sum_by}
 use Rattle.std.specs.Str.{bytes_eq}
 use Rattle.std.proofs.lemmas.List.{length-append, length-map, append_assoc, append-nil}
 use Rattle.std.proofs.lemmas.List.Sums.{sum_by-append}
+use Rattle.js_base.specs.Name.{IsName}
 use Rattle.js_base.specs.declared.ids.MethodId.{MethodId}
 use Rattle.principals.specs.ActsFor.{Declared, IsDeclared}
 use Rattle.jif_tree.specs.Trees.{FieldTree, VarTree, MethodTree, ProgramTree}
@@ -26,11 +27,12 @@ use Rattle.jif_parse.specs.PrintedNames.{Naming}
 use Rattle.jif_parse.specs.PrintedProgram.{seen_after_method}
 use Rattle.jif_parse.specs.PrintedBack.{method_without_lines, without_lines}
 use Rattle.jif_parse.proofs.PrintedLists.{none_joined, none_in_two, none_in_three}
-use Rattle.jif_parse.proofs.PrintedApart.{IsNamedItem, IsNamedProgram}
+use Rattle.jif_parse.proofs.PrintedApart.{IsSmall, IsNamedEnd, IsNamedItem, IsNamedProgram}
 use Rattle.jif_parse.proofs.PrintedPhrases.{fields_phrases, method_phrase, methods_phrases, program_phrase, field_phrase}
+use Rattle.jif_parse.proofs.PrintedPhrases.{field_end_phrase, HasElements}
 use Rattle.jif_parse.proofs.PrintedSpelled.{IsPrintable}
 use Rattle.jif_parse.proofs.PrintedLabels.{Laws}
-use Rattle.jif_parse.proofs.PrintedBackExprs.{SameGlobals, label_clean}
+use Rattle.jif_parse.proofs.PrintedBackExprs.{SameGlobals, label_clean, label_named}
 use Rattle.jif_parse.proofs.PrintedBackBlocks.{IsVariableAt, GlobalsAre, three_joined}
 use Rattle.jif_parse.proofs.PrintedBackMethods.{VarsAre, vars_front, vars_behind, vars_joined, param_variable}
 use Rattle.jif_parse.proofs.PrintedBackMethods.{local_variable, IsNamedMethod, MethodFresh, MethodMade, method_back}
@@ -306,3 +308,158 @@ methods_back laws principals declared globals others same program globals_are nu
             main = main_same number method fresh methods left one.name one.params one.gives back.main;
           });
     })
+
+-- ---- programs
+
+methods_behind : (principals : Declared) (lines : ℕ → ℕ) (fields : List FieldTree) (after : ProgramPhrase) (at : ℕ) →
+    (k : ℕ) × (methods_at lines at (fields_phrases principals fields ++ after) ≡ methods_at lines k after)
+methods_behind principals lines [] after at = (at, refl)
+methods_behind principals lines (field ∷ fields) after at =
+    methods_behind principals lines fields after (after_item at (phrase.field (field_phrase principals field)))
+
+labels_clean : (principals : Declared) (fields : List FieldShape) (trees : List FieldTree) →
+    AllZip (IsFieldFor principals) fields trees → flat_map (λ field. label_faults principals field.label) fields ≡ []
+labels_clean principals [] trees are = refl
+labels_clean principals (field ∷ fields) [] are = absurd are
+labels_clean principals (field ∷ fields) (tree ∷ trees) are =
+    none_joined (label_faults principals field.label) (flat_map (λ field. label_faults principals field.label) fields)
+    (label_clean principals field.label tree.label are.0.label) (labels_clean principals fields trees are.1)
+
+abbrev IsSmallFirst : ℤ → Type 0
+IsSmallFirst (pos n) = IsSmall n
+IsSmallFirst (negsuc n) = IsSmall (suc n)
+
+pub record IsNamedField (field : FieldShape) : Type 0 where
+  pub name : IsName field.name.text
+  pub size : IsSmall field.size
+  pub first : IsSmallFirst field.first
+
+end_named : (array : Bool) (size : ℕ) (first : ℤ) → IsSmall size → IsSmallFirst first →
+    IsNamedEnd (field_end_phrase array size first)
+end_named true size first one two = one
+end_named false size (pos zero) one two = tt
+end_named false size (pos (suc n)) one two = two
+end_named false size (negsuc n) one two = two
+
+fields_named_so : (principals : Declared) → IsDeclared principals → (fields : List FieldShape) (trees : List FieldTree)
+    (after : ProgramPhrase) → AllZip (IsFieldFor principals) fields trees → AllByRecursion IsNamedField fields →
+    IsNamedProgram after → IsNamedProgram (fields_phrases principals trees ++ after)
+fields_named_so principals declared [] [] after are named rest = rest
+fields_named_so principals declared [] (tree ∷ trees) after are named rest = absurd are
+fields_named_so principals declared (field ∷ fields) [] after are named rest = absurd are
+fields_named_so principals declared (field ∷ fields) (tree ∷ trees) after are named rest = (
+  (
+    label_named principals tree.label declared,
+    subst IsName (sym are.0.name) named.0.name,
+    end_named tree.array tree.size tree.first (subst IsSmall (sym are.0.size) named.0.size)
+        (subst IsSmallFirst (sym are.0.first) named.0.first),
+  ),
+  fields_named_so principals declared fields trees after are.1 named.1 rest,
+)
+
+fields_some : (principals : Declared) (fields : List FieldShape) (trees : List FieldTree) →
+    AllZip (IsFieldFor principals) fields trees → ArePlainFields fields → HasElements trees
+fields_some principals [] [] are plain = tt
+fields_some principals [] (tree ∷ trees) are plain = absurd are
+fields_some principals (field ∷ fields) [] are plain = absurd are
+fields_some principals (field ∷ fields) (tree ∷ trees) are plain =
+    (subst (λ n. 0 < n) (sym are.0.size) plain.0.some, fields_some principals fields trees are.1 plain.1)
+
+from_start : {X : Type 0} (all : List X) (i : ℕ) (item : X) → slice_get all i ≡ Some item →
+    slice_get all (0 + i) ≡ Some item
+from_start all i item is = (let same : 0 + i ≡ i = omega arith in ap (slice_get all) same) ∙ is
+
+both_are : (naming : Naming) (gs hs : List Global) → GlobalsAre naming gs → GlobalsAre naming hs →
+    GlobalsAre naming (gs ++ hs)
+both_are naming [] hs one two = two
+both_are naming (g ∷ gs) hs one two = (one.0, both_are naming gs hs one.1 two)
+
+-- what is asked of a draft
+pub record IsPrintableDraft (draft : DraftShape) : Type 0 where
+  pub apart : AllApart (globals_of draft)
+  pub plain : ArePlainFields draft.fields
+  pub fields : AllByRecursion IsNamedField draft.fields
+  pub methods : AllByRecursion IsNamedMethod draft.methods
+  pub returns : AllByRecursion (λ method. ReturnsLast method.body) draft.methods
+
+pub record ProgramFresh (principals : Declared) (tree : ProgramTree) (draft : DraftShape) : Type 0 where
+  pub again : ProgramTree
+  pub is : IsProgramOf principals draft again
+  pub same : without_lines again ≡ without_lines tree
+
+pub record ProgramMade (principals : Declared) (tree : ProgramTree) : Type 0 where
+  pub printable : AllByRecursion (IsPrintable (record { principals = principals; program = tree })) tree.methods
+  pub named : IsNamedProgram (program_phrase principals tree)
+  pub some : HasElements tree.fields
+  pub back : (lines : ℕ → ℕ) → ProgramFresh principals tree (draft_of lines (program_phrase principals tree))
+
+pub program_back : (laws : Laws) (principals : Declared) → IsDeclared principals → (draft : DraftShape)
+    (tree : ProgramTree) → IsPrintableDraft draft → IsProgramOf principals draft tree → ProgramMade principals tree
+program_back laws principals declared draft tree asked is =
+    let naming : Naming = record { principals = principals; program = tree } in
+    let globals : List Global = globals_of draft in
+    let items : ProgramPhrase = methods_phrases naming 0 tree.methods in
+    let program : ProgramPhrase = program_phrase principals tree in
+    let faults = none_in_three (flat_map (λ global. global_faults globals global.name) globals)
+    (flat_map (λ field. label_faults principals field.label) draft.fields)
+    (methods_faults principals globals [] draft.methods) is.no_faults in
+    let distinct : Distinct globals = distinct_names globals asked.apart faults.0 in
+    let globals_are : GlobalsAre naming globals =
+    both_are naming (fields_from 0 draft.fields) (methods_from 0 draft.methods)
+    (fields_named naming principals 0 draft.fields tree.fields is.is_tree.fields (from_start tree.fields))
+    (methods_named naming principals globals 0 [] draft.methods tree.methods is.is_tree.methods
+    (from_start tree.methods)) in
+    let fresh_fields : List FieldShape = fields_at 0 program in
+    let fields : AllZip (IsFieldFor principals) fresh_fields tree.fields =
+    fields_back laws principals declared draft.fields tree.fields is.is_tree.fields asked.plain items
+    (no_fields_after naming 0 tree.methods) 0 in
+    let place : (ℕ → ℕ) → ℕ = λ lines. (methods_behind principals lines tree.fields items 0).0 in
+    let fresh_methods : (ℕ → ℕ) → List MethodShape = λ lines. methods_at lines (place lines) items in
+    let others : (ℕ → ℕ) → List Global =
+    λ lines. fields_from 0 fresh_fields ++ methods_from 0 (fresh_methods lines) in
+    let each : (lines : ℕ → ℕ) → SameEach globals (others lines) =
+    λ lines. each_joined (fields_from 0 draft.fields) (fields_from 0 fresh_fields) (methods_from 0 draft.methods)
+    (methods_from 0 (fresh_methods lines))
+    (fields_same principals 0 draft.fields fresh_fields tree.fields is.is_tree.fields fields)
+    (methods_same principals globals naming lines 0 [] draft.methods tree.methods is.is_tree.methods 0 (place lines)) in
+    let stands : MethodsStand principals globals tree 0 [] draft.methods tree.methods = record {
+      are = is.is_tree.methods;
+      clean = faults.2;
+      vars = own_vars principals naming refl 0 (variables_from 0 draft.methods) tree.vars is.is_tree.vars
+          (from_start tree.vars);
+      named = asked.methods;
+      returns = asked.returns;
+    } in
+    let made : (lines : ℕ → ℕ) → MethodsMade principals (others lines) tree 0 0 [] draft.methods tree.methods =
+    λ lines. methods_back laws principals declared globals (others lines)
+    (globals_same globals (others lines) distinct (each lines)) tree globals_are 0 0 [] draft.methods tree.methods refl
+    stands in
+    let no_lines : ℕ → ℕ = λ n. 0 in
+    record {
+      printable = (made no_lines).printable;
+      named = fields_named_so principals declared draft.fields tree.fields items is.is_tree.fields asked.fields
+          (made no_lines).named;
+      some = fields_some principals draft.fields tree.fields is.is_tree.fields asked.plain;
+      back = λ lines.
+          (let back = (made lines).back [] (record { variables = refl; numbered = refl; calls = refl }) lines (place lines) in
+          let again : ProgramTree = record tree { methods = back.again } in
+          let F : List MethodShape → Type 0 = λ methods.
+          (let fresh : DraftShape = record { fields = fresh_fields; methods = methods } in
+          ProgramFresh principals tree fresh) in
+          subst F (sym (methods_behind principals lines tree.fields items 0).1) (record {
+            again = again;
+            is = record {
+              no_faults = three_joined _ _ _ (globals_clean globals (others lines) distinct (each lines))
+                  (labels_clean principals fresh_fields tree.fields fields) back.clean;
+              is_tree = record {
+                fields = fields;
+                vars = vars_back principals naming refl 0 (variables_from 0 draft.methods)
+                    (variables_from 0 (fresh_methods lines)) tree.vars is.is_tree.vars (from_start tree.vars) back.alike
+                    back.vars;
+                methods = back.are;
+                main = back.main ∙ is.is_tree.main;
+              };
+            };
+            same = ap (λ ms. (let one : ProgramTree = record tree { methods = ms } in one)) back.same;
+          }));
+    }
