@@ -36,3 +36,4 @@ pub mod PrintedBackBlocks
 pub mod PrintedBackMethods
 pub mod PrintedBackGlobals
 pub mod PrintedBackProgram
+pub mod PrintedNamesOf

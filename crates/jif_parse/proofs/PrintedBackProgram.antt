@@ -325,7 +325,7 @@ labels_clean principals (field ∷ fields) (tree ∷ trees) are =
     none_joined (label_faults principals field.label) (flat_map (λ field. label_faults principals field.label) fields)
     (label_clean principals field.label tree.label are.0.label) (labels_clean principals fields trees are.1)
 
-abbrev IsSmallFirst : ℤ → Type 0
+abbrev pub IsSmallFirst : ℤ → Type 0
 IsSmallFirst (pos n) = IsSmall n
 IsSmallFirst (negsuc n) = IsSmall (suc n)
 
