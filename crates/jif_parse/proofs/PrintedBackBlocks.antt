@@ -321,11 +321,61 @@ pub record BlockBack (g : Given) (p : Place) (n : ℕ) (b : BlockShape) (tree : 
   pub calls : calls_in fresh ≡ calls_in b
   pub ends : ends_in_return fresh ≡ ends_in_return b
 
+-- ---- phrases like a block
+
+abbrev pub SameSome : {X Y : Type 0} → Option X → Option Y → Type 0
+SameSome None None = ⊤
+SameSome None (Some y) = ⊥
+SameSome (Some x) None = ⊥
+SameSome (Some x) (Some y) = ⊤
+
+-- the shape is this expression at some place
+abbrev pub IsSomewhere : ExprShape → ExprTree → Type 0
+IsSomewhere shape e = (s : Setting) × (p : Place) × IsExprFor s p shape e
+
+abbrev pub AreSomewhere : List ExprShape → List ExprTree → Type 0
+AreSomewhere shapes values = (s : Setting) × (p : Place) × AllZip (IsExprFor s p) shapes values
+
+-- The phrases have the same statements with expressions as they are printed, and what they return. An `else` stands
+-- there exactly where its block has a statement.
+abbrev pub Alike : Naming → BlockShape → BlockPhrase → Option ExprPhrase → Type 0
+Alike naming end_shape block result = (block ≡ phrase.end) × (result ≡ None)
+Alike naming (declaration_shape start label name value rest) block result =
+    (own : Option LabelPhrase) × (printed : List ℕ) × (x : ExprTree) × (more : BlockPhrase)
+    × (block ≡ phrase.declaration own printed (expr_phrase naming x) more) × SameSome label own
+    × IsSomewhere value x × Alike naming rest more result
+Alike naming (assignment_shape start name value rest) block result =
+    (printed : List ℕ) × (x : ExprTree) × (more : BlockPhrase)
+    × (block ≡ phrase.assignment printed (expr_phrase naming x) more)
+    × IsSomewhere value x × Alike naming rest more result
+Alike naming (element_assignment_shape start name index value rest) block result =
+    (printed : List ℕ) × (i : ExprTree) × (x : ExprTree) × (more : BlockPhrase)
+    × (block ≡ phrase.element_assignment printed (expr_phrase naming i) (expr_phrase naming x) more)
+    × IsSomewhere index i × IsSomewhere value x × Alike naming rest more result
+Alike naming (branch_shape start guard first second rest) block result =
+    (is_empty : Bool) × (x : ExprTree) × (one : BlockPhrase) × (two : BlockPhrase) × (more : BlockPhrase)
+    × (one_result : Option ExprPhrase) × (two_result : Option ExprPhrase)
+    × (block ≡ branch_phrase is_empty (expr_phrase naming x) one two more)
+    × (second ≡ end_shape → is_empty ≡ true) × (is_empty ≡ true → second ≡ end_shape)
+    × IsSomewhere guard x × Alike naming first one one_result × Alike naming second two two_result
+    × Alike naming rest more result
+Alike naming (loop_shape start guard body rest) block result =
+    (x : ExprTree) × (one : BlockPhrase) × (more : BlockPhrase) × (one_result : Option ExprPhrase)
+    × (block ≡ phrase.loop (expr_phrase naming x) one more)
+    × IsSomewhere guard x × Alike naming body one one_result × Alike naming rest more result
+Alike naming (call_shape start name args into rest) block result =
+    (kept : Option VarId) × (printed : List ℕ) × (values : List ExprTree) × (more : BlockPhrase)
+    × (block ≡ call_phrase naming kept printed (map (expr_phrase naming) values) more) × SameSome into kept
+    × AreSomewhere args values × Alike naming rest more result
+Alike naming (return_shape start value rest) block result =
+    (x : ExprTree) × (block ≡ phrase.end) × (result ≡ Some (expr_phrase naming x)) × IsSomewhere value x
+
 -- the phrases of a block are that block again, wherever they stand
 pub record BlockMade (g : Given) (p : Place) (n : ℕ) (b : BlockShape) (tree : BlockTree) : Type 0 where
   pub seen : seen_behind n tree ≡ n + length (locals_in b)
   pub named : IsNamedBlock (block_phrase (naming_of g) n tree)
   pub result : IsNamedResult (result_phrase (naming_of g) tree)
+  pub alike : Alike (naming_of g) b (block_phrase (naming_of g) n tree) (result_phrase (naming_of g) tree)
   pub back : (lines : ℕ → ℕ) (at last : ℕ) →
       BlockBack g p n b tree (block_at lines at (block_phrase (naming_of g) n tree)
       (result_at lines last (result_phrase (naming_of g) tree)))
@@ -421,11 +471,11 @@ four_joined xs ys zs ws one two three four = none_joined (xs ++ ys ++ zs) ws (th
 
 assigned_back : (g : Given) (p : Place) (n : ℕ) (start : Start) (name : NameShape) (value : ExprShape) (rest : BlockShape)
     (x : ExprTree) (r tree : BlockTree) → AreNamesAt (naming_of g) n g.s p → IsName name.text →
-    ExprBack (new g) p (naming_of g) x → BlockMade g (after_statement p) n rest r → (means : Option Meaning) →
+    IsExprFor g.s p value x → ExprBack (new g) p (naming_of g) x → BlockMade g (after_statement p) n rest r → (means : Option Meaning) →
     meaning_at g.s p name.text ≡ means → assignment_tree (heading_of p start) means x r ≡ Some tree →
     BlockMade g p n (assignment_shape start name value rest) tree
-assigned_back g p n start name value rest x r tree names named e after None means made = absurd cc
-assigned_back g p n start name value rest x r tree names named e after (Some (sense.Variable v)) means made =
+assigned_back g p n start name value rest x r tree names named valued e after None means made = absurd cc
+assigned_back g p n start name value rest x r tree names named valued e after (Some (sense.Variable v)) means made =
     let naming : Naming = naming_of g in
     let b : BlockShape = assignment_shape start name value rest in
     let found = variable_found g.s g.others g.same naming n p names name.text v named means in
@@ -440,6 +490,12 @@ assigned_back g p n start name value rest x r tree names named e after (Some (se
       seen = ap (λ known. seen_behind (if known then n else suc v.0) r) low ∙ after.seen;
       named = subst (λ known. IsNamedBlock (of known)) (sym low) (found.named, e.named, after.named);
       result = after.result;
+      alike = (variable_name naming v, x, block_phrase naming (if nat_lt v.0 n then n else suc v.0) r,
+          ap (λ known. assigned_phrase known (label_phrase naming.principals (variable_label naming v))
+          (variable_name naming v) own (block_phrase naming (if nat_lt v.0 n then n else suc v.0) r)) low,
+          (g.s, p, valued),
+          subst (λ known. Alike naming rest (block_phrase naming (if known then n else suc v.0) r) (result_phrase naming r))
+          (sym low) after.alike);
       back = λ lines at last.
           (let back = after.back lines (at + 3 + expr_width own) last in
           let B : Bool → Type 0 = λ known.
@@ -459,7 +515,7 @@ assigned_back g p n start name value rest x r tree names named e after (Some (se
             ends = back.ends;
           }));
     })
-assigned_back g p n start name value rest x r tree names named e after (Some (sense.Plain f)) means made =
+assigned_back g p n start name value rest x r tree names named valued e after (Some (sense.Plain f)) means made =
     let naming : Naming = naming_of g in
     let b : BlockShape = assignment_shape start name value rest in
     let used = used_at g.s naming n p names name.text (sense.Plain f) means in
@@ -471,6 +527,7 @@ assigned_back g p n start name value rest x r tree names named e after (Some (se
       seen = after.seen;
       named = (subst IsName (sym used) named, e.named, after.named);
       result = after.result;
+      alike = (field_name naming f, x, block_phrase naming n r, refl, (g.s, p, valued), after.alike);
       back = λ lines at last.
           (let back = after.back lines (at + 3 + expr_width own) last in
           record {
@@ -487,8 +544,8 @@ assigned_back g p n start name value rest x r tree names named e after (Some (se
             ends = back.ends;
           });
     })
-assigned_back g p n start name value rest x r tree names named e after (Some (sense.Array f)) means made = absurd cc
-assigned_back g p n start name value rest x r tree names named e after (Some (sense.Method m params gives)) means made =
+assigned_back g p n start name value rest x r tree names named valued e after (Some (sense.Array f)) means made = absurd cc
+assigned_back g p n start name value rest x r tree names named valued e after (Some (sense.Method m params gives)) means made =
     absurd cc
 
 -- ---- declarations
@@ -507,14 +564,20 @@ local_clean g p at name printed same none =
     ∙ ap (λ b. fault_where (b || list_any (bytes_eq name.text) p.earlier) Twice at) (g.same.taken name.text)
     ∙ ap (λ b. fault_where b Twice at) before
 
+same_some : (principals : Declared) (written : Option LabelShape) (label : Option Label) →
+    IsOptionalLabelFor principals written label → SameSome written (label_phrase principals label)
+same_some principals None label is = subst (λ l. (SameSome {X = LabelShape} None (label_phrase principals l))) (sym is) tt
+same_some principals (Some written) label (l, is, labelled) =
+    subst (λ m. SameSome (Some written) (label_phrase principals m)) (sym is) tt
+
 declared_back : (g : Given) (p : Place) (n : ℕ) (start : Start) (written : Option LabelShape) (name : NameShape)
     (value : ExprShape) (rest : BlockShape) (x : ExprTree) (r : BlockTree) → n ≡ (next_variable p).0 →
     IsVariableAt (naming_of g) (next_variable p).0 name.text written → IsName name.text →
-    local_faults g.s p name ≡ [] → ExprBack (new g) p (naming_of g) x →
+    local_faults g.s p name ≡ [] → IsExprFor g.s p value x → ExprBack (new g) p (naming_of g) x →
     BlockMade g (after_declaration p name) (suc (next_variable p).0) rest r →
     BlockMade g p n (declaration_shape start written name value rest)
     (set_local (heading_of p start) (next_variable p) x r)
-declared_back g p n start written name value rest x r n_is there named free e after =
+declared_back g p n start written name value rest x r n_is there named free valued e after =
     let naming : Naming = naming_of g in
     let b : BlockShape = declaration_shape start written name value rest in
     let v : VarId = next_variable p in
@@ -534,6 +597,12 @@ declared_back g p n start written name value rest x r n_is there named free e af
           (optional_named naming.principals g.declared (variable_label naming v), subst IsName (sym same) named, e.named,
           after.named);
       result = after.result;
+      alike = (label, printed, x, block_phrase naming (if nat_lt v.0 n then n else suc v.0) r,
+          ap (λ known. assigned_phrase known label printed own
+          (block_phrase naming (if nat_lt v.0 n then n else suc v.0) r)) high,
+          same_some naming.principals written (variable_label naming v) labelled, (g.s, p, valued),
+          subst (λ known. Alike naming rest (block_phrase naming (if known then n else suc v.0) r) (result_phrase naming r))
+          (sym high) after.alike);
       back = λ lines at last.
           (let name_place : ℕ = at + 1 + length (optional_label_spelling 0 label) in
           let back = after.back lines (name_place + 3 + expr_width own) last in
@@ -677,13 +746,16 @@ branch_named true guard first second rest test one two behind = (test, one, behi
 branch_named false guard first second rest test one two behind = (test, one, two, behind)
 
 branch_back : (g : Given) (p : Place) (n mid aft : ℕ) (start : Start) (guard : ExprShape) (first second rest : BlockShape)
-    (test : ExprTree) (one other behind : BlockTree) → ExprBack (new g) p (naming_of g) test → HasNone one →
+    (test : ExprTree) (one other behind : BlockTree) → IsExprFor g.s p guard test →
+    (second ≡ end_shape → is_done other ≡ true) → (is_done other ≡ true → second ≡ end_shape) →
+    ExprBack (new g) p (naming_of g) test → HasNone one →
     HasNone other → mid ≡ seen_behind n one → aft ≡ seen_behind mid other →
     BlockMade g (after_statement p) n first one →
     BlockMade g (after_block (after_statement p) first) mid second other →
     BlockMade g (after_block (after_block (after_statement p) first) second) aft rest behind →
     BlockMade g p n (branch_shape start guard first second rest) (branch (heading_of p start) test one other behind)
-branch_back g p n mid aft start guard first second rest test one other behind e one_none other_none mid_is aft_is made
+branch_back g p n mid aft start guard first second rest test one other behind tested gone_if none_if e one_none other_none mid_is
+    aft_is made
     also after =
     let naming : Naming = naming_of g in
     let b : BlockShape = branch_shape start guard first second rest in
@@ -711,6 +783,10 @@ branch_back g p n mid aft start guard first second rest test one other behind e 
           (branch_named (is_done other) own (block_phrase naming n one) (block_phrase naming mid other)
           (block_phrase naming aft behind) e.named made.named also.named after.named);
       result = after.result;
+      alike = subst (λ ph. Alike naming b ph (result_phrase naming behind)) phrases
+          (is_done other, test, block_phrase naming n one, block_phrase naming mid other, block_phrase naming aft behind,
+          result_phrase naming one, result_phrase naming other, refl, gone_if, none_if, (g.s, p, tested), made.alike,
+          also.alike, after.alike);
       back = λ lines at last.
           (let result : BlockShape = result_at lines last (result_phrase naming behind) in
           let split = branched naming mid other own (block_phrase naming n one) (block_phrase naming aft behind) lines at
@@ -760,11 +836,11 @@ branch_back g p n mid aft start guard first second rest test one other behind e 
     }
 
 loop_back : (g : Given) (p : Place) (n aft : ℕ) (start : Start) (guard : ExprShape) (body rest : BlockShape)
-    (test : ExprTree) (one behind : BlockTree) → ExprBack (new g) p (naming_of g) test → HasNone one →
-    aft ≡ seen_behind n one → BlockMade g (after_statement p) n body one →
+    (test : ExprTree) (one behind : BlockTree) → IsExprFor g.s p guard test → ExprBack (new g) p (naming_of g) test →
+    HasNone one → aft ≡ seen_behind n one → BlockMade g (after_statement p) n body one →
     BlockMade g (after_block (after_statement p) body) aft rest behind →
     BlockMade g p n (loop_shape start guard body rest) (loop (heading_of p start) test one behind)
-loop_back g p n aft start guard body rest test one behind e one_none aft_is made after =
+loop_back g p n aft start guard body rest test one behind tested e one_none aft_is made after =
     let naming : Naming = naming_of g in
     let b : BlockShape = loop_shape start guard body rest in
     let tree : BlockTree = loop (heading_of p start) test one behind in
@@ -779,6 +855,9 @@ loop_back g p n aft start guard body rest test one behind e one_none aft_is made
       seen = ap (λ k. seen_behind k behind) (sym aft_is) ∙ after.seen ∙ omega (arith, afts, long);
       named = subst IsNamedBlock phrases (e.named, made.named, after.named);
       result = after.result;
+      alike = subst (λ ph. Alike naming b ph (result_phrase naming behind)) phrases
+          (test, block_phrase naming n one, block_phrase naming aft behind, result_phrase naming one, refl,
+          (g.s, p, tested), made.alike, after.alike);
       back = λ lines at last.
           (let result : BlockShape = result_at lines last (result_phrase naming behind) in
           let body_place : ℕ = at + 4 + expr_width own in
@@ -813,17 +892,18 @@ call_back : (g : Given) (p : Place) (n : ℕ) (start : Start) (name : NameShape)
     (into : Option NameShape) (rest : BlockShape) (m : MethodId) (values : List ExprTree) (kept : Option VarId)
     (r : BlockTree) → AreNamesAt (naming_of g) n g.s p → IsNamedInto into → into_tree g.s p into ≡ Some kept →
     MethodBack (new g) p (naming_of g) m (is_kept into) (length args) → ArgsBack (new g) p (naming_of g) values →
-    length values ≡ length args → BlockMade g (after_call p) n rest r →
+    length values ≡ length args → AllZip (IsExprFor g.s p) args values → BlockMade g (after_call p) n rest r →
     BlockMade g p n (call_shape start name args into rest)
     (call (heading_of p start) (record { 0 = p.site }) m values kept r)
-call_back g p n start name args None rest m values (Some v) r names named keeps method each long after = absurd cc
-call_back g p n start name args None rest m values None r names named keeps method each long after =
+call_back g p n start name args None rest m values (Some v) r names named keeps method each long valued after = absurd cc
+call_back g p n start name args None rest m values None r names named keeps method each long valued after =
     let naming : Naming = naming_of g in
     let phrases : List ExprPhrase = map (expr_phrase naming) values in
     record {
       seen = after.seen;
       named = (method.named, each.named, after.named);
       result = after.result;
+      alike = (None, method_name naming m, values, block_phrase naming n r, refl, tt, (g.s, p, valued), after.alike);
       back = λ lines at last.
           (let back = after.back lines (at + 4 + length (args_spelling 0 phrases)) last in
           record {
@@ -840,7 +920,7 @@ call_back g p n start name args None rest m values None r names named keeps meth
             ends = back.ends;
           });
     }
-call_back g p n start name args (Some into) rest m values kept r names named keeps method each long after =
+call_back g p n start name args (Some into) rest m values kept r names named keeps method each long valued after =
     kept_back (meaning_at g.s p into.text) refl keeps
   where
     kept_back : (means : Option Meaning) → meaning_at g.s p into.text ≡ means →
@@ -863,6 +943,7 @@ call_back g p n start name args (Some into) rest m values kept r names named kee
           seen = after.seen;
           named = (found.named, method.named, each.named, after.named);
           result = after.result;
+          alike = (Some v, method_name naming m, values, block_phrase naming n r, refl, tt, (g.s, p, valued), after.alike);
           back = λ lines at last.
               (let back = after.back lines (at + 6 + length (args_spelling 0 phrases)) last in
               record {
@@ -891,6 +972,28 @@ zip_long R (x ∷ xs) (y ∷ ys) all = ap suc (zip_long R xs ys all.1)
 
 -- ---- blocks
 
+-- only a block without statements is empty
+only_end : (s : Setting) (p : Place) (b : BlockShape) (tree : BlockTree) → IsBlockFor s p b tree →
+    is_done tree ≡ true → b ≡ end_shape
+only_end s p end_shape tree is empty = refl
+only_end s p (declaration_shape start written name value rest) tree (x, r, is, one, behind) empty =
+    absurd (let wrong : false ≡ true = sym (ap is_done is) ∙ empty in cc)
+only_end s p (assignment_shape start name value rest) tree (x, r, is, one, behind) empty =
+    absurd (let not_empty : is_done tree ≡ false =
+    assigned_tree (λ t. is_done t ≡ false) (heading_of p start) x r tree (λ v. refl) (λ f. refl)
+    (meaning_at s p name.text) is in
+    let wrong : false ≡ true = sym not_empty ∙ empty in cc)
+only_end s p (element_assignment_shape start name index value rest) tree (f, i, x, r, is, array, at, one, behind) empty =
+    absurd (let wrong : false ≡ true = sym (ap is_done is) ∙ empty in cc)
+only_end s p (branch_shape start guard first second rest) tree (x, t, u, r, is, one, inner, other, behind) empty =
+    absurd (let wrong : false ≡ true = sym (ap is_done is) ∙ empty in cc)
+only_end s p (loop_shape start guard body rest) tree (x, t, r, is, one, inner, behind) empty =
+    absurd (let wrong : false ≡ true = sym (ap is_done is) ∙ empty in cc)
+only_end s p (call_shape start name args into rest) tree (m, values, kept, r, is, method, keeps, each, behind) empty =
+    absurd (let wrong : false ≡ true = sym (ap is_done is) ∙ empty in cc)
+only_end s p (return_shape start value rest) tree (x, r, is, one, behind) empty =
+    absurd (let wrong : false ≡ true = sym (ap is_done is) ∙ empty in cc)
+
 -- what holds at a place, before the statements of a block
 pub record Stands (g : Given) (p : Place) (n : ℕ) (b : BlockShape) (tree : BlockTree) : Type 0 where
   pub reach : n ≡ p.first + length p.earlier
@@ -909,6 +1012,7 @@ block_back g p n end_shape tree stands =
       seen = omega arith;
       named = tt;
       result = tt;
+      alike = (refl, refl);
       back = λ lines at last. record {
         again = done;
         is = refl;
@@ -948,7 +1052,7 @@ block_back g p n (declaration_shape start written name value rest) tree stands =
     }) in
     let Q : BlockTree → Type 0 = λ t. BlockMade g p n (declaration_shape start written name value rest) t in
     subst Q (sym stands.is.2)
-    (declared_back g p n start written name value rest x r stands.reach there stands.named.0 faults.1 e after)
+    (declared_back g p n start written name value rest x r stands.reach there stands.named.0 faults.1 stands.is.3 e after)
 block_back g p n (assignment_shape start name value rest) tree stands =
     let naming : Naming = naming_of g in
     let x = stands.is.0 in
@@ -966,7 +1070,7 @@ block_back g p n (assignment_shape start name value rest) tree stands =
       clean = faults.2;
       is = stands.is.4;
     }) in
-    assigned_back g p n start name value rest x r tree names stands.named.0 e after (meaning_at g.s p name.text) refl
+    assigned_back g p n start name value rest x r tree names stands.named.0 stands.is.3 e after (meaning_at g.s p name.text) refl
     stands.is.2
 block_back g p n (element_assignment_shape start name index value rest) tree stands =
     let naming : Naming = naming_of g in
@@ -996,6 +1100,8 @@ block_back g p n (element_assignment_shape start name index value rest) tree sta
       seen = after.seen;
       named = (own.named, at_index.named, e.named, after.named);
       result = after.result;
+      alike = (field_name naming f, i, x, block_phrase naming n r, refl, (g.s, p, stands.is.6), (g.s, p, stands.is.7),
+          after.alike);
       back = λ lines at last.
           (let value_place : ℕ = at + 4 + expr_width (expr_phrase naming i) in
           let back = after.back lines (value_place + 1 + expr_width (expr_phrase naming x)) last in
@@ -1061,7 +1167,9 @@ block_back g p n (branch_shape start guard first second rest) tree stands =
     }) in
     let Q : BlockTree → Type 0 = λ t. BlockMade g p n (branch_shape start guard first second rest) t in
     subst Q (sym stands.is.4)
-    (branch_back g p n mid aft start guard first second rest test one other_block behind e
+    (branch_back g p n mid aft start guard first second rest test one other_block behind stands.is.5
+    (λ none. ap is_done (subst (λ b. IsBlockFor g.s between b other_block) none stands.is.7))
+    (λ empty. only_end g.s between second other_block stands.is.7 empty) e
     (none_of g.s inside first one stands.returns.0 stands.is.6)
     (none_of g.s between second other_block stands.returns.1 stands.is.7) refl refl made also after)
 block_back g p n (loop_shape start guard body rest) tree stands =
@@ -1096,7 +1204,7 @@ block_back g p n (loop_shape start guard body rest) tree stands =
     }) in
     let Q : BlockTree → Type 0 = λ t. BlockMade g p n (loop_shape start guard body rest) t in
     subst Q (sym stands.is.3)
-    (loop_back g p n aft start guard body rest test one behind e
+    (loop_back g p n aft start guard body rest test one behind stands.is.4 e
     (none_of g.s inside body one stands.returns.0 stands.is.5) refl made after)
 block_back g p n (call_shape start name args into rest) tree stands =
     let naming : Naming = naming_of g in
@@ -1124,7 +1232,7 @@ block_back g p n (call_shape start name args into rest) tree stands =
     let Q : BlockTree → Type 0 = λ t. BlockMade g p n (call_shape start name args into rest) t in
     subst Q (sym stands.is.4)
     (call_back g p n start name args into rest m values kept r names stands.named.2 stands.is.6 method each
-    (zip_long (IsExprFor g.s p) args values stands.is.7) after)
+    (zip_long (IsExprFor g.s p) args values stands.is.7) stands.is.7 after)
 block_back g p n (return_shape start value rest) tree stands =
     let naming : Naming = naming_of g in
     let x = stands.is.0 in
@@ -1143,6 +1251,7 @@ block_back g p n (return_shape start value rest) tree stands =
       seen = ap (seen_behind n) ended ∙ omega (arith, none);
       named = tt;
       result = e.named;
+      alike = (x, refl, refl, (g.s, p, stands.is.3));
       back = λ lines at last. record {
         again = give_back (heading_of p (start_at lines last)) x done;
         is = (x, done, refl, e.is (last + 1), refl);
