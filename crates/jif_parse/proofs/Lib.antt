@@ -37,3 +37,4 @@ pub mod PrintedBackMethods
 pub mod PrintedBackGlobals
 pub mod PrintedBackProgram
 pub mod PrintedNamesOf
+pub mod PrintedLimits

@@ -49,7 +49,7 @@ use Rattle.jif_parse.proofs.PrintedBackExprs.{SameGlobals, with_globals, naming_
 use Rattle.jif_parse.proofs.PrintedBackExprs.{principals_clean}
 use Rattle.jif_parse.proofs.PrintedBackBlocks.{IsVariableAt, LocalsAre, name_there, KnownAre, known_later, GlobalsAre}
 use Rattle.jif_parse.proofs.PrintedBackBlocks.{IsNamedBlockShape, Given, naming_of, new, BlockBack, BlockMade, Stands}
-use Rattle.jif_parse.proofs.PrintedBackBlocks.{block_back, last_of, local_clean, three_joined}
+use Rattle.jif_parse.proofs.PrintedBackBlocks.{block_back, last_of, local_clean, three_joined, Alike, SameSome}
 
 -- ---- variables in a row
 
@@ -304,11 +304,19 @@ pub record MethodFresh (principals : Declared) (others : List Global) (program :
   pub statements : statements_in fresh.body ≡ statements_in method.body
   pub calls : calls_in fresh.body ≡ calls_in method.body
 
+-- the phrases have the same parts
+pub record MethodAlike (naming : Naming) (method : MethodShape) (own : MethodPhrase) : Type 0 where
+  pub kind : SameSome method.result own.kind
+  pub count : length method.params ≡ length own.params
+  pub body : Alike naming method.body own.body own.result
+
 pub record MethodMade (principals : Declared) (others : List Global) (program : ProgramTree) (own : MethodId)
     (head : Place) (method : MethodShape) (tree : MethodTree) : Type 0 where
   pub printable : IsPrintable (record { principals = principals; program = program }) tree
   pub named : IsNamedItem (phrase.method (method_phrase (record { principals = principals; program = program }) head.first tree))
   pub seen : seen_after_method head.first tree ≡ head.first + variables_in method
+  pub alike : MethodAlike (record { principals = principals; program = program }) method
+      (method_phrase (record { principals = principals; program = program }) head.first tree)
   pub back : (lines : ℕ → ℕ) (at : ℕ) →
       MethodFresh principals others program own head method tree
       (method_at lines at (method_phrase (record { principals = principals; program = program }) head.first tree))
@@ -316,6 +324,15 @@ pub record MethodMade (principals : Declared) (others : List Global) (program : 
 long_variables : (own : MethodId) (params : List ParamShape) (n : ℕ) →
     n + length (map (param_variable own) params) ≡ n + length params
 long_variables own params n = ap (λ k. n + k) (length-map params (param_variable own))
+
+some_kind : (naming : Naming) (n : ℕ) (result : Option LabelShape) →
+    SameSome result (kind_phrase naming (result_where (has_result result) n))
+some_kind naming n None = tt
+some_kind naming n (Some label) = tt
+
+ids_long : (first : ℕ) (params : List ParamShape) → length params ≡ length (param_ids first params)
+ids_long first [] = refl
+ids_long first (param ∷ params) = ap suc (ids_long (suc first) params)
 
 seen_result : (gives : Bool) (n : ℕ) → seen_after_result n (result_where gives n) ≡ n + (if gives then 1 else 0)
 seen_result false n = omega arith
@@ -406,6 +423,12 @@ method_back laws principals declared globals others same_globals program globals
           authority_named naming method.authority tree.authority named.2 is.authority, made.named, made.result);
       seen = ap (λ k. seen_after_result (seen_behind k tree.body) (result_where gives last)) pb.seen
           ∙ ap (λ k. seen_after_result k (result_where gives last)) made.seen ∙ seen_result gives last ∙ omega arith;
+      alike = subst (MethodAlike naming method) phrase_is (record {
+        kind = some_kind naming last method.result;
+        count = ids_long first method.params
+            ∙ sym (length-map (param_ids first method.params) (param_phrase naming));
+        body = made.alike;
+      });
       back = λ lines at. subst (λ ph. MethodFresh principals others program own head method own_tree (method_at lines at ph))
           phrase_is
           (let name_place : ℕ = method_name_place at own_phrase.kind in

@@ -36,6 +36,7 @@ use Rattle.jif_parse.proofs.PrintedBackExprs.{SameGlobals, label_clean, label_na
 use Rattle.jif_parse.proofs.PrintedBackBlocks.{IsVariableAt, GlobalsAre, three_joined}
 use Rattle.jif_parse.proofs.PrintedBackMethods.{VarsAre, vars_front, vars_behind, vars_joined, param_variable}
 use Rattle.jif_parse.proofs.PrintedBackMethods.{local_variable, IsNamedMethod, MethodFresh, MethodMade, method_back}
+use Rattle.jif_parse.proofs.PrintedBackMethods.{MethodAlike}
 use Rattle.jif_parse.proofs.PrintedBackGlobals.{SameEach, each_joined, Distinct, distinct_names, globals_same}
 use Rattle.jif_parse.proofs.PrintedBackGlobals.{globals_clean, AllApart, no_fields_after, ArePlainFields, fields_back}
 use Rattle.jif_parse.proofs.PrintedBackGlobals.{fields_same, fields_named, methods_same, methods_named}
@@ -179,10 +180,21 @@ pub record MethodsFresh (principals : Declared) (others : List Global) (program 
   pub alike : SameMethods (variables_from number methods) (variables_from number fresh)
   pub main : main_from number fresh ≡ main_from number methods
 
+-- the phrases are like these methods
+abbrev pub MethodsAlike : Naming → List MethodShape → List ItemPhrase → Type 0
+MethodsAlike naming [] [] = ⊤
+MethodsAlike naming [] (item ∷ items) = ⊥
+MethodsAlike naming (method ∷ methods) [] = ⊥
+MethodsAlike naming (method ∷ methods) (phrase.field own ∷ items) = ⊥
+MethodsAlike naming (method ∷ methods) (phrase.method own ∷ items) =
+    MethodAlike naming method own × MethodsAlike naming methods items
+
 pub record MethodsMade (principals : Declared) (others : List Global) (program : ProgramTree) (number seen : ℕ)
     (before methods : List MethodShape) (trees : List MethodTree) : Type 0 where
   pub printable : AllByRecursion (IsPrintable (record { principals = principals; program = program })) trees
   pub named : IsNamedProgram (methods_phrases (record { principals = principals; program = program }) seen trees)
+  pub alike : MethodsAlike (record { principals = principals; program = program }) methods
+      (methods_phrases (record { principals = principals; program = program }) seen trees)
   pub back : (fresh_before : List MethodShape) → SameCounts before fresh_before → (lines : ℕ → ℕ) (at : ℕ) →
       MethodsFresh principals others program number before fresh_before methods trees
       (methods_at lines at (methods_phrases (record { principals = principals; program = program }) seen trees))
@@ -211,6 +223,7 @@ methods_back laws principals declared globals others same program globals_are nu
     subst Q (sym stands.are) (record {
       printable = tt;
       named = tt;
+      alike = tt;
       back = λ fresh_before counts lines at. record {
         again = [];
         are = refl;
@@ -253,6 +266,7 @@ methods_back laws principals declared globals others same program globals_are nu
     subst Q (sym stands.are.2) (record {
       printable = (made.printable, rest.printable);
       named = (subst (λ k. IsNamedItem (phrase.method (method_phrase naming k t))) (sym seen_is) made.named, rest.named);
+      alike = (subst (λ k. MethodAlike naming method (method_phrase naming k t)) (sym seen_is) made.alike, rest.alike);
       back = λ fresh_before counts lines at.
           (let own_phrase = method_phrase naming seen t in
           let fresh : MethodShape = method_at lines at own_phrase in
@@ -387,14 +401,16 @@ pub record ProgramFresh (principals : Declared) (tree : ProgramTree) (draft : Dr
   pub is : IsProgramOf principals draft again
   pub same : without_lines again ≡ without_lines tree
 
-pub record ProgramMade (principals : Declared) (tree : ProgramTree) : Type 0 where
+pub record ProgramMade (principals : Declared) (draft : DraftShape) (tree : ProgramTree) : Type 0 where
   pub printable : AllByRecursion (IsPrintable (record { principals = principals; program = tree })) tree.methods
   pub named : IsNamedProgram (program_phrase principals tree)
   pub some : HasElements tree.fields
+  pub alike : MethodsAlike (record { principals = principals; program = tree }) draft.methods
+      (methods_phrases (record { principals = principals; program = tree }) 0 tree.methods)
   pub back : (lines : ℕ → ℕ) → ProgramFresh principals tree (draft_of lines (program_phrase principals tree))
 
 pub program_back : (laws : Laws) (principals : Declared) → IsDeclared principals → (draft : DraftShape)
-    (tree : ProgramTree) → IsPrintableDraft draft → IsProgramOf principals draft tree → ProgramMade principals tree
+    (tree : ProgramTree) → IsPrintableDraft draft → IsProgramOf principals draft tree → ProgramMade principals draft tree
 program_back laws principals declared draft tree asked is =
     let naming : Naming = record { principals = principals; program = tree } in
     let globals : List Global = globals_of draft in
@@ -439,6 +455,7 @@ program_back laws principals declared draft tree asked is =
       printable = (made no_lines).printable;
       named = fields_named_so principals declared draft.fields tree.fields items is.is_tree.fields asked.fields
           (made no_lines).named;
+      alike = (made no_lines).alike;
       some = fields_some principals draft.fields tree.fields is.is_tree.fields asked.plain;
       back = λ lines.
           (let back = (made lines).back [] (record { variables = refl; numbered = refl; calls = refl }) lines (place lines) in

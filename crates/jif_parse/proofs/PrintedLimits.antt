@@ -1,0 +1,651 @@
+-- No token of a printed program passes a limit: each token is one of the program that it came from, or nothing begins
+-- at it, and no more constructs are open around it.
+use Rattle.std.proofs.Common.{◌≡◌, ◌<◌, ◌≤◌, ℕ, zero, suc, pos, negsuc, ◌+◌, ◌⊎◌, inl, inr, Bool, true, false, nat_lt, List, [], ◌∷◌, ◌++◌, map, length, take, Option, Some, None, refl, ap, sym, ◌∙◌, subst, arith}
+use Rattle.std.specs.Prelude.{⊤}
+use Rattle.std.specs.List.{AllZip}
+use Rattle.std.proofs.lemmas.Bool.Decides.{nat_tests}
+use Rattle.std.proofs.lemmas.List.{map-append, append-nil, append_assoc}
+use Rattle.js_base.specs.declared.binary_operator.BinOp.{BinOp}
+use Rattle.js_base.specs.declared.ids.VarId.{VarId}
+use Rattle.js_base.specs.declared.limits.TheConstants.{FIELDS, METHODS, PARAMETERS, VARIABLES, STATEMENTS}
+use Rattle.js_base.specs.declared.limits.TheConstants.{EXPRESSION_NODES, ARRAY_SIZE, ELEMENTS, NESTING}
+use Rattle.principals.specs.ActsFor.{Declared}
+use Rattle.label_lattice.specs.declared.label.Label.{Label}
+use Rattle.label_lattice.specs.Written.{symbol, parts_tokens, names_tokens}
+use Rattle.label_lattice.specs.Printed.{printed_parts}
+use Rattle.jif_lex.specs.declared.token.TokenKind.{TokenKind}
+use Rattle.jif_lex.specs.declared.token.TokenKind.TheVariants.{Name, Number, Word}
+use Rattle.jif_lex.specs.declared.token.Symbol.TheVariants.{LeftBrace, RightBrace, LeftParenthesis, RightParenthesis}
+use Rattle.jif_lex.specs.declared.token.Symbol.TheVariants.{LeftBracket, RightBracket, Semicolon, Comma, Assign, Minus}
+use Rattle.jif_lex.specs.declared.token.Word.TheVariants.{Int, Void, If, Else, While, Return, Where, Authority}
+use Rattle.jif_tree.specs.Trees as tree
+use Rattle.jif_tree.specs.Trees.{ExprTree, FieldTree}
+use Rattle.jif_grammar.specs.declared.what.What.{What}
+use Rattle.jif_grammar.specs.declared.what.What.TheVariants as counted
+use Rattle.jif_grammar.specs.Phrases as phrase
+use Rattle.jif_grammar.specs.Phrases.{LabelPhrase, ExprPhrase, BlockPhrase, FieldEnd, FieldPhrase, ParamPhrase, MethodPhrase}
+use Rattle.jif_grammar.specs.Phrases.{ItemPhrase, ProgramPhrase, complement, minus, Change, release, acceptance}
+use Rattle.jif_grammar.specs.Operators.{operator_symbol, operator_level, tightest_level, sign_symbol, change_word}
+use Rattle.jif_grammar.specs.Grouping.{level, IsGrouped, AreGrouped, IsBlock, IsResult, IsItem, IsProgram}
+use Rattle.jif_grammar.specs.Marks as marks
+use Rattle.jif_grammar.specs.Marks.{Beginning, Marked, mark, plain, nothing, node, local, statement, parameter, Tally}
+use Rattle.jif_grammar.specs.Marks.{tally_at_start, after_beginning, after_token, after_tokens, HasTooMany, IsTooDeep}
+use Rattle.jif_grammar.specs.Spelling.{joined_spelling, label_spelling, expr_spelling, args_spelling}
+use Rattle.jif_grammar.specs.Spelling.{optional_label_spelling, block_spelling, field_end_spelling, field_spelling}
+use Rattle.jif_grammar.specs.Spelling.{param_spelling, params_spelling, authority_spelling, result_spelling}
+use Rattle.jif_grammar.specs.Spelling.{head_spelling, method_spelling, item_spelling, spelling, sign_of_number}
+use Rattle.jif_grammar.specs.Programs.{IsWithin, IsWithinLimits, tally_at}
+use Rattle.jif_grammar.specs.DraftShapes.{ExprShape, variable_shape, BlockShape, end_shape, MethodShape}
+use Rattle.jif_grammar.specs.Drafts.{expr_at, args_at, expr_width, block_at, result_at, optional_label_at, params_at}
+use Rattle.jif_grammar.specs.Drafts.{method_at, methods_at, fields_at, after_item, size_of, is_array}
+use Rattle.jif_resolve.specs.Places.{Setting, Place, meaning_at}
+use Rattle.jif_resolve.specs.Resolved.{variable_tree, IsExprFor, IsFieldFor}
+use Rattle.jif_resolve.specs.declared.meaning.Meaning.{Meaning}
+use Rattle.jif_resolve.specs.declared.meaning.Meaning.TheVariants as sense
+use Rattle.jif_parse.specs.PrintedNames.{Naming}
+use Rattle.jif_parse.specs.PrintedExprs.{operand, parenthesized_where, expr_phrase}
+use Rattle.jif_parse.proofs.PrintedPhrases.{branch_phrase, call_phrase, field_end_phrase, first_phrase, field_phrase}
+use Rattle.jif_parse.proofs.PrintedPhrases.{fields_phrases}
+use Rattle.jif_parse.proofs.PrintedBackBlocks.{SameSome, IsSomewhere, AreSomewhere, Alike}
+use Rattle.jif_parse.proofs.PrintedBackMethods.{MethodAlike}
+use Rattle.jif_parse.proofs.PrintedBackProgram.{MethodsAlike}
+
+-- ---- within the limits
+
+-- no token passes a limit, where this has begun before
+abbrev pub StaysWithin : Tally → List Marked → Type 0
+StaysWithin t [] = ⊤
+StaysWithin t (token ∷ tokens) = IsWithin (after_token t token) × StaysWithin (after_token t token) tokens
+
+stays : (t : Tally) (tokens : List Marked) →
+    ((n : ℕ) → n < length tokens → IsWithin (after_tokens t (take (n + 1) tokens))) → StaysWithin t tokens
+stays t [] each = tt
+stays t (token ∷ tokens) each = (
+  each 0 (omega arith),
+  stays (after_token t token) tokens (λ n less.
+      let one_more : suc n + 1 ≡ suc (n + 1) = omega arith in
+      subst (λ k. IsWithin (after_tokens t (take k (token ∷ tokens)))) one_more (each (suc n) (omega (arith, less)))),
+)
+
+each_within : (t : Tally) (tokens : List Marked) → StaysWithin t tokens → (n : ℕ) → n < length tokens →
+    IsWithin (after_tokens t (take (n + 1) tokens))
+each_within t [] within n less = absurd (omega (arith, less))
+each_within t (token ∷ tokens) within zero less = within.0
+each_within t (token ∷ tokens) within (suc n) less =
+    let one_more : suc (n + 1) ≡ suc n + 1 = omega arith in
+    subst (λ k. IsWithin (after_tokens t (take k (token ∷ tokens)))) one_more
+    (each_within (after_token t token) tokens within.1 n (omega (arith, less)))
+
+pub program_stays : (program : ProgramPhrase) → IsWithinLimits program → StaysWithin tally_at_start (spelling program)
+program_stays program within = stays tally_at_start (spelling program) within
+
+pub stays_program : (program : ProgramPhrase) → StaysWithin tally_at_start (spelling program) → IsWithinLimits program
+stays_program program within = each_within tally_at_start (spelling program) within
+
+tokens_behind : (t : Tally) (front more : List Marked) →
+    after_tokens t (front ++ more) ≡ after_tokens (after_tokens t front) more
+tokens_behind t [] more = refl
+tokens_behind t (token ∷ front) more = tokens_behind (after_token t token) front more
+
+within_parts : (t : Tally) (front more : List Marked) → StaysWithin t (front ++ more) →
+    StaysWithin t front × StaysWithin (after_tokens t front) more
+within_parts t [] more within = (tt, within)
+within_parts t (token ∷ front) more within =
+    let rest = within_parts (after_token t token) front more within.1 in ((within.0, rest.0), rest.1)
+
+within_joined : (t : Tally) (front more : List Marked) → StaysWithin t front →
+    StaysWithin (after_tokens t front) more → StaysWithin t (front ++ more)
+within_joined t [] more one two = two
+within_joined t (token ∷ front) more one two = (one.0, within_joined (after_token t token) front more one.1 two)
+
+-- ---- no more has begun
+
+-- no more has begun of what begins in methods, and not too much of all else
+pub record Below (low high : Tally) : Type 0 where
+  pub methods : low.methods ≤ high.methods
+  pub statements : low.statements ≤ high.statements
+  pub parameters : low.parameters ≤ high.parameters
+  pub variables : low.variables ≤ high.variables
+  pub nodes : low.nodes ≤ high.nodes
+  pub fields : low.fields ≤ FIELDS
+  pub size : low.size ≤ ARRAY_SIZE
+  pub elements : low.elements ≤ ELEMENTS
+
+abbrev InMethod : Beginning → Type 0
+InMethod marks.plain_field = ⊥
+InMethod marks.array = ⊥
+InMethod (marks.elements size) = ⊥
+InMethod _ = ⊤
+
+below_after : (b : Beginning) (low high : Tally) → InMethod b → Below low high →
+    Below (after_beginning low b) (after_beginning high b)
+below_after marks.nothing low high is below = below
+below_after marks.plain_field low high is below = absurd is
+below_after marks.array low high is below = absurd is
+below_after (marks.elements size) low high is below = absurd is
+below_after marks.method low high is below = record {
+  methods = omega (arith, below.methods);
+  statements = omega (arith, below.statements);
+  parameters = omega arith;
+  variables = omega arith;
+  nodes = omega arith;
+  fields = below.fields;
+  size = below.size;
+  elements = below.elements;
+}
+below_after marks.parameter low high is below = record {
+  methods = below.methods;
+  statements = below.statements;
+  parameters = omega (arith, below.parameters);
+  variables = omega (arith, below.variables);
+  nodes = below.nodes;
+  fields = below.fields;
+  size = below.size;
+  elements = below.elements;
+}
+below_after marks.local low high is below = record {
+  methods = below.methods;
+  statements = omega (arith, below.statements);
+  parameters = below.parameters;
+  variables = omega (arith, below.variables);
+  nodes = omega arith;
+  fields = below.fields;
+  size = below.size;
+  elements = below.elements;
+}
+below_after marks.statement low high is below = record {
+  methods = below.methods;
+  statements = omega (arith, below.statements);
+  parameters = below.parameters;
+  variables = below.variables;
+  nodes = omega arith;
+  fields = below.fields;
+  size = below.size;
+  elements = below.elements;
+}
+below_after marks.node low high is below = record {
+  methods = below.methods;
+  statements = below.statements;
+  parameters = below.parameters;
+  variables = below.variables;
+  nodes = omega (arith, below.nodes);
+  fields = below.fields;
+  size = below.size;
+  elements = below.elements;
+}
+below_after marks.arguments low high is below = record {
+  methods = below.methods;
+  statements = below.statements;
+  parameters = below.parameters;
+  variables = below.variables;
+  nodes = omega arith;
+  fields = below.fields;
+  size = below.size;
+  elements = below.elements;
+}
+
+abbrev nested_as : Tally → ℕ → Tally
+nested_as t nesting = record t { nesting = nesting }
+
+below_nested : (low high : Tally) (d e : ℕ) → Below low high → Below (nested_as low d) (nested_as high e)
+below_nested low high d e below = record {
+  methods = below.methods;
+  statements = below.statements;
+  parameters = below.parameters;
+  variables = below.variables;
+  nodes = below.nodes;
+  fields = below.fields;
+  size = below.size;
+  elements = below.elements;
+}
+
+few : (low high : Tally) → Below low high → IsWithin high → (what : What) → ¬ HasTooMany what low
+few low high below within counted.Fields many = omega (arith, below.fields, many)
+few low high below within counted.Methods many = within.counts counted.Methods (omega (arith, below.methods, many))
+few low high below within counted.Parameters many =
+    within.counts counted.Parameters (omega (arith, below.parameters, many))
+few low high below within counted.Locals many = within.counts counted.Locals (omega (arith, below.variables, many))
+few low high below within counted.Statements many =
+    within.counts counted.Statements (omega (arith, below.statements, many))
+few low high below within counted.Nodes many = within.counts counted.Nodes (omega (arith, below.nodes, many))
+few low high below within counted.Elements (inl many) = omega (arith, below.size, many)
+few low high below within counted.Elements (inr many) = omega (arith, below.elements, many)
+
+shallow : (t : Tally) → IsWithin t → t.nesting ≤ NESTING
+shallow t within = by t.nesting within.nesting
+  where
+    by : (n : ℕ) → ¬ (NESTING < n) → n ≤ NESTING
+    by n none = omega (arith, none)
+
+within_low : (low high : Tally) → Below low high → low.nesting ≤ NESTING → IsWithin high → IsWithin low
+within_low low high below nesting within =
+    record { nesting = λ deep. omega (arith, nesting, deep); counts = few low high below within }
+
+-- ---- tokens that stand for others
+
+-- where the first tokens stay within the limits, so do the others
+abbrev pub Stands : List Marked → List Marked → Type 0
+Stands front others = (low high : Tally) → Below low high → StaysWithin high front →
+    StaysWithin low others × Below (after_tokens low others) (after_tokens high front)
+
+pub record Sim (front others : List Marked) : Type 0 where
+  pub run : Stands front others
+
+sim_nil : Sim [] []
+sim_nil = record { run = λ low high below within. (tt, below) }
+
+sim_both : (b : Beginning) (d e : ℕ) (kind other : TokenKind) {front others : List Marked} → InMethod b → e ≤ d →
+    Sim front others → Sim (mark b d kind ∷ front) (mark b e other ∷ others)
+sim_both b d e kind other {front = front} {others = others} is less sim = record { run = both }
+  where
+    both : Stands (mark b d kind ∷ front) (mark b e other ∷ others)
+    both low high below within =
+        let next = below_nested (after_beginning low b) (after_beginning high b) e d (below_after b low high is below) in
+        let deep = shallow (after_token high (mark b d kind)) within.0 in
+        let rest = sim.run (after_token low (mark b e other)) (after_token high (mark b d kind)) next within.1 in
+        ((within_low _ _ next (omega (arith, deep, less)) within.0, rest.0), rest.1)
+
+sim_skip : (d : ℕ) (kind : TokenKind) {front others : List Marked} → Sim front others → Sim (plain d kind ∷ front) others
+sim_skip d kind sim = record {
+  run = λ low high below within. sim.run low (after_token high (plain d kind)) (below_nested low high low.nesting d below) within.1;
+}
+
+sim_append : {one two three four : List Marked} → Sim one two → Sim three four → Sim (one ++ three) (two ++ four)
+sim_append {one = one} {two = two} {three = three} {four = four} first second = record { run = both }
+  where
+    both : Stands (one ++ three) (two ++ four)
+    both low high below within =
+        let parts = within_parts high one three within in
+        let front = first.run low high below parts.0 in
+        let back = second.run (after_tokens low two) (after_tokens high one) front.1 parts.1 in (
+          within_joined low two four front.0 back.0,
+          subst (λ t. Below (after_tokens low (two ++ four)) t) (sym (tokens_behind high one three))
+              (subst (λ t. Below t (after_tokens (after_tokens high one) three)) (sym (tokens_behind low two four)) back.1),
+        )
+
+skip_run : (low high : Tally) (d : ℕ) (kinds : List TokenKind) → Below low high →
+    Below low (after_tokens high (map (plain d) kinds))
+skip_run low high d [] below = below
+skip_run low high d (kind ∷ kinds) below =
+    skip_run low (after_token high (plain d kind)) d kinds (below_nested low high low.nesting d below)
+
+same_counts : (t : Tally) (d : ℕ) → IsWithin t → (what : What) → ¬ HasTooMany what (nested_as t d)
+same_counts t d within counted.Fields many = within.counts counted.Fields many
+same_counts t d within counted.Methods many = within.counts counted.Methods many
+same_counts t d within counted.Parameters many = within.counts counted.Parameters many
+same_counts t d within counted.Locals many = within.counts counted.Locals many
+same_counts t d within counted.Statements many = within.counts counted.Statements many
+same_counts t d within counted.Nodes many = within.counts counted.Nodes many
+same_counts t d within counted.Elements many = within.counts counted.Elements many
+
+add_run : (low high : Tally) (d : ℕ) (kinds : List TokenKind) → d ≤ NESTING → IsWithin low → Below low high →
+    StaysWithin low (map (plain d) kinds) × Below (after_tokens low (map (plain d) kinds)) high
+add_run low high d [] less within below = (tt, below)
+add_run low high d (kind ∷ kinds) less within below =
+    let one : IsWithin (nested_as low d) =
+    record { nesting = λ deep. omega (arith, less, deep); counts = same_counts low d within } in
+    let rest = add_run (nested_as low d) high d kinds less one (below_nested low high d high.nesting below) in
+    ((one, rest.0), rest.1)
+
+-- a token and others at which nothing begins
+sim_run : (b : Beginning) (d e : ℕ) (kind other : TokenKind) (kinds others : List TokenKind) → InMethod b → e ≤ d →
+    Sim (mark b d kind ∷ map (plain d) kinds) (mark b e other ∷ map (plain e) others)
+sim_run b d e kind other kinds others is less = record { run = all }
+  where
+    all : Stands (mark b d kind ∷ map (plain d) kinds) (mark b e other ∷ map (plain e) others)
+    all low high below within =
+        let next = below_nested (after_beginning low b) (after_beginning high b) e d (below_after b low high is below) in
+        let deep = shallow (after_token high (mark b d kind)) within.0 in
+        let here : e ≤ NESTING = omega (arith, deep, less) in
+        let one = within_low (after_token low (mark b e other)) (after_token high (mark b d kind)) next here within.0 in
+        let rest = add_run (after_token low (mark b e other)) (after_tokens (after_token high (mark b d kind)) (map (plain d) kinds))
+        e others here one (skip_run (after_token low (mark b e other)) (after_token high (mark b d kind)) d kinds next) in
+        ((one, rest.0), rest.1)
+
+label_sim : (b : Beginning) (d e : ℕ) (label other : LabelPhrase) → InMethod b → e ≤ d →
+    Sim (label_spelling b d label) (label_spelling b e other)
+label_sim b d e label other is less =
+    sim_run b d e (symbol LeftBrace) (symbol LeftBrace) (parts_tokens label ++ symbol RightBrace ∷ [])
+    (parts_tokens other ++ symbol RightBrace ∷ []) is less
+
+sim_plain : (d e : ℕ) (kind other : TokenKind) {front others : List Marked} → e ≤ d → Sim front others →
+    Sim (plain d kind ∷ front) (plain e other ∷ others)
+sim_plain d e kind other less sim = sim_both nothing d e kind other tt less sim
+
+-- ---- expressions
+
+operand_same : (least : ℕ) (e : ExprPhrase) → least ≤ level e → operand least e ≡ e
+unfolding operand
+operand_same least e less =
+    let high : nat_lt (level e) least ≡ false = grind (arith, nat_tests) in
+    ap (λ b. parenthesized_where b e) high
+
+operand_either : (least : ℕ) (e : ExprPhrase) → (operand least e ≡ e) ⊎ (operand least e ≡ phrase.parenthesized e)
+unfolding operand
+operand_either least e = by (nat_lt (level e) least)
+  where
+    by : (b : Bool) → (parenthesized_where b e ≡ e) ⊎ (parenthesized_where b e ≡ phrase.parenthesized e)
+    by true = inr refl
+    by false = inl refl
+
+whole : (least d : ℕ) (front : List Marked) (e : ExprPhrase) → least ≤ level e → Sim front (expr_spelling d e) →
+    Sim front (expr_spelling d (operand least e))
+whole least d front e less sim = subst (λ p. Sim front (expr_spelling d p)) (sym (operand_same least e less)) sim
+
+unwrapped : (d : ℕ) (front : List Marked) (e : ExprPhrase) → Sim front (expr_spelling d (operand 0 e)) →
+    Sim front (expr_spelling d e)
+unwrapped d front e sim = subst (λ p. Sim front (expr_spelling d p)) (operand_same 0 e (omega arith)) sim
+
+variable_sim : (naming : Naming) (d e least : ℕ) (name : List ℕ) (x : ExprTree) → e ≤ d → least ≤ tightest_level →
+    (means : Option Meaning) → variable_tree means ≡ Some x →
+    Sim (mark node d (Name name) ∷ []) (expr_spelling e (operand least (expr_phrase naming x)))
+variable_sim naming d e least name x less most None is = absurd cc
+variable_sim naming d e least name x less most (Some (sense.Variable v)) is =
+    let own : tree.local v ≡ x = cc in
+    subst (λ t. Sim (mark node d (Name name) ∷ []) (expr_spelling e (operand least (expr_phrase naming t)))) own
+    (whole least e _ (expr_phrase naming (tree.local v)) most (sim_both node d e (Name name) _ tt less sim_nil))
+variable_sim naming d e least name x less most (Some (sense.Plain f)) is =
+    let own : tree.scalar f ≡ x = cc in
+    subst (λ t. Sim (mark node d (Name name) ∷ []) (expr_spelling e (operand least (expr_phrase naming t)))) own
+    (whole least e _ (expr_phrase naming (tree.scalar f)) most (sim_both node d e (Name name) _ tt less sim_nil))
+variable_sim naming d e least name x less most (Some (sense.Array f)) is = absurd cc
+variable_sim naming d e least name x less most (Some (sense.Method m params gives)) is = absurd cc
+
+-- behind what stands between parentheses that are left out
+closed : (d e : ℕ) (inside own : ExprPhrase) → Sim (expr_spelling (suc d) inside) (expr_spelling e own) →
+    Sim (expr_spelling (suc d) inside ++ plain (suc d) (symbol RightParenthesis) ∷ []) (expr_spelling e own)
+closed d e inside own sim =
+    subst (λ ts. Sim (expr_spelling (suc d) inside ++ plain (suc d) (symbol RightParenthesis) ∷ []) ts)
+    (append-nil (expr_spelling e own)) (sim_append sim (sim_skip (suc d) (symbol RightParenthesis) sim_nil))
+
+changed : (naming : Naming) (change : Change) (inside : ExprPhrase) (label : LabelPhrase) (i : ExprTree) (l : Label)
+    (d e : ℕ) → e ≤ d →
+    Sim (expr_spelling (suc d) inside) (expr_spelling (suc e) (operand 0 (expr_phrase naming i))) →
+    Sim (expr_spelling d (phrase.relabelled change inside label))
+    (expr_spelling e (phrase.relabelled change (expr_phrase naming i) (printed_parts naming.principals l)))
+changed naming change inside label i l d e less sim =
+    let more : suc e ≤ suc d = omega (arith, less) in
+    sim_append (sim_append
+    (sim_both node (suc d) (suc e) _ _ tt more (sim_plain (suc d) (suc e) _ _ more
+    (unwrapped (suc e) _ (expr_phrase naming i) sim)))
+    (sim_plain (suc d) (suc e) _ _ more (label_sim nothing (suc d) (suc e) label (printed_parts naming.principals l) tt more)))
+    (sim_plain (suc d) (suc e) _ _ more sim_nil)
+
+expr_sim : (naming : Naming) (q : ExprPhrase) (x : ExprTree) (at : ℕ) → IsSomewhere (expr_at at q) x → IsGrouped q →
+    (d e least : ℕ) → e ≤ d → least ≤ level q →
+    Sim (expr_spelling d q) (expr_spelling e (operand least (expr_phrase naming x)))
+expr_sim naming (phrase.number n) x at (s, p, is) grouped d e least less most =
+    subst (λ t. Sim (expr_spelling d (phrase.number n)) (expr_spelling e (operand least (expr_phrase naming t)))) (sym is)
+    (whole least e _ (phrase.number n) most (sim_both node d e _ _ tt less sim_nil))
+expr_sim naming (phrase.variable name) x at (s, p, is) grouped d e least less most =
+    variable_sim naming d e least name x less most (meaning_at s p name) is
+expr_sim naming (phrase.element name index) x at (s, p, (f, i, is, array, inner)) grouped d e least less most =
+    subst (λ t. Sim (expr_spelling d (phrase.element name index)) (expr_spelling e (operand least (expr_phrase naming t))))
+    (sym is)
+    (whole least e _ (expr_phrase naming (tree.element f i)) most
+    (sim_both node d e (Name name) _ tt less
+    (sim_append (sim_plain (suc d) (suc e) (symbol LeftBracket) (symbol LeftBracket) (omega (arith, less))
+    (unwrapped (suc e) _ (expr_phrase naming i)
+    (expr_sim naming index i (at + 2) (s, p, inner) grouped (suc d) (suc e) 0 (omega (arith, less)) (omega arith))))
+    (sim_plain (suc d) (suc e) (symbol RightBracket) (symbol RightBracket) (omega (arith, less)) sim_nil))))
+expr_sim naming (phrase.parenthesized inside) x at (s, p, is) grouped d e least less most =
+    let own : ExprPhrase = expr_phrase naming x in
+    let T : List Marked = expr_spelling d (phrase.parenthesized inside) in
+    elim (operand_either least own) [
+      | inl same ↦
+          subst (λ q. Sim T (expr_spelling e q)) (sym same)
+          (sim_skip (suc d) (symbol LeftParenthesis) (closed d e inside own
+          (unwrapped e _ own
+          (expr_sim naming inside x (at + 1) (s, p, is) grouped (suc d) e 0 (omega (arith, less)) (omega arith)))))
+      | inr wrapped ↦
+          subst (λ q. Sim T (expr_spelling e q)) (sym wrapped)
+          (sim_append (sim_plain (suc d) (suc e) (symbol LeftParenthesis) (symbol LeftParenthesis) (omega (arith, less))
+          (unwrapped (suc e) _ own
+          (expr_sim naming inside x (at + 1) (s, p, is) grouped (suc d) (suc e) 0 (omega (arith, less)) (omega arith))))
+          (sim_plain (suc d) (suc e) (symbol RightParenthesis) (symbol RightParenthesis) (omega (arith, less)) sim_nil))
+    ]
+expr_sim naming (phrase.signed complement inside) x at (s, p, (i, is, inner)) grouped d e least less most =
+    subst (λ t. Sim (expr_spelling d (phrase.signed complement inside))
+    (expr_spelling e (operand least (expr_phrase naming t)))) (sym is)
+    (whole least e _ (expr_phrase naming (tree.inverted i)) most
+    (sim_both node (suc d) (suc e) _ _ tt (omega (arith, less))
+    (expr_sim naming inside i (at + 1) (s, p, inner) grouped.1 (suc d) (suc e) tightest_level (omega (arith, less))
+    grouped.0)))
+expr_sim naming (phrase.signed minus inside) x at (s, p, (i, is, inner)) grouped d e least less most =
+    subst (λ t. Sim (expr_spelling d (phrase.signed minus inside))
+    (expr_spelling e (operand least (expr_phrase naming t)))) (sym is)
+    (whole least e _ (expr_phrase naming (tree.negated i)) most
+    (sim_both node (suc d) (suc e) _ _ tt (omega (arith, less))
+    (expr_sim naming inside i (at + 1) (s, p, inner) grouped.1 (suc d) (suc e) tightest_level (omega (arith, less))
+    grouped.0)))
+expr_sim naming (phrase.binary o left right) x at (s, p, (i, j, is, one, two)) grouped d e least less most =
+    subst (λ t. Sim (expr_spelling d (phrase.binary o left right))
+    (expr_spelling e (operand least (expr_phrase naming t)))) (sym is)
+    (whole least e _ (expr_phrase naming (tree.binary o i j)) most
+    (sim_append (expr_sim naming left i at (s, p, one) grouped.2 d e (operator_level o) less grouped.0)
+    (sim_both node d e _ _ tt less
+    (expr_sim naming right j (at + expr_width left + 1) (s, p, two) grouped.3 d e (suc (operator_level o)) less
+    grouped.1))))
+expr_sim naming (phrase.relabelled release inside label) x at (s, p, (i, l, is, inner, labelled)) grouped d e least less
+    most =
+    subst (λ t. Sim (expr_spelling d (phrase.relabelled release inside label))
+    (expr_spelling e (operand least (expr_phrase naming t)))) (sym is)
+    (whole least e _ (expr_phrase naming (tree.declassified i l)) most
+    (changed naming release inside label i l d e less
+    (expr_sim naming inside i (at + 2) (s, p, inner) grouped.0 (suc d) (suc e) 0 (omega (arith, less)) (omega arith))))
+expr_sim naming (phrase.relabelled acceptance inside label) x at (s, p, (i, l, is, inner, labelled)) grouped d e least less
+    most =
+    subst (λ t. Sim (expr_spelling d (phrase.relabelled acceptance inside label))
+    (expr_spelling e (operand least (expr_phrase naming t)))) (sym is)
+    (whole least e _ (expr_phrase naming (tree.endorsed i l)) most
+    (changed naming acceptance inside label i l d e less
+    (expr_sim naming inside i (at + 2) (s, p, inner) grouped.0 (suc d) (suc e) 0 (omega (arith, less)) (omega arith))))
+
+args_sim : (naming : Naming) (args : List ExprPhrase) (values : List ExprTree) (at : ℕ) →
+    AreSomewhere (args_at at args) values → AreGrouped args → (d e : ℕ) → e ≤ d →
+    Sim (args_spelling d args) (args_spelling e (map (expr_phrase naming) values))
+args_sim naming [] [] at are grouped d e less = sim_nil
+args_sim naming [] (value ∷ values) at (s, p, are) grouped d e less = absurd are
+args_sim naming (arg ∷ []) [] at (s, p, are) grouped d e less = absurd are
+args_sim naming (arg ∷ []) (value ∷ []) at (s, p, are) grouped d e less =
+    unwrapped e _ (expr_phrase naming value)
+    (expr_sim naming arg value at (s, p, are.0) grouped.0 d e 0 less (omega arith))
+args_sim naming (arg ∷ []) (value ∷ next ∷ values) at (s, p, are) grouped d e less = absurd are.1
+args_sim naming (arg ∷ next ∷ args) [] at (s, p, are) grouped d e less = absurd are
+args_sim naming (arg ∷ next ∷ args) (value ∷ []) at (s, p, are) grouped d e less = absurd are.1
+args_sim naming (arg ∷ next ∷ args) (value ∷ other ∷ values) at (s, p, are) grouped d e less =
+    sim_append (unwrapped e _ (expr_phrase naming value)
+    (expr_sim naming arg value at (s, p, are.0) grouped.0 d e 0 less (omega arith)))
+    (sim_plain d e _ _ less
+    (args_sim naming (next ∷ args) (other ∷ values) (at + expr_width arg + 1) (s, p, are.1) grouped.1 d e less))
+
+-- ---- statements
+
+optional_sim : (d e at : ℕ) (label other : Option LabelPhrase) → e ≤ d → SameSome (optional_label_at at label) other →
+    Sim (optional_label_spelling d label) (optional_label_spelling e other)
+optional_sim d e at None None less same = sim_nil
+optional_sim d e at None (Some other) less same = absurd same
+optional_sim d e at (Some label) None less same = absurd same
+optional_sim d e at (Some label) (Some other) less same = label_sim nothing d e label other tt less
+
+value_sim : (naming : Naming) (value : ExprPhrase) (x : ExprTree) (at d e : ℕ) → IsSomewhere (expr_at at value) x →
+    IsGrouped value → e ≤ d → Sim (expr_spelling d value) (expr_spelling e (expr_phrase naming x))
+value_sim naming value x at d e is grouped less =
+    unwrapped e _ (expr_phrase naming x) (expr_sim naming value x at is grouped d e 0 less (omega arith))
+
+-- an empty block has no statement
+no_statements : (lines : ℕ → ℕ) (at : ℕ) (block : BlockPhrase) → block_at lines at block end_shape ≡ end_shape →
+    block ≡ phrase.end
+no_statements lines at phrase.end is = refl
+no_statements lines at (phrase.declaration label name value rest) is = absurd cc
+no_statements lines at (phrase.assignment name value rest) is = absurd cc
+no_statements lines at (phrase.element_assignment name index value rest) is = absurd cc
+no_statements lines at (phrase.call name args rest) is = absurd cc
+no_statements lines at (phrase.call_into into name args rest) is = absurd cc
+no_statements lines at (phrase.branch guard first rest) is = absurd cc
+no_statements lines at (phrase.branch_else guard first second rest) is = absurd cc
+no_statements lines at (phrase.loop guard body rest) is = absurd cc
+
+end_sim : (naming : Naming) (lines : ℕ → ℕ) (last : ℕ) (r : Option ExprPhrase) (block : BlockPhrase)
+    (result : Option ExprPhrase) (e : ℕ) → Alike naming (result_at lines last r) block result → Sim [] (block_spelling e block)
+end_sim naming lines last None block result e (is, none) =
+    subst (λ b. Sim [] (block_spelling e b)) (sym is) sim_nil
+end_sim naming lines last (Some value) block result e (x, is, some, found) =
+    subst (λ b. Sim [] (block_spelling e b)) (sym is) sim_nil
+
+-- an `else` with an empty block is left out
+without_else : (d e : ℕ) {front others more behind : List Marked} → e ≤ d → Sim front others → Sim more behind →
+    Sim (front ++ plain (suc d) (symbol RightBrace) ∷ plain d (Word Else) ∷ plain (suc d) (symbol LeftBrace) ∷ []
+    ++ plain (suc d) (symbol RightBrace) ∷ more) (others ++ plain (suc e) (symbol RightBrace) ∷ behind)
+without_else d e {front = front} {others = others} {more = more} {behind = behind} less one two =
+    let deeper : suc e ≤ suc d = omega (arith, less) in
+    let three : List Marked =
+    plain (suc d) (symbol RightBrace) ∷ plain d (Word Else) ∷ plain (suc d) (symbol LeftBrace) ∷ [] in
+    let last : List Marked = plain (suc d) (symbol RightBrace) ∷ more in
+    subst (λ ts. Sim ts (others ++ plain (suc e) (symbol RightBrace) ∷ behind)) (sym (append_assoc front three last))
+    (sim_append one (sim_plain (suc d) (suc e) _ _ deeper (sim_skip d _ (sim_skip (suc d) _ (sim_skip (suc d) _ two)))))
+
+block_sim : (naming : Naming) (q : BlockPhrase) (lines : ℕ → ℕ) (at last : ℕ) (r : Option ExprPhrase) (block : BlockPhrase)
+    (result : Option ExprPhrase) → Alike naming (block_at lines at q (result_at lines last r)) block result → IsBlock q →
+    (d e : ℕ) → e ≤ d → Sim (block_spelling d q) (block_spelling e block)
+block_sim naming phrase.end lines at last r block result alike grouped d e less =
+    end_sim naming lines last r block result e alike
+block_sim naming (phrase.declaration label name value rest) lines at last r block result
+    (own, printed, x, more, is, same, found, behind) grouped d e less =
+    let T : List Marked = block_spelling d (phrase.declaration label name value rest) in
+    subst (λ b. Sim T (block_spelling e b)) (sym is)
+    (sim_append (sim_append (sim_both local d e _ _ tt less (optional_sim d e (at + 1) label own less same))
+    (sim_plain d e _ _ less (sim_plain d e _ _ less (value_sim naming value x _ d e found grouped.1 less))))
+    (sim_plain d e _ _ less (block_sim naming rest lines _ last r more result behind grouped.2 d e less)))
+block_sim naming (phrase.assignment name value rest) lines at last r block result
+    (printed, x, more, is, found, behind) grouped d e less =
+    let T : List Marked = block_spelling d (phrase.assignment name value rest) in
+    subst (λ b. Sim T (block_spelling e b)) (sym is)
+    (sim_append (sim_both statement d e _ _ tt less (sim_plain d e _ _ less
+    (value_sim naming value x _ d e found grouped.0 less)))
+    (sim_plain d e _ _ less (block_sim naming rest lines _ last r more result behind grouped.1 d e less)))
+block_sim naming (phrase.element_assignment name index value rest) lines at last r block result
+    (printed, i, x, more, is, index_found, found, behind) grouped d e less =
+    let T : List Marked = block_spelling d (phrase.element_assignment name index value rest) in
+    subst (λ b. Sim T (block_spelling e b)) (sym is)
+    (sim_append (sim_append (sim_both statement d e _ _ tt less (sim_plain d e _ _ less
+    (value_sim naming index i _ d e index_found grouped.0 less)))
+    (sim_plain d e _ _ less (sim_plain d e _ _ less (value_sim naming value x _ d e found grouped.1 less))))
+    (sim_plain d e _ _ less (block_sim naming rest lines _ last r more result behind grouped.2 d e less)))
+block_sim naming (phrase.call name args rest) lines at last r block result
+    (None, printed, values, more, is, same, found, behind) grouped d e less =
+    let T : List Marked = block_spelling d (phrase.call name args rest) in
+    subst (λ b. Sim T (block_spelling e b)) (sym is)
+    (sim_append (sim_both statement d e _ _ tt less (sim_plain d e _ _ less
+    (args_sim naming args values _ found grouped.0 d e less)))
+    (sim_plain d e _ _ less (sim_plain d e _ _ less
+    (block_sim naming rest lines _ last r more result behind grouped.1 d e less))))
+block_sim naming (phrase.call name args rest) lines at last r block result
+    (Some v, printed, values, more, is, same, found, behind) grouped d e less = absurd same
+block_sim naming (phrase.call_into into name args rest) lines at last r block result
+    (None, printed, values, more, is, same, found, behind) grouped d e less = absurd same
+block_sim naming (phrase.call_into into name args rest) lines at last r block result
+    (Some v, printed, values, more, is, same, found, behind) grouped d e less =
+    let T : List Marked = block_spelling d (phrase.call_into into name args rest) in
+    subst (λ b. Sim T (block_spelling e b)) (sym is)
+    (sim_append (sim_both statement d e _ _ tt less (sim_plain d e _ _ less (sim_both node d e _ _ tt less
+    (sim_both marks.arguments d e _ _ tt less (args_sim naming args values _ found grouped.0 d e less)))))
+    (sim_plain d e _ _ less (sim_plain d e _ _ less
+    (block_sim naming rest lines _ last r more result behind grouped.1 d e less))))
+block_sim naming (phrase.branch guard first rest) lines at last r block result
+    (is_empty, x, one, two, more, one_result, two_result, is, gone, none, found, inner, other, behind) grouped d e less =
+    let T : List Marked = block_spelling d (phrase.branch guard first rest) in
+    let deeper : suc e ≤ suc d = omega (arith, less) in
+    let own : block ≡ phrase.branch (expr_phrase naming x) one more =
+    is ∙ ap (λ b. branch_phrase b (expr_phrase naming x) one two more) (gone refl) in
+    subst (λ b. Sim T (block_spelling e b)) (sym own)
+    (sim_append (sim_append (sim_both statement d e _ _ tt less (sim_plain d e _ _ less
+    (value_sim naming guard x _ d e found grouped.0 less)))
+    (sim_plain d e _ _ less (sim_plain (suc d) (suc e) _ _ deeper
+    (block_sim naming first lines _ 0 None one one_result inner grouped.1 (suc d) (suc e) deeper))))
+    (sim_plain (suc d) (suc e) _ _ deeper
+    (block_sim naming rest lines _ last r more result behind grouped.2 d e less)))
+block_sim naming (phrase.branch_else guard first second rest) lines at last r block result
+    (true, x, one, two, more, one_result, two_result, is, gone, none, found, inner, other, behind) grouped d e less =
+    let deeper : suc e ≤ suc d = omega (arith, less) in
+    let second_is : second ≡ phrase.end = no_statements lines _ second (none refl) in
+    let T : BlockPhrase → List Marked = λ b. block_spelling d (phrase.branch_else guard first b rest) in
+    subst (λ b. Sim (T second) (block_spelling e b)) (sym is)
+    (subst (λ b. Sim (T b) (block_spelling e (phrase.branch (expr_phrase naming x) one more))) (sym second_is)
+    (without_else d e less (sim_append (sim_both statement d e _ _ tt less (sim_plain d e _ _ less
+    (value_sim naming guard x _ d e found grouped.0 less)))
+    (sim_plain d e _ _ less (sim_plain (suc d) (suc e) _ _ deeper
+    (block_sim naming first lines _ 0 None one one_result inner grouped.1 (suc d) (suc e) deeper))))
+    (block_sim naming rest lines _ last r more result behind grouped.3 d e less)))
+block_sim naming (phrase.branch_else guard first second rest) lines at last r block result
+    (false, x, one, two, more, one_result, two_result, is, gone, none, found, inner, other, behind) grouped d e less =
+    let T : List Marked = block_spelling d (phrase.branch_else guard first second rest) in
+    let deeper : suc e ≤ suc d = omega (arith, less) in
+    subst (λ b. Sim T (block_spelling e b)) (sym is)
+    (sim_append (sim_append (sim_append (sim_both statement d e _ _ tt less (sim_plain d e _ _ less
+    (value_sim naming guard x _ d e found grouped.0 less)))
+    (sim_plain d e _ _ less (sim_plain (suc d) (suc e) _ _ deeper
+    (block_sim naming first lines _ 0 None one one_result inner grouped.1 (suc d) (suc e) deeper))))
+    (sim_plain (suc d) (suc e) _ _ deeper (sim_plain d e _ _ less (sim_plain (suc d) (suc e) _ _ deeper
+    (block_sim naming second lines _ 0 None two two_result other grouped.2 (suc d) (suc e) deeper)))))
+    (sim_plain (suc d) (suc e) _ _ deeper
+    (block_sim naming rest lines _ last r more result behind grouped.3 d e less)))
+block_sim naming (phrase.loop guard body rest) lines at last r block result
+    (x, one, more, one_result, is, found, inner, behind) grouped d e less =
+    let T : List Marked = block_spelling d (phrase.loop guard body rest) in
+    let deeper : suc e ≤ suc d = omega (arith, less) in
+    subst (λ b. Sim T (block_spelling e b)) (sym is)
+    (sim_append (sim_append (sim_both statement d e _ _ tt less (sim_plain d e _ _ less
+    (value_sim naming guard x _ d e found grouped.0 less)))
+    (sim_plain d e _ _ less (sim_plain (suc d) (suc e) _ _ deeper
+    (block_sim naming body lines _ 0 None one one_result inner grouped.1 (suc d) (suc e) deeper))))
+    (sim_plain (suc d) (suc e) _ _ deeper
+    (block_sim naming rest lines _ last r more result behind grouped.2 d e less)))
+
+-- ---- results
+
+-- both return a value or none does
+abbrev SameResult : Naming → ℕ → Option ExprPhrase → Option ExprPhrase → Type 0
+SameResult naming last None result = result ≡ None
+SameResult naming last (Some value) result =
+    (x : ExprTree) × (result ≡ Some (expr_phrase naming x)) × IsSomewhere (expr_at (last + 1) value) x
+
+result_of : (naming : Naming) (q : BlockPhrase) (lines : ℕ → ℕ) (at last : ℕ) (r : Option ExprPhrase) (block : BlockPhrase)
+    (result : Option ExprPhrase) → Alike naming (block_at lines at q (result_at lines last r)) block result →
+    SameResult naming last r result
+result_of naming phrase.end lines at last None block result (is, none) = none
+result_of naming phrase.end lines at last (Some value) block result (x, is, some, found) = (x, some, found)
+result_of naming (phrase.declaration label name value rest) lines at last r block result
+    (own, printed, x, more, is, same, found, behind) =
+    result_of naming rest lines _ last r more result behind
+result_of naming (phrase.assignment name value rest) lines at last r block result (printed, x, more, is, found, behind) =
+    result_of naming rest lines _ last r more result behind
+result_of naming (phrase.element_assignment name index value rest) lines at last r block result
+    (printed, i, x, more, is, index_found, found, behind) =
+    result_of naming rest lines _ last r more result behind
+result_of naming (phrase.call name args rest) lines at last r block result
+    (kept, printed, values, more, is, same, found, behind) =
+    result_of naming rest lines _ last r more result behind
+result_of naming (phrase.call_into into name args rest) lines at last r block result
+    (kept, printed, values, more, is, same, found, behind) =
+    result_of naming rest lines _ last r more result behind
+result_of naming (phrase.branch guard first rest) lines at last r block result
+    (is_empty, x, one, two, more, one_result, two_result, is, gone, none, found, inner, other, behind) =
+    result_of naming rest lines _ last r more result behind
+result_of naming (phrase.branch_else guard first second rest) lines at last r block result
+    (is_empty, x, one, two, more, one_result, two_result, is, gone, none, found, inner, other, behind) =
+    result_of naming rest lines _ last r more result behind
+result_of naming (phrase.loop guard body rest) lines at last r block result
+    (x, one, more, one_result, is, found, inner, behind) =
+    result_of naming rest lines _ last r more result behind
+
+result_sim : (naming : Naming) (last : ℕ) (r result : Option ExprPhrase) → SameResult naming last r result → IsResult r →
+    Sim (result_spelling r) (result_spelling result)
+result_sim naming last None result same grouped = subst (λ s. Sim [] (result_spelling s)) (sym same) sim_nil
+result_sim naming last (Some value) result (x, is, found) grouped =
+    subst (λ s. Sim (result_spelling (Some value)) (result_spelling s)) (sym is)
+    (sim_append (sim_both statement 0 0 _ _ tt (omega arith) (value_sim naming value x _ 0 0 found grouped (omega arith)))
+    (sim_plain 0 0 _ _ (omega arith) sim_nil))
+
+pub check_me : (naming : Naming) → Sim [] []
+check_me naming = sim_nil
