@@ -1,8 +1,8 @@
 -- No token of a printed program passes a limit: each token is one of the program that it came from, or nothing begins
 -- at it, and no more constructs are open around it.
-use Rattle.std.proofs.Common.{◌≡◌, ◌<◌, ◌≤◌, ℕ, zero, suc, pos, negsuc, ◌+◌, ◌⊎◌, inl, inr, Bool, true, false, nat_lt, List, [], ◌∷◌, ◌++◌, map, length, take, Option, Some, None, refl, ap, sym, ◌∙◌, subst, arith}
+use Rattle.std.proofs.Common.{◌≡◌, ◌<◌, ◌≤◌, ℕ, zero, suc, ℤ, pos, negsuc, ◌+◌, ◌⊎◌, inl, inr, Bool, true, false, nat_lt, List, [], ◌∷◌, ◌++◌, map, length, take, Option, Some, None, refl, ap, sym, ◌∙◌, subst, arith}
 use Rattle.std.specs.Prelude.{⊤}
-use Rattle.std.specs.List.{AllZip}
+use Rattle.std.specs.List.{AllZip, AllByRecursion}
 use Rattle.std.proofs.lemmas.Bool.Decides.{nat_tests}
 use Rattle.std.proofs.lemmas.List.{map-append, append-nil, append_assoc}
 use Rattle.js_base.specs.declared.binary_operator.BinOp.{BinOp}
@@ -647,5 +647,507 @@ result_sim naming last (Some value) result (x, is, found) grouped =
     (sim_append (sim_both statement 0 0 _ _ tt (omega arith) (value_sim naming value x _ 0 0 found grouped (omega arith)))
     (sim_plain 0 0 _ _ (omega arith) sim_nil))
 
-pub check_me : (naming : Naming) → Sim [] []
-check_me naming = sim_nil
+-- ---- methods
+
+zero_less : 0 ≤ 0
+zero_less = omega arith
+
+param_sim : (param other : ParamPhrase) → Sim (param_spelling param) (param_spelling other)
+param_sim param other =
+    sim_append (sim_both parameter 0 0 _ _ tt zero_less (label_sim nothing 0 0 param.label other.label tt zero_less))
+    (sim_plain 0 0 _ _ zero_less sim_nil)
+
+params_sim : (params others : List ParamPhrase) → length params ≡ length others →
+    Sim (params_spelling params) (params_spelling others)
+params_sim [] [] same = sim_nil
+params_sim [] (other ∷ others) same = absurd (omega (arith, same))
+params_sim (param ∷ params) [] same = absurd (omega (arith, same))
+params_sim (param ∷ []) (other ∷ []) same = param_sim param other
+params_sim (param ∷ []) (other ∷ more ∷ others) same = absurd (omega (arith, same))
+params_sim (param ∷ next ∷ params) (other ∷ []) same = absurd (omega (arith, same))
+params_sim (param ∷ next ∷ params) (other ∷ more ∷ others) same =
+    sim_append (param_sim param other)
+    (sim_plain 0 0 _ _ zero_less (params_sim (next ∷ params) (more ∷ others) (omega (arith, same))))
+
+-- nothing begins at the names of an authority
+authority_plain : (names : List (List ℕ)) → (kinds : List TokenKind) × (authority_spelling names ≡ map (plain 0) kinds)
+authority_plain [] = ([], refl)
+authority_plain (name ∷ names) = (
+  Word Where ∷ Word Authority ∷ symbol LeftParenthesis ∷ names_tokens (name ∷ names) ++ symbol RightParenthesis ∷ [],
+  ap (λ (ts : List Marked). plain 0 (Word Where) ∷ plain 0 (Word Authority) ∷ plain 0 (symbol LeftParenthesis) ∷ ts)
+      (sym (map-append (plain 0) (names_tokens (name ∷ names)) (symbol RightParenthesis ∷ []))),
+)
+
+authority_sim : (kind : TokenKind) (names others : List (List ℕ)) →
+    Sim (plain 0 kind ∷ authority_spelling names) (plain 0 kind ∷ authority_spelling others)
+authority_sim kind names others =
+    let one = authority_plain names in
+    let two = authority_plain others in
+    subst (λ ts. Sim (plain 0 kind ∷ ts) (plain 0 kind ∷ authority_spelling others)) (sym one.1)
+    (subst (λ ts. Sim (plain 0 kind ∷ map (plain 0) one.0) (plain 0 kind ∷ ts)) (sym two.1)
+    (sim_run nothing 0 0 kind kind one.0 two.0 tt zero_less))
+
+head_sim : (kind other : Option LabelPhrase) (name printed : List ℕ) (begin label : LabelPhrase) → SameSome kind other →
+    Sim (head_spelling kind name begin) (head_spelling other printed label)
+head_sim None None name printed begin label same =
+    sim_both marks.method 0 0 _ _ tt zero_less (sim_plain 0 0 _ _ zero_less
+    (label_sim nothing 0 0 begin label tt zero_less))
+head_sim None (Some other) name printed begin label same = absurd same
+head_sim (Some kind) None name printed begin label same = absurd same
+head_sim (Some kind) (Some other) name printed begin label same =
+    sim_append (sim_plain 0 0 _ _ zero_less (label_sim nothing 0 0 kind other tt zero_less))
+    (sim_plain 0 0 _ _ zero_less (label_sim marks.method 0 0 begin label tt zero_less))
+
+some_both : (at : ℕ) (kind other : Option LabelPhrase) → SameSome (optional_label_at at kind) other → SameSome kind other
+some_both at None None same = tt
+some_both at None (Some other) same = absurd same
+some_both at (Some kind) None same = absurd same
+some_both at (Some kind) (Some other) same = tt
+
+params_long : (at : ℕ) (params : List ParamPhrase) → length (params_at at params) ≡ length params
+params_long at [] = refl
+params_long at (param ∷ params) = ap suc (params_long (at + length (param_spelling param) + 1) params)
+
+method_sim : (naming : Naming) (lines : ℕ → ℕ) (at : ℕ) (q own : MethodPhrase) →
+    MethodAlike naming (method_at lines at q) own → IsItem (phrase.method q) →
+    Sim (method_spelling q) (method_spelling own)
+method_sim naming lines at q own alike grouped =
+    let result = result_of naming q.body lines _ _ q.result own.body own.result alike.body in
+    sim_append (sim_append (sim_append (sim_append (sim_append
+    (head_sim q.kind own.kind q.name own.name q.begin own.begin (some_both (at + 1) q.kind own.kind alike.kind))
+    (sim_plain 0 0 _ _ zero_less (params_sim q.params own.params (sym (params_long _ q.params) ∙ alike.count))))
+    (authority_sim (symbol RightParenthesis) q.authority own.authority))
+    (sim_plain 0 0 _ _ zero_less (block_sim naming q.body lines _ _ q.result own.body own.result alike.body grouped.3 0 0
+    zero_less)))
+    (result_sim naming _ q.result own.result result grouped.4))
+    (sim_plain 0 0 _ _ zero_less sim_nil)
+
+-- ---- fields, which begin nothing of what begins in methods
+
+abbrev InFields : Beginning → Type 0
+InFields marks.nothing = ⊤
+InFields marks.plain_field = ⊤
+InFields marks.array = ⊤
+InFields (marks.elements size) = ⊤
+InFields _ = ⊥
+
+abbrev AreInFields : List Marked → Type 0
+AreInFields tokens = AllByRecursion (λ token. InFields token.begins) tokens
+
+pass_beginning : (b : Beginning) (low high : Tally) (d : ℕ) → InFields b → Below low high →
+    Below low (nested_as (after_beginning high b) d)
+pass_beginning marks.nothing low high d is below = below_nested low high low.nesting d below
+pass_beginning marks.plain_field low high d is below = record {
+  methods = below.methods;
+  statements = below.statements;
+  parameters = below.parameters;
+  variables = below.variables;
+  nodes = below.nodes;
+  fields = below.fields;
+  size = below.size;
+  elements = below.elements;
+}
+pass_beginning marks.array low high d is below = record {
+  methods = below.methods;
+  statements = below.statements;
+  parameters = below.parameters;
+  variables = below.variables;
+  nodes = below.nodes;
+  fields = below.fields;
+  size = below.size;
+  elements = below.elements;
+}
+pass_beginning (marks.elements n) low high d is below = record {
+  methods = below.methods;
+  statements = below.statements;
+  parameters = below.parameters;
+  variables = below.variables;
+  nodes = below.nodes;
+  fields = below.fields;
+  size = below.size;
+  elements = below.elements;
+}
+pass_beginning marks.method low high d is below = absurd is
+pass_beginning marks.parameter low high d is below = absurd is
+pass_beginning marks.local low high d is below = absurd is
+pass_beginning marks.statement low high d is below = absurd is
+pass_beginning marks.node low high d is below = absurd is
+pass_beginning marks.arguments low high d is below = absurd is
+
+pass_fields : (low high : Tally) (tokens : List Marked) → AreInFields tokens → Below low high →
+    Below low (after_tokens high tokens)
+pass_fields low high [] are below = below
+pass_fields low high (token ∷ tokens) are below =
+    pass_fields low (after_token high token) tokens are.1
+    (pass_beginning token.begins low high token.nesting are.0 below)
+
+in_both : (front more : List Marked) → AreInFields front → AreInFields more → AreInFields (front ++ more)
+in_both [] more one two = two
+in_both (token ∷ front) more one two = (one.0, in_both front more one.1 two)
+
+plain_in : (d : ℕ) (kinds : List TokenKind) → AreInFields (map (plain d) kinds)
+plain_in d [] = tt
+plain_in d (kind ∷ kinds) = (tt, plain_in d kinds)
+
+label_in : (label : LabelPhrase) → AreInFields (label_spelling nothing 0 label)
+label_in label = (tt, plain_in 0 (parts_tokens label ++ symbol RightBrace ∷ []))
+
+end_in : (ending : FieldEnd) → AreInFields (field_end_spelling ending)
+end_in phrase.unset = (tt, tt)
+end_in (phrase.sized size) = (tt, (tt, (tt, (tt, tt))))
+end_in (phrase.set true n) = (tt, (tt, (tt, (tt, tt))))
+end_in (phrase.set false n) = (tt, (tt, (tt, tt)))
+
+field_in : (field : FieldPhrase) → AreInFields (field_spelling field)
+field_in field =
+    in_both (plain 0 (Word Int) ∷ label_spelling nothing 0 field.label)
+    (plain 0 (Name field.name) ∷ field_end_spelling field.ending) (tt, label_in field.label) (tt, end_in field.ending)
+
+-- ---- the methods of a program
+
+methods_sim : (naming : Naming) (lines : ℕ → ℕ) (at : ℕ) (program items : ProgramPhrase) →
+    MethodsAlike naming (methods_at lines at program) items → IsProgram program → Sim (spelling program) (spelling items)
+methods_sim naming lines at [] [] alike grouped = sim_nil
+methods_sim naming lines at [] (item ∷ items) alike grouped = absurd alike
+methods_sim naming lines at (phrase.field field ∷ program) items alike grouped =
+    let rest = methods_sim naming lines (after_item at (phrase.field field)) program items alike grouped.1 in
+    record { run = λ low high below within. passed rest low high below within }
+  where
+    passed : Sim (spelling program) (spelling items) → Stands (field_spelling field ++ spelling program) (spelling items)
+    passed rest low high below within =
+        let parts = within_parts high (field_spelling field) (spelling program) within in
+        let next = rest.run low (after_tokens high (field_spelling field))
+        (pass_fields low high (field_spelling field) (field_in field) below) parts.1 in (
+          next.0,
+          subst (λ t. Below (after_tokens low (spelling items)) t)
+              (sym (tokens_behind high (field_spelling field) (spelling program))) next.1,
+        )
+methods_sim naming lines at (phrase.method method ∷ program) [] alike grouped = absurd alike
+methods_sim naming lines at (phrase.method method ∷ program) (phrase.field own ∷ items) alike grouped = absurd alike
+methods_sim naming lines at (phrase.method method ∷ program) (phrase.method own ∷ items) alike grouped =
+    sim_append (method_sim naming lines at method own alike.0 grouped.0)
+    (methods_sim naming lines (after_item at (phrase.method method)) program items alike.1 grouped.1)
+
+-- ---- the fields of a program
+
+-- no more fields and elements, and nothing else has begun
+record FieldsBelow (low high : Tally) : Type 0 where
+  fields : low.fields ≤ high.fields
+  elements : low.elements ≤ high.elements
+  size : low.size ≤ ARRAY_SIZE
+  methods : low.methods ≤ 0
+  statements : low.statements ≤ 0
+  parameters : low.parameters ≤ 0
+  variables : low.variables ≤ 0
+  nodes : low.nodes ≤ 0
+
+fields_few : (low high : Tally) → FieldsBelow low high → IsWithin high → (what : What) → ¬ HasTooMany what low
+fields_few low high below within counted.Fields many = within.counts counted.Fields (omega (arith, below.fields, many))
+fields_few low high below within counted.Methods many = omega (arith, below.methods, many)
+fields_few low high below within counted.Parameters many = omega (arith, below.parameters, many)
+fields_few low high below within counted.Locals many = omega (arith, below.variables, many)
+fields_few low high below within counted.Statements many = omega (arith, below.statements, many)
+fields_few low high below within counted.Nodes many = omega (arith, below.nodes, many)
+fields_few low high below within counted.Elements (inl many) = omega (arith, below.size, many)
+fields_few low high below within counted.Elements (inr many) =
+    within.counts counted.Elements (inr (omega (arith, below.elements, many)))
+
+fields_within : (low high : Tally) → FieldsBelow low high → low.nesting ≤ NESTING → IsWithin high → IsWithin low
+fields_within low high below nesting within =
+    record { nesting = λ deep. omega (arith, nesting, deep); counts = fields_few low high below within }
+
+fields_nested : (low high : Tally) (d e : ℕ) → FieldsBelow low high → FieldsBelow (nested_as low d) (nested_as high e)
+fields_nested low high d e below = record {
+  fields = below.fields;
+  elements = below.elements;
+  size = below.size;
+  methods = below.methods;
+  statements = below.statements;
+  parameters = below.parameters;
+  variables = below.variables;
+  nodes = below.nodes;
+}
+
+-- fields and elements never become fewer
+never_fewer : (t : Tally) (b : Beginning) →
+    (t.fields ≤ (after_beginning t b).fields) × (t.elements ≤ (after_beginning t b).elements)
+never_fewer t marks.nothing = (omega arith, omega arith)
+never_fewer t marks.plain_field = (omega arith, omega arith)
+never_fewer t marks.array = (omega arith, omega arith)
+never_fewer t (marks.elements size) = (omega arith, omega arith)
+never_fewer t marks.method = (omega arith, omega arith)
+never_fewer t marks.parameter = (omega arith, omega arith)
+never_fewer t marks.local = (omega arith, omega arith)
+never_fewer t marks.statement = (omega arith, omega arith)
+never_fewer t marks.node = (omega arith, omega arith)
+never_fewer t marks.arguments = (omega arith, omega arith)
+
+fields_skip : (low high : Tally) (tokens : List Marked) → FieldsBelow low high → FieldsBelow low (after_tokens high tokens)
+fields_skip low high [] below = below
+fields_skip low high (token ∷ tokens) below =
+    let more = never_fewer high token.begins in
+    fields_skip low (after_token high token) tokens (record {
+      fields = omega (arith, below.fields, more.0);
+      elements = omega (arith, below.elements, more.1);
+      size = below.size;
+      methods = below.methods;
+      statements = below.statements;
+      parameters = below.parameters;
+      variables = below.variables;
+      nodes = below.nodes;
+    })
+
+abbrev FieldsStand : List Marked → List Marked → Type 0
+FieldsStand front others = (low high : Tally) → FieldsBelow low high → StaysWithin high front →
+    StaysWithin low others × FieldsBelow (after_tokens low others) (after_tokens high front)
+
+record FieldsSim (front others : List Marked) : Type 0 where
+  run : FieldsStand front others
+
+fields_nil : FieldsSim [] []
+fields_nil = record { run = λ low high below within. (tt, below) }
+
+small_size : (t : Tally) → IsWithin t → t.size ≤ ARRAY_SIZE
+small_size t within = by t.size (λ many. within.counts counted.Elements (inl many))
+  where
+    by : (n : ℕ) → ¬ (ARRAY_SIZE < n) → n ≤ ARRAY_SIZE
+    by n none = omega (arith, none)
+
+fields_after : (b : Beginning) (low high : Tally) (d : ℕ) → InFields b → FieldsBelow low high →
+    IsWithin (nested_as (after_beginning high b) d) → FieldsBelow (after_beginning low b) (after_beginning high b)
+fields_after marks.nothing low high d is below within = below
+fields_after marks.plain_field low high d is below within = record {
+  fields = omega (arith, below.fields);
+  elements = omega (arith, below.elements);
+  size = below.size;
+  methods = below.methods;
+  statements = below.statements;
+  parameters = below.parameters;
+  variables = below.variables;
+  nodes = below.nodes;
+}
+fields_after marks.array low high d is below within = record {
+  fields = omega (arith, below.fields);
+  elements = below.elements;
+  size = below.size;
+  methods = below.methods;
+  statements = below.statements;
+  parameters = below.parameters;
+  variables = below.variables;
+  nodes = below.nodes;
+}
+fields_after (marks.elements n) low high d is below within = record {
+  fields = below.fields;
+  elements = omega (arith, below.elements);
+  size = small_size (nested_as (after_beginning high (marks.elements n)) d) within;
+  methods = below.methods;
+  statements = below.statements;
+  parameters = below.parameters;
+  variables = below.variables;
+  nodes = below.nodes;
+}
+fields_after marks.method low high d is below within = absurd is
+fields_after marks.parameter low high d is below within = absurd is
+fields_after marks.local low high d is below within = absurd is
+fields_after marks.statement low high d is below within = absurd is
+fields_after marks.node low high d is below within = absurd is
+fields_after marks.arguments low high d is below within = absurd is
+
+fields_both : (b : Beginning) (kind other : TokenKind) {front others : List Marked} → InFields b →
+    FieldsSim front others → FieldsSim (mark b 0 kind ∷ front) (mark b 0 other ∷ others)
+fields_both b kind other {front = front} {others = others} is sim = record { run = both }
+  where
+    both : FieldsStand (mark b 0 kind ∷ front) (mark b 0 other ∷ others)
+    both low high below within =
+        let next = fields_nested (after_beginning low b) (after_beginning high b) 0 0
+        (fields_after b low high 0 is below within.0) in
+        let rest = sim.run (after_token low (mark b 0 other)) (after_token high (mark b 0 kind)) next within.1 in
+        ((fields_within _ _ next (omega arith) within.0, rest.0), rest.1)
+
+fields_append : {one two three four : List Marked} → FieldsSim one two → FieldsSim three four →
+    FieldsSim (one ++ three) (two ++ four)
+fields_append {one = one} {two = two} {three = three} {four = four} first second = record { run = both }
+  where
+    both : FieldsStand (one ++ three) (two ++ four)
+    both low high below within =
+        let parts = within_parts high one three within in
+        let front = first.run low high below parts.0 in
+        let back = second.run (after_tokens low two) (after_tokens high one) front.1 parts.1 in (
+          within_joined low two four front.0 back.0,
+          subst (λ t. FieldsBelow (after_tokens low (two ++ four)) t) (sym (tokens_behind high one three))
+              (subst (λ t. FieldsBelow t (after_tokens (after_tokens high one) three)) (sym (tokens_behind low two four))
+              back.1),
+        )
+
+fields_add : (low high : Tally) (kinds : List TokenKind) → IsWithin low → FieldsBelow low high →
+    StaysWithin low (map (plain 0) kinds) × FieldsBelow (after_tokens low (map (plain 0) kinds)) high
+fields_add low high [] within below = (tt, below)
+fields_add low high (kind ∷ kinds) within below =
+    let one : IsWithin (nested_as low 0) =
+    record { nesting = λ deep. omega (arith, deep); counts = same_counts low 0 within } in
+    let rest = fields_add (nested_as low 0) high kinds one (fields_nested low high 0 high.nesting below) in
+    ((one, rest.0), rest.1)
+
+fields_run : (b : Beginning) (kind other : TokenKind) (kinds others : List TokenKind) → InFields b →
+    FieldsSim (mark b 0 kind ∷ map (plain 0) kinds) (mark b 0 other ∷ map (plain 0) others)
+fields_run b kind other kinds others is = record { run = all }
+  where
+    all : FieldsStand (mark b 0 kind ∷ map (plain 0) kinds) (mark b 0 other ∷ map (plain 0) others)
+    all low high below within =
+        let next = fields_nested (after_beginning low b) (after_beginning high b) 0 0
+        (fields_after b low high 0 is below within.0) in
+        let one = fields_within (after_token low (mark b 0 other)) (after_token high (mark b 0 kind)) next (omega arith)
+        within.0 in
+        let rest = fields_add (after_token low (mark b 0 other))
+        (after_tokens (after_token high (mark b 0 kind)) (map (plain 0) kinds)) others one
+        (fields_skip (after_token low (mark b 0 other)) (after_token high (mark b 0 kind)) (map (plain 0) kinds) next) in
+        ((one, rest.0), rest.1)
+
+-- a plain field begins at the symbol after its name, and nothing begins behind it
+plain_end : (ending : FieldEnd) → is_array ending ≡ false →
+    (kind : TokenKind) × (kinds : List TokenKind)
+    × (field_end_spelling ending ≡ mark marks.plain_field 0 kind ∷ map (plain 0) kinds)
+plain_end phrase.unset is = (symbol Semicolon, [], refl)
+plain_end (phrase.sized size) is = absurd cc
+plain_end (phrase.set true n) is =
+    (symbol Assign, symbol Minus ∷ Number (pos n) ∷ symbol Semicolon ∷ [], refl)
+plain_end (phrase.set false n) is = (symbol Assign, Number (pos n) ∷ symbol Semicolon ∷ [], refl)
+
+plain_ends_sim : (one two : FieldEnd) → is_array one ≡ false → is_array two ≡ false →
+    FieldsSim (field_end_spelling one) (field_end_spelling two)
+plain_ends_sim one two one_is two_is =
+    let first = plain_end one one_is in
+    let second = plain_end two two_is in
+    subst (λ ts. FieldsSim ts (field_end_spelling two)) (sym first.2)
+    (subst (λ ts. FieldsSim (mark marks.plain_field 0 first.0 ∷ map (plain 0) first.1) ts) (sym second.2)
+    (fields_run marks.plain_field first.0 second.0 first.1 second.1 tt))
+
+ends_sim : (one two : FieldEnd) → size_of two ≡ size_of one → is_array two ≡ is_array one →
+    FieldsSim (field_end_spelling one) (field_end_spelling two)
+ends_sim (phrase.sized n) (phrase.sized m) size array =
+    subst (λ k. FieldsSim (field_end_spelling (phrase.sized n)) (field_end_spelling (phrase.sized k))) (sym size)
+    (fields_both marks.array _ _ tt (fields_both (marks.elements n) _ _ tt (fields_both nothing _ _ tt
+    (fields_both nothing _ _ tt fields_nil))))
+ends_sim (phrase.sized n) phrase.unset size array = absurd cc
+ends_sim (phrase.sized n) (phrase.set b m) size array = absurd cc
+ends_sim phrase.unset two size array = plain_ends_sim phrase.unset two refl array
+ends_sim (phrase.set b n) two size array = plain_ends_sim (phrase.set b n) two refl array
+
+field_sim : (one two : FieldPhrase) → size_of two.ending ≡ size_of one.ending →
+    is_array two.ending ≡ is_array one.ending → FieldsSim (field_spelling one) (field_spelling two)
+field_sim one two size array =
+    fields_append
+    (fields_run nothing (Word Int) (Word Int) (symbol LeftBrace ∷ parts_tokens one.label ++ symbol RightBrace ∷ [])
+    (symbol LeftBrace ∷ parts_tokens two.label ++ symbol RightBrace ∷ []) tt)
+    (fields_both nothing (Name one.name) (Name two.name) tt (ends_sim one.ending two.ending size array))
+
+end_size : (array : Bool) (size : ℕ) (first : ℤ) → (array ≡ false → size ≡ 1) →
+    (size_of (field_end_phrase array size first) ≡ size) × (is_array (field_end_phrase array size first) ≡ array)
+end_size true size first plain = (refl, refl)
+end_size false size (pos zero) plain = (sym (plain refl), refl)
+end_size false size (pos (suc n)) plain = (sym (plain refl), refl)
+end_size false size (negsuc n) plain = (sym (plain refl), refl)
+
+plain_size : (ending : FieldEnd) → is_array ending ≡ false → size_of ending ≡ 1
+plain_size phrase.unset is = refl
+plain_size (phrase.sized n) is = absurd cc
+plain_size (phrase.set b n) is = refl
+
+fields_sim : (principals : Declared) (program : ProgramPhrase) (at : ℕ) (trees : List FieldTree) →
+    AllZip (IsFieldFor principals) (fields_at at program) trees →
+    FieldsSim (spelling program) (spelling (fields_phrases principals trees))
+fields_sim principals [] at [] are = fields_nil
+fields_sim principals [] at (tree ∷ trees) are = absurd are
+fields_sim principals (phrase.method method ∷ program) at trees are =
+    let rest = fields_sim principals program (after_item at (phrase.method method)) trees are in
+    record { run = λ low high below within. passed rest low high below within }
+  where
+    passed : FieldsSim (spelling program) (spelling (fields_phrases principals trees)) →
+        FieldsStand (method_spelling method ++ spelling program) (spelling (fields_phrases principals trees))
+    passed rest low high below within =
+        let parts = within_parts high (method_spelling method) (spelling program) within in
+        let next = rest.run low (after_tokens high (method_spelling method))
+        (fields_skip low high (method_spelling method) below) parts.1 in (
+          next.0,
+          subst (λ t. FieldsBelow (after_tokens low (spelling (fields_phrases principals trees))) t)
+              (sym (tokens_behind high (method_spelling method) (spelling program))) next.1,
+        )
+fields_sim principals (phrase.field field ∷ program) at [] are = absurd are
+fields_sim principals (phrase.field field ∷ program) at (tree ∷ trees) are =
+    let ends = end_size tree.array tree.size tree.first
+    (λ b. are.0.size ∙ plain_size field.ending (sym are.0.array ∙ b)) in
+    fields_append (field_sim field (field_phrase principals tree) (ends.0 ∙ are.0.size) (ends.1 ∙ are.0.array))
+    (fields_sim principals program (after_item at (phrase.field field)) trees are.1)
+
+-- ---- programs
+
+spelling_append : (front more : ProgramPhrase) → spelling (front ++ more) ≡ spelling front ++ spelling more
+spelling_append [] more = refl
+spelling_append (item ∷ front) more =
+    ap (λ (ts : List Marked). item_spelling item ++ ts) (spelling_append front more)
+    ∙ sym (append_assoc (item_spelling item) (spelling front) (spelling more))
+
+start_within : IsWithin tally_at_start
+start_within = record { nesting = λ deep. omega (arith, deep); counts = none_at_start }
+  where
+    none_at_start : (what : What) → ¬ HasTooMany what tally_at_start
+    none_at_start counted.Fields many = omega (arith, many)
+    none_at_start counted.Methods many = omega (arith, many)
+    none_at_start counted.Parameters many = omega (arith, many)
+    none_at_start counted.Locals many = omega (arith, many)
+    none_at_start counted.Statements many = omega (arith, many)
+    none_at_start counted.Nodes many = omega (arith, many)
+    none_at_start counted.Elements (inl many) = omega (arith, many)
+    none_at_start counted.Elements (inr many) = omega (arith, many)
+
+within_at_end : (t : Tally) (tokens : List Marked) → IsWithin t → StaysWithin t tokens →
+    IsWithin (after_tokens t tokens)
+within_at_end t [] first within = first
+within_at_end t (token ∷ tokens) first within = within_at_end (after_token t token) tokens within.0 within.1
+
+few_in : (t : Tally) → IsWithin t → (t.fields ≤ FIELDS) × (t.elements ≤ ELEMENTS)
+few_in t within = (
+  by t.fields FIELDS (within.counts counted.Fields),
+  by t.elements ELEMENTS (λ many. within.counts counted.Elements (inr many)),
+)
+  where
+    by : (n limit : ℕ) → ¬ (limit < n) → n ≤ limit
+    by n limit none = omega (arith, none)
+
+-- the phrases that a program is printed as stay within the limits where those do that it was read from
+pub printed_within : (principals : Declared) (naming : Naming) (lines : ℕ → ℕ) (program : ProgramPhrase)
+    (fields : List FieldTree) (items : ProgramPhrase) → IsProgram program → IsWithinLimits program →
+    AllZip (IsFieldFor principals) (fields_at 0 program) fields →
+    MethodsAlike naming (methods_at lines 0 program) items →
+    IsWithinLimits (fields_phrases principals fields ++ items)
+printed_within principals naming lines program fields items grouped limits are alike =
+    let start : Tally = tally_at_start in
+    let within : StaysWithin start (spelling program) = program_stays program limits in
+    let front : List Marked = spelling (fields_phrases principals fields) in
+    let nothing_yet : FieldsBelow start start = record {
+      fields = omega arith;
+      elements = omega arith;
+      size = omega arith;
+      methods = omega arith;
+      statements = omega arith;
+      parameters = omega arith;
+      variables = omega arith;
+      nodes = omega arith;
+    } in
+    let one = (fields_sim principals program 0 fields are).run start start nothing_yet within in
+    let last = few_in (after_tokens start (spelling program))
+    (within_at_end start (spelling program) start_within within) in
+    let below : Below (after_tokens start front) start = record {
+      methods = one.1.methods;
+      statements = one.1.statements;
+      parameters = one.1.parameters;
+      variables = one.1.variables;
+      nodes = one.1.nodes;
+      fields = omega (arith, one.1.fields, last.0);
+      size = one.1.size;
+      elements = omega (arith, one.1.elements, last.1);
+    } in
+    let two = (methods_sim naming lines 0 program items alike grouped).run (after_tokens start front) start below within in
+    stays_program (fields_phrases principals fields ++ items)
+    (subst (λ ts. StaysWithin start ts) (sym (spelling_append (fields_phrases principals fields) items))
+    (within_joined start front (spelling items) one.0 two.0))

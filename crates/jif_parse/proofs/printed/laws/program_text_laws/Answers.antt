@@ -11,7 +11,7 @@ use Rattle.jif_parse.proofs.PrintedBackMethods.{method_back}
 use Rattle.jif_parse.proofs.PrintedBackGlobals.{globals_apart}
 use Rattle.jif_parse.proofs.PrintedBackProgram.{program_back}
 use Rattle.jif_parse.proofs.PrintedNamesOf.{items_found}
-use Rattle.jif_parse.proofs.PrintedLimits.{check_me}
+use Rattle.jif_parse.proofs.PrintedLimits.{printed_within}
 use Rattle.jif_parse.proofs.printed.laws.program_text_laws.Goals as goal
 
 pub returns : goal.returns
