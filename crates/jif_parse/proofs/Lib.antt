@@ -38,3 +38,4 @@ pub mod PrintedBackGlobals
 pub mod PrintedBackProgram
 pub mod PrintedNamesOf
 pub mod PrintedLimits
+pub mod PrintedReadsBack

@@ -490,12 +490,16 @@ assigned_back g p n start name value rest x r tree names named valued e after (S
       seen = ap (λ known. seen_behind (if known then n else suc v.0) r) low ∙ after.seen;
       named = subst (λ known. IsNamedBlock (of known)) (sym low) (found.named, e.named, after.named);
       result = after.result;
-      alike = (variable_name naming v, x, block_phrase naming (if nat_lt v.0 n then n else suc v.0) r,
-          ap (λ known. assigned_phrase known (label_phrase naming.principals (variable_label naming v))
-          (variable_name naming v) own (block_phrase naming (if nat_lt v.0 n then n else suc v.0) r)) low,
-          (g.s, p, valued),
-          subst (λ known. Alike naming rest (block_phrase naming (if known then n else suc v.0) r) (result_phrase naming r))
-          (sym low) after.alike);
+      alike = (
+        variable_name naming v,
+        x,
+        block_phrase naming (if nat_lt v.0 n then n else suc v.0) r,
+        ap (λ known. assigned_phrase known (label_phrase naming.principals (variable_label naming v))
+            (variable_name naming v) own (block_phrase naming (if nat_lt v.0 n then n else suc v.0) r)) low,
+        (g.s, p, valued),
+        subst (λ known. Alike naming rest (block_phrase naming (if known then n else suc v.0) r) (result_phrase naming r))
+            (sym low) after.alike,
+      );
       back = λ lines at last.
           (let back = after.back lines (at + 3 + expr_width own) last in
           let B : Bool → Type 0 = λ known.
@@ -503,9 +507,13 @@ assigned_back g p n start name value rest x r tree names named valued e after (S
           (block_at lines at (of known) (result_at lines last (result_phrase naming r))) in
           subst B (sym low) (record {
             again = set_local (heading_of p (start_at lines at)) v x back.again;
-            is = (x, back.again,
-                ap (λ m. assignment_tree (heading_of p (start_at lines at)) m x back.again) found.is,
-                e.is (at + 2), back.is);
+            is = (
+              x,
+              back.again,
+              ap (λ m. assignment_tree (heading_of p (start_at lines at)) m x back.again) found.is,
+              e.is (at + 2),
+              back.is,
+            );
             same = ap (λ t. set_local (without_line (heading_of p start)) v x t) back.same;
             clean = three_joined _ _ _ (ap (variable_faults at) found.is) (e.clean (at + 2)) back.clean;
             locals = back.locals;
@@ -532,9 +540,13 @@ assigned_back g p n start name value rest x r tree names named valued e after (S
           (let back = after.back lines (at + 3 + expr_width own) last in
           record {
             again = set_field (heading_of p (start_at lines at)) f x back.again;
-            is = (x, back.again,
-                ap (λ m. assignment_tree (heading_of p (start_at lines at)) m x back.again) found,
-                e.is (at + 2), back.is);
+            is = (
+              x,
+              back.again,
+              ap (λ m. assignment_tree (heading_of p (start_at lines at)) m x back.again) found,
+              e.is (at + 2),
+              back.is,
+            );
             same = ap (λ t. set_field (without_line (heading_of p start)) f x t) back.same;
             clean = three_joined _ _ _ (ap (variable_faults at) found) (e.clean (at + 2)) back.clean;
             locals = back.locals;
@@ -593,16 +605,25 @@ declared_back g p n start written name value rest x r n_is there named free valu
     λ known. assigned_phrase known label printed own (block_phrase naming (if known then n else suc v.0) r) in
     record {
       seen = ap (λ known. seen_behind (if known then n else suc v.0) r) high ∙ after.seen ∙ omega (arith, n_is);
-      named = subst (λ known. IsNamedBlock (of known)) (sym high)
-          (optional_named naming.principals g.declared (variable_label naming v), subst IsName (sym same) named, e.named,
-          after.named);
+      named = subst (λ known. IsNamedBlock (of known)) (sym high) (
+        optional_named naming.principals g.declared (variable_label naming v),
+        subst IsName (sym same) named,
+        e.named,
+        after.named,
+      );
       result = after.result;
-      alike = (label, printed, x, block_phrase naming (if nat_lt v.0 n then n else suc v.0) r,
-          ap (λ known. assigned_phrase known label printed own
-          (block_phrase naming (if nat_lt v.0 n then n else suc v.0) r)) high,
-          same_some naming.principals written (variable_label naming v) labelled, (g.s, p, valued),
-          subst (λ known. Alike naming rest (block_phrase naming (if known then n else suc v.0) r) (result_phrase naming r))
-          (sym high) after.alike);
+      alike = (
+        label,
+        printed,
+        x,
+        block_phrase naming (if nat_lt v.0 n then n else suc v.0) r,
+        ap (λ known. assigned_phrase known label printed own
+            (block_phrase naming (if nat_lt v.0 n then n else suc v.0) r)) high,
+        same_some naming.principals written (variable_label naming v) labelled,
+        (g.s, p, valued),
+        subst (λ known. Alike naming rest (block_phrase naming (if known then n else suc v.0) r) (result_phrase naming r))
+            (sym high) after.alike,
+      );
       back = λ lines at last.
           (let name_place : ℕ = at + 1 + length (optional_label_spelling 0 label) in
           let back = after.back lines (name_place + 3 + expr_width own) last in
@@ -617,8 +638,13 @@ declared_back g p n start written name value rest x r n_is there named free valu
           (block_at lines at (of known) (result_at lines last (result_phrase naming r))) in
           subst B (sym high) (record {
             again = set_local (heading_of p (start_at lines at)) v x back.again;
-            is = (x, back.again, refl, e.is (name_place + 2),
-                subst (λ q. IsBlockFor (new g) q left back.again) (sym place) back.is);
+            is = (
+              x,
+              back.again,
+              refl,
+              e.is (name_place + 2),
+              subst (λ q. IsBlockFor (new g) q left back.again) (sym place) back.is,
+            );
             same = ap (λ t. set_local (without_line (heading_of p start)) v x t) back.same;
             clean = four_joined _ _ _ _
                 (optional_clean naming.principals (optional_label_at (at + 1) label) (variable_label naming v) fresh_label)
@@ -783,10 +809,22 @@ branch_back g p n mid aft start guard first second rest test one other behind te
           (branch_named (is_done other) own (block_phrase naming n one) (block_phrase naming mid other)
           (block_phrase naming aft behind) e.named made.named also.named after.named);
       result = after.result;
-      alike = subst (λ ph. Alike naming b ph (result_phrase naming behind)) phrases
-          (is_done other, test, block_phrase naming n one, block_phrase naming mid other, block_phrase naming aft behind,
-          result_phrase naming one, result_phrase naming other, refl, gone_if, none_if, (g.s, p, tested), made.alike,
-          also.alike, after.alike);
+      alike = subst (λ ph. Alike naming b ph (result_phrase naming behind)) phrases (
+        is_done other,
+        test,
+        block_phrase naming n one,
+        block_phrase naming mid other,
+        block_phrase naming aft behind,
+        result_phrase naming one,
+        result_phrase naming other,
+        refl,
+        gone_if,
+        none_if,
+        (g.s, p, tested),
+        made.alike,
+        also.alike,
+        after.alike,
+      );
       back = λ lines at last.
           (let result : BlockShape = result_at lines last (result_phrase naming behind) in
           let split = branched naming mid other own (block_phrase naming n one) (block_phrase naming aft behind) lines at
@@ -804,9 +842,17 @@ branch_back g p n mid aft start guard first second rest test one other behind te
           let whole : BlockBack g p n b tree (block_at lines at (of mid aft) result) =
           subst B (sym split.is) (record {
             again = branch (heading_of p (start_at lines at)) test fb.again tb.again rb.again;
-            is = (test, fb.again, tb.again, rb.again, refl, e.is (at + 2), fb.is,
-                subst (λ q. IsBlockFor (new g) q back tb.again) (sym second_place) tb.is,
-                subst (λ q. IsBlockFor (new g) q left rb.again) (sym last_place) rb.is);
+            is = (
+              test,
+              fb.again,
+              tb.again,
+              rb.again,
+              refl,
+              e.is (at + 2),
+              fb.is,
+              subst (λ q. IsBlockFor (new g) q back tb.again) (sym second_place) tb.is,
+              subst (λ q. IsBlockFor (new g) q left rb.again) (sym last_place) rb.is,
+            );
             same = ap (λ t. branch (without_line (heading_of p start)) test t (block_without_lines tb.again)
                 (block_without_lines rb.again)) fb.same
                 ∙ ap (λ t. branch (without_line (heading_of p start)) test (block_without_lines one) t
@@ -821,8 +867,13 @@ branch_back g p n mid aft start guard first second rest test one other behind te
                 (subst (λ k. LocalsAre naming k (locals_in back))
                 (mids ∙ ap (λ k. n + k) (sym (same_long g inside n first one front fb))) tb.locals))
                 (subst (λ k. LocalsAre naming k (locals_in left))
-                (omega (arith, afts, same_long g inside n first one front fb,
-                same_long g between mid second other back tb, length-append (locals_in front) (locals_in back)))
+                (omega (
+                  arith,
+                  afts,
+                  same_long g inside n first one front fb,
+                  same_long g between mid second other back tb,
+                  length-append (locals_in front) (locals_in back),
+                ))
                 rb.locals);
             names = names_joined (locals_in front ++ locals_in back) (locals_in first ++ locals_in second)
                 (locals_in left) (locals_in rest)
@@ -855,9 +906,16 @@ loop_back g p n aft start guard body rest test one behind tested e one_none aft_
       seen = ap (λ k. seen_behind k behind) (sym aft_is) ∙ after.seen ∙ omega (arith, afts, long);
       named = subst IsNamedBlock phrases (e.named, made.named, after.named);
       result = after.result;
-      alike = subst (λ ph. Alike naming b ph (result_phrase naming behind)) phrases
-          (test, block_phrase naming n one, block_phrase naming aft behind, result_phrase naming one, refl,
-          (g.s, p, tested), made.alike, after.alike);
+      alike = subst (λ ph. Alike naming b ph (result_phrase naming behind)) phrases (
+        test,
+        block_phrase naming n one,
+        block_phrase naming aft behind,
+        result_phrase naming one,
+        refl,
+        (g.s, p, tested),
+        made.alike,
+        after.alike,
+      );
       back = λ lines at last.
           (let result : BlockShape = result_at lines last (result_phrase naming behind) in
           let body_place : ℕ = at + 4 + expr_width own in
@@ -869,8 +927,15 @@ loop_back g p n aft start guard body rest test one behind tested e one_none aft_
           let last_place : after_block inside front ≡ after_block inside body = after_same g inside inside n body one front fb in
           let whole : BlockBack g p n b tree (block_at lines at (of aft) result) = record {
             again = loop (heading_of p (start_at lines at)) test fb.again rb.again;
-            is = (test, fb.again, rb.again, refl, e.is (at + 2), fb.is,
-                subst (λ q. IsBlockFor (new g) q left rb.again) (sym last_place) rb.is);
+            is = (
+              test,
+              fb.again,
+              rb.again,
+              refl,
+              e.is (at + 2),
+              fb.is,
+              subst (λ q. IsBlockFor (new g) q left rb.again) (sym last_place) rb.is,
+            );
             same = ap (λ t. loop (without_line (heading_of p start)) test t (block_without_lines rb.again)) fb.same
                 ∙ ap (λ t. loop (without_line (heading_of p start)) test (block_without_lines one) t) rb.same;
             clean = three_joined _ _ _ (e.clean (at + 2)) fb.clean
@@ -948,8 +1013,17 @@ call_back g p n start name args (Some into) rest m values kept r names named kee
               (let back = after.back lines (at + 6 + length (args_spelling 0 phrases)) last in
               record {
                 again = call (heading_of p (start_at lines at)) (record { 0 = p.site }) m values (Some v) back.again;
-                is = (m, values, Some v, back.again, refl, method.is,
-                    ap (λ k. option_map Some (local_of k)) found.is, each.are (at + 4), back.is);
+                is = (
+                  m,
+                  values,
+                  Some v,
+                  back.again,
+                  refl,
+                  method.is,
+                  ap (λ k. option_map Some (local_of k)) found.is,
+                  each.are (at + 4),
+                  back.is,
+                );
                 same = ap (λ t. call (without_line (heading_of p start)) (record { 0 = p.site }) m values (Some v) t)
                     back.same;
                 clean = none_joined _ _ (three_joined _ _ _
@@ -1100,8 +1174,16 @@ block_back g p n (element_assignment_shape start name index value rest) tree sta
       seen = after.seen;
       named = (own.named, at_index.named, e.named, after.named);
       result = after.result;
-      alike = (field_name naming f, i, x, block_phrase naming n r, refl, (g.s, p, stands.is.6), (g.s, p, stands.is.7),
-          after.alike);
+      alike = (
+        field_name naming f,
+        i,
+        x,
+        block_phrase naming n r,
+        refl,
+        (g.s, p, stands.is.6),
+        (g.s, p, stands.is.7),
+        after.alike,
+      );
       back = λ lines at last.
           (let value_place : ℕ = at + 4 + expr_width (expr_phrase naming i) in
           let back = after.back lines (value_place + 1 + expr_width (expr_phrase naming x)) last in

@@ -247,8 +247,12 @@ expr_back laws s declared others same program n p names (complement_shape under)
     let Q : ExprTree → Type 0 = λ t. ExprBack (with_globals s others) p naming t in
     let inner = expr_back laws s declared others same program n p names under x named one in
     subst Q (sym tree) (record {
-      is = λ at. (x, refl, operand_at (λ shape. IsExprFor (with_globals s others) p shape x) tightest_level
-          (expr_phrase naming x) inner.is (at + 1));
+      is = λ at. (
+        x,
+        refl,
+        operand_at (λ shape. IsExprFor (with_globals s others) p shape x) tightest_level
+            (expr_phrase naming x) inner.is (at + 1),
+      );
       clean = λ at. operand_at (λ shape. expr_faults (with_globals s others) p shape ≡ []) tightest_level
           (expr_phrase naming x) inner.clean (at + 1);
       named = operand_named tightest_level (expr_phrase naming x) inner.named;
@@ -258,8 +262,12 @@ expr_back laws s declared others same program n p names (negation_shape under) e
     let Q : ExprTree → Type 0 = λ t. ExprBack (with_globals s others) p naming t in
     let inner = expr_back laws s declared others same program n p names under x named one in
     subst Q (sym tree) (record {
-      is = λ at. (x, refl, operand_at (λ shape. IsExprFor (with_globals s others) p shape x) tightest_level
-          (expr_phrase naming x) inner.is (at + 1));
+      is = λ at. (
+        x,
+        refl,
+        operand_at (λ shape. IsExprFor (with_globals s others) p shape x) tightest_level
+            (expr_phrase naming x) inner.is (at + 1),
+      );
       clean = λ at. operand_at (λ shape. expr_faults (with_globals s others) p shape ≡ []) tightest_level
           (expr_phrase naming x) inner.clean (at + 1);
       named = operand_named tightest_level (expr_phrase naming x) inner.named;
@@ -273,10 +281,14 @@ expr_back laws s declared others same program n p names (binary_shape o left rig
     let on_right : ExprPhrase = expr_phrase naming y in
     let place : ℕ → ℕ = λ at. at + expr_width (operand (operator_level o) on_left) + 1 in
     subst Q (sym tree) (record {
-      is = λ at. (x, y, refl,
-          operand_at (λ shape. IsExprFor (with_globals s others) p shape x) (operator_level o) on_left first.is at,
-          operand_at (λ shape. IsExprFor (with_globals s others) p shape y) (suc (operator_level o)) on_right second.is
-          (place at));
+      is = λ at. (
+        x,
+        y,
+        refl,
+        operand_at (λ shape. IsExprFor (with_globals s others) p shape x) (operator_level o) on_left first.is at,
+        operand_at (λ shape. IsExprFor (with_globals s others) p shape y) (suc (operator_level o)) on_right second.is
+            (place at),
+      );
       clean = λ at. none_joined _ _
           (operand_at (λ shape. expr_faults (with_globals s others) p shape ≡ []) (operator_level o) on_left first.clean
           at)

@@ -435,8 +435,11 @@ head_long : (kind : Option LabelPhrase) (name : List ℕ) (begin : LabelPhrase) 
     length (optional_label_spelling 0 kind) + 2 ≤ length (head_spelling kind name begin)
 head_long None name begin = omega arith
 head_long (Some label) name begin =
-    omega (arith, length-append (label_spelling nothing 0 label)
-    (plain 0 (Name name) ∷ label_spelling marks.method 0 begin))
+    omega (
+      arith,
+      length-append (label_spelling nothing 0 label)
+          (plain 0 (Name name) ∷ label_spelling marks.method 0 begin),
+    )
 
 method_inside : (at : ℕ) (method : MethodPhrase) →
     (at ≤ method_name_place at method.kind) × (suc (method_name_place at method.kind) ≤ after_item at (phrase.method method))

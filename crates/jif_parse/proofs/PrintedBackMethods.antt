@@ -123,9 +123,12 @@ result_back laws naming declared own n (Some written) are =
           tree = one.tree;
           there = one.there;
           named = one.named;
-          labelled = (label, one.labelled.1,
-              subst (λ l. IsLabelFor principals (label_at at (label_or_none principals l)) label) (sym labelled)
-              (label_back laws principals label declared over at));
+          labelled = (
+            label,
+            one.labelled.1,
+            subst (λ l. IsLabelFor principals (label_at at (label_or_none principals l)) label) (sym labelled)
+                (label_back laws principals label declared over at),
+          );
         },
         tt,
       );
@@ -240,8 +243,10 @@ params_back g p own first (param ∷ params) reach known named are none =
           (params_at (next at) (map (param_phrase naming) (param_ids (suc first) params))) ≡ []) (sym named_so)
           (rest.clean (next at)));
       named = (
-        (subst (λ l. IsNamedLabel (label_or_none principals l)) (sym labelled) (label_named principals label g.declared),
-            subst IsName (sym named_so) named.0),
+        (
+          subst (λ l. IsNamedLabel (label_or_none principals l)) (sym labelled) (label_named principals label g.declared),
+          subst IsName (sym named_so) named.0,
+        ),
         rest.named,
       );
       known = known_later naming (suc first + length params) (first + length (param ∷ params))
@@ -418,9 +423,15 @@ method_back laws principals declared globals others same_globals program globals
         result = rb.labelled;
         returns = last_of s (body_place head method) method.body tree.body returns is.body;
       };
-      named = subst (λ ph. IsNamedItem (phrase.method ph)) phrase_is
-          (rb.named, subst IsName (sym is.name) named.0, label_named principals tree.begin declared, pb.named,
-          authority_named naming method.authority tree.authority named.2 is.authority, made.named, made.result);
+      named = subst (λ ph. IsNamedItem (phrase.method ph)) phrase_is (
+        rb.named,
+        subst IsName (sym is.name) named.0,
+        label_named principals tree.begin declared,
+        pb.named,
+        authority_named naming method.authority tree.authority named.2 is.authority,
+        made.named,
+        made.result,
+      );
       seen = ap (λ k. seen_after_result (seen_behind k tree.body) (result_where gives last)) pb.seen
           ∙ ap (λ k. seen_after_result k (result_where gives last)) made.seen ∙ seen_result gives last ∙ omega arith;
       alike = subst (MethodAlike naming method) phrase_is (record {
@@ -486,9 +497,14 @@ method_back laws principals declared globals others same_globals program globals
                 (ap (λ k. first + k) (sym (length-map fresh.params (param_variable own) ∙ params_same)))
                 (of_locals naming own n (locals_in fresh.body) fb.locals)))
                 (subst (λ k. VarsAre naming k (result_variables own fresh.result))
-                (omega (arith, length-map fresh.params (param_variable own), params_same, locals_same,
-                length-map (locals_in fresh.body) (local_variable own),
-                length-append (map (param_variable own) fresh.params) (map (local_variable own) (locals_in fresh.body))))
+                (omega (
+                  arith,
+                  length-map fresh.params (param_variable own),
+                  params_same,
+                  locals_same,
+                  length-map (locals_in fresh.body) (local_variable own),
+                  length-append (map (param_variable own) fresh.params) (map (local_variable own) (locals_in fresh.body)),
+                ))
                 (rb.fresh (at + 1)));
             name = is.name;
             params = params_same;

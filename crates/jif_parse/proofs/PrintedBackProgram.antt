@@ -299,9 +299,13 @@ methods_back laws principals declared globals others same program globals_are nu
           variables_long own fresh ∙ variables in
           record {
             again = one.again ∷ back.again;
-            are = (one.again, back.again, refl,
-                subst (λ h. IsMethodFor (setting_of principals others fresh) h fresh one.again) (sym head) one.is,
-                back.are);
+            are = (
+              one.again,
+              back.again,
+              refl,
+              subst (λ h. IsMethodFor (setting_of principals others fresh) h fresh one.again) (sym head) one.is,
+              back.are,
+            );
             same = ap (λ m. m ∷ map method_without_lines back.again) one.same
                 ∙ ap (λ ms. method_without_lines t ∷ ms) back.same;
             clean = none_joined _ _

@@ -314,11 +314,17 @@ sim_plain d e kind other less sim = sim_both nothing d e kind other tt less sim
 
 -- ---- expressions
 
-operand_same : (least : ℕ) (e : ExprPhrase) → least ≤ level e → operand least e ≡ e
+pub operand_same : (least : ℕ) (e : ExprPhrase) → least ≤ level e → operand least e ≡ e
 unfolding operand
 operand_same least e less =
     let high : nat_lt (level e) least ≡ false = grind (arith, nat_tests) in
     ap (λ b. parenthesized_where b e) high
+
+pub operand_wrapped : (least : ℕ) (e : ExprPhrase) → level e < least → operand least e ≡ phrase.parenthesized e
+unfolding operand
+operand_wrapped least e less =
+    let low : nat_lt (level e) least ≡ true = grind (arith, nat_tests) in
+    ap (λ b. parenthesized_where b e) low
 
 operand_either : (least : ℕ) (e : ExprPhrase) → (operand least e ≡ e) ⊎ (operand least e ≡ phrase.parenthesized e)
 unfolding operand

@@ -195,9 +195,12 @@ method_found method rest all =
     let authority = authority_found method.authority _ params.1.1 in
     let body = block_found method.body _ authority.1.1 in
     let result = result_found method.result _ body.1 in (
-      λ lines at.
-          (head.0, params_named method.params params.0 _, names_named method.authority authority.0 _,
-          body.0 lines _ _ (result.0 lines _)),
+      λ lines at. (
+        head.0,
+        params_named method.params params.0 _,
+        names_named method.authority authority.0 _,
+        body.0 lines _ _ (result.0 lines _),
+      ),
       result.1.1,
     )
 
