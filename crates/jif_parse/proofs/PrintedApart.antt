@@ -1,5 +1,6 @@
 -- The parts of printed phrases are apart: each token ends where the next part begins.
-use Rattle.std.proofs.Common.{◌≡◌, ◌≢◌, ℕ, pos, ◌≤ℤ◌, Bool, true, false, not, List, [], ◌∷◌, ◌++◌, Option, Some, None, refl, arith, ap, ◌∙◌, sym}
+use Rattle.std.proofs.Common.{◌≡◌, ℕ, pos, ◌≤ℤ◌, Bool, true, false, not, List, [], ◌∷◌, ◌++◌, Option, Some, None}
+use Rattle.std.proofs.Common.{refl, arith}
 use Rattle.std.specs.Prelude.{IsTrue, ⊤}
 use Rattle.std.proofs.Common.{◌<◌, ◌^◌, ◌==◌, length}
 use Rattle.std.specs.List.{AllByRecursion}
@@ -16,26 +17,25 @@ use Rattle.js_base.specs.declared.binary_operator.BinOp.{BinOp}
 use Rattle.js_base.specs.declared.binary_operator.BinOp.TheVariants as operators
 use Rattle.js_base.specs.declared.limits.TheConstants.{LARGEST_NUMBER}
 use Rattle.jif_lex.specs.declared.token.TokenKind.{TokenKind}
-use Rattle.jif_lex.specs.declared.token.TokenKind.TheVariants.{Name, Number, Word, Symbol}
+use Rattle.jif_lex.specs.declared.token.TokenKind.TheVariants.{Name, Number, Word}
 use Rattle.jif_lex.specs.declared.token.Symbol.TheVariants.{LeftBrace, RightBrace, LeftParenthesis, RightParenthesis}
 use Rattle.jif_lex.specs.declared.token.Symbol.TheVariants.{LeftBracket, RightBracket, Semicolon, Comma, Assign, Minus}
-use Rattle.jif_lex.specs.declared.token.Symbol.TheVariants.{Colon, Question, Not}
+use Rattle.jif_lex.specs.declared.token.Symbol.TheVariants.{Colon, Not}
 use Rattle.jif_lex.specs.declared.token.Symbol as symbols
-use Rattle.jif_lex.specs.declared.token.Word.TheVariants.{Int, Void, If, Else, While, Return, Where, Authority}
+use Rattle.jif_lex.specs.declared.token.Word.TheVariants.{Int, If, Else, While}
 use Rattle.jif_lex.specs.declared.token.Word as words
 use Rattle.jif_lex.specs.Spelled.{Spelled, token_part, space_part, line_end_part, spelled_text, AreApart, ends_before}
-use Rattle.jif_lex.specs.Spelled.{IsSpellable}
 use Rattle.label_lattice.specs.Written.{Part, policy, trust, symbol}
 use Rattle.jif_grammar.specs.Phrases.{LabelPhrase, ExprPhrase, number, variable, element, parenthesized, signed, binary}
 use Rattle.jif_grammar.specs.Phrases.{relabelled, BlockPhrase, end, declaration, assignment, element_assignment, call}
 use Rattle.jif_grammar.specs.Phrases.{call_into, branch, branch_else, loop, FieldEnd, unset, sized, set}
 use Rattle.jif_grammar.specs.Phrases.{ParamPhrase, MethodPhrase, ItemPhrase, field, method, ProgramPhrase}
-use Rattle.jif_grammar.specs.Phrases.{Sign, complement, minus, Change, release, acceptance}
-use Rattle.jif_grammar.specs.Operators.{operator_symbol, sign_symbol, change_word}
+use Rattle.jif_grammar.specs.Phrases.{complement, minus, release, acceptance}
+use Rattle.jif_grammar.specs.Operators.{operator_symbol, change_word}
 use Rattle.jif_parse.proofs.PrintedPieces.{symbol_part, word_part, name_part, joined_pieces, name_pieces, names_pieces}
 use Rattle.jif_parse.proofs.PrintedPieces.{part_pieces, label_pieces, expr_pieces, args_pieces, optional_label_pieces}
 use Rattle.jif_parse.proofs.PrintedPieces.{end_pieces, set_pieces, call_pieces, guard_pieces, block_pieces}
-use Rattle.jif_parse.proofs.PrintedPieces.{result_pieces, sign_pieces, field_end_pieces, param_pieces, params_pieces}
+use Rattle.jif_parse.proofs.PrintedPieces.{result_pieces, field_end_pieces, param_pieces, params_pieces}
 use Rattle.jif_parse.proofs.PrintedPieces.{authority_pieces, head_pieces, tail_pieces, item_pieces, program_pieces}
 
 -- ---- what can be spelled

@@ -1,5 +1,7 @@
 -- Printed statements are read as themselves.
-use Rattle.std.proofs.Common.{◌≡◌, ◌<◌, ◌≤◌, ℕ, zero, suc, ◌+◌, ◌||◌, ◌&&◌, ◌==◌, Bool, true, false, not, nat_lt, if◌then◌else◌, List, [], ◌∷◌, ◌++◌, map, length, Option, Some, None, refl, ap, sym, ◌∙◌, subst, arith, add-one}
+use Rattle.std.proofs.Common.{◌≡◌, ◌<◌, ◌≤◌, ℕ, suc, ◌+◌, ◌||◌, ◌==◌, Bool, true, false, not, nat_lt}
+use Rattle.std.proofs.Common.{if◌then◌else◌, List, [], ◌∷◌, ◌++◌, map, length, Option, Some, None, refl, ap, sym, ◌∙◌}
+use Rattle.std.proofs.Common.{subst, arith}
 use Rattle.std.specs.Prelude.{slice_get, ⊤}
 use Rattle.std.specs.Option.{option_map}
 use Rattle.std.specs.List.{AllZip, AllByRecursion, list_any, flat_map}
@@ -13,8 +15,8 @@ use Rattle.js_base.specs.declared.ids.VarId.{VarId}
 use Rattle.js_base.specs.declared.ids.MethodId.{MethodId}
 use Rattle.principals.specs.ActsFor.{Declared, IsDeclared}
 use Rattle.label_lattice.specs.declared.label.Label.{Label}
-use Rattle.label_lattice.specs.Printed.{printed_parts}
-use Rattle.jif_tree.specs.Trees.{ExprTree, Heading, BlockTree, done, set_local, set_field, set_element, branch, loop, call}
+use Rattle.jif_tree.specs.Trees.{ExprTree, Heading, BlockTree, done, set_local, set_field, set_element, branch, loop}
+use Rattle.jif_tree.specs.Trees.{call}
 use Rattle.jif_tree.specs.Trees.{give_back, VarTree, ProgramTree}
 use Rattle.jif_grammar.specs.Phrases as phrase
 use Rattle.jif_grammar.specs.Phrases.{LabelPhrase, ExprPhrase, BlockPhrase}
@@ -22,34 +24,37 @@ use Rattle.jif_grammar.specs.DraftShapes.{NameShape, LabelShape, ExprShape, Star
 use Rattle.jif_grammar.specs.DraftShapes.{declaration_shape, assignment_shape, element_assignment_shape}
 use Rattle.jif_grammar.specs.DraftShapes.{branch_shape, loop_shape, call_shape, return_shape}
 use Rattle.jif_grammar.specs.Spelling.{args_spelling, optional_label_spelling}
-use Rattle.jif_grammar.specs.Drafts.{name_at, expr_at, expr_width, args_at, label_at, optional_label_at, start_at, block_at}
+use Rattle.jif_grammar.specs.Drafts.{name_at, expr_at, expr_width, args_at, optional_label_at, start_at}
+use Rattle.jif_grammar.specs.Drafts.{block_at}
 use Rattle.jif_grammar.specs.Drafts.{block_width, result_at}
 use Rattle.jif_resolve.specs.Counts.{LocalShape, locals_in, statements_in, calls_in}
-use Rattle.jif_resolve.specs.Labels.{IsLabelFor, IsOptionalLabelFor}
+use Rattle.jif_resolve.specs.Labels.{IsOptionalLabelFor}
 use Rattle.jif_resolve.specs.Meanings.{Global, first_named, earlier_of, global_meaning}
 use Rattle.jif_resolve.specs.Places.{Setting, Place, Known, known_variable, local_or_global, meaning_at, next_variable}
 use Rattle.jif_resolve.specs.Places.{after_statement, after_call, after_declaration, after_block}
-use Rattle.jif_resolve.specs.Faults.{fault_where, label_faults, optional_label_faults, local_faults, variable_faults}
+use Rattle.jif_resolve.specs.Faults.{fault_where, optional_label_faults, local_faults, variable_faults}
 use Rattle.jif_resolve.specs.Faults.{array_faults, keeper_faults, called_faults, same_truth, into_faults, is_kept}
 use Rattle.jif_resolve.specs.Faults.{call_faults, expr_faults, block_faults, ends_in_return}
-use Rattle.jif_resolve.specs.Resolved.{variable_tree, array_of, local_of, method_of, assignment_tree, IsExprFor}
+use Rattle.jif_resolve.specs.Resolved.{local_of, method_of, assignment_tree, IsExprFor}
 use Rattle.jif_resolve.specs.Resolved.{heading_of, into_tree, IsBlockFor}
 use Rattle.jif_resolve.specs.Sizes.{HasNoReturn, ReturnsLast}
 use Rattle.jif_resolve.specs.declared.fault.FaultKind.TheVariants.{Twice, WrongType, WrongCount}
 use Rattle.jif_resolve.specs.declared.meaning.Meaning.{Meaning}
 use Rattle.jif_resolve.specs.declared.meaning.Meaning.TheVariants as sense
-use Rattle.jif_parse.specs.PrintedNames.{Naming, name_of_variable, label_of_variable, field_name, variable_name, variable_label, method_name}
+use Rattle.jif_parse.specs.PrintedNames.{Naming, name_of_variable, label_of_variable, field_name, variable_name}
+use Rattle.jif_parse.specs.PrintedNames.{variable_label, method_name}
 use Rattle.jif_parse.specs.PrintedExprs.{expr_phrase}
-use Rattle.jif_parse.specs.PrintedProgram.{seen_after, seen_behind, is_done}
+use Rattle.jif_parse.specs.PrintedProgram.{seen_behind, is_done}
 use Rattle.jif_parse.specs.PrintedBack.{block_without_lines, without_line}
 use Rattle.jif_parse.proofs.PrintedLists.{none_joined, none_in_two, none_in_three, none_in_four, none_where}
-use Rattle.jif_parse.proofs.PrintedApart.{IsNamed, AreNamed, IsNamedLabel, IsNamedOptional, IsNamedBlock, IsNamedResult}
+use Rattle.jif_parse.proofs.PrintedApart.{IsNamed, AreNamed, IsNamedOptional, IsNamedBlock, IsNamedResult}
 use Rattle.jif_parse.proofs.PrintedPhrases.{label_phrase, assigned_phrase, branch_phrase, call_phrase, block_phrase}
 use Rattle.jif_parse.proofs.PrintedPhrases.{result_phrase}
 use Rattle.jif_parse.proofs.PrintedSpelled.{HasNone, HasLast, no_result}
 use Rattle.jif_parse.proofs.PrintedLabels.{Laws, label_back}
 use Rattle.jif_parse.proofs.PrintedBackExprs.{SameGlobals, with_globals, naming_in, NameIs, NameIsWhere, AreNamesAt}
-use Rattle.jif_parse.proofs.PrintedBackExprs.{same_meaning, IsNamedShape, ExprBack, used_at, again, ArrayBack, array_back}
+use Rattle.jif_parse.proofs.PrintedBackExprs.{IsNamedShape, ExprBack, used_at, again}
+use Rattle.jif_parse.proofs.PrintedBackExprs.{array_back}
 use Rattle.jif_parse.proofs.PrintedBackExprs.{expr_back, label_clean, label_named}
 
 -- ---- variables

@@ -1,20 +1,20 @@
 -- Printed expressions are read as themselves.
-use Rattle.std.proofs.Common.{◌≡◌, ◌<◌, ℕ, zero, suc, ◌+◌, ◌||◌, ℤ, pos, negsuc, Bool, true, false, not, nat_lt, List, [], ◌∷◌, ◌++◌, map, Option, Some, None, refl, ap, sym, ◌∙◌, subst}
+use Rattle.std.proofs.Common.{◌≡◌, ◌<◌, ℕ, zero, suc, ◌+◌, ◌||◌, pos, negsuc, Bool, true, false, not, nat_lt, List}
+use Rattle.std.proofs.Common.{[], ◌∷◌, ◌++◌, map, Option, Some, None, refl, ap, sym, ◌∙◌, subst}
 use Rattle.std.specs.Prelude.{slice_get, ⊤}
-use Rattle.std.specs.List.{AllZip, AllByRecursion, list_any, flat_map}
+use Rattle.std.specs.List.{AllZip, list_any, flat_map}
 use Rattle.std.specs.Str.{bytes_eq}
 use Rattle.std.proofs.lemmas.Slice.Eq.{bytes_eq-Decides}
 use Rattle.js_base.specs.Name.{IsName}
 use Rattle.js_base.specs.declared.ids.FieldId.{FieldId}
-use Rattle.js_base.specs.declared.ids.VarId.{VarId}
 use Rattle.js_base.specs.declared.ids.PrincipalId.{PrincipalId}
 use Rattle.principals.specs.ActsFor.{Declared, IsDeclared}
 use Rattle.label_lattice.specs.declared.label.Label.{Label}
-use Rattle.label_lattice.specs.Written.{KnownPart, policy_of, trust_of, IsKnown, AreKnown, IsKnownPart, Part}
+use Rattle.label_lattice.specs.Written.{KnownPart, policy_of, trust_of, IsKnown, AreKnown, IsKnownPart}
 use Rattle.label_lattice.specs.Printed.{printed_parts}
 use Rattle.label_lattice.proofs.PrintedTokens.{parts_have}
-use Rattle.jif_tree.specs.Trees.{ExprTree, number, local, scalar, element, inverted, negated, binary, declassified}
-use Rattle.jif_tree.specs.Trees.{endorsed, ProgramTree}
+use Rattle.jif_tree.specs.Trees.{ExprTree, local, scalar}
+use Rattle.jif_tree.specs.Trees.{ProgramTree}
 use Rattle.jif_grammar.specs.Phrases.{ExprPhrase}
 use Rattle.jif_grammar.specs.Operators.{operator_level, tightest_level}
 use Rattle.jif_grammar.specs.Grouping.{level}
@@ -22,7 +22,7 @@ use Rattle.jif_grammar.specs.DraftShapes.{NameShape, PolicyShape, LabelShape, Ex
 use Rattle.jif_grammar.specs.DraftShapes.{element_shape, complement_shape, negation_shape, binary_shape}
 use Rattle.jif_grammar.specs.DraftShapes.{release_shape, endorsement_shape}
 use Rattle.jif_grammar.specs.Drafts.{expr_at, expr_width, label_at}
-use Rattle.jif_resolve.specs.Labels.{texts, policy_part, trust_parts, parts_of, IsLabelFor}
+use Rattle.jif_resolve.specs.Labels.{texts, policy_part, trust_parts, IsLabelFor}
 use Rattle.jif_resolve.specs.Meanings.{Global, global_meaning}
 use Rattle.jif_resolve.specs.Places.{Setting, Place, known_variable, local_or_global, meaning_at}
 use Rattle.jif_resolve.specs.Faults.{fault_where, principal_faults, principals_faults, policy_faults, trust_faults}

@@ -1,11 +1,12 @@
 -- The fields and methods of a printed program have the same names, which stand for the same.
-use Rattle.std.proofs.Common.{◌≡◌, ◌≢◌, ◌<◌, ◌≤◌, ℕ, zero, suc, ℤ, pos, negsuc, ◌+◌, ◌&&◌, ◌||◌, Bool, true, false, nat_lt, if◌then◌else◌, List, [], ◌∷◌, ◌++◌, map, length, Option, Some, None, refl, ap, sym, ◌∙◌, subst, arith, inl, inr}
+use Rattle.std.proofs.Common.{◌≡◌, ◌≢◌, ◌<◌, ◌≤◌, ℕ, zero, suc, ℤ, pos, negsuc, ◌+◌, ◌&&◌, ◌||◌, Bool, true, false}
+use Rattle.std.proofs.Common.{nat_lt, if◌then◌else◌, List, [], ◌∷◌, ◌++◌, length, Option, Some, None, refl, ap}
+use Rattle.std.proofs.Common.{sym, ◌∙◌, subst, arith}
 use Rattle.std.specs.Prelude.{slice_get, ⊤}
 use Rattle.std.specs.Option.{option_map}
 use Rattle.std.specs.List.{AllZip, AllByRecursion, list_any, flat_map}
 use Rattle.std.specs.Str.{bytes_eq}
 use Rattle.std.proofs.lemmas.Bool.Decides.{nat_tests}
-use Rattle.std.proofs.lemmas.Bool.{cases_lt}
 use Rattle.std.proofs.lemmas.List.{append_assoc, length-append, length-map}
 use Rattle.std.proofs.lemmas.Slice.Eq.{bytes_eq-Decides}
 use Rattle.js_base.specs.declared.ids.VarId.{VarId}
@@ -13,32 +14,33 @@ use Rattle.jif_lex.specs.declared.token.TokenKind.TheVariants.{Name}
 use Rattle.jif_lex.specs.declared.token.Symbol.TheVariants.{LeftBrace, RightBrace, LeftParenthesis, RightParenthesis}
 use Rattle.label_lattice.specs.Written.{symbol}
 use Rattle.principals.specs.ActsFor.{Declared, IsDeclared}
-use Rattle.jif_tree.specs.Trees.{FieldTree, MethodTree, ProgramTree}
+use Rattle.jif_tree.specs.Trees.{FieldTree, MethodTree}
 use Rattle.jif_tree.specs.WellNumbered.{is_some}
 use Rattle.jif_grammar.specs.Phrases as phrase
 use Rattle.jif_grammar.specs.Phrases.{LabelPhrase, ParamPhrase, ItemPhrase, ProgramPhrase, FieldPhrase, MethodPhrase}
-use Rattle.jif_grammar.specs.DraftShapes.{NameShape, LabelShape, FieldShape, ParamShape, MethodShape, DraftShape}
+use Rattle.jif_grammar.specs.DraftShapes.{NameShape, FieldShape, ParamShape, MethodShape}
 use Rattle.jif_grammar.specs.Marks.{nothing, Marked, plain}
 use Rattle.jif_grammar.specs.Marks as marks
-use Rattle.jif_grammar.specs.Spelling.{label_spelling, optional_label_spelling, item_spelling, spelling, field_end_spelling}
-use Rattle.jif_grammar.specs.Spelling.{head_spelling, param_spelling, params_spelling, authority_spelling, block_spelling}
+use Rattle.jif_grammar.specs.Spelling.{label_spelling, optional_label_spelling}
+use Rattle.jif_grammar.specs.Spelling.{field_end_spelling}
+use Rattle.jif_grammar.specs.Spelling.{head_spelling, param_spelling, params_spelling, authority_spelling}
+use Rattle.jif_grammar.specs.Spelling.{block_spelling}
 use Rattle.jif_grammar.specs.Spelling.{result_spelling}
 use Rattle.jif_grammar.specs.Drafts.{label_width, size_of, is_array, first_value, field_at, fields_at, params_at}
 use Rattle.jif_grammar.specs.Drafts.{method_at, methods_at, after_item, method_name_place, optional_label_at, draft_of}
-use Rattle.jif_resolve.specs.Meanings.{Global, has_result, field_meaning, method_meaning, fields_from, methods_from}
+use Rattle.jif_resolve.specs.Meanings.{Global, has_result, method_meaning, fields_from, methods_from}
 use Rattle.jif_resolve.specs.Meanings.{globals_of, earlier_of, first_named, global_meaning}
 use Rattle.jif_resolve.specs.Places.{head_after}
-use Rattle.jif_resolve.specs.Faults.{fault_where, is_global_before, global_faults, setting_of}
-use Rattle.jif_resolve.specs.Variables.{param_ids, result_id}
-use Rattle.jif_resolve.specs.Resolved.{IsFieldFor, IsMethodFor, AreMethodsFor}
-use Rattle.jif_resolve.specs.declared.fault.Fault.{Fault}
+use Rattle.jif_resolve.specs.Faults.{fault_where, is_global_before, global_faults}
+use Rattle.jif_resolve.specs.Variables.{param_ids}
+use Rattle.jif_resolve.specs.Resolved.{IsFieldFor, AreMethodsFor}
 use Rattle.jif_resolve.specs.declared.fault.FaultKind.TheVariants.{Twice}
 use Rattle.jif_resolve.specs.declared.meaning.Meaning.{Meaning}
 use Rattle.jif_resolve.specs.declared.meaning.Meaning.TheVariants as sense
 use Rattle.jif_parse.specs.PrintedNames.{Naming, name_of_field, name_of_method}
 use Rattle.jif_parse.specs.PrintedProgram.{seen_after_method}
 use Rattle.jif_parse.proofs.PrintedLists.{none_in_two, none_where}
-use Rattle.jif_parse.proofs.PrintedPhrases.{first_phrase, field_end_phrase, field_phrase, fields_phrases, param_phrase}
+use Rattle.jif_parse.proofs.PrintedPhrases.{field_end_phrase, field_phrase, fields_phrases, param_phrase}
 use Rattle.jif_parse.proofs.PrintedPhrases.{kind_phrase, method_phrase, methods_phrases}
 use Rattle.jif_parse.proofs.PrintedLabels.{Laws, label_back}
 use Rattle.jif_parse.proofs.PrintedBackExprs.{SameGlobals, NameIs}

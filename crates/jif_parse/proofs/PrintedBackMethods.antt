@@ -1,54 +1,55 @@
 -- Printed methods are read as themselves.
-use Rattle.std.proofs.Common.{◌≡◌, ◌<◌, ◌≤◌, ℕ, zero, suc, ◌+◌, ◌||◌, ◌&&◌, ◌==◌, Bool, true, false, not, nat_lt, if◌then◌else◌, List, [], ◌∷◌, ◌++◌, map, length, Option, Some, None, refl, ap, sym, ◌∙◌, subst, arith, codes}
-use Rattle.std.specs.Prelude.{slice_get, ⊤}
-use Rattle.std.specs.List.{AllZip, AllByRecursion, list_any, flat_map, sum_by}
-use Rattle.std.specs.Str.{bytes_eq}
+use Rattle.std.proofs.Common.{◌≡◌, ℕ, suc, ◌+◌, ◌&&◌, Bool, true, false, not, nat_lt}
+use Rattle.std.proofs.Common.{if◌then◌else◌, List, [], ◌∷◌, ◌++◌, map, length, Option, Some, None, refl, ap, sym, ◌∙◌}
+use Rattle.std.proofs.Common.{subst, arith}
+use Rattle.std.specs.Prelude.{⊤}
+use Rattle.std.specs.List.{AllByRecursion}
 use Rattle.std.proofs.lemmas.Bool.Decides.{nat_tests}
-use Rattle.std.proofs.lemmas.List.{length-append, length-map, map-append}
-use Rattle.std.proofs.lemmas.List.Sums.{sum_by-append}
+use Rattle.std.proofs.lemmas.List.{length-append, length-map}
 use Rattle.js_base.specs.Name.{IsName}
 use Rattle.js_base.specs.declared.ids.VarId.{VarId}
 use Rattle.js_base.specs.declared.ids.MethodId.{MethodId}
 use Rattle.js_base.specs.declared.ids.PrincipalId.{PrincipalId}
 use Rattle.principals.specs.ActsFor.{Declared, IsDeclared}
 use Rattle.label_lattice.specs.declared.label.Label.{Label}
-use Rattle.label_lattice.specs.Written.{IsKnown, AreKnown}
+use Rattle.label_lattice.specs.Written.{AreKnown}
 use Rattle.label_lattice.specs.Printed.{printed_parts}
-use Rattle.jif_tree.specs.Trees.{BlockTree, VarTree, MethodTree, ProgramTree}
+use Rattle.jif_tree.specs.Trees.{MethodTree, ProgramTree}
 use Rattle.jif_grammar.specs.Phrases as phrase
 use Rattle.jif_grammar.specs.Phrases.{LabelPhrase, ExprPhrase, BlockPhrase, ParamPhrase, MethodPhrase, ProgramPhrase}
-use Rattle.jif_grammar.specs.DraftShapes.{NameShape, LabelShape, BlockShape, ParamShape, MethodShape}
+use Rattle.jif_grammar.specs.DraftShapes.{NameShape, LabelShape, ParamShape, MethodShape}
 use Rattle.jif_grammar.specs.Spelling.{param_spelling, params_spelling, authority_spelling, head_spelling}
-use Rattle.jif_grammar.specs.Spelling.{optional_label_spelling}
-use Rattle.jif_grammar.specs.Drafts.{name_at, names_at, label_at, label_width, optional_label_at, block_at, block_width}
-use Rattle.jif_grammar.specs.Drafts.{result_at, params_at, method_name_place, method_at, methods_at, after_item}
+use Rattle.jif_grammar.specs.Drafts.{names_at, label_at, label_width, optional_label_at, block_width}
+use Rattle.jif_grammar.specs.Drafts.{params_at, method_name_place, method_at}
 use Rattle.jif_resolve.specs.Counts.{LocalShape, locals_in, statements_in, calls_in}
-use Rattle.jif_resolve.specs.Labels.{texts, IsLabelFor, IsOptionalLabelFor}
+use Rattle.jif_resolve.specs.Labels.{texts, IsLabelFor}
 use Rattle.jif_resolve.specs.Meanings.{Global, has_result}
-use Rattle.jif_resolve.specs.Places.{Setting, Place, Known, next_variable, after_variable, after_params, after_statement}
-use Rattle.jif_resolve.specs.Places.{head_after, body_place, counted, variables_in, numbered_in}
+use Rattle.jif_resolve.specs.Places.{Setting, Place, next_variable, after_variable, after_params}
+use Rattle.jif_resolve.specs.Places.{after_statement}
+use Rattle.jif_resolve.specs.Places.{head_after, body_place, counted, variables_in}
 use Rattle.jif_resolve.specs.Faults.{fault_where, principals_faults, label_faults, optional_label_faults, local_faults}
 use Rattle.jif_resolve.specs.Faults.{params_faults, block_faults, ends_in_return, method_faults, setting_of}
 use Rattle.jif_resolve.specs.Variables.{VariableShape, result_variables, method_variables, param_ids, result_id}
-use Rattle.jif_resolve.specs.Resolved.{IsBlockFor, IsVariableFor, IsMethodFor}
+use Rattle.jif_resolve.specs.Resolved.{IsBlockFor, IsMethodFor}
 use Rattle.jif_resolve.specs.Sizes.{ReturnsLast}
-use Rattle.jif_resolve.specs.declared.fault.FaultKind.TheVariants.{Twice, WrongType}
+use Rattle.jif_resolve.specs.declared.fault.FaultKind.TheVariants.{WrongType}
 use Rattle.jif_parse.specs.PrintedNames.{Naming, name_of_variable, label_of_variable, name_or_none, variable_name}
 use Rattle.jif_parse.specs.PrintedNames.{variable_label, principal_name}
-use Rattle.jif_parse.specs.PrintedProgram.{seen_after, seen_after_all, seen_in, seen_behind, seen_after_result}
+use Rattle.jif_parse.specs.PrintedProgram.{seen_after_all, seen_behind, seen_after_result}
 use Rattle.jif_parse.specs.PrintedProgram.{seen_after_method}
-use Rattle.jif_parse.specs.PrintedBack.{block_without_lines, method_without_lines}
-use Rattle.jif_parse.proofs.PrintedLists.{none_joined, none_in_two, none_in_three, none_in_six, six_joined, none_where}
-use Rattle.jif_parse.proofs.PrintedApart.{IsNamedLabel, IsNamedOptional, IsNamedBlock, IsNamedResult, IsNamedParam, AreNames}
+use Rattle.jif_parse.specs.PrintedBack.{method_without_lines}
+use Rattle.jif_parse.proofs.PrintedLists.{none_in_three, none_in_six, six_joined, none_where}
+use Rattle.jif_parse.proofs.PrintedApart.{IsNamedLabel, IsNamedOptional, IsNamedParam}
+use Rattle.jif_parse.proofs.PrintedApart.{AreNames}
 use Rattle.jif_parse.proofs.PrintedApart.{IsNamedItem}
-use Rattle.jif_parse.proofs.PrintedPhrases.{label_phrase, label_or_none, block_phrase, result_phrase, param_phrase}
+use Rattle.jif_parse.proofs.PrintedPhrases.{label_or_none, block_phrase, result_phrase, param_phrase}
 use Rattle.jif_parse.proofs.PrintedPhrases.{kind_phrase, method_phrase}
-use Rattle.jif_parse.proofs.PrintedSpelled.{HasLabel, HasLabelWhere, HasLast, IsPrintable}
+use Rattle.jif_parse.proofs.PrintedSpelled.{HasLabel, HasLabelWhere, IsPrintable}
 use Rattle.jif_parse.proofs.PrintedLabels.{Laws, label_back, names_back}
-use Rattle.jif_parse.proofs.PrintedBackExprs.{SameGlobals, with_globals, naming_in, label_clean, label_named}
+use Rattle.jif_parse.proofs.PrintedBackExprs.{SameGlobals, label_clean, label_named}
 use Rattle.jif_parse.proofs.PrintedBackExprs.{principals_clean}
-use Rattle.jif_parse.proofs.PrintedBackBlocks.{IsVariableAt, LocalsAre, name_there, KnownAre, known_later, GlobalsAre}
-use Rattle.jif_parse.proofs.PrintedBackBlocks.{IsNamedBlockShape, Given, naming_of, new, BlockBack, BlockMade, Stands}
+use Rattle.jif_parse.proofs.PrintedBackBlocks.{IsVariableAt, LocalsAre, KnownAre, known_later, GlobalsAre}
+use Rattle.jif_parse.proofs.PrintedBackBlocks.{IsNamedBlockShape, Given, naming_of, new}
 use Rattle.jif_parse.proofs.PrintedBackBlocks.{block_back, last_of, local_clean, three_joined, Alike, SameSome}
 
 -- ---- variables in a row

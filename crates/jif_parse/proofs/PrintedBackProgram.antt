@@ -1,9 +1,11 @@
 -- The phrases of a program are read as the same program, but for its lines.
-use Rattle.std.proofs.Common.{◌≡◌, ◌<◌, ◌≤◌, ℕ, zero, suc, ℤ, pos, negsuc, ◌+◌, ◌&&◌, ◌==◌, not, codes, Bool, true, false, if◌then◌else◌, List, [], ◌∷◌, ◌++◌, map, length, Option, Some, None, refl, ap, sym, ◌∙◌, subst, arith}
-use Rattle.std.specs.Prelude.{slice_get, ⊤, All}
-use Rattle.std.specs.List.{AllZip, AllByRecursion, flat_map, sum_by}
+use Rattle.std.proofs.Common.{◌≡◌, ◌<◌, ℕ, zero, suc, ℤ, pos, negsuc, ◌+◌, ◌&&◌, ◌==◌, not, codes, Bool, true}
+use Rattle.std.proofs.Common.{false, if◌then◌else◌, List, [], ◌∷◌, ◌++◌, map, length, Option, Some, None, refl, ap}
+use Rattle.std.proofs.Common.{sym, ◌∙◌, subst, arith}
+use Rattle.std.specs.Prelude.{slice_get, ⊤}
+use Rattle.std.specs.List.{AllZip, AllByRecursion, flat_map}
 use Rattle.std.specs.Str.{bytes_eq}
-use Rattle.std.proofs.lemmas.List.{length-append, length-map, append_assoc, append-nil}
+use Rattle.std.proofs.lemmas.List.{length-append, length-map}
 use Rattle.std.proofs.lemmas.List.Sums.{sum_by-append}
 use Rattle.js_base.specs.Name.{IsName}
 use Rattle.js_base.specs.declared.ids.MethodId.{MethodId}
@@ -13,14 +15,14 @@ use Rattle.jif_grammar.specs.Phrases as phrase
 use Rattle.jif_grammar.specs.Phrases.{ItemPhrase, ProgramPhrase}
 use Rattle.jif_grammar.specs.DraftShapes.{FieldShape, LabelShape, ParamShape, MethodShape, DraftShape}
 use Rattle.jif_grammar.specs.Drafts.{fields_at, method_at, methods_at, after_item, draft_of}
-use Rattle.jif_resolve.specs.Counts.{locals_in, statements_in, calls_in, LocalShape}
+use Rattle.jif_resolve.specs.Counts.{locals_in, calls_in, LocalShape}
 use Rattle.jif_resolve.specs.Labels.{IsOptionalLabelFor}
-use Rattle.jif_resolve.specs.Meanings.{Global, has_result, is_main, main_from, main_of, fields_from, methods_from}
+use Rattle.jif_resolve.specs.Meanings.{Global, has_result, is_main, main_from, fields_from, methods_from}
 use Rattle.jif_resolve.specs.Meanings.{globals_of}
 use Rattle.jif_resolve.specs.Places.{Place, head_after, counted, variables_in, numbered_in}
-use Rattle.jif_resolve.specs.Faults.{setting_of, method_faults, methods_faults, label_faults, global_faults, faults_of}
+use Rattle.jif_resolve.specs.Faults.{setting_of, method_faults, methods_faults, label_faults, global_faults}
 use Rattle.jif_resolve.specs.Variables.{VariableShape, result_variables, method_variables, variables_from}
-use Rattle.jif_resolve.specs.Resolved.{IsFieldFor, IsVariableFor, IsMethodFor, AreMethodsFor, IsTreeOf}
+use Rattle.jif_resolve.specs.Resolved.{IsFieldFor, IsVariableFor, IsMethodFor, AreMethodsFor}
 use Rattle.jif_resolve.specs.Verdicts.{IsProgramOf}
 use Rattle.jif_resolve.specs.Sizes.{ReturnsLast}
 use Rattle.jif_parse.specs.PrintedNames.{Naming}
@@ -28,14 +30,15 @@ use Rattle.jif_parse.specs.PrintedProgram.{seen_after_method}
 use Rattle.jif_parse.specs.PrintedBack.{method_without_lines, without_lines}
 use Rattle.jif_parse.proofs.PrintedLists.{none_joined, none_in_two, none_in_three}
 use Rattle.jif_parse.proofs.PrintedApart.{IsSmall, IsNamedEnd, IsNamedItem, IsNamedProgram}
-use Rattle.jif_parse.proofs.PrintedPhrases.{fields_phrases, method_phrase, methods_phrases, program_phrase, field_phrase}
+use Rattle.jif_parse.proofs.PrintedPhrases.{fields_phrases, method_phrase, methods_phrases, program_phrase}
+use Rattle.jif_parse.proofs.PrintedPhrases.{field_phrase}
 use Rattle.jif_parse.proofs.PrintedPhrases.{field_end_phrase, HasElements}
 use Rattle.jif_parse.proofs.PrintedSpelled.{IsPrintable}
 use Rattle.jif_parse.proofs.PrintedLabels.{Laws}
 use Rattle.jif_parse.proofs.PrintedBackExprs.{SameGlobals, label_clean, label_named}
-use Rattle.jif_parse.proofs.PrintedBackBlocks.{IsVariableAt, GlobalsAre, three_joined}
+use Rattle.jif_parse.proofs.PrintedBackBlocks.{GlobalsAre, three_joined}
 use Rattle.jif_parse.proofs.PrintedBackMethods.{VarsAre, vars_front, vars_behind, vars_joined, param_variable}
-use Rattle.jif_parse.proofs.PrintedBackMethods.{local_variable, IsNamedMethod, MethodFresh, MethodMade, method_back}
+use Rattle.jif_parse.proofs.PrintedBackMethods.{local_variable, IsNamedMethod, MethodFresh, method_back}
 use Rattle.jif_parse.proofs.PrintedBackMethods.{MethodAlike}
 use Rattle.jif_parse.proofs.PrintedBackGlobals.{SameEach, each_joined, Distinct, distinct_names, globals_same}
 use Rattle.jif_parse.proofs.PrintedBackGlobals.{globals_clean, AllApart, no_fields_after, ArePlainFields, fields_back}

@@ -1,9 +1,9 @@
 -- The parts of printed phrases have the tokens of the phrases.
-use Rattle.std.proofs.Common.{◌≡◌, ℕ, pos, Bool, true, false, List, [], ◌∷◌, Option, Some, None, refl, ap, ◌∙◌}
+use Rattle.std.proofs.Common.{◌≡◌, ℕ, true, false, List, [], ◌∷◌, Option, Some, None, refl, ap, ◌∙◌}
 use Rattle.jif_lex.specs.declared.token.TokenKind.{TokenKind}
-use Rattle.jif_lex.specs.declared.token.TokenKind.TheVariants.{Name, Number, Word}
+use Rattle.jif_lex.specs.declared.token.TokenKind.TheVariants.{Name, Word}
 use Rattle.jif_lex.specs.declared.token.Symbol.TheVariants.{LeftBrace, RightBrace, LeftParenthesis, RightParenthesis}
-use Rattle.jif_lex.specs.declared.token.Symbol.TheVariants.{LeftBracket, RightBracket, Semicolon, Comma, Assign, Minus}
+use Rattle.jif_lex.specs.declared.token.Symbol.TheVariants.{LeftBracket, RightBracket, Semicolon, Comma, Assign}
 use Rattle.jif_lex.specs.declared.token.Symbol.TheVariants.{Colon, Question}
 use Rattle.jif_lex.specs.declared.token.Word.TheVariants.{Int, Void, If, Else, While, Return, Where, Authority}
 use Rattle.jif_lex.specs.Spelled.{Spelled, token_part, space_part, line_end_part, spelled_kinds}
@@ -14,13 +14,14 @@ use Rattle.jif_grammar.specs.Phrases.{call_into, branch, branch_else, loop, Fiel
 use Rattle.jif_grammar.specs.Phrases.{ParamPhrase, MethodPhrase, ItemPhrase, field, method, ProgramPhrase}
 use Rattle.jif_grammar.specs.Operators.{operator_symbol, sign_symbol, change_word}
 use Rattle.jif_grammar.specs.Unmarked.{joined_then, names_then, part_then, label_then, expr_then, args_then}
-use Rattle.jif_grammar.specs.Unmarked.{name_then, optional_label_then, block_then, sign_then, field_end_then, param_then}
+use Rattle.jif_grammar.specs.Unmarked.{name_then, optional_label_then, block_then, field_end_then}
+use Rattle.jif_grammar.specs.Unmarked.{param_then}
 use Rattle.jif_grammar.specs.Unmarked.{params_then, authority_then, result_then, head_then, tail_then, item_then}
 use Rattle.jif_grammar.specs.Unmarked.{program_then}
 use Rattle.jif_parse.proofs.PrintedPieces.{symbol_part, word_part, name_part, joined_pieces, name_pieces, names_pieces}
 use Rattle.jif_parse.proofs.PrintedPieces.{part_pieces, label_pieces, expr_pieces, args_pieces, optional_label_pieces}
 use Rattle.jif_parse.proofs.PrintedPieces.{end_pieces, set_pieces, call_pieces, guard_pieces, block_pieces}
-use Rattle.jif_parse.proofs.PrintedPieces.{result_pieces, sign_pieces, field_end_pieces, param_pieces, params_pieces}
+use Rattle.jif_parse.proofs.PrintedPieces.{result_pieces, field_end_pieces, param_pieces, params_pieces}
 use Rattle.jif_parse.proofs.PrintedPieces.{authority_pieces, head_pieces, tail_pieces, item_pieces, program_pieces}
 
 -- the tokens of a phrase before others

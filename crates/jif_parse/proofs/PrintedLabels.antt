@@ -1,5 +1,5 @@
 -- The label that a printed label is.
-use Rattle.std.proofs.Common.{◌≡◌, ℕ, ◌+◌, List, [], ◌∷◌, ◌++◌, map, Option, Some, None, refl, ap, sym, ◌∙◌, subst, length}
+use Rattle.std.proofs.Common.{◌≡◌, ℕ, ◌+◌, List, [], ◌∷◌, ◌++◌, map, refl, ap, sym, ◌∙◌, subst}
 use Rattle.std.specs.List.{AllZip}
 use Rattle.std.proofs.lemmas.List.{append_assoc}
 use Rattle.principals.specs.ActsFor.{Declared, IsDeclared}
@@ -11,16 +11,16 @@ use Rattle.jif_lex.specs.Tokens.{Reading, ReadsAs, tokens, bad_byte, bad_number}
 use Rattle.jif_lex.specs.Spelled.{Spelled, spelled_text, spelled_kinds, AreApart, HasKinds}
 use Rattle.label_lattice.specs.declared.label.Label.{Label}
 use Rattle.label_lattice.specs.Over.{IsLabelOver}
-use Rattle.label_lattice.specs.Written.{Part, policy, trust, symbol, with_separator, name_tokens, names_tokens, part_tokens}
-use Rattle.label_lattice.specs.Written.{parts_tokens, kinds, TrustIsLast, KnownPart, IsKnownPart, IsMadeOf, IsPartsOf}
+use Rattle.label_lattice.specs.Written.{Part, policy, trust, symbol, with_separator, name_tokens, names_tokens}
+use Rattle.label_lattice.specs.Written.{part_tokens}
+use Rattle.label_lattice.specs.Written.{parts_tokens, kinds, TrustIsLast, KnownPart, IsKnownPart, IsMadeOf}
 use Rattle.label_lattice.specs.Printed.{printed_parts, printed_label, ReadsBack}
 use Rattle.label_lattice.proofs.PrintedTokens.{label_marks, label_is, label_kinds, label_apart, parts_have}
 use Rattle.jif_grammar.specs.Unmarked.{joined_then, name_then, names_then, part_then, label_then}
 use Rattle.jif_grammar.specs.Phrases.{LabelPhrase}
-use Rattle.jif_grammar.specs.DraftShapes.{NameShape, PolicyShape, LabelShape}
 use Rattle.jif_grammar.specs.Drafts.{names_at, policies_at, trust_at, label_at, after_part}
 use Rattle.jif_grammar.proofs.OneJoined.{one_label}
-use Rattle.jif_resolve.specs.Labels.{texts, policy_part, trust_parts, parts_of, IsLabelFor}
+use Rattle.jif_resolve.specs.Labels.{texts, policy_part, trust_parts, IsLabelFor}
 use Rattle.jif_parse.proofs.PrintedPhrases.{label_grouped}
 
 -- ---- the tokens of a label

@@ -1,14 +1,14 @@
 -- No token of a printed program passes a limit: each token is one of the program that it came from, or nothing begins
 -- at it, and no more constructs are open around it.
-use Rattle.std.proofs.Common.{◌≡◌, ◌<◌, ◌≤◌, ℕ, zero, suc, ℤ, pos, negsuc, ◌+◌, ◌⊎◌, inl, inr, Bool, true, false, nat_lt, List, [], ◌∷◌, ◌++◌, map, length, take, Option, Some, None, refl, ap, sym, ◌∙◌, subst, arith}
+use Rattle.std.proofs.Common.{◌≡◌, ◌<◌, ◌≤◌, ℕ, zero, suc, ℤ, pos, negsuc, ◌+◌, ◌⊎◌, inl, inr, Bool, true, false}
+use Rattle.std.proofs.Common.{nat_lt, List, [], ◌∷◌, ◌++◌, map, length, take, Option, Some, None, refl, ap, sym, ◌∙◌}
+use Rattle.std.proofs.Common.{subst, arith}
 use Rattle.std.specs.Prelude.{⊤}
 use Rattle.std.specs.List.{AllZip, AllByRecursion}
 use Rattle.std.proofs.lemmas.Bool.Decides.{nat_tests}
 use Rattle.std.proofs.lemmas.List.{map-append, append-nil, append_assoc}
-use Rattle.js_base.specs.declared.binary_operator.BinOp.{BinOp}
-use Rattle.js_base.specs.declared.ids.VarId.{VarId}
-use Rattle.js_base.specs.declared.limits.TheConstants.{FIELDS, METHODS, PARAMETERS, VARIABLES, STATEMENTS}
-use Rattle.js_base.specs.declared.limits.TheConstants.{EXPRESSION_NODES, ARRAY_SIZE, ELEMENTS, NESTING}
+use Rattle.js_base.specs.declared.limits.TheConstants.{FIELDS}
+use Rattle.js_base.specs.declared.limits.TheConstants.{ARRAY_SIZE, ELEMENTS, NESTING}
 use Rattle.principals.specs.ActsFor.{Declared}
 use Rattle.label_lattice.specs.declared.label.Label.{Label}
 use Rattle.label_lattice.specs.Written.{symbol, parts_tokens, names_tokens}
@@ -16,35 +16,36 @@ use Rattle.label_lattice.specs.Printed.{printed_parts}
 use Rattle.jif_lex.specs.declared.token.TokenKind.{TokenKind}
 use Rattle.jif_lex.specs.declared.token.TokenKind.TheVariants.{Name, Number, Word}
 use Rattle.jif_lex.specs.declared.token.Symbol.TheVariants.{LeftBrace, RightBrace, LeftParenthesis, RightParenthesis}
-use Rattle.jif_lex.specs.declared.token.Symbol.TheVariants.{LeftBracket, RightBracket, Semicolon, Comma, Assign, Minus}
-use Rattle.jif_lex.specs.declared.token.Word.TheVariants.{Int, Void, If, Else, While, Return, Where, Authority}
+use Rattle.jif_lex.specs.declared.token.Symbol.TheVariants.{LeftBracket, RightBracket, Semicolon, Assign, Minus}
+use Rattle.jif_lex.specs.declared.token.Word.TheVariants.{Int, Else, Where, Authority}
 use Rattle.jif_tree.specs.Trees as tree
 use Rattle.jif_tree.specs.Trees.{ExprTree, FieldTree}
 use Rattle.jif_grammar.specs.declared.what.What.{What}
 use Rattle.jif_grammar.specs.declared.what.What.TheVariants as counted
 use Rattle.jif_grammar.specs.Phrases as phrase
-use Rattle.jif_grammar.specs.Phrases.{LabelPhrase, ExprPhrase, BlockPhrase, FieldEnd, FieldPhrase, ParamPhrase, MethodPhrase}
+use Rattle.jif_grammar.specs.Phrases.{LabelPhrase, ExprPhrase, BlockPhrase, FieldEnd, FieldPhrase, ParamPhrase}
+use Rattle.jif_grammar.specs.Phrases.{MethodPhrase}
 use Rattle.jif_grammar.specs.Phrases.{ItemPhrase, ProgramPhrase, complement, minus, Change, release, acceptance}
-use Rattle.jif_grammar.specs.Operators.{operator_symbol, operator_level, tightest_level, sign_symbol, change_word}
+use Rattle.jif_grammar.specs.Operators.{operator_level, tightest_level}
 use Rattle.jif_grammar.specs.Grouping.{level, IsGrouped, AreGrouped, IsBlock, IsResult, IsItem, IsProgram}
 use Rattle.jif_grammar.specs.Marks as marks
 use Rattle.jif_grammar.specs.Marks.{Beginning, Marked, mark, plain, nothing, node, local, statement, parameter, Tally}
 use Rattle.jif_grammar.specs.Marks.{tally_at_start, after_beginning, after_token, after_tokens, HasTooMany, IsTooDeep}
-use Rattle.jif_grammar.specs.Spelling.{joined_spelling, label_spelling, expr_spelling, args_spelling}
+use Rattle.jif_grammar.specs.Spelling.{label_spelling, expr_spelling, args_spelling}
 use Rattle.jif_grammar.specs.Spelling.{optional_label_spelling, block_spelling, field_end_spelling, field_spelling}
 use Rattle.jif_grammar.specs.Spelling.{param_spelling, params_spelling, authority_spelling, result_spelling}
-use Rattle.jif_grammar.specs.Spelling.{head_spelling, method_spelling, item_spelling, spelling, sign_of_number}
-use Rattle.jif_grammar.specs.Programs.{IsWithin, IsWithinLimits, tally_at}
-use Rattle.jif_grammar.specs.DraftShapes.{ExprShape, variable_shape, BlockShape, end_shape, MethodShape}
+use Rattle.jif_grammar.specs.Spelling.{head_spelling, method_spelling, item_spelling, spelling}
+use Rattle.jif_grammar.specs.Programs.{IsWithin, IsWithinLimits}
+use Rattle.jif_grammar.specs.DraftShapes.{end_shape}
 use Rattle.jif_grammar.specs.Drafts.{expr_at, args_at, expr_width, block_at, result_at, optional_label_at, params_at}
 use Rattle.jif_grammar.specs.Drafts.{method_at, methods_at, fields_at, after_item, size_of, is_array}
-use Rattle.jif_resolve.specs.Places.{Setting, Place, meaning_at}
-use Rattle.jif_resolve.specs.Resolved.{variable_tree, IsExprFor, IsFieldFor}
+use Rattle.jif_resolve.specs.Places.{meaning_at}
+use Rattle.jif_resolve.specs.Resolved.{variable_tree, IsFieldFor}
 use Rattle.jif_resolve.specs.declared.meaning.Meaning.{Meaning}
 use Rattle.jif_resolve.specs.declared.meaning.Meaning.TheVariants as sense
 use Rattle.jif_parse.specs.PrintedNames.{Naming}
 use Rattle.jif_parse.specs.PrintedExprs.{operand, parenthesized_where, expr_phrase}
-use Rattle.jif_parse.proofs.PrintedPhrases.{branch_phrase, call_phrase, field_end_phrase, first_phrase, field_phrase}
+use Rattle.jif_parse.proofs.PrintedPhrases.{branch_phrase, field_end_phrase, field_phrase}
 use Rattle.jif_parse.proofs.PrintedPhrases.{fields_phrases}
 use Rattle.jif_parse.proofs.PrintedBackBlocks.{SameSome, IsSomewhere, AreSomewhere, Alike}
 use Rattle.jif_parse.proofs.PrintedBackMethods.{MethodAlike}

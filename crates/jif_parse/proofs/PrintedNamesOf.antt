@@ -1,10 +1,10 @@
 -- The names and numbers of a draft are those of its tokens.
-use Rattle.std.proofs.Common.{◌≡◌, ◌<◌, ◌≤◌, ◌≤ℤ◌, ℕ, zero, suc, ℤ, pos, negsuc, ◌+◌, Bool, true, false, List, [], ◌∷◌, ◌++◌, map, length, Option, Some, None, refl, ap, sym, ◌∙◌, subst, arith}
-use Rattle.std.specs.Prelude.{⊤, All, get_or}
+use Rattle.std.proofs.Common.{ℕ, zero, suc, ◌+◌, true, false, List, []}
+use Rattle.std.proofs.Common.{◌∷◌, length, Option, Some, None, arith}
+use Rattle.std.specs.Prelude.{⊤, All}
 use Rattle.std.specs.List.{AllByRecursion}
 use Rattle.std.proofs.lemmas.Int.{ints}
 use Rattle.js_base.specs.Name.{IsName}
-use Rattle.js_base.specs.declared.limits.TheConstants.{LARGEST_NUMBER, ARRAY_SIZE}
 use Rattle.jif_lex.specs.declared.token.Token.{Token}
 use Rattle.jif_lex.specs.declared.token.TokenKind.{TokenKind}
 use Rattle.jif_lex.specs.declared.token.TokenKind.TheVariants.{Name, Number, Word, Symbol}
@@ -13,16 +13,18 @@ use Rattle.jif_lex.specs.Spelled.{IsSpellable}
 use Rattle.jif_lex.specs.TokenLists.{FitsText}
 use Rattle.label_lattice.specs.Written.{Part, policy, trust, symbol, kinds}
 use Rattle.jif_grammar.specs.Phrases as phrase
-use Rattle.jif_grammar.specs.Phrases.{LabelPhrase, ExprPhrase, BlockPhrase, FieldEnd, ParamPhrase, MethodPhrase, ItemPhrase}
+use Rattle.jif_grammar.specs.Phrases.{LabelPhrase, ExprPhrase, BlockPhrase, FieldEnd, ParamPhrase, MethodPhrase}
+use Rattle.jif_grammar.specs.Phrases.{ItemPhrase}
 use Rattle.jif_grammar.specs.Phrases.{ProgramPhrase, complement, minus, release, acceptance}
 use Rattle.jif_grammar.specs.Unmarked.{joined_then, name_then, names_then, part_then, label_then, expr_then, args_then}
-use Rattle.jif_grammar.specs.Unmarked.{optional_label_then, block_then, sign_then, field_end_then, param_then, params_then}
-use Rattle.jif_grammar.specs.Unmarked.{authority_then, result_then, head_then, tail_then, item_then, program_then}
-use Rattle.jif_grammar.specs.Spelling.{args_spelling, optional_label_spelling, param_spelling, head_spelling}
-use Rattle.jif_grammar.specs.Spelling.{params_spelling, authority_spelling}
-use Rattle.jif_grammar.specs.DraftShapes.{NameShape, ExprShape, BlockShape, ParamShape, MethodShape, FieldShape, end_shape}
-use Rattle.jif_grammar.specs.Drafts.{names_at, expr_at, expr_width, args_at, block_at, block_width, result_at, params_at}
-use Rattle.jif_grammar.specs.Drafts.{method_at, methods_at, field_at, fields_at, first_value, after_item}
+use Rattle.jif_grammar.specs.Unmarked.{optional_label_then, block_then, field_end_then, param_then}
+use Rattle.jif_grammar.specs.Unmarked.{authority_then, result_then, head_then, item_then, program_then}
+use Rattle.jif_grammar.specs.Spelling.{param_spelling}
+use Rattle.jif_grammar.specs.DraftShapes.{BlockShape, FieldShape}
+use Rattle.jif_grammar.specs.DraftShapes.{end_shape}
+use Rattle.jif_grammar.specs.Drafts.{names_at, expr_at, expr_width, args_at, block_at, result_at}
+use Rattle.jif_grammar.specs.Drafts.{params_at}
+use Rattle.jif_grammar.specs.Drafts.{method_at, methods_at, fields_at, first_value, after_item}
 use Rattle.jif_parse.proofs.PrintedApart.{IsSmall}
 use Rattle.jif_parse.proofs.PrintedBackExprs.{IsNamedShape}
 use Rattle.jif_parse.proofs.PrintedBackBlocks.{IsNamedBlockShape}

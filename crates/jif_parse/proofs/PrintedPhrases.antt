@@ -1,15 +1,15 @@
 -- The phrases that a program is printed as.
-use Rattle.std.proofs.Common.{◌+◌, ◌≡◌, ◌≤◌, ◌<◌, ℕ, zero, suc, ℤ, pos, negsuc, Bool, true, false, List, [], ◌∷◌, ◌++◌, map, Option, Some, None, refl, arith, ap, sym, ◌∙◌, subst, inl, inr}
-use Rattle.std.specs.Prelude.{nat_lt, ◌==◌, if◌then◌else◌, ⊤, slice_get}
-use Rattle.std.specs.Option.{option_map}
+use Rattle.std.proofs.Common.{◌+◌, ◌≡◌, ◌≤◌, ◌<◌, ℕ, zero, suc, ℤ, pos, negsuc, Bool, true, false, List, [], ◌∷◌}
+use Rattle.std.proofs.Common.{◌++◌, map, Option, Some, None, refl, arith}
+use Rattle.std.specs.Prelude.{nat_lt, if◌then◌else◌, ⊤}
 use Rattle.std.proofs.lemmas.Bool.Decides.{nat_tests}
 use Rattle.js_base.specs.declared.ids.VarId.{VarId}
 use Rattle.js_base.specs.declared.binary_operator.BinOp.{BinOp}
 use Rattle.js_base.specs.declared.binary_operator.BinOp.TheVariants as operators
 use Rattle.principals.specs.ActsFor.{Declared}
 use Rattle.label_lattice.specs.declared.label.Label.{Label}
-use Rattle.label_lattice.specs.Written.{Part, policy, trust, TrustIsLast}
-use Rattle.label_lattice.specs.Printed.{each_where, printed_parts, printed_policies, printed_policy, trust_parts}
+use Rattle.label_lattice.specs.Written.{Part, TrustIsLast}
+use Rattle.label_lattice.specs.Printed.{each_where, printed_parts, printed_policy, trust_parts}
 use Rattle.label_lattice.specs.Printed.{names_where, is_trusted_by, forbids_some}
 use Rattle.jif_tree.specs.Trees as tree
 use Rattle.jif_tree.specs.Trees.{ExprTree, BlockTree, done, set_local, set_field, set_element, branch, loop, call}
@@ -19,7 +19,7 @@ use Rattle.jif_grammar.specs.Phrases.{LabelPhrase, ExprPhrase, BlockPhrase, Fiel
 use Rattle.jif_grammar.specs.Phrases.{MethodPhrase, ItemPhrase, ProgramPhrase}
 use Rattle.jif_grammar.specs.Operators.{operator_level, tightest_level}
 use Rattle.jif_grammar.specs.Grouping.{level, IsGrouped, AreGrouped, IsOptionalLabel, IsBlock, IsFieldEnd, AreParams}
-use Rattle.jif_grammar.specs.Grouping.{IsResult, IsItem, IsProgram}
+use Rattle.jif_grammar.specs.Grouping.{IsResult, IsProgram}
 use Rattle.jif_parse.specs.PrintedNames.{Naming, field_name, variable_name, variable_label, method_name, principal_name}
 use Rattle.jif_parse.specs.PrintedExprs.{operand, parenthesized_where, expr_phrase}
 use Rattle.jif_parse.specs.PrintedProgram.{seen_after, seen_behind, seen_in, seen_after_method, is_done}

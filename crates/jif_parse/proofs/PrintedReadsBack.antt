@@ -1,15 +1,15 @@
 -- The text of a program that was resolved is read as the same program, but for its lines.
-use Rattle.std.proofs.Common.{◌≡◌, ◌<◌, ◌≤◌, ◌≤ℤ◌, ◌^◌, ℕ, zero, suc, pos, Bool, true, false, List, [], ◌∷◌, length, refl, ap, sym, ◌∙◌, subst, arith}
-use Rattle.std.specs.Prelude.{⊤, All}
+use Rattle.std.proofs.Common.{◌≡◌, ◌≤◌, ℕ, suc, pos, true, List, [], ◌∷◌}
+use Rattle.std.proofs.Common.{refl, ◌∙◌, subst, arith}
+use Rattle.std.specs.Prelude.{All}
 use Rattle.std.specs.List.{AllByRecursion}
 use Rattle.std.proofs.lemmas.Int.{ints}
 use Rattle.js_base.specs.declared.limits.TheConstants.{ARRAY_SIZE}
 use Rattle.principals.specs.ActsFor.{Declared, IsDeclared}
 use Rattle.jif_lex.specs.declared.token.Token.{Token}
-use Rattle.jif_lex.specs.declared.token.TokenKind.{TokenKind}
 use Rattle.jif_lex.specs.Tokens.{ReadsAs, tokens}
 use Rattle.jif_lex.specs.TokenLists.{AreTokens}
-use Rattle.jif_lex.specs.Spelled.{Spelled, spelled_text}
+use Rattle.jif_lex.specs.Spelled.{Spelled}
 use Rattle.label_lattice.specs.Written.{kinds}
 use Rattle.jif_tree.specs.Trees.{ProgramTree}
 use Rattle.jif_grammar.specs.Phrases as phrase
@@ -17,14 +17,13 @@ use Rattle.jif_grammar.specs.Phrases.{FieldEnd, ProgramPhrase}
 use Rattle.jif_grammar.specs.Unmarked.{program_then}
 use Rattle.jif_grammar.specs.Grouping.{IsProgram}
 use Rattle.jif_grammar.specs.DraftShapes.{FieldShape, MethodShape, DraftShape}
-use Rattle.jif_grammar.specs.Drafts.{is_array, first_value, fields_at, methods_at, after_item, draft_of}
+use Rattle.jif_grammar.specs.Drafts.{is_array, first_value, fields_at, after_item, draft_of}
 use Rattle.jif_grammar.specs.Programs as grammar
 use Rattle.jif_grammar.specs.Programs.{Spells, line_at}
 use Rattle.jif_grammar.proofs.Continued.{program_unmarked}
 use Rattle.jif_resolve.specs.Sizes.{IsSizedField, IsLimitedMethod, IsLimited, ReturnsLast}
 use Rattle.jif_resolve.specs.Verdicts.{IsProgramOf}
 use Rattle.jif_parse.specs.PrintedNames.{Naming}
-use Rattle.jif_parse.specs.PrintedProgram.{printed_program}
 use Rattle.jif_parse.specs.PrintedBack.{ReadsBack}
 use Rattle.jif_parse.proofs.PrintedPieces.{program_pieces}
 use Rattle.jif_parse.proofs.PrintedKinds.{program_kinds}
@@ -33,7 +32,7 @@ use Rattle.jif_parse.proofs.PrintedPhrases.{methods_phrases, program_phrase, pro
 use Rattle.jif_parse.proofs.PrintedSpelled.{program_spelled}
 use Rattle.jif_parse.proofs.PrintedLabels.{Laws}
 use Rattle.jif_parse.proofs.PrintedBackGlobals.{ArePlainFields, globals_apart}
-use Rattle.jif_parse.proofs.PrintedBackProgram.{IsNamedField, IsPrintableDraft, program_back}
+use Rattle.jif_parse.proofs.PrintedBackProgram.{IsNamedField, program_back}
 use Rattle.jif_parse.proofs.PrintedNamesOf.{AllSpelled, StartsSmall, items_found, all_spelled}
 use Rattle.jif_parse.proofs.PrintedLimits.{printed_within}
 

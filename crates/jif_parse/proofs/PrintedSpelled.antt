@@ -1,18 +1,17 @@
 -- The text of a program is that of the parts of its phrases.
-use Rattle.std.proofs.Common.{◌≡◌, ℕ, zero, suc, ℤ, pos, negsuc, Bool, true, false, List, [], ◌∷◌, ◌++◌, map, Option, Some, None, refl, ap, sym, ◌∙◌, codes}
+use Rattle.std.proofs.Common.{◌≡◌, ℕ, zero, suc, ℤ, pos, negsuc, Bool, true, false, List, [], ◌∷◌, ◌++◌, map, Option}
+use Rattle.std.proofs.Common.{Some, None, refl, ap, sym, ◌∙◌, codes}
 use Rattle.std.specs.Prelude.{nat_lt, if◌then◌else◌, ⊤}
-use Rattle.std.specs.Fmt.{signed_decimal, decimal}
+use Rattle.std.specs.Fmt.{decimal}
 use Rattle.std.specs.List.{join_by, flat_map, AllByRecursion}
 use Rattle.std.proofs.lemmas.List.{append_assoc, append-nil}
 use Rattle.js_base.specs.declared.ids.VarId.{VarId}
 use Rattle.js_base.specs.declared.ids.PrincipalId.{PrincipalId}
 use Rattle.principals.specs.ActsFor.{Declared}
 use Rattle.jif_lex.specs.declared.token.TokenKind.{TokenKind}
-use Rattle.jif_lex.specs.declared.token.TokenKind.TheVariants.{Number}
-use Rattle.jif_lex.specs.declared.token.Symbol.TheVariants.{LeftBrace, RightBrace, LeftParenthesis, RightParenthesis}
-use Rattle.jif_lex.specs.declared.token.Symbol.TheVariants.{LeftBracket, RightBracket, Semicolon, Comma, Assign, Minus}
-use Rattle.jif_lex.specs.declared.token.Symbol.TheVariants.{Colon, Question}
-use Rattle.jif_lex.specs.declared.token.Word.TheVariants.{Int, Void, If, Else, While, Return, Where, Authority}
+use Rattle.jif_lex.specs.declared.token.Symbol.TheVariants.{LeftBrace, RightBrace, RightParenthesis}
+use Rattle.jif_lex.specs.declared.token.Symbol.TheVariants.{RightBracket, Semicolon, Comma}
+use Rattle.jif_lex.specs.declared.token.Word.TheVariants.{Int, Else}
 use Rattle.jif_lex.specs.Symbols.{symbol_text, word_text}
 use Rattle.jif_lex.specs.Spelled.{Spelled, token_part, space_part, line_end_part, spelled_text, kind_text}
 use Rattle.label_lattice.specs.declared.label.Label.{Label}
@@ -33,9 +32,9 @@ use Rattle.jif_parse.specs.PrintedProgram.{printed_program}
 use Rattle.jif_parse.proofs.PrintedPieces.{symbol_part, word_part, name_part, joined_pieces, name_pieces, names_pieces}
 use Rattle.jif_parse.proofs.PrintedPieces.{part_pieces, label_pieces, expr_pieces, args_pieces, optional_label_pieces}
 use Rattle.jif_parse.proofs.PrintedPieces.{end_pieces, set_pieces, call_pieces, guard_pieces, block_pieces}
-use Rattle.jif_parse.proofs.PrintedPieces.{result_pieces, sign_pieces, field_end_pieces, param_pieces, params_pieces}
+use Rattle.jif_parse.proofs.PrintedPieces.{result_pieces, field_end_pieces, param_pieces, params_pieces}
 use Rattle.jif_parse.proofs.PrintedPieces.{authority_pieces, head_pieces, tail_pieces, item_pieces, program_pieces}
-use Rattle.jif_parse.proofs.PrintedPhrases.{label_phrase, label_or_none, assigned_phrase, branch_phrase, call_phrase}
+use Rattle.jif_parse.proofs.PrintedPhrases.{label_phrase, label_or_none, assigned_phrase, branch_phrase}
 use Rattle.jif_parse.proofs.PrintedPhrases.{block_phrase, result_phrase, first_phrase, field_end_phrase, field_phrase}
 use Rattle.jif_parse.proofs.PrintedPhrases.{param_phrase, kind_phrase, method_phrase, methods_phrases, fields_phrases}
 use Rattle.jif_parse.proofs.PrintedPhrases.{program_phrase}

@@ -1,14 +1,16 @@
 -- Steps of the printing of statements with blocks.
 use Rattle.std.specs.Prelude.{◌==◌}
 use Rattle.std.proofs.lemmas.Bool.Decides.{nat_tests}
-use Rattle.std.proofs.Common.{◌≡◌, ◌∙◌, ℕ, ◌<◌, Bool, true, false, List, [], ◌∷◌, ◌++◌, length, refl, ap, sym, codes, arith}
+use Rattle.std.proofs.Common.{◌≡◌, ◌∙◌, ℕ, ◌<◌, false, List, [], ◌∷◌, ◌++◌, length, refl, ap, sym, codes}
+use Rattle.std.proofs.Common.{arith}
 use Rattle.std.proofs.lemmas.List.{append_assoc}
 use Rattle.std.specs.Global.{Vec}
 use Rattle.jif_tree.specs.declared.program.Stmt.{Stmt}
 use Rattle.jif_tree.specs.declared.program.StmtKind.{StmtKind, If, While}
 use Rattle.jif_tree.specs.declared.program.StmtKind as kind
 use Rattle.jif_tree.specs.declared.program.Expr.{Expr}
-use Rattle.jif_tree.specs.Trees.{ExprTree, Heading, BlockTree, done, branch, loop, block_tree, expr_tree, statement_tree}
+use Rattle.jif_tree.specs.Trees.{ExprTree, Heading, BlockTree, branch, loop, block_tree, expr_tree}
+use Rattle.jif_tree.specs.Trees.{statement_tree}
 use Rattle.jif_parse.specs.PrintedNames.{Naming}
 use Rattle.jif_parse.specs.PrintedExprs.{expr_text}
 use Rattle.jif_parse.specs.PrintedProgram.{else_text, is_done, block_text, seen_behind}

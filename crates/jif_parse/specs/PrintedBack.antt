@@ -1,5 +1,5 @@
 -- What a printed program is read as: the same program, but for the lines of its statements.
-use Rattle.std.specs.Prelude.{◌≡◌, ℕ, List, map}
+use Rattle.std.specs.Prelude.{◌≡◌, List, map}
 use Rattle.principals.specs.ActsFor.{Declared}
 use Rattle.jif_lex.specs.declared.token.Token.{Token}
 use Rattle.jif_lex.specs.Tokens.{ReadsAs, tokens}

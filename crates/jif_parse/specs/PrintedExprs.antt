@@ -1,6 +1,6 @@
 -- How expressions are printed: as phrases of the grammar, with parentheses where the operators ask for them and nowhere
 -- else.
-use Rattle.std.specs.Prelude.{ℕ, suc, pos, negsuc, Bool, true, false, List, [], ◌∷◌, ◌++◌, codes}
+use Rattle.std.specs.Prelude.{ℕ, suc, pos, negsuc, Bool, true, false, List, ◌++◌, codes}
 use Rattle.std.specs.Bool.{nat_lt}
 use Rattle.std.specs.Fmt.{signed_decimal}
 use Rattle.std.specs.List.{join_by}
@@ -58,7 +58,8 @@ phrase_text (signed sign inner) = symbol_text (sign_symbol sign) ++ phrase_text 
 phrase_text (binary operator left right) =
     phrase_text left ++ codes " " ++ symbol_text (operator_symbol operator) ++ codes " " ++ phrase_text right
 phrase_text (relabelled change inner label) =
-    word_text (change_word change) ++ codes "(" ++ phrase_text inner ++ codes ", " ++ label_phrase_text label ++ codes ")"
+    word_text (change_word change) ++ codes "(" ++ phrase_text inner ++ codes ", " ++ label_phrase_text label
+    ++ codes ")"
 
 abbrev pub expr_text : Naming → ExprTree → List ℕ
 expr_text naming value = phrase_text (expr_phrase naming value)

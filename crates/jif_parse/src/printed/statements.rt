@@ -1,8 +1,9 @@
 //! Statements as they are printed.
 
-ghost use Rattle.std.specs.Prelude.{◌≡◌, ◌++◌, IfOk, OnOk, string_bytes, codes, Some};
-ghost use Rattle.jif_tree.specs.Trees.{BlockTree, block_tree, expr_tree, ExprTree, done};
-ghost use Rattle.jif_parse.specs.PrintedNames.{naming_of};
+ghost use Rattle.std.specs.Prelude.{◌≡◌, ◌++◌, IfOk, OnOk, map, string_bytes, codes};
+ghost use Rattle.std.specs.List.{join_by};
+ghost use Rattle.jif_tree.specs.Trees.{BlockTree, block_tree, expr_tree};
+ghost use Rattle.jif_parse.specs.PrintedNames.{naming_of, field_name, method_name};
 ghost use Rattle.jif_parse.specs.PrintedExprs.{expr_text};
 ghost use Rattle.jif_parse.specs.PrintedProgram.{optional_label_text, declared_text, assigned_text, into_text};
 ghost use Rattle.jif_parse.specs.PrintedProgram.{else_text, is_done, block_text, seen_after, seen_behind};
@@ -12,7 +13,7 @@ use crate::printed::exprs::{args_text, expr_text};
 use crate::printed::names::{Names, field_name, method_name, variable_label, variable_name};
 use jif_tree::{Expr, Stmt, StmtKind, tree_laws};
 use js_base::text::owned_text;
-use js_base::{OutOfMemory, VarId};
+use js_base::{FieldId, MethodId, OutOfMemory, VarId};
 use label_lattice::{Label, label_text};
 use principals::Principals;
 use std::alloc::Global;
@@ -120,7 +121,8 @@ fn statement_text(
     statement: &Stmt,
 ) -> Result<String, OutOfMemory>
     ensures text { IfOk result (λ text. (rest : BlockTree) →
-        PrintsBefore (naming_of names.now) seen.old (tree_before statement.now rest) (string_bytes text) seen.new rest) }
+        PrintsBefore (naming_of names.now) seen.old (tree_before statement.now rest) (string_bytes text) seen.new
+        rest) }
 {
     tree_laws();
     match &statement.kind {
@@ -136,12 +138,7 @@ fn statement_text(
             field,
             index,
             value,
-        } => {
-            let index = expr_text(alloc, names, index)?;
-            let value = expr_text(alloc, names, value)?;
-            let name = field_name(names, *field);
-            Ok(format!(in alloc; "{name}[{index}] = {value};\n")?)
-        }
+        } => element_assignment_text(alloc, names, *field, index, value),
         StmtKind::If { guard, yes, no } => {
             let guard = expr_text(alloc, names, guard)?;
             let first = block_text(alloc, names, seen, yes)?;
@@ -159,16 +156,8 @@ fn statement_text(
             args,
             into,
             ..
-        } => {
-            let into = into_text(alloc, names, *into)?;
-            let args = args_text(alloc, names, args)?;
-            let name = method_name(names, *method);
-            Ok(format!(in alloc; "{into}{name}({args});\n")?)
-        }
-        StmtKind::Return { value } => {
-            let value = expr_text(alloc, names, value)?;
-            Ok(format!(in alloc; "return {value};\n")?)
-        }
+        } => call_text(alloc, names, *method, args, *into),
+        StmtKind::Return { value } => return_text(alloc, names, value),
     }
 }
 
@@ -184,4 +173,49 @@ fn assignment_text(
 {
     let value = expr_text(alloc, names, value)?;
     Ok(format!(in alloc; "{name} = {value};\n")?)
+}
+
+/// An assignment to an element of an array.
+fn element_assignment_text(
+    alloc: Global,
+    names: &Names<'_>,
+    field: FieldId,
+    index: &Expr,
+    value: &Expr,
+) -> Result<String, OutOfMemory>
+    ensures { IfOk result (λ text. string_bytes text
+        ≡ field_name (naming_of names.now) field ++ codes "[" ++ expr_text (naming_of names.now) (expr_tree index.now)
+        ++ codes "] = " ++ expr_text (naming_of names.now) (expr_tree value.now) ++ codes ";\n") }
+{
+    let index = expr_text(alloc, names, index)?;
+    let value = expr_text(alloc, names, value)?;
+    let name = field_name(names, field);
+    Ok(format!(in alloc; "{name}[{index}] = {value};\n")?)
+}
+
+/// A call, with what keeps its result where it is kept.
+fn call_text(
+    alloc: Global,
+    names: &Names<'_>,
+    method: MethodId,
+    args: &[Expr],
+    into: Option<VarId>,
+) -> Result<String, OutOfMemory>
+    ensures { IfOk result (λ text. string_bytes text
+        ≡ into_text (naming_of names.now) into ++ method_name (naming_of names.now) method ++ codes "("
+        ++ join_by (expr_text (naming_of names.now)) (codes ", ") (map expr_tree args.now) ++ codes ");\n") }
+{
+    let into = into_text(alloc, names, into)?;
+    let args = args_text(alloc, names, args)?;
+    let name = method_name(names, method);
+    Ok(format!(in alloc; "{into}{name}({args});\n")?)
+}
+
+/// A `return` of a value.
+fn return_text(alloc: Global, names: &Names<'_>, value: &Expr) -> Result<String, OutOfMemory>
+    ensures { IfOk result (λ text. string_bytes text
+        ≡ codes "return " ++ expr_text (naming_of names.now) (expr_tree value.now) ++ codes ";\n") }
+{
+    let value = expr_text(alloc, names, value)?;
+    Ok(format!(in alloc; "return {value};\n")?)
 }

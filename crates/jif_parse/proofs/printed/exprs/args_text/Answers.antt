@@ -1,4 +1,4 @@
-use Rattle.std.proofs.Common.{map, length, ◌∙◌, ap, take, arith, ◌≤◌}
+use Rattle.std.proofs.Common.{map, ◌∙◌, ap}
 use Rattle.std.specs.Prelude.{string_bytes}
 use Rattle.std.proofs.lemmas.List.{length-map}
 use Rattle.jif_tree.specs.Trees.{expr_tree}

@@ -1,4 +1,3 @@
-use Rattle.std.proofs.lemmas.List.{append_assoc}
 use Rattle.jif_tree.specs.Trees.{method_tree}
 use Rattle.jif_parse.specs.PrintedNames.{naming_of}
 use Rattle.jif_parse.proofs.PrintedMethods.{method_prints}

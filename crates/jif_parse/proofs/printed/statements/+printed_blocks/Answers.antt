@@ -1,4 +1,4 @@
-use Rattle.std.proofs.Common.{arith, length, ◌∙◌, ◌≡◌, ap, sym}
+use Rattle.std.proofs.Common.{arith}
 use Rattle.jif_tree.specs.Trees.{done, block_tree, expr_tree}
 use Rattle.jif_parse.specs.PrintedNames.{naming_of}
 use Rattle.jif_parse.specs.PrintedBlocks.{tree_before}
