@@ -39,3 +39,10 @@ pub mod PrintedBackProgram
 pub mod PrintedNamesOf
 pub mod PrintedLimits
 pub mod PrintedReadsBack
+pub mod PrintedKnown
+pub mod PrintedAlike
+pub mod PrintedBackStatements
+pub mod PrintedBackNested
+pub mod PrintedTallies
+pub mod PrintedStatementLimits
+pub mod PrintedMethodLimits

@@ -44,7 +44,7 @@ use Rattle.jif_parse.proofs.PrintedPhrases.{field_end_phrase, field_phrase, fiel
 use Rattle.jif_parse.proofs.PrintedPhrases.{kind_phrase, method_phrase, methods_phrases}
 use Rattle.jif_parse.proofs.PrintedLabels.{Laws, label_back}
 use Rattle.jif_parse.proofs.PrintedBackExprs.{SameGlobals, NameIs}
-use Rattle.jif_parse.proofs.PrintedBackBlocks.{GlobalsAre}
+use Rattle.jif_parse.proofs.PrintedKnown.{GlobalsAre}
 
 -- ---- names that are distinct
 

@@ -48,9 +48,11 @@ use Rattle.jif_parse.proofs.PrintedSpelled.{HasLabel, HasLabelWhere, IsPrintable
 use Rattle.jif_parse.proofs.PrintedLabels.{Laws, label_back, names_back}
 use Rattle.jif_parse.proofs.PrintedBackExprs.{SameGlobals, label_clean, label_named}
 use Rattle.jif_parse.proofs.PrintedBackExprs.{principals_clean}
-use Rattle.jif_parse.proofs.PrintedBackBlocks.{IsVariableAt, LocalsAre, KnownAre, known_later, GlobalsAre}
-use Rattle.jif_parse.proofs.PrintedBackBlocks.{IsNamedBlockShape, Given, naming_of, new}
-use Rattle.jif_parse.proofs.PrintedBackBlocks.{block_back, last_of, local_clean, three_joined, Alike, SameSome}
+use Rattle.jif_parse.proofs.PrintedKnown.{IsVariableAt, LocalsAre, KnownAre, known_later, GlobalsAre}
+use Rattle.jif_parse.proofs.PrintedAlike.{IsNamedBlockShape, Given, naming_of, new}
+use Rattle.jif_parse.proofs.PrintedBackBlocks.{block_back}
+use Rattle.jif_parse.proofs.PrintedAlike.{last_of, Alike, SameSome}
+use Rattle.jif_parse.proofs.PrintedBackStatements.{local_clean, three_joined}
 
 -- ---- variables in a row
 

@@ -36,7 +36,8 @@ use Rattle.jif_parse.proofs.PrintedPhrases.{field_end_phrase, HasElements}
 use Rattle.jif_parse.proofs.PrintedSpelled.{IsPrintable}
 use Rattle.jif_parse.proofs.PrintedLabels.{Laws}
 use Rattle.jif_parse.proofs.PrintedBackExprs.{SameGlobals, label_clean, label_named}
-use Rattle.jif_parse.proofs.PrintedBackBlocks.{GlobalsAre, three_joined}
+use Rattle.jif_parse.proofs.PrintedKnown.{GlobalsAre}
+use Rattle.jif_parse.proofs.PrintedBackStatements.{three_joined}
 use Rattle.jif_parse.proofs.PrintedBackMethods.{VarsAre, vars_front, vars_behind, vars_joined, param_variable}
 use Rattle.jif_parse.proofs.PrintedBackMethods.{local_variable, IsNamedMethod, MethodFresh, method_back}
 use Rattle.jif_parse.proofs.PrintedBackMethods.{MethodAlike}

@@ -27,7 +27,7 @@ use Rattle.jif_grammar.specs.Drafts.{params_at}
 use Rattle.jif_grammar.specs.Drafts.{method_at, methods_at, fields_at, first_value, after_item}
 use Rattle.jif_parse.proofs.PrintedApart.{IsSmall}
 use Rattle.jif_parse.proofs.PrintedBackExprs.{IsNamedShape}
-use Rattle.jif_parse.proofs.PrintedBackBlocks.{IsNamedBlockShape}
+use Rattle.jif_parse.proofs.PrintedAlike.{IsNamedBlockShape}
 use Rattle.jif_parse.proofs.PrintedBackMethods.{AreNamedParams, AreNamedShapes, IsNamedMethod}
 use Rattle.jif_parse.proofs.PrintedBackProgram.{IsSmallFirst}
 

@@ -1,7 +1,7 @@
 use Rattle.std.proofs.Common.{refl}
 use Rattle.label_lattice.specs.Lattice.{empty_label}
 use Rattle.jif_parse.specs.PrintedExprs.{operand}
-use Rattle.jif_parse.proofs.PrintedLimits.{operand_same, operand_wrapped}
+use Rattle.jif_parse.proofs.PrintedStatementLimits.{operand_same, operand_wrapped}
 use Rattle.jif_parse.proofs.PrintedReadsBack.{reads_back}
 use Rattle.jif_parse.proofs.printed.laws.program_text_laws.Goals as goal
 
