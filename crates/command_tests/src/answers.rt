@@ -37,116 +37,123 @@ fn replays_two_assignments(rt: HostRuntime) -> Result<(), Fail> {
 }
 
 #[test]
-fn refuses_by_the_first_cause(rt: HostRuntime) -> Result<(), Fail> {
+fn refuses_words_without_form(rt: HostRuntime) -> Result<(), Fail> {
     let usage =
         "jifsplit: usage: check P H / split P H OUT / run P H START N / replay P H EVENTS / \
         drive P H START N / compare P H EVENTS1 EVENTS2 / make N\n";
-    let no_program = "jifsplit: program: not built yet\n";
-    let not_toml = "jifsplit: hosts: not TOML\n";
-    let unknown = "int{} a;\nvoid main{}() {\n  c = 1;\n}\n";
-    let unknown_owner = "int{Carol:} a;\nvoid main{}() {\n}\n";
-    let twice = "int{} a;\nint{} a;\nvoid main{}() {\n}\n";
-    let bob_alone =
-        "principals = [\"Alice\", \"Bob\"]\n[[host]]\nname = \"B\"\nlabel = \"{Bob:}\"\n";
-    let alice_alone =
-        "principals = [\"Alice\", \"Bob\"]\n[[host]]\nname = \"A\"\nlabel = \"{Alice:}\"\n";
-    let trusted = "principals = [\"Alice\"]\n[[host]]\nname = \"P\"\nlabel = \"{?:Alice}\"\n";
-    let alices = "int{Alice:} f;\nvoid main{}() {\n}\n";
+    let cases = [
+        "",
+        "make 0",
+        "play P H E",
+        "check P",
+        "check P H E",
+        "replay P H",
+        "replay P H E E",
+        "run P H E",
+        "run P H E 0",
+        "run P H E 07",
+        "run P H E +7",
+        "run P H E -7",
+        "run P H E 7x",
+        "run P H E 1000000001",
+        "run P H E 18446744073709551617",
+    ];
+    for words in cases {
+        let ended = call(
+            rt.alloc(),
+            words,
+            [Some(PROGRAM), Some(HOSTS), Some("")],
+            [None, None, None],
+        )?;
+        assert!(rt; ended.is(Status::Usage, "", usage), "at {words:?}");
+    }
+    Ok(())
+}
+
+#[test]
+fn refuses_by_the_first_cause(rt: HostRuntime) -> Result<(), Fail> {
+    let unknown = Some("int{} a; void main{}() { c = 1; }");
+    let secret = Some("int{Alice:} a; int{} b; void main{}() { b = a; }");
+    let array = Some("int{} a[2]; void main{}() { }");
+    let bob_alone = Some(
+        "principals = [\"Alice\", \"Bob\"]\n[[host]]\nname = \"B\"\nlabel = \"{Bob:}\"\n",
+    );
     let program = Some(PROGRAM);
     let hosts = Some(HOSTS);
-    let bad = Some("?");
+    let bad = Some("#");
+    let replay = "replay P H E";
+    let run = "run P H E 9";
     let input = Status::InputRefused;
     let source = Status::SourceRefused;
     let cases = [
-        ("", [program, hosts, bad], Status::Usage, usage),
-        ("make 0", [None, None, None], Status::Usage, usage),
-        ("replay P H", [bad, bad, bad], Status::Usage, usage),
+        (replay, [None, None, None], input, "P: no such file"),
+        (replay, [bad, None, None], input, "H: no such file"),
+        (run, [bad, bad, None], input, "E: no such file"),
+        ("check P H", [bad, None, None], input, "H: no such file"),
         (
-            "replay P H E E",
-            [program, hosts, None],
-            Status::Usage,
-            usage,
-        ),
-        ("play P H E", [program, hosts, None], Status::Usage, usage),
-        (
-            "replay P H E",
-            [None, None, None],
-            input,
-            "jifsplit: P: no such file\n",
-        ),
-        (
-            "replay P H E",
-            [bad, None, None],
-            input,
-            "jifsplit: H: no such file\n",
-        ),
-        (
-            "replay P H E",
+            "check P H",
             [bad, bad, None],
-            input,
-            "jifsplit: E: no such file\n",
-        ),
-        ("replay P H E", [bad, bad, bad], source, no_program),
-        ("replay P H E", [program, bad, bad], input, not_toml),
-        ("replay P H E", [Some(unknown), bad, bad], input, not_toml),
-        (
-            "replay P H E",
-            [Some(unknown), hosts, bad],
             source,
-            no_program,
+            "program: bad byte at 0",
         ),
         (
-            "replay P H E",
-            [Some(unknown_owner), hosts, bad],
+            run,
+            [Some("int"), bad, bad],
             source,
-            no_program,
+            "program: unexpected token 1",
         ),
+        (replay, [unknown, Some("?"), bad], input, "hosts: not TOML"),
         (
-            "replay P H E",
-            [Some(twice), hosts, bad],
+            run,
+            [unknown, hosts, bad],
             source,
-            no_program,
+            "program: unknown name at token 12",
         ),
         (
-            "replay P H E",
-            [program, Some(bob_alone), bad],
+            replay,
+            [secret, hosts, bad],
             source,
-            "jifsplit: no host may hold field a\n",
+            "statement 1 (line 1): {Alice: Alice} may not flow to {}",
         ),
         (
-            "replay P H E",
-            [program, Some(alice_alone), bad],
+            replay,
+            [array, bob_alone, bad],
             source,
-            "jifsplit: no host may hold field b\n",
+            "program: not built yet",
         ),
         (
-            "replay P H E",
-            [Some(alices), Some(trusted), Some("")],
+            replay,
+            [program, bob_alone, bad],
             source,
-            "jifsplit: no host may hold field f\n",
+            "no host may hold field a",
         ),
+        (run, [program, bob_alone, bad], input, "E line 1: no form"),
         (
-            "replay P H E",
+            replay,
             [program, hosts, Some("take A B 0\nturn C\n")],
             input,
-            "jifsplit: E line 2: no form\n",
+            "E line 2: no form",
         ),
         (
-            "replay P H E",
+            replay,
             [program, hosts, Some("take A B 0\n")],
             input,
-            "jifsplit: E line 1: not there\n",
+            "E line 1: not there",
         ),
         (
-            "replay P H E",
+            replay,
             [program, hosts, Some("turn A\n\n// B is idle\nturn B\n")],
             input,
-            "jifsplit: E line 4: not there\n",
+            "E line 4: not there",
         ),
     ];
-    for (words, held, status, line) in cases {
+    for (words, held, status, why) in cases {
         let ended = call(rt.alloc(), words, held, [None, None, None])?;
-        assert!(rt; ended.is(status, "", line), "at {words:?}, {held:?}");
+        let line = format!(in rt.alloc(); "jifsplit: {why}\n")?;
+        assert!(rt;
+            ended.is(status, "", line.as_str()),
+            "at {words:?}, {held:?}"
+        );
     }
     Ok(())
 }

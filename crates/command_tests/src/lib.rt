@@ -13,3 +13,5 @@ mod limits;
 mod outside;
 #[cfg(test)]
 mod programs;
+#[cfg(test)]
+mod runs;

@@ -8,12 +8,12 @@ use std::test::Fail;
 fn takes_files_up_to_their_limits(rt: HostRuntime) -> Result<(), Fail> {
     let alloc = rt.alloc();
     let report = "halted no\nfield a = 7\nhost A: running 1, waiting 0, stack 1, ignored 0\n";
-    let no_program = "jifsplit: program: not built yet\n";
+    let long_program = "jifsplit: program: too long\n";
     let long_hosts = "jifsplit: hosts: too long\n";
     // Around the fillers stand 36 bytes of the program and 51 of the host file.
     let cases = [
         (1_048_540, 65_485, Status::Done, report, ""),
-        (1_048_541, 65_485, Status::SourceRefused, "", no_program),
+        (1_048_541, 65_485, Status::SourceRefused, "", long_program),
         (1_048_540, 65_486, Status::InputRefused, "", long_hosts),
     ];
     let field = "int{} a;\nvoid main{}() {\n  a = ";

@@ -1,60 +1,122 @@
-//! Which texts are programs of the first form, with names that are known.
+//! Which programs are refused, and with which lines.
 
-use crate::call::{HOSTS, replay};
+use crate::call::{HOSTS, call, replay};
 use js_base::Status;
 use std::test::Fail;
 
+/// Hosts of two principals, of whom the first acts for the second.
+const ACTING: &str =
+    "principals = ['Alice', 'Bob']\nacts_for = [['Alice', 'Bob']]\n[[host]]\nname = 'A'\nlabel = '{Alice:}'\n";
+
 #[test]
-fn accepts_and_refuses_programs(rt: HostRuntime) -> Result<(), Fail> {
+fn refuses_programs(rt: HostRuntime) -> Result<(), Fail> {
+    let alloc = rt.alloc();
     let cases = [
-        ("void main{}() {\n}\n", true),
-        ("int{} a;\nvoid main{}() {\n  a = 1;\n}\n", true),
-        ("int{} _aZ9;\nint{Alice:} ints;\nvoid main{}() {\n}\n", true),
+        ("int{} 9x;", "program: bad number at 6"),
         (
-            "int{} a;\nvoid main{}() {\n  a = 9223372036854775807;\n}\n",
-            true,
+            "int{} x; void main{}() { y = 1; }",
+            "program: unknown name at token 12",
         ),
         (
-            "int{} a;\nvoid main{}() {\n  a = 00000000000000000000000000000007;\n}\n",
-            true,
+            "int{} x; int{} x; void main{}() { }",
+            "program: name twice at token 8",
         ),
         (
-            "int{} a;\nvoid main{}() {\n  a = 9223372036854775808;\n}\n",
-            false,
+            "int{} x[2]; void main{}() { x = 1; }",
+            "program: wrong type at token 15",
         ),
         (
-            "int{} a;\nvoid main{}() {\n  a = 18446744073709551617;\n}\n",
-            false,
+            "void m{}() { } void main{}() { m(1); }",
+            "program: wrong count at token 15",
         ),
-        ("int{} a;\nvoid main{}() {\n  a = ;\n}\n", false),
-        ("int{} a;\nvoid main{}() {\n  a = +1;\n}\n", false),
-        ("int{} a;\nvoid main{}() {\n a = 1;\n}\n", false),
-        ("int{} a;\nvoid main{}() {\n   a = 1;\n}\n", false),
-        ("int{} a;\nvoid main{}() {\n  a  = 1;\n}\n", false),
-        ("int{} a;\nvoid main{}() {\n  a = 1;\n\n}\n", false),
-        ("void main{}() {\n  a = 1;\n}\n", false),
-        ("int{} a;\nint{Bob:} a;\nvoid main{}() {\n}\n", false),
-        ("int{Carol:} a;\nvoid main{}() {\n}\n", false),
-        ("int{} int;\nvoid main{}() {\n}\n", false),
-        ("int{} 9a;\nvoid main{}() {\n}\n", false),
-        ("int{Bob} x;\nvoid main{}() {\n}\n", false),
-        ("int{:} x;\nvoid main{}() {\n}\n", false),
-        ("int{}  x;\nvoid main{}() {\n}\n", false),
-        ("int{} x;\r\nvoid main{}() {\n}\n", false),
-        ("int{} x;\nvoid main{}() {\n}", false),
-        ("int{} x;\nvoid main{}() {\n}\n\n", false),
-        ("void main{}() {\n}\nint{} x;\n", false),
-        ("int{} x;\n", false),
-        ("", false),
+        ("int{} x;", "program: no main"),
+        ("int{} x[65537];", "program: too many array elements"),
+        (
+            "int{Alice:} a;\nint{} q;\nvoid main{}() {\nif (a == 1) {\nq = 1;\n} }",
+            "statement 2 (line 5): {Alice: Alice} may not flow to {}",
+        ),
+        (
+            "int{Alice:; ?:Alice} a;\nint{} q;\nvoid main{}() where authority(Alice) {\nq = declassify(a, {});\n}",
+            "statement 1 (line 4): program label not trusted",
+        ),
+        (
+            "int{Alice:} a;\nint{} q;\nvoid main{}() {\n\nq = declassify(a, {});\n}",
+            "statement 1 (line 5): no authority",
+        ),
+        (
+            "void m{?:Bob}() { }\nvoid main{}() {\n m(); }",
+            "statement 2 (line 3): program label {} may not flow to begin label {?: Bob}",
+        ),
     ];
-    for (text, accepted) in cases {
+    for (text, why) in cases {
+        let held = [Some(text), Some(HOSTS), None];
+        let ended = call(alloc, "check P H", held, [None, None, None])?;
+        let line = format!(in alloc; "jifsplit: {why}\n")?;
+        assert!(rt;
+            ended.is(Status::SourceRefused, "", line.as_str()),
+            "at {text:?}"
+        );
+    }
+    Ok(())
+}
+
+#[test]
+fn checks_labels_by_who_acts_for_whom(rt: HostRuntime) -> Result<(), Fail> {
+    let up = "int{Alice:} a;\nint{Bob:} b;\nvoid main{}() {\na = b;\n}";
+    let down = "int{Alice:} a;\nint{Bob:} b;\nvoid main{}() {\nb = a;\n}";
+    let accepted = "accepted 2 fields 1 methods 2 statements\n";
+    let refused =
+        "jifsplit: statement 1 (line 4): {Alice: Alice; Bob: Alice} may not flow to {Bob: Alice, Bob}\n";
+    let cases = [
+        (up, Status::Done, accepted, ""),
+        (down, Status::SourceRefused, "", refused),
+    ];
+    for (text, status, out, err) in cases {
+        let held = [Some(text), Some(ACTING), None];
+        let ended = call(rt.alloc(), "check P H", held, [None, None, None])?;
+        assert!(rt; ended.is(status, out, err), "at {text:?}");
+    }
+    Ok(())
+}
+
+#[test]
+fn replays_what_hosts_can_run(rt: HostRuntime) -> Result<(), Fail> {
+    let cases = [
+        ("void main{}() { }", true),
+        ("int{} a; void main{}() { a = 1; a = -1; }", true),
+        (
+            "void main{}() { a = 1; } int{Alice: Bob; Bob:} a = -3;",
+            true,
+        ),
+        ("int{} a[2]; void main{}() { }", false),
+        ("int{} a; void main{}() { a = - -1; }", false),
+        ("int{} a; void main{}() { a = 1 + 1; }", false),
+        ("int{} a; void main{}() { if (1) { a = 1; } }", false),
+        ("void main{}() { int x = 1; }", false),
+        ("void m{}() { } void main{}() { }", false),
+        ("void main{}() where authority(Alice) { }", false),
+        ("void main{?:Alice}() { }", false),
+        ("void main{Alice:}() { }", false),
+        ("int{?:Alice} a; void main{}() { }", false),
+    ];
+    for (text, built) in cases {
         let ended = replay(rt.alloc(), [Some(text), Some(HOSTS), Some("")])?;
-        let expected = if accepted {
-            Status::Done
-        } else {
-            Status::SourceRefused
-        };
-        assert!(rt; ended.status() == expected, "at {text:?}");
+        let refused = ended.is(
+            Status::SourceRefused,
+            "",
+            "jifsplit: program: not built yet\n",
+        );
+        let held = text.contains("Alice: Bob; Bob:");
+        let unheld = ended.is(
+            Status::SourceRefused,
+            "",
+            "jifsplit: no host may hold field a\n",
+        );
+        let done = ended.status() == Status::Done;
+        assert!(rt;
+            refused != built && unheld == held && done == (built && !held),
+            "at {text:?}"
+        );
     }
     Ok(())
 }

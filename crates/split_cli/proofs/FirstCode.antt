@@ -53,7 +53,7 @@ all_held hosts (f ∷ fields) [] all = absurd all
 all_held hosts (f ∷ fields) (p ∷ placed) all =
     (λ none. none_may (MayHold f.label) hosts p.host.0 all.0.host.may none, all_held hosts fields placed all.1)
 
-get_at : {X : Type 0} (xs : List X) (i : ℕ) (x : X) → i < length xs → x ≡ get_or xs i x → slice_get xs i ≡ Some x
+pub get_at : {X : Type 0} (xs : List X) (i : ℕ) (x : X) → i < length xs → x ≡ get_or xs i x → slice_get xs i ≡ Some x
 get_at [] i x lt is = absurd (omega arith)
 get_at (y ∷ xs) zero x lt is = ap Some (sym is)
 get_at (y ∷ xs) (suc i) x lt is = get_at xs i x (omega arith) is

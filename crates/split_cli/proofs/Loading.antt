@@ -2,7 +2,12 @@
 use Rattle.std.proofs.Common.{◌≡◌, ℕ, ◌+◌, ◌<◌, List, length, refl, Option, Some, None, IfSome, IsSomeAnd, arith}
 use Rattle.std.specs.Prelude.{replicate}
 use Rattle.std.proofs.lemmas.List.{length-replicate}
-use Rattle.split_cli.specs.Loads.{Told}
+use Rattle.std.specs.Prelude.{take}
+use Rattle.std.specs.List.{AllZip}
+use Rattle.split_cli.specs.declared.load.Asked.{Asked}
+use Rattle.split_cli.specs.declared.load.Loaded.{Loaded}
+use Rattle.split_cli.specs.Loads.{FilesChange, Told, counted_by}
+use Rattle.split_cli.proofs.Stops.{GivesAsked}
 
 -- a value with the fact
 has_value : {X : Type 0} (o : Option X) (P : X → Type 0) → IsSomeAnd o P → (x : X) × (o ≡ Some x) × P x
@@ -16,3 +21,13 @@ pub long_file : (held : Option (List ℕ → Option (List ℕ))) (name : List �
 long_file None name most long = (replicate (most + 1) 0, tt, omega (arith, length-replicate {A = ℕ} (most + 1) 0))
 long_file (Some holds) name most long = let found =
     has_value (holds name) (λ bytes. most < length bytes) long in (found.0, found.1, found.2)
+
+-- the first files, so many, were loaded
+pub record HaveLoaded
+    (count : ℕ) (asked : List Asked) (given : List Loaded) (change : FilesChange)
+    (held_now : Option (List ℕ → Option (List ℕ))) (saves_before saves_now : ℕ) : Type 0 where
+  pub given_are : AllZip (GivesAsked change.held) (take count asked) given
+  pub loads : change.loads_after ≡ counted_by count change.loads_before
+  pub faults : change.faults_after ≡ change.faults_before
+  pub held : held_now ≡ change.held
+  pub saves : saves_now ≡ saves_before

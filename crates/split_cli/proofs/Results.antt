@@ -1,16 +1,21 @@
--- Results whose errors are exchanged.
-use Rattle.std.proofs.Common.{◌≡◌, Result, Ok, Err}
+-- What holds of the values of results.
+use Rattle.std.proofs.Common.{ℕ, ◌≤◌, List, length, Result, Ok, Err, Vec, Global}
 use Rattle.std.specs.Prelude.{IfOk, MatchResult}
-use Rattle.std.specs.Result.{IsErrAnd}
-
--- what holds of the value holds after `map_err`
-pub mapped_ok : {T E D : Type 0} (F : E → D → Type 0) (r : Result T E) (s : Result T D) (P Q : T → Type 0) →
-    ((x : T) → P x → Q x) → IfOk r P → MatchResult r (λ x. s ≡ Ok x) (λ e. IsErrAnd s (F e)) → IfOk s Q
-mapped_ok F (Ok x) s P Q weaker holds is = rw is (weaker x holds)
-mapped_ok F (Err e) (Ok x) P Q weaker holds is = absurd is
-mapped_ok F (Err e) (Err d) P Q weaker holds is = tt
+use Rattle.js_base.specs.declared.limits.TheConstants.{PROGRAM_BYTES}
+use Rattle.jif_lex.specs.declared.token.Token.{Token}
+use Rattle.jif_lex.specs.Tokens.{ReadsAs, tokens}
+use Rattle.jif_lex.specs.TokenLists.{AreTokens}
 
 -- both of what hold of the value
 pub both_ok : {T E : Type 0} (r : Result T E) (P Q : T → Type 0) → IfOk r P → IfOk r Q → IfOk r (λ x. P x × Q x)
 both_ok (Ok x) P Q first second = (first, second)
 both_ok (Err e) P Q first second = tt
+
+-- the tokens of a text are few
+pub few_tokens : {E : Type 0} (r : Result (Vec Token Global) E) (text : List ℕ) (F : E → Type 0) →
+    ((bytes : List ℕ) (list : List Token) → length bytes ≤ PROGRAM_BYTES → ReadsAs bytes (tokens list) →
+    AreTokens list) →
+    MatchResult r (λ list. (length text ≤ PROGRAM_BYTES) × ReadsAs text (tokens list.items)) F →
+    IfOk r (λ list. length list.items ≤ PROGRAM_BYTES)
+few_tokens (Ok list) text F law found = (law text list.items found.0 found.1).0
+few_tokens (Err why) text F law found = tt

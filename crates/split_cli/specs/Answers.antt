@@ -3,7 +3,7 @@ use Rattle.std.specs.Prelude.{◌≡◌, ℕ, ◌⊎◌, List, Option}
 use Rattle.js_base.specs.Counts.{Rose}
 use Rattle.js_base.specs.Sink.{Takes, TakesFront}
 use Rattle.js_base.specs.declared.status.Status.{Status}
-use Rattle.js_base.specs.declared.status.Status.TheVariants.{Done, OutFault, NoMemory}
+use Rattle.js_base.specs.declared.status.Status.TheVariants.{OutFault, NoMemory}
 use Rattle.split_cli.specs.Verdicts.{VerdictShape, Refuse, Print, no_memory_line}
 use Rattle.split_cli.specs.Loads.{FilesChange}
 use Rattle.split_cli.specs.Due.{IsDue}
@@ -42,14 +42,14 @@ Puts text status answer sink =
 -- the error output.
 abbrev pub IsAnswered : VerdictShape → Status → SinkChange → SinkChange → Type 0
 IsAnswered (Refuse status line) answer out err = IsUntouched out × Puts line status answer err
-IsAnswered (Print text) answer out err = IsUntouched err × Puts text Done answer out
+IsAnswered (Print status text) answer out err = IsUntouched err × Puts text status answer out
 
 -- ---- where memory ran out
 
 -- no more was put than a front of what is due, and then a front of the line that says that memory ran out
 abbrev pub IsCutShort : VerdictShape → SinkChange → SinkChange → Type 0
 IsCutShort (Refuse status line) out err = IsUntouched out × PutsFronts line no_memory_line err
-IsCutShort (Print text) out err = PutsFront text out × PutsFront no_memory_line err
+IsCutShort (Print status text) out err = PutsFront text out × PutsFront no_memory_line err
 
 -- Memory ran out before anything was due, and no more was put than a front of the line that says so, or it ran out
 -- while what was due was put.

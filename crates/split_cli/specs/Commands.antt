@@ -1,18 +1,37 @@
 -- What words ask for. A word is the list of its bytes.
-use Rattle.std.specs.Prelude.{◌≢◌, ℕ, List, [], ◌∷◌, codes}
+use Rattle.std.specs.Prelude.{◌≢◌, ℕ, ◌≤◌, List, [], ◌∷◌, codes, ⊤}
+use Rattle.std.specs.Fmt.{decimal}
+use Rattle.split_cli.specs.declared.words.TheConstants.{STEPS}
 
--- a command and its files
+-- a command with its files, and with its number of steps
 pub data CommandShape : Type 0 where
+  Check : (program hosts : List ℕ) → CommandShape
+  Run : (program hosts start : List ℕ) (steps : ℕ) → CommandShape
   Replay : (program hosts events : List ℕ) → CommandShape
 
--- the words that ask for it
+-- a number of steps that can be asked for
+pub record IsStepCount (steps : ℕ) : Type 0 where
+  pub least : 1 ≤ steps
+  pub most : steps ≤ STEPS
+
+-- the command can be asked for
+abbrev pub IsCommand : CommandShape → Type 0
+IsCommand (Check program hosts) = ⊤
+IsCommand (Run program hosts start steps) = IsStepCount steps
+IsCommand (Replay program hosts events) = ⊤
+
+-- the words that ask for it: a number is written in decimal digits, without leading zeros
 abbrev pub words_of : CommandShape → List (List ℕ)
+words_of (Check program hosts) = codes "check" ∷ program ∷ hosts ∷ []
+words_of (Run program hosts start steps) = codes "run" ∷ program ∷ hosts ∷ start ∷ decimal steps ∷ []
 words_of (Replay program hosts events) = codes "replay" ∷ program ∷ hosts ∷ events ∷ []
 
 -- the files that are loaded for it, in order
 abbrev pub files_of : CommandShape → List (List ℕ)
+files_of (Check program hosts) = program ∷ hosts ∷ []
+files_of (Run program hosts start steps) = program ∷ hosts ∷ start ∷ []
 files_of (Replay program hosts events) = program ∷ hosts ∷ events ∷ []
 
 -- the words ask for no command
 abbrev pub HaveNoForm : List (List ℕ) → Type 0
-HaveNoForm words = (command : CommandShape) → words ≢ words_of command
+HaveNoForm words = (command : CommandShape) → IsCommand command → words ≢ words_of command

@@ -1,25 +1,32 @@
 -- What is due for words, by what the files hold and did.
-use Rattle.std.specs.Prelude.{◌≡◌, ℕ, ◌+◌, ◌⊎◌, List, length, Option, Some}
-use Rattle.split_cli.specs.Commands.{CommandShape, Replay, words_of, files_of, HaveNoForm}
+use Rattle.std.specs.Prelude.{◌≡◌, ℕ, ◌+◌, ◌⊎◌, List, [], ◌∷◌, length, Option, Some}
+use Rattle.std.specs.List.{AllZip}
+use Rattle.split_cli.specs.Commands.{CommandShape, Check, Run, Replay, IsCommand, words_of, files_of, HaveNoForm}
 use Rattle.split_cli.specs.Verdicts.{VerdictShape, usage, no_such_file}
 use Rattle.split_cli.specs.Loads.{FilesChange, Told, LoadsWell, IsFirstAbsent, IsFileFault}
-use Rattle.split_cli.specs.Replay.{DueForBytes}
+use Rattle.split_cli.specs.Stages.{DueThen}
+use Rattle.split_cli.specs.Sources.{Sources}
+use Rattle.split_cli.specs.Check.{accepted_report}
+use Rattle.split_cli.specs.PlainRun.{DueForRun}
+use Rattle.split_cli.specs.Replay.{DueForReplay}
 
--- the files of a replay are held, and this is due for their bytes, where files that do not tell hold some bytes
-pub record IsDueForReplay
-    (held : Option (List ℕ → Option (List ℕ))) (program hosts events : List ℕ) (verdict : VerdictShape)
-    : Type 0 where
-  pub program_bytes : List ℕ
-  pub hosts_bytes : List ℕ
-  pub events_bytes : List ℕ
-  pub program_told : Told held program (Some program_bytes)
-  pub hosts_told : Told held hosts (Some hosts_bytes)
-  pub events_told : Told held events (Some events_bytes)
-  pub due : DueForBytes events program_bytes hosts_bytes events_bytes verdict
+-- What is due for a command whose files hold these bytes: each begins with a program and a host file, and has one end
+-- of its own.
+abbrev pub DueForBytes : CommandShape → List (List ℕ) → VerdictShape → Type 0
+DueForBytes (Check program hosts) (p ∷ h ∷ []) verdict =
+    DueThen (Sources p h) (λ source end. end ≡ accepted_report source.tree) verdict
+DueForBytes (Run program hosts start steps) (p ∷ h ∷ s ∷ []) verdict =
+    DueThen (Sources p h) (λ source. DueForRun start s steps source.tree) verdict
+DueForBytes (Replay program hosts events) (p ∷ h ∷ e ∷ []) verdict =
+    DueThen (Sources p h) (DueForReplay events e) verdict
+DueForBytes command bytes verdict = ⊥
 
--- what is due for a command whose files are all held
-abbrev pub DueForFiles : Option (List ℕ → Option (List ℕ)) → CommandShape → VerdictShape → Type 0
-DueForFiles held (Replay program hosts events) verdict = IsDueForReplay held program hosts events verdict
+-- What is due for a command whose files are all held. Where files do not tell what they hold, they hold some bytes.
+pub record DueForFiles
+    (held : Option (List ℕ → Option (List ℕ))) (command : CommandShape) (verdict : VerdictShape) : Type 0 where
+  pub bytes : List (List ℕ)
+  pub told : AllZip (λ file content. Told held file (Some content)) (files_of command) bytes
+  pub due : DueForBytes command bytes verdict
 
 -- What is due for a command where no load fails, and the number of loads that come before it: those up to the first
 -- file that is absent, or those of all files.
@@ -30,12 +37,18 @@ pub data DueForCommand
   loaded : (verdict : VerdictShape) → DueForFiles held command verdict →
       DueForCommand held command (length (files_of command)) verdict
 
+-- what is due for a command, by what the files hold and did
+abbrev pub IsDueForCommand : CommandShape → FilesChange → VerdictShape → Type 0
+IsDueForCommand command files verdict =
+    ((number : ℕ) × DueForCommand files.held command number verdict × LoadsWell number files)
+    ⊎ IsFileFault (files_of command) files verdict
+
 -- What is due for the words where no load fails, and the number of loads that come before it.
 pub data Due (words : List (List ℕ)) (held : Option (List ℕ → Option (List ℕ))) : ℕ → VerdictShape →
     Type 0 where
   no_words : HaveNoForm words → Due words held 0 usage
-  for_command : (command : CommandShape) (number : ℕ) (verdict : VerdictShape) → words ≡ words_of command →
-      DueForCommand held command number verdict → Due words held number verdict
+  for_command : (command : CommandShape) (number : ℕ) (verdict : VerdictShape) → IsCommand command →
+      words ≡ words_of command → DueForCommand held command number verdict → Due words held number verdict
 
 -- after the loads that come before it, none of which failed, this is due for the words
 abbrev pub IsDueByFiles : List (List ℕ) → FilesChange → VerdictShape → Type 0
@@ -44,7 +57,8 @@ IsDueByFiles words files verdict = (number : ℕ) × Due words files.held number
 -- the load of a file of the words failed
 abbrev pub IsFaultOf : List (List ℕ) → FilesChange → VerdictShape → Type 0
 IsFaultOf words files verdict =
-    (command : CommandShape) × (words ≡ words_of command) × IsFileFault (files_of command) files verdict
+    (command : CommandShape) × IsCommand command × (words ≡ words_of command)
+    × IsFileFault (files_of command) files verdict
 
 -- what is due for the words and for what the files did: what is due by what they hold, or a file fault
 abbrev pub IsDue : List (List ℕ) → FilesChange → VerdictShape → Type 0

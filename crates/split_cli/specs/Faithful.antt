@@ -10,17 +10,20 @@ use Rattle.net_world.specs.first.Code.{CodeShape}
 use Rattle.net_world.specs.first.Events.{script_of}
 use Rattle.net_world.specs.first.World.{World, run, world_at_start, has_halted}
 use Rattle.net_world.specs.first.AllObey.{FieldsAre, Follows, IsIdle}
-use Rattle.split_cli.specs.Report.{report}
-use Rattle.split_cli.specs.Commands.{Replay, words_of}
 use Rattle.split_cli.specs.Loads.{Told}
-use Rattle.split_cli.specs.Replay.{AreAccepted}
+use Rattle.split_cli.specs.Replay.{IsCoded}
+use Rattle.split_cli.specs.Report.{report}
+use Rattle.split_cli.specs.Sources.{Source, Sources}
+use Rattle.split_cli.specs.Stages.{given}
 
 -- A program, a host file and a script of events of these bytes were replayed, to this report.
 pub record IsReplayed (program hosts events : List ℕ) (text : List ℕ) : Type 0 where
-  -- the program as a tree, and its code on the hosts
+  -- what the two files say, the program as a tree, and its code on the hosts
+  pub source : Source
   pub tree : Program
   pub code : CodeShape
-  pub accepted : AreAccepted program hosts code tree
+  pub accepted : Sources program hosts (given source)
+  pub coded : IsCoded source tree code
   -- the events of the script, and the world that they lead to from the start
   pub script : List (ℕ × Event)
   pub last : World
@@ -41,14 +44,10 @@ pub record IsFaithful (program hosts events : List ℕ) (text : List ℕ) : Type
   pub idle : IsIdle replayed.last → has_halted replayed.last ≡ true
   pub none_ignored : All (λ host. host.ignored ≡ 0) replayed.last.hosts
 
--- The words name three files, and what was put is the faithful report of a replay of what they hold.
+-- what was put is the faithful report of a replay of what the three files hold
 pub record PutsFaithfully
-    (words : List (List ℕ)) (held : Option (List ℕ → Option (List ℕ))) (before after : Option (List ℕ))
+    (program hosts events : List ℕ) (held : Option (List ℕ → Option (List ℕ))) (before after : Option (List ℕ))
     : Type 0 where
-  pub program : List ℕ
-  pub hosts : List ℕ
-  pub events : List ℕ
-  pub words_are : words ≡ words_of (Replay program hosts events)
   pub program_bytes : List ℕ
   pub hosts_bytes : List ℕ
   pub events_bytes : List ℕ

@@ -1,5 +1,5 @@
 -- The report of a world, as a text.
-use Rattle.std.specs.Prelude.{ℕ, ◌+◌, List, [], ◌∷◌, ◌++◌, length, map, is_some, unwrap_or, slice_get}
+use Rattle.std.specs.Prelude.{ℕ, ◌+◌, ℤ, List, [], ◌∷◌, ◌++◌, length, map, is_some, unwrap_or, slice_get}
 use Rattle.std.specs.Prelude.{if◌then◌else◌}
 use Rattle.std.specs.Prelude.{codes}
 use Rattle.std.specs.List.{flat_map, join_with_byte}
@@ -15,10 +15,11 @@ abbrev pub halted_line : World → List ℕ
 halted_line w = if has_halted w then codes "halted yes" else codes "halted no"
 
 -- `field NAME = V`, the elements parted by one space
+abbrev pub row_line : List ℕ → List ℤ → List ℕ
+row_line name row = codes "field " ++ name ++ codes " = " ++ join_with_byte 32 (map signed_decimal row)
+
 abbrev pub field_line : World → ℕ → FieldShape → List ℕ
-field_line w number field =
-    codes "field " ++ field.name ++ codes " = "
-    ++ join_with_byte 32 (map signed_decimal (field_row w number field))
+field_line w number field = row_line field.name (field_row w number field)
 
 -- the lines of the fields from a number on
 abbrev pub field_lines : World → ℕ → List FieldShape → List (List ℕ)

@@ -1,27 +1,40 @@
--- What may be due for words and files: a refusal with its status and its line, or a report. A word, a line and a file
--- are lists of bytes.
-use Rattle.std.specs.Prelude.{ℕ, List, [], ◌∷◌, ◌++◌, codes, string_bytes}
+-- What may be due for words and files: a refusal with its status and its line, or a report with its status. A word, a
+-- line and a file are lists of bytes.
+use Rattle.std.specs.Prelude.{ℕ, List, [], ◌∷◌, ◌++◌, codes, slice_index, string_bytes}
 use Rattle.std.specs.Fmt.{decimal}
 use Rattle.js_base.specs.declared.text.TheConstants.{LINE_FEED}
 use Rattle.js_base.specs.declared.status.Status.{Status}
 use Rattle.js_base.specs.declared.status.Status.TheVariants.{Usage, SourceRefused, InputRefused, FileFault}
+use Rattle.js_base.specs.declared.ids.StmtId.{StmtId}
+use Rattle.principals.specs.ActsFor.{Declared}
 use Rattle.principals.specs.Refusal.{PrincipalRefusal}
 use Rattle.principals.specs.Refusal as principals
 use Rattle.host_decl.specs.Refusal.{HostsRefusal}
 use Rattle.host_decl.specs.Refusal as hosts
+use Rattle.jif_lex.specs.declared.lexer.LexError.{LexError}
+use Rattle.jif_lex.specs.declared.lexer.LexError.TheVariants as lex
+use Rattle.label_lattice.specs.Printed.{printed_label}
+use Rattle.jif_grammar.specs.declared.what.What.{What}
+use Rattle.jif_grammar.specs.declared.what.What.TheVariants as what
+use Rattle.jif_parse.specs.declared.parse_error.ParseError.{ParseError}
+use Rattle.jif_parse.specs.declared.parse_error.ParseError.TheVariants as parse
+use Rattle.jif_resolve.specs.declared.resolve_error.ResolveError.{ResolveError}
+use Rattle.jif_resolve.specs.declared.resolve_error.ResolveError.TheVariants as resolve
+use Rattle.label_check.specs.declared.check_error.CheckError.{CheckError}
+use Rattle.label_check.specs.declared.check_error.CheckError.TheVariants as check
 use Rattle.net_world.specs.first.World.{Refusal, not_there, host_busy}
 use Rattle.split_cli.specs.declared.verdict.Verdict as verdict
 use Rattle.split_cli.specs.declared.verdict.Verdict.TheVariants as variants
 
--- a refusal with its status and its line on the error output, or a report on the output
+-- a refusal with its status and its line on the error output, or a report with its status on the output
 pub data VerdictShape : Type 0 where
   Refuse : (status : Status) (line : List ℕ) → VerdictShape
-  Print : (text : List ℕ) → VerdictShape
+  Print : (status : Status) (text : List ℕ) → VerdictShape
 
 -- what a verdict of the program says
 abbrev pub verdict_shape : verdict.Verdict → VerdictShape
 verdict_shape (variants.Refuse status line) = Refuse status (string_bytes line)
-verdict_shape (variants.Print text) = Print (string_bytes text)
+verdict_shape (variants.Print status text) = Print status (string_bytes text)
 
 -- ---- the lines on the error output
 
@@ -44,8 +57,77 @@ no_such_file file = Refuse InputRefused (error_line (file ++ codes ": no such fi
 abbrev pub file_fault : List ℕ → VerdictShape
 file_fault file = Refuse FileFault (error_line (codes "file fault: " ++ file))
 
+-- ---- programs
+
+abbrev pub program_refused : List ℕ → VerdictShape
+program_refused why = Refuse SourceRefused (error_line (codes "program: " ++ why))
+
 abbrev pub program_not_built : VerdictShape
-program_not_built = Refuse SourceRefused (error_line (codes "program: not built yet"))
+program_not_built = program_refused (codes "not built yet")
+
+-- why a text has no tokens
+abbrev pub why_no_tokens : LexError → List ℕ
+why_no_tokens lex.OutOfMemory = codes "no memory"
+why_no_tokens (lex.BadByte at) = codes "bad byte at " ++ decimal at
+why_no_tokens (lex.BadNumber at) = codes "bad number at " ++ decimal at
+why_no_tokens lex.TooLong = codes "too long"
+
+-- what there is too much of
+abbrev pub name_of : What → List ℕ
+name_of what.Fields = codes "fields"
+name_of what.Methods = codes "methods"
+name_of what.Parameters = codes "parameters"
+name_of what.Locals = codes "locals"
+name_of what.Statements = codes "statements"
+name_of what.Nodes = codes "expression nodes"
+name_of what.Elements = codes "array elements"
+
+-- why tokens are no program
+abbrev pub why_not_parsed : ParseError → List ℕ
+why_not_parsed parse.OutOfMemory = codes "no memory"
+why_not_parsed (parse.Unexpected at) = codes "unexpected token " ++ decimal at
+why_not_parsed parse.TooDeep = codes "nested past 64"
+why_not_parsed (parse.TooMany counted) = codes "too many " ++ name_of counted
+
+-- why the names of a program are refused
+abbrev pub why_not_resolved : ResolveError → List ℕ
+why_not_resolved resolve.OutOfMemory = codes "no memory"
+why_not_resolved (resolve.UnknownName at) = codes "unknown name at token " ++ decimal at
+why_not_resolved (resolve.Twice at) = codes "name twice at token " ++ decimal at
+why_not_resolved (resolve.WrongType at) = codes "wrong type at token " ++ decimal at
+why_not_resolved (resolve.WrongCount at) = codes "wrong count at token " ++ decimal at
+why_not_resolved resolve.NoMain = codes "no main"
+
+-- the statement at which labels are refused
+abbrev pub refused_statement : CheckError → StmtId
+refused_statement check.OutOfMemory = record { 0 = 0 }
+refused_statement (check.BadFlow statement from to) = statement
+refused_statement (check.BadBegin statement pc begin) = statement
+refused_statement (check.NoAuthority statement) = statement
+refused_statement (check.WeakProgramLabel statement) = statement
+
+-- why labels are refused
+abbrev pub why_not_labelled : Declared → CheckError → List ℕ
+why_not_labelled principals check.OutOfMemory = codes "no memory"
+why_not_labelled principals (check.BadFlow statement from to) =
+    printed_label principals from ++ codes " may not flow to " ++ printed_label principals to
+why_not_labelled principals (check.BadBegin statement pc begin) =
+    codes "program label " ++ printed_label principals pc ++ codes " may not flow to begin label "
+    ++ printed_label principals begin
+why_not_labelled principals (check.NoAuthority statement) = codes "no authority"
+why_not_labelled principals (check.WeakProgramLabel statement) = codes "program label not trusted"
+
+-- a statement is refused, where the statements stand on these lines
+abbrev pub statement_refused : List ℕ → ℕ → List ℕ → VerdictShape
+statement_refused lines statement why =
+    Refuse SourceRefused (error_line (codes "statement " ++ decimal statement ++ codes " (line "
+    ++ decimal (slice_index lines statement) ++ codes "): " ++ why))
+
+abbrev pub labels_refused : Declared → List ℕ → CheckError → VerdictShape
+labels_refused principals lines why =
+    statement_refused lines (refused_statement why).0 (why_not_labelled principals why)
+
+-- ---- host files
 
 -- why principals are refused
 abbrev pub why_no_principals : PrincipalRefusal → List ℕ
@@ -70,8 +152,12 @@ why_no_hosts hosts.too_long = codes "too long"
 abbrev pub hosts_refused : HostsRefusal → VerdictShape
 hosts_refused why = Refuse InputRefused (error_line (codes "hosts: " ++ why_no_hosts why))
 
+-- ---- places
+
 abbrev pub no_host_for_field : List ℕ → VerdictShape
 no_host_for_field name = Refuse SourceRefused (error_line (codes "no host may hold field " ++ name))
+
+-- ---- scripts
 
 abbrev pub too_long : List ℕ → VerdictShape
 too_long file = Refuse InputRefused (error_line (file ++ codes ": too long"))

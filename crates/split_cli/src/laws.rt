@@ -7,6 +7,11 @@ ghost use Rattle.split_cli.specs.Loads.{FilesChange, IsFileFault};
 ghost use Rattle.split_cli.specs.Due.{Due, IsDue};
 
 use host_decl::host_file_laws;
+use jif_grammar::grammar_laws;
+use jif_lex::lex_laws;
+use jif_resolve::{program_laws, resolve_laws};
+use label_check::failure_laws;
+use source_run::run_laws;
 
 /// Laws of what is due, for who reasons about answers. The call does nothing.
 pub fn due_laws()
@@ -27,5 +32,11 @@ pub fn due_laws()
         (one : IsFileFault names files first) (two : IsFileFault names files second) →
         files.loads_after < last_count → one.place ≡ two.place }
 {
+    lex_laws();
+    grammar_laws();
     host_file_laws();
+    resolve_laws();
+    program_laws();
+    failure_laws();
+    run_laws();
 }

@@ -1,15 +1,16 @@
 //! The program `jifsplit`, from words and files to what it puts out.
 #![tactic(auto)]
 
+mod built;
+mod commands;
 mod first_code;
-mod labels;
 mod laws;
-mod lines;
 mod load;
-mod program_form;
-mod replay;
 mod report;
-mod resolve;
+mod row_line;
+mod sources;
+mod statement_lines;
+mod stop;
 mod top;
 mod verdict;
 mod words;

@@ -1,11 +1,30 @@
-//! The load of a file of a command.
+//! The loads of the files of a command.
 
-ghost use Rattle.std.specs.Prelude.{◌≡◌, ◌≤◌, length, IfOk, IfSome, MatchResult, option_map};
+ghost use Rattle.std.specs.Prelude.{◌≡◌, ◌≤◌, ◌+◌, length, map, IfOk, IfErr, OnOk, MatchResult};
+ghost use Rattle.std.specs.List.{AllZip};
 ghost use Rattle.js_base.specs.Counts.{counted};
-ghost use Rattle.split_cli.specs.Loading.{Gives, LoadStops, StopCounts};
+ghost use Rattle.split_cli.specs.Loading.{Gives, IsStopOf, LoadStops, StopCounts, StopsWith, StopsLoading};
+ghost use Rattle.split_cli.specs.Loads.{counted_by};
 
+use crate::stop::{Stop, stopped};
+use crate::verdict::Verdict;
 use js_base::{Files, LoadError};
 use std::alloc::Global;
+
+/// A file to load, and how many bytes of it are read at most.
+#[derive(Clone, Copy)]
+pub struct Asked<'a> {
+    pub name: &'a str,
+    pub most: usize,
+}
+
+/// What was loaded of a file.
+#[derive(Drop)]
+pub enum Loaded {
+    Bytes(Vec<u8>),
+    /// It holds more bytes than are read.
+    TooLong,
+}
 
 /// Why a file was not loaded.
 #[derive(Clone, Copy, Debug, PartialEq, Eq)]
@@ -17,17 +36,44 @@ pub enum LoadStop {
     Failed,
 }
 
-/// The bytes of a file, or `None` where they are more than so many.
-pub fn load<F: Files>(
+/// Loads files in order, up to the first that is absent or fails.
+pub fn load_all<F: Files>(
     alloc: Global,
     files: &mut F,
-    name: &str,
-    most: usize,
-) -> Result<Option<Vec<u8>>, LoadStop>
+    asked: &[Asked<'_>],
+) -> Result<Vec<Loaded>, Stop>
+    ensures loaded { IfOk result (λ loaded.
+        AllZip (λ one given. Gives (F.held files.old) one.name.now one.most given) asked.now loaded.items) }
+    ensures stopped { IfErr result (StopsWith (StopsLoading (map (λ one. one.name.now) asked.now)
+        (record {
+          held = F.held files.old;
+          loads_before = F.loads files.old;
+          loads_after = F.loads files.new;
+          faults_before = F.faults files.old;
+          faults_after = F.faults files.new;
+          failed = F.failed files.new;
+        }))) }
+    ensures loads { OnOk result (F.loads files.new ≡ counted_by (length asked.now) (F.loads files.old)) }
+    ensures faults { OnOk result (F.faults files.new ≡ F.faults files.old) }
+    ensures few { F.loads files.new ≤ F.loads files.old + length asked.now }
+    ensures saves { F.saves files.new ≡ F.saves files.old }
+    ensures held { F.held files.new ≡ F.held files.old }
+{
+    let mut all = Vec::new(alloc);
+    for one in asked {
+        match load(alloc, files, one.name, one.most) {
+            Ok(loaded) => all.push(loaded)?,
+            Err(stop) => return Err(due_at_stop(alloc, one.name, stop)),
+        }
+    }
+    Ok(all)
+}
+
+/// The bytes of a file, where they are no more than so many.
+fn load<F: Files>(alloc: Global, files: &mut F, name: &str, most: usize) -> Result<Loaded, LoadStop>
     ensures loaded { MatchResult result
-        (λ loaded. Gives (F.held files.old) name.now most (option_map (λ bytes. bytes.items) loaded))
+        (Gives (F.held files.old) name.now most)
         (LoadStops (F.held files.old) name.now) }
-    ensures within { IfOk result (λ loaded. IfSome loaded (λ bytes. length bytes.items ≤ most)) }
     ensures held { F.held files.new ≡ F.held files.old }
     ensures loads { F.loads files.new ≡ counted (F.loads files.old) }
     ensures saves { F.saves files.new ≡ F.saves files.old }
@@ -36,10 +82,21 @@ pub fn load<F: Files>(
         (StopCounts name.now (F.faults files.old) (F.faults files.new) (F.failed files.new)) }
 {
     match files.load(alloc, name, most) {
-        Ok(bytes) => Ok(Some(bytes)),
-        Err(LoadError::TooLong) => Ok(None),
+        Ok(bytes) => Ok(Loaded::Bytes(bytes)),
+        Err(LoadError::TooLong) => Ok(Loaded::TooLong),
         Err(LoadError::Absent) => Err(LoadStop::Absent),
         Err(LoadError::Failed) => Err(LoadStop::Failed),
         Err(LoadError::OutOfMemory) => Err(LoadStop::OutOfMemory),
+    }
+}
+
+/// What is due where a file was not loaded.
+fn due_at_stop(alloc: Global, name: &str, stop: LoadStop) -> Stop
+    ensures { StopsWith (IsStopOf stop name.now) result }
+{
+    match stop {
+        LoadStop::OutOfMemory => Stop::OutOfMemory,
+        LoadStop::Absent => stopped(Verdict::no_such_file(alloc, name)),
+        LoadStop::Failed => stopped(Verdict::file_fault(alloc, name)),
     }
 }

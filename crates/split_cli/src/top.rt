@@ -1,32 +1,35 @@
 //! The top call, from words and files to a status and what is put out.
 
-ghost use Rattle.std.specs.Prelude.{◌≡◌, ◌≤◌, ◌+◌, length, map, string_bytes, IfOk, OnOk, IsErrOf};
+ghost use Rattle.std.specs.Prelude.{◌≡◌, ◌≤◌, ◌+◌, ℕ, List, length, map, string_bytes, IfOk, OnOk, IsErrOf};
 ghost use Rattle.js_base.specs.Sink.{TakesFront};
 ghost use Rattle.split_cli.specs.Answers.{AnswersTo};
 ghost use Rattle.split_cli.specs.Commands as command;
-ghost use Rattle.split_cli.specs.Due.{IsDue};
+ghost use Rattle.split_cli.specs.Asked.{command_shape};
+ghost use Rattle.split_cli.specs.Due.{IsDue, IsDueForCommand};
 ghost use Rattle.split_cli.specs.Faithful.{PutsFaithfully};
-ghost use Rattle.split_cli.specs.Loading.{IsDueForCommand, IsStopOf};
 ghost use Rattle.split_cli.specs.Verdicts.{verdict_shape, no_memory_line};
 
-use crate::load::{LoadStop, load};
-use crate::replay::verdict_for;
+use crate::commands::check::due_for_check;
+use crate::commands::replay::due_for_replay;
+use crate::commands::run::due_for_run;
+use crate::stop::Stop;
 use crate::verdict::Verdict;
-use crate::words::{Replay, command_of};
+use crate::words::{Command, command_of};
 use host_decl::host_file_laws;
-use js_base::limits::{HOSTS_BYTES, PROGRAM_BYTES, SCRIPT_BYTES};
+use jif_resolve::program_laws;
 use js_base::{Files, OutOfMemory, PutError, Sink, Status};
 use net_world::first::laws::all_obey_laws;
 use std::alloc::Global;
 
 /// Runs `jifsplit` on the words after its name.
 ///
-/// It answers `Done` where the report of a replay was put on `out`. Any other answer is a refusal or a fault:
+/// It answers `Done` where the report of the command was put on `out`, and `Spent` where it was put for a run that its
+/// steps did not end. Any other answer is a refusal or a fault:
 /// - `Usage`: the words ask for no command.
-/// - `SourceRefused`: the program does not have the first form or is too long, or a name in it is bad, or no host may
-///   hold a field.
-/// - `InputRefused`: a file is absent, the host file is refused, or the script of events is too long, or a line of it
-///   has no form or asks for what cannot happen.
+/// - `SourceRefused`: the program is refused for its text, its names or its labels; or, in a replay, hosts cannot run
+///   it yet, or no host may hold a field.
+/// - `InputRefused`: a file is absent, the host file is refused, or the file of starting values or of events is too
+///   long, or a line of it has no form or asks for what cannot happen.
 /// - `FileFault`: a file could not be read.
 /// - `OutFault`: what was due could not all be put out.
 /// - `NoMemory`: memory ran out.
@@ -64,17 +67,20 @@ pub fn jifsplit<F: Files, S: Sink, E: Sink>(
           taken_before = E.taken err.old;
           taken_after = E.taken err.new;
         }) }
-    // Where all went well, what was put is the report of hosts whose fields follow the plain run of the program.
-    ensures headline { result ≡ Status.Done →
-        PutsFaithfully (map string_bytes words.now) (F.held files.old) (S.taken out.old) (S.taken out.new) }
+    // Where a replay went well, what was put is the report of hosts whose fields follow the plain run of the program.
+    ensures headline { (program hosts events : List ℕ) →
+        map string_bytes words.now ≡ command.words_of (command.Replay program hosts events) → result ≡ Status.Done →
+        PutsFaithfully program hosts events (F.held files.old) (S.taken out.old) (S.taken out.new) }
     // Whatever it answers, it asks for no more loads than its words name files, saves nothing, and leaves what is held.
-    ensures loads { (asked : command.CommandShape) → map string_bytes words.now ≡ command.words_of asked →
+    ensures loads { (asked : command.CommandShape) → command.IsCommand asked →
+        map string_bytes words.now ≡ command.words_of asked →
         F.loads files.new ≤ F.loads files.old + length (command.files_of asked) }
     ensures no_loads { command.HaveNoForm (map string_bytes words.now) → F.loads files.new ≡ F.loads files.old }
     ensures saves { F.saves files.new ≡ F.saves files.old }
     ensures held { F.held files.new ≡ F.held files.old }
 {
     host_file_laws();
+    program_laws();
     all_obey_laws();
     answered(alloc, words, files, out, err)
 }
@@ -109,16 +115,17 @@ fn answered<F: Files, S: Sink, E: Sink>(
           taken_before = E.taken err.old;
           taken_after = E.taken err.new;
         }) }
-    ensures loads { (asked : command.CommandShape) → map string_bytes words.now ≡ command.words_of asked →
+    ensures loads { (asked : command.CommandShape) → command.IsCommand asked →
+        map string_bytes words.now ≡ command.words_of asked →
         F.loads files.new ≤ F.loads files.old + length (command.files_of asked) }
     ensures no_loads { command.HaveNoForm (map string_bytes words.now) → F.loads files.new ≡ F.loads files.old }
     ensures saves { F.saves files.new ≡ F.saves files.old }
     ensures held { F.held files.new ≡ F.held files.old }
 {
     match due(alloc, words, files) {
-        Ok(Verdict::Print(text)) => {
+        Ok(Verdict::Print { status, text }) => {
             let put = out.put(alloc, text.as_bytes());
-            status_after(alloc, put, Status::Done, err)
+            status_after(alloc, put, status, err)
         }
         Ok(Verdict::Refuse { status, line }) => {
             let put = err.put(alloc, line.as_bytes());
@@ -140,26 +147,26 @@ fn due<F: Files>(alloc: Global, words: &[String], files: &mut F) -> Result<Verdi
           failed = F.failed files.new;
         })
         (verdict_shape verdict)) }
-    ensures loads { (asked : command.CommandShape) → map string_bytes words.now ≡ command.words_of asked →
+    ensures loads { (asked : command.CommandShape) → command.IsCommand asked →
+        map string_bytes words.now ≡ command.words_of asked →
         F.loads files.new ≤ F.loads files.old + length (command.files_of asked) }
     ensures no_loads { command.HaveNoForm (map string_bytes words.now) → F.loads files.new ≡ F.loads files.old }
     ensures saves { F.saves files.new ≡ F.saves files.old }
     ensures held { F.held files.new ≡ F.held files.old }
 {
     match command_of(words) {
-        Some(asked) => due_for_replay(alloc, &asked, files),
+        Some(asked) => due_for(alloc, &asked, files),
         None => Verdict::usage(alloc),
     }
 }
 
-/// What is due for a replay, whose files are loaded in order up to the first that was not.
-fn due_for_replay<F: Files>(
+/// What is due for a command.
+fn due_for<F: Files>(
     alloc: Global,
-    asked: &Replay<'_>,
+    asked: &Command<'_>,
     files: &mut F,
 ) -> Result<Verdict, OutOfMemory>
-    ensures due { IfOk result (λ verdict. IsDueForCommand
-        (command.Replay asked.now.program.now asked.now.hosts.now asked.now.events.now)
+    ensures due { IfOk result (λ verdict. IsDueForCommand (command_shape asked.now)
         (record {
           held = F.held files.old;
           loads_before = F.loads files.old;
@@ -169,39 +176,28 @@ fn due_for_replay<F: Files>(
           failed = F.failed files.new;
         })
         (verdict_shape verdict)) }
-    ensures loads { F.loads files.new ≤ F.loads files.old + 3 }
+    ensures loads { F.loads files.new ≤ F.loads files.old + length (command.files_of (command_shape asked.now)) }
     ensures saves { F.saves files.new ≡ F.saves files.old }
     ensures held { F.held files.new ≡ F.held files.old }
 {
-    let program = match load(alloc, files, asked.program, PROGRAM_BYTES) {
-        Ok(program) => program,
-        Err(stop) => return due_at_stop(alloc, asked.program, stop),
+    let due = match asked {
+        Command::Check { program, hosts } => due_for_check(alloc, program, hosts, files),
+        Command::Run {
+            program,
+            hosts,
+            start,
+            steps,
+        } => due_for_run(alloc, program, hosts, start, *steps, files),
+        Command::Replay {
+            program,
+            hosts,
+            events,
+        } => due_for_replay(alloc, program, hosts, events, files),
     };
-    let hosts = match load(alloc, files, asked.hosts, HOSTS_BYTES) {
-        Ok(hosts) => hosts,
-        Err(stop) => return due_at_stop(alloc, asked.hosts, stop),
-    };
-    let events = match load(alloc, files, asked.events, SCRIPT_BYTES) {
-        Ok(events) => events,
-        Err(stop) => return due_at_stop(alloc, asked.events, stop),
-    };
-    verdict_for(
-        alloc,
-        asked.events,
-        program.as_deref(),
-        hosts.as_deref(),
-        events.as_deref(),
-    )
-}
-
-/// What is due where a file was not loaded.
-fn due_at_stop(alloc: Global, name: &str, stop: LoadStop) -> Result<Verdict, OutOfMemory>
-    ensures { IfOk result (λ verdict. IsStopOf stop name.now (verdict_shape verdict)) }
-{
-    match stop {
-        LoadStop::OutOfMemory => Err(OutOfMemory),
-        LoadStop::Absent => Verdict::no_such_file(alloc, name),
-        LoadStop::Failed => Verdict::file_fault(alloc, name),
+    match due {
+        Ok(verdict) => Ok(verdict),
+        Err(Stop::Due(verdict)) => Ok(verdict),
+        Err(Stop::OutOfMemory) => Err(OutOfMemory),
     }
 }
 

@@ -1,22 +1,28 @@
 //! What is due for words and files, with the lines of all refusals.
 
-ghost use Rattle.std.specs.Prelude.{◌≡◌, ◌≢◌, IfOk};
+ghost use Rattle.std.specs.Prelude.{◌≡◌, ◌≢◌, IfOk, slice_index};
 ghost use Rattle.std.specs.String.{string_bytes};
 ghost use Rattle.host_decl.specs.Refusal as hosts;
 ghost use Rattle.principals.specs.Refusal as principals;
 ghost use Rattle.split_cli.specs.Verdicts as verdicts;
 
 use host_decl::HostsError;
-use js_base::{OutOfMemory, Status};
-use principals::PrincipalError;
+use jif_grammar::What;
+use jif_lex::LexError;
+use jif_parse::ParseError;
+use jif_resolve::ResolveError;
+use js_base::{OutOfMemory, Status, StmtId};
+use label_check::CheckError;
+use label_lattice::label_text;
+use principals::{PrincipalError, Principals};
 use std::alloc::{AllocError, Global};
 
-/// What is due for words and files: a refusal with its status and its line on the error output, or a report on the
-/// output.
+/// What is due for words and files: a refusal with its status and its line on the error output, or a report with its
+/// status on the output.
 #[derive(Debug, Drop)]
 pub enum Verdict {
     Refuse { status: Status, line: String },
-    Print(String),
+    Print { status: Status, text: String },
 }
 
 impl Verdict {
@@ -64,11 +70,70 @@ impl Verdict {
         Verdict::refusal(alloc, Status::FileFault, text.as_str())
     }
 
-    /// The program does not have the first form, or one of its names is bad.
+    /// The program is refused.
+    fn program_refused(alloc: Global, why: &str) -> Result<Verdict, OutOfMemory>
+        ensures { IfOk result (λ verdict. verdict_shape verdict ≡ verdicts.program_refused why.now) }
+    {
+        let text = format!(in alloc; "program: {why}")?;
+        Verdict::refusal(alloc, Status::SourceRefused, text.as_str())
+    }
+
+    /// Hosts cannot run the program yet.
     pub fn program_not_built(alloc: Global) -> Result<Verdict, OutOfMemory>
         ensures { IfOk result (λ verdict. verdict_shape verdict ≡ verdicts.program_not_built) }
     {
-        Verdict::refusal(alloc, Status::SourceRefused, "program: not built yet")
+        Verdict::program_refused(alloc, "not built yet")
+    }
+
+    /// The program has no tokens.
+    ///
+    /// # Errors
+    /// Always where it has none because memory ran out, here as in the next three.
+    pub fn not_lexed(alloc: Global, why: LexError) -> Result<Verdict, OutOfMemory>
+        ensures refused { IfOk result (λ verdict.
+            verdict_shape verdict ≡ verdicts.program_refused (verdicts.why_no_tokens why)) }
+        ensures not_memory { IfOk result (λ verdict. why ≢ LexError.OutOfMemory) }
+    {
+        let text = why_no_tokens(alloc, why)?;
+        Verdict::program_refused(alloc, text.as_str())
+    }
+
+    /// The tokens are no program.
+    pub fn not_parsed(alloc: Global, why: ParseError) -> Result<Verdict, OutOfMemory>
+        ensures refused { IfOk result (λ verdict.
+            verdict_shape verdict ≡ verdicts.program_refused (verdicts.why_not_parsed why)) }
+        ensures not_memory { IfOk result (λ verdict. why ≢ ParseError.OutOfMemory) }
+    {
+        let text = why_not_parsed(alloc, why)?;
+        Verdict::program_refused(alloc, text.as_str())
+    }
+
+    /// A name of the program is refused.
+    pub fn not_resolved(alloc: Global, why: ResolveError) -> Result<Verdict, OutOfMemory>
+        ensures refused { IfOk result (λ verdict.
+            verdict_shape verdict ≡ verdicts.program_refused (verdicts.why_not_resolved why)) }
+        ensures not_memory { IfOk result (λ verdict. why ≢ ResolveError.OutOfMemory) }
+    {
+        let text = why_not_resolved(alloc, why)?;
+        Verdict::program_refused(alloc, text.as_str())
+    }
+
+    /// The labels of the program are refused, whose statements stand on these lines.
+    pub fn labels_refused(
+        alloc: Global,
+        principals: &Principals,
+        lines: &[u32],
+        why: &CheckError,
+    ) -> Result<Verdict, OutOfMemory>
+        ensures refused { IfOk result (λ verdict.
+            verdict_shape verdict ≡ verdicts.labels_refused principals.now lines.now why.now) }
+        ensures not_memory { IfOk result (λ verdict. why.now ≢ CheckError.OutOfMemory) }
+    {
+        let cause = why_not_labelled(alloc, principals, why)?;
+        let statement = refused_statement(why).0;
+        let line = line_of(lines, statement);
+        let text = format!(in alloc; "statement {statement} (line {line}): {cause}")?;
+        Verdict::refusal(alloc, Status::SourceRefused, text.as_str())
     }
 
     /// The host file is refused.
@@ -120,6 +185,114 @@ impl Verdict {
         ensures { IfOk result (λ verdict. verdict_shape verdict ≡ verdicts.event_refused file.now line host_busy) }
     {
         Verdict::at_line(alloc, file, line, "host busy")
+    }
+}
+
+/// Why a text has no tokens.
+fn why_no_tokens(alloc: Global, why: LexError) -> Result<String, AllocError>
+    ensures text { IfOk result (λ text. string_bytes text ≡ verdicts.why_no_tokens why) }
+    ensures not_memory { IfOk result (λ text. why ≢ LexError.OutOfMemory) }
+{
+    match why {
+        LexError::OutOfMemory => Err(AllocError),
+        LexError::BadByte(at) => format!(in alloc; "bad byte at {at}"),
+        LexError::BadNumber(at) => format!(in alloc; "bad number at {at}"),
+        LexError::TooLong => String::from_str(alloc, "too long"),
+    }
+}
+
+/// Why tokens are no program.
+fn why_not_parsed(alloc: Global, why: ParseError) -> Result<String, AllocError>
+    ensures text { IfOk result (λ text. string_bytes text ≡ verdicts.why_not_parsed why) }
+    ensures not_memory { IfOk result (λ text. why ≢ ParseError.OutOfMemory) }
+{
+    match why {
+        ParseError::OutOfMemory => Err(AllocError),
+        ParseError::Unexpected(at) => format!(in alloc; "unexpected token {at}"),
+        ParseError::TooDeep => String::from_str(alloc, "nested past 64"),
+        ParseError::TooMany(what) => {
+            let name = name_of(what);
+            format!(in alloc; "too many {name}")
+        }
+    }
+}
+
+/// What there is too much of.
+fn name_of(what: What) -> &'static str
+    ensures { result.now ≡ verdicts.name_of what }
+{
+    match what {
+        What::Fields => "fields",
+        What::Methods => "methods",
+        What::Parameters => "parameters",
+        What::Locals => "locals",
+        What::Statements => "statements",
+        What::Nodes => "expression nodes",
+        What::Elements => "array elements",
+    }
+}
+
+/// Why a name of a program is refused.
+fn why_not_resolved(alloc: Global, why: ResolveError) -> Result<String, AllocError>
+    ensures text { IfOk result (λ text. string_bytes text ≡ verdicts.why_not_resolved why) }
+    ensures not_memory { IfOk result (λ text. why ≢ ResolveError.OutOfMemory) }
+{
+    match why {
+        ResolveError::OutOfMemory => Err(AllocError),
+        ResolveError::UnknownName(at) => format!(in alloc; "unknown name at token {at}"),
+        ResolveError::Twice(at) => format!(in alloc; "name twice at token {at}"),
+        ResolveError::WrongType(at) => format!(in alloc; "wrong type at token {at}"),
+        ResolveError::WrongCount(at) => format!(in alloc; "wrong count at token {at}"),
+        ResolveError::NoMain => String::from_str(alloc, "no main"),
+    }
+}
+
+/// The statement at which labels are refused.
+fn refused_statement(why: &CheckError) -> StmtId
+    ensures { result ≡ verdicts.refused_statement why.now }
+{
+    match why {
+        CheckError::OutOfMemory => StmtId(0),
+        CheckError::BadFlow(statement, _, _) => *statement,
+        CheckError::BadBegin(statement, _, _) => *statement,
+        CheckError::NoAuthority(statement) => *statement,
+        CheckError::WeakProgramLabel(statement) => *statement,
+    }
+}
+
+/// The line of a statement, where the statements stand on these lines.
+fn line_of(lines: &[u32], statement: u32) -> u32
+    ensures { result ≡ slice_index lines.now statement }
+{
+    lines.get(statement as usize).copied().unwrap_or(0)
+}
+
+/// Why labels are refused.
+fn why_not_labelled(
+    alloc: Global,
+    principals: &Principals,
+    why: &CheckError,
+) -> Result<String, OutOfMemory>
+    ensures text { IfOk result (λ text. string_bytes text ≡ verdicts.why_not_labelled principals.now why.now) }
+    ensures not_memory { IfOk result (λ text. why.now ≢ CheckError.OutOfMemory) }
+{
+    match why {
+        CheckError::OutOfMemory => Err(OutOfMemory),
+        CheckError::BadFlow(_, from, to) => {
+            let from = label_text(alloc, from, principals)?;
+            let to = label_text(alloc, to, principals)?;
+            Ok(format!(in alloc; "{from} may not flow to {to}")?)
+        }
+        CheckError::BadBegin(_, pc, begin) => {
+            let pc = label_text(alloc, pc, principals)?;
+            let begin = label_text(alloc, begin, principals)?;
+            Ok(format!(in alloc; "program label {pc} may not flow to begin label {begin}")?)
+        }
+        CheckError::NoAuthority(_) => Ok(String::from_str(alloc, "no authority")?),
+        CheckError::WeakProgramLabel(_) => Ok(String::from_str(
+            alloc,
+            "program label not trusted",
+        )?),
     }
 }
 

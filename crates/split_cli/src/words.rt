@@ -1,28 +1,85 @@
 //! The words of commands.
 
-ghost use Rattle.std.specs.Prelude.{◌≡◌, map, string_bytes, IfSome, IfNone};
-ghost use Rattle.split_cli.specs.Commands as command;
+ghost use Rattle.std.specs.Prelude.{◌≡◌, ◌≢◌, ◌↔◌, ℕ, map, string_bytes, IfSome, IfNone, IsTrue};
+ghost use Rattle.std.specs.Fmt.{decimal};
+ghost use Rattle.split_cli.specs.Asked.{command_shape};
+ghost use Rattle.split_cli.specs.Commands.{IsCommand, IsStepCount, words_of, HaveNoForm};
+ghost use Rattle.split_cli.specs.StepCounts.{BeginsWithCount};
 
-/// The words of `replay P H EVENTS`: the names of the three files.
+/// The most steps that can be asked for.
+pub const STEPS: u64 = 1_000_000_000;
+
+/// A command with the names of its files.
 #[derive(Drop)]
-pub struct Replay<'a> {
-    pub program: &'a str,
-    pub hosts: &'a str,
-    pub events: &'a str,
+pub enum Command<'a> {
+    /// `check P H`
+    Check {
+        program: &'a str,
+        hosts: &'a str,
+    },
+    /// `run P H START N`, for at most N steps
+    Run {
+        program: &'a str,
+        hosts: &'a str,
+        start: &'a str,
+        steps: u64,
+    },
+    /// `replay P H EVENTS`
+    Replay {
+        program: &'a str,
+        hosts: &'a str,
+        events: &'a str,
+    },
 }
 
 /// The command that the words ask for, or `None` where they ask for none.
-pub fn command_of(words: &[String]) -> Option<Replay<'_>>
-    ensures found { IfSome result (λ asked. map string_bytes words.now
-        ≡ command.words_of (command.Replay asked.program.now asked.hosts.now asked.events.now)) }
-    ensures none { IfNone result (command.HaveNoForm (map string_bytes words.now)) }
+pub fn command_of(words: &[String]) -> Option<Command<'_>>
+    ensures command { IfSome result (λ asked. IsCommand (command_shape asked)) }
+    ensures found { IfSome result (λ asked. map string_bytes words.now ≡ words_of (command_shape asked)) }
+    ensures none { IfNone result (HaveNoForm (map string_bytes words.now)) }
 {
     match words {
-        [verb, program, hosts, events] if verb.as_str() == "replay" => Some(Replay {
+        [verb, program, hosts] if verb.as_str() == "check" => Some(Command::Check {
+            program,
+            hosts,
+        }),
+        [verb, program, hosts, start, steps] if verb.as_str() == "run" => {
+            let steps = step_count(steps)?;
+            Some(Command::Run {
+                program,
+                hosts,
+                start,
+                steps,
+            })
+        }
+        [verb, program, hosts, events] if verb.as_str() == "replay" => Some(Command::Replay {
             program,
             hosts,
             events,
         }),
         _ => None,
+    }
+}
+
+/// The number of steps that a word writes in decimal digits, without leading zeros, where so many can be asked for.
+fn step_count(word: &str) -> Option<u64>
+    ensures count { IfSome result IsStepCount }
+    ensures found { IfSome result (λ steps. word.now ≡ decimal steps) }
+    ensures none { IfNone result ((steps : ℕ) → IsStepCount steps → word.now ≢ decimal steps) }
+{
+    if !begins_with_count(word.as_bytes()) {
+        return None;
+    }
+    let steps = word.parse::<u64>().ok()?;
+    if steps <= STEPS { Some(steps) } else { None }
+}
+
+/// Whether bytes begin with a decimal digit other than 0.
+fn begins_with_count(bytes: &[u8]) -> bool
+    ensures { IsTrue result ↔ BeginsWithCount bytes.now }
+{
+    match bytes.first() {
+        Some(first) => b'1' <= *first && *first <= b'9',
+        None => false,
     }
 }

@@ -1,17 +1,15 @@
 //! The lines of the fields.
 
-ghost use Rattle.std.specs.Prelude.{◌≡◌, ◌^◌, ◌<◌, ◌∷◌, ◌++◌, OnOk, length, map};
-ghost use Rattle.std.specs.Fmt.{signed_decimal};
-ghost use Rattle.std.specs.List.{flat_map, join_with_byte};
+ghost use Rattle.std.specs.Prelude.{◌≡◌, ◌^◌, ◌<◌, ◌++◌, OnOk, length};
 ghost use Rattle.std.specs.String.{string_bytes};
 ghost use Rattle.net_world.specs.first.World.{field_row, world_of};
 ghost use Rattle.split_cli.specs.Report.{field_line, field_lines};
 ghost use Rattle.split_cli.specs.Text.{line_text, lines_text};
 
+use crate::row_line::push_row_line;
 use js_base::{FieldId, OutOfMemory};
 use net_world::first::code::{Code, CodeField};
 use net_world::first::world::World;
-use std::fmt::Write;
 
 /// Adds the lines of the fields.
 #[tactic(auto, using(crate::proofs::ReportLines::field_lines_more))]
@@ -39,11 +37,7 @@ fn push_field(
         string_bytes text.new ≡ string_bytes text.old
         ++ line_text (field_line (world_of world.now) number field.now)) }
 {
-    let name = &field.name;
-    write!(text, "field {name} = ").map_err(|_| OutOfMemory)?;
-    push_row(text, field_row(world, number, field))?;
-    text.push('\n')?;
-    Ok(())
+    push_row_line(text, field.name.as_str(), field_row(world, number, field))
 }
 
 /// The elements of a field on its host.
@@ -55,29 +49,4 @@ fn field_row<'a>(world: &'a World, number: usize, field: &CodeField) -> &'a [i64
         Some(host) => host.row(FieldId(number as u32)),
         None => &[],
     }
-}
-
-/// Adds the elements of a field, parted by spaces.
-#[tactic(auto, using(crate::proofs::ReportLines::join_with_byte_cons))]
-fn push_row(text: &mut String, row: &[i64]) -> Result<(), OutOfMemory>
-    ensures { OnOk result (
-        string_bytes text.new ≡ string_bytes text.old ++ join_with_byte 32 (map signed_decimal row.now)) }
-{
-    let Some((first, rest)) = row.split_first() else {
-        return Ok(());
-    };
-    write!(text, "{first}").map_err(|_| OutOfMemory)?;
-    push_rest(text, rest)
-}
-
-/// Adds the elements after the first, each after a space.
-fn push_rest(text: &mut String, rest: &[i64]) -> Result<(), OutOfMemory>
-    ensures { OnOk result (
-        string_bytes text.new ≡ string_bytes text.old
-        ++ flat_map (λ element. 32 ∷ signed_decimal element) rest.now) }
-{
-    for element in rest {
-        write!(text, " {element}").map_err(|_| OutOfMemory)?;
-    }
-    Ok(())
 }

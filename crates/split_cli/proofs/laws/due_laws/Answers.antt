@@ -1,19 +1,46 @@
-use Rattle.split_cli.proofs.OneVerdict.{HostLaws, due_once, answer_once, one_fault_place}
+use Rattle.split_cli.proofs.OneSource.{SourceLaws}
+use Rattle.split_cli.proofs.OneVerdict.{AllLaws, due_once, answer_once, one_fault_place}
 use Rattle.split_cli.proofs.laws.due_laws.Goals as goal
 
-host_laws : (c : goal.After-host_file_laws) → HostLaws
-host_laws c = record {
-  one_meaning = c.host_file_laws.ensures.one_meaning;
-  one_refusal = c.host_file_laws.ensures.one_refusal;
-  never_both = c.host_file_laws.ensures.never_both;
-  sound = c.host_file_laws.ensures.sound;
+source_laws : (c : goal.After-run_laws) → SourceLaws
+source_laws c = record {
+  lexing = c.lex_laws.ensures;
+  grammar = record {
+    one_draft = c.grammar_laws.ensures.one_draft;
+    one_refusal = c.grammar_laws.ensures.one_refusal;
+    never_both = c.grammar_laws.ensures.never_both;
+  };
+  hosts = record {
+    one_meaning = c.host_file_laws.ensures.one_meaning;
+    one_refusal = c.host_file_laws.ensures.one_refusal;
+    never_both = c.host_file_laws.ensures.never_both;
+    sound = c.host_file_laws.ensures.sound;
+  };
+  names = record {
+    one_program = c.program_laws.ensures.one_program;
+    one_refusal = c.resolve_laws.ensures.one_refusal;
+    never_both = c.resolve_laws.ensures.never_both;
+  };
+  labels = record {
+    one_refusal = c.failure_laws.ensures.one_refusal;
+    never_both = c.failure_laws.ensures.never_both;
+  };
+}
+
+all_laws : (c : goal.After-run_laws) → AllLaws
+all_laws c = record {
+  sources = source_laws c;
+  runs = record {
+    same_runs = c.run_laws.ensures.same_runs;
+    one_answer = c.run_laws.ensures.one_answer;
+  };
 }
 
 pub returns-clause-one_verdict : goal.returns-clause-one_verdict
-returns-clause-one_verdict c = due_once (host_laws c)
+returns-clause-one_verdict c = due_once (all_laws c)
 
 pub returns-clause-one_answer : goal.returns-clause-one_answer
-returns-clause-one_answer c = answer_once (host_laws c)
+returns-clause-one_answer c = answer_once (all_laws c)
 
 pub returns-clause-one_fault : goal.returns-clause-one_fault
 returns-clause-one_fault c = one_fault_place

@@ -1,20 +1,19 @@
 use Rattle.std.proofs.Common.{refl}
 use Rattle.std.proofs.lemmas.Result.{IfOk-weaker}
-use Rattle.split_cli.specs.Commands.{Replay}
+use Rattle.split_cli.specs.Asked.{command_shape}
 use Rattle.split_cli.specs.Verdicts.{verdict_shape}
 use Rattle.split_cli.proofs.Stops.{due_for_words, usage_due}
 use Rattle.split_cli.proofs.top.due.Goals as goal
 
 pub returns-in-Some-clause-due : goal.returns-in-Some-clause-due
 returns-in-Some-clause-due g c =
-    IfOk-weaker c.due_for_replay.result _ _
-    (λ verdict due. due_for_words _ _ _ (verdict_shape verdict) c.in-Some.ensures.found due)
-    c.due_for_replay.ensures.due
+    IfOk-weaker c.due_for.result _ _
+    (λ verdict due. due_for_words _ _ _ (verdict_shape verdict) c.in-Some.ensures.command c.in-Some.ensures.found due)
+    c.due_for.ensures.due
 
 pub returns-in-Some-clause-no_loads : goal.returns-in-Some-clause-no_loads
 returns-in-Some-clause-no_loads g c = λ none.
-    absurd (none (Replay c.in-Some.asked.program.now c.in-Some.asked.hosts.now c.in-Some.asked.events.now)
-    c.in-Some.ensures.found)
+    absurd (none (command_shape c.in-Some.asked) c.in-Some.ensures.command c.in-Some.ensures.found)
 
 pub returns-in-None-clause-due : goal.returns-in-None-clause-due
 returns-in-None-clause-due g c =

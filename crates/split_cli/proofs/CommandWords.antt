@@ -1,0 +1,64 @@
+-- Lists of three, four and five texts, as commands have them.
+use Rattle.std.proofs.Common.{◌≡◌, ◌≢◌, ℕ, List, [], ◌∷◌, length, get_or, arith, map, sym, ◌∙◌, String, Global}
+use Rattle.std.specs.Prelude.{string_bytes, codes}
+use Rattle.std.specs.Fmt.{decimal}
+use Rattle.split_cli.specs.Commands.{CommandShape, Check, Run, Replay, IsCommand, IsStepCount, words_of}
+
+-- texts, by their places
+pub three : (xs : List (String Global)) (a b c : String Global) → length xs ≡ 3 → a ≡ get_or xs 0 a →
+    b ≡ get_or xs 1 b → c ≡ get_or xs 2 c →
+    map string_bytes xs ≡ string_bytes a ∷ string_bytes b ∷ string_bytes c ∷ []
+three [] a b c n pa pb pc = absurd (omega arith)
+three (w ∷ []) a b c n pa pb pc = absurd (omega arith)
+three (w ∷ x ∷ []) a b c n pa pb pc = absurd (omega arith)
+three (w ∷ x ∷ y ∷ []) a b c n pa pb pc = cc
+three (w ∷ x ∷ y ∷ z ∷ xs) a b c n pa pb pc = absurd (omega arith)
+
+pub four : (xs : List (String Global)) (a b c d : String Global) → length xs ≡ 4 → a ≡ get_or xs 0 a →
+    b ≡ get_or xs 1 b → c ≡ get_or xs 2 c → d ≡ get_or xs 3 d →
+    map string_bytes xs ≡ string_bytes a ∷ string_bytes b ∷ string_bytes c ∷ string_bytes d ∷ []
+four [] a b c d n pa pb pc pd = absurd (omega arith)
+four (w ∷ []) a b c d n pa pb pc pd = absurd (omega arith)
+four (w ∷ x ∷ []) a b c d n pa pb pc pd = absurd (omega arith)
+four (w ∷ x ∷ y ∷ []) a b c d n pa pb pc pd = absurd (omega arith)
+four (w ∷ x ∷ y ∷ z ∷ []) a b c d n pa pb pc pd = cc
+four (w ∷ x ∷ y ∷ z ∷ v ∷ xs) a b c d n pa pb pc pd = absurd (omega arith)
+
+pub five : (xs : List (String Global)) (a b c d e : String Global) → length xs ≡ 5 → a ≡ get_or xs 0 a →
+    b ≡ get_or xs 1 b → c ≡ get_or xs 2 c → d ≡ get_or xs 3 d → e ≡ get_or xs 4 e → map string_bytes xs
+    ≡ string_bytes a ∷ string_bytes b ∷ string_bytes c ∷ string_bytes d ∷ string_bytes e ∷ []
+five [] a b c d e n pa pb pc pd pe = absurd (omega arith)
+five (w ∷ []) a b c d e n pa pb pc pd pe = absurd (omega arith)
+five (w ∷ x ∷ []) a b c d e n pa pb pc pd pe = absurd (omega arith)
+five (w ∷ x ∷ y ∷ []) a b c d e n pa pb pc pd pe = absurd (omega arith)
+five (w ∷ x ∷ y ∷ z ∷ []) a b c d e n pa pb pc pd pe = absurd (omega arith)
+five (w ∷ x ∷ y ∷ z ∷ v ∷ []) a b c d e n pa pb pc pd pe = cc
+five (w ∷ x ∷ y ∷ z ∷ v ∷ u ∷ xs) a b c d e n pa pb pc pd pe = absurd (omega arith)
+
+-- and what they are equal to
+pub three_same : (words : List (List ℕ)) (a b c v p h : List ℕ) → words ≡ a ∷ b ∷ c ∷ [] → a ≡ v → p ≡ b → h ≡ c →
+    words ≡ v ∷ p ∷ h ∷ []
+three_same words a b c v p h is pa pb pc = cc
+
+pub four_same : (words : List (List ℕ)) (a b c d v p h e : List ℕ) → words ≡ a ∷ b ∷ c ∷ d ∷ [] → a ≡ v → p ≡ b →
+    h ≡ c → e ≡ d → words ≡ v ∷ p ∷ h ∷ e ∷ []
+four_same words a b c d v p h e is pa pb pc pd = cc
+
+pub five_same : (words : List (List ℕ)) (a b c d e v p h s n : List ℕ) → words ≡ a ∷ b ∷ c ∷ d ∷ e ∷ [] → a ≡ v →
+    p ≡ b → h ≡ c → s ≡ d → n ≡ e → words ≡ v ∷ p ∷ h ∷ s ∷ n ∷ []
+five_same words a b c d e v p h s n is pa pb pc pd pe = cc
+
+-- five words of which the last is no number of steps ask for nothing
+last_word : (a b c d e v p h s n : List ℕ) →
+    ◌≡◌ {A = List (List ℕ)} (a ∷ b ∷ c ∷ d ∷ e ∷ []) (v ∷ p ∷ h ∷ s ∷ n ∷ []) → e ≡ n
+last_word a b c d e v p h s n is = cc
+
+pub no_steps : (words : List (List ℕ)) (a b c d e last : List ℕ) → words ≡ a ∷ b ∷ c ∷ d ∷ e ∷ [] → last ≡ e →
+    ((steps : ℕ) → IsStepCount steps → last ≢ decimal steps) → (command : CommandShape) → IsCommand command →
+    words ≢ words_of command
+no_steps words a b c d e last is last_is none (Check program hosts) command same = let never : ⊥ = cc in never
+no_steps words a b c d e last is last_is none (Run program hosts start steps) command same =
+    none steps command (last_is
+    ∙ last_word a b c d e (codes "run") program hosts start (decimal steps) (sym is ∙ same))
+no_steps words a b c d e last is last_is none (Replay program hosts events) command same =
+    let never : ⊥ = cc in never

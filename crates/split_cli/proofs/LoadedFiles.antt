@@ -1,0 +1,116 @@
+-- What is due for a command whose files were all loaded.
+use Rattle.std.proofs.Common.{◌≡◌, ℕ, List, [], ◌∷◌, length, get_or, Option, Some, sym, ap, ◌∙◌, subst, inl, Result}
+use Rattle.std.specs.List.{AllZip}
+use Rattle.js_base.specs.declared.limits.TheConstants.{PROGRAM_BYTES, HOSTS_BYTES, SCRIPT_BYTES}
+use Rattle.split_cli.specs.declared.load.Asked.{Asked}
+use Rattle.split_cli.specs.declared.load.Loaded.{Loaded}
+use Rattle.split_cli.specs.declared.stop.Stop.{Stop}
+use Rattle.split_cli.specs.declared.verdict.Verdict.{Verdict}
+use Rattle.split_cli.specs.Commands.{CommandShape, Check, files_of}
+use Rattle.split_cli.specs.Loads.{FilesChange, Told, counted_by}
+use Rattle.split_cli.specs.Loading.{IsLoaded, Gives, StopsWith, StopsLoading, EndsIn}
+use Rattle.split_cli.specs.Due.{DueForBytes, loaded, IsDueForCommand}
+use Rattle.split_cli.proofs.Stages.{ends_weaker, stops_weaker}
+use Rattle.split_cli.proofs.Stops.{GivesAsked, names_asked, loading_due}
+
+pub two_names : (one two : Asked) (program hosts : List ℕ) → one.name.now ≡ program → two.name.now ≡ hosts →
+    names_asked (one ∷ two ∷ []) ≡ program ∷ hosts ∷ []
+two_names one two program hosts first second =
+    ap (λ (name : List ℕ). name ∷ two.name.now ∷ []) first ∙ ap (λ (name : List ℕ). program ∷ name ∷ []) second
+
+pub three_names : (one two three : Asked) (program hosts script : List ℕ) → one.name.now ≡ program →
+    two.name.now ≡ hosts → three.name.now ≡ script →
+    names_asked (one ∷ two ∷ three ∷ []) ≡ program ∷ hosts ∷ script ∷ []
+three_names one two three program hosts script first second third =
+    ap (λ (name : List ℕ). name ∷ two.name.now ∷ three.name.now ∷ []) first
+    ∙ ap (λ (name : List ℕ). program ∷ name ∷ three.name.now ∷ []) second
+    ∙ ap (λ (name : List ℕ). program ∷ hosts ∷ name ∷ []) third
+
+-- a command stops where one of its files was not loaded
+pub loading_stops : (command : CommandShape) (names : List (List ℕ)) (files : FilesChange) (why : Stop) →
+    names ≡ files_of command → StopsWith (StopsLoading names files) why →
+    StopsWith (IsDueForCommand command files) why
+loading_stops command names files why same stops =
+    stops_weaker (StopsLoading names files) (IsDueForCommand command files) why
+    (λ verdict is. loading_due command files verdict
+    (subst (λ (all : List (List ℕ)). StopsLoading all files verdict) same is)) stops
+
+abbrev pub AreTold : Option (List ℕ → Option (List ℕ)) → List (List ℕ) → List (List ℕ) → Type 0
+AreTold held names bytes = AllZip (λ file content. Told held file (Some content)) names bytes
+
+-- all were loaded
+all_due : (command : CommandShape) (files : FilesChange) (bytes : List (List ℕ)) (result : Result Verdict Stop) →
+    AreTold files.held (files_of command) bytes →
+    files.loads_after ≡ counted_by (length (files_of command)) files.loads_before →
+    files.faults_after ≡ files.faults_before → EndsIn (DueForBytes command bytes) result →
+    EndsIn (IsDueForCommand command files) result
+all_due command files bytes result told loads faults ends =
+    ends_weaker (DueForBytes command bytes) (IsDueForCommand command files) result
+    (λ verdict due. inl (
+      length (files_of command),
+      loaded verdict (record { bytes = bytes; told = told; due = due }),
+      record { loads = loads; no_fault = faults },
+    )) ends
+
+-- what was asked for and given, as a file of a command
+given_file : (held : Option (List ℕ → Option (List ℕ))) (one : Asked) (name : List ℕ) (most : ℕ) (given : Loaded) →
+    one.name.now ≡ name → one.most ≡ most → GivesAsked held one given → Gives held name most given
+given_file held one name most given same_name same_most gives =
+    subst (λ (n : ℕ). Gives held name n given) same_most
+    (subst (λ (text : List ℕ). Gives held text one.most given) same_name gives)
+
+pub two_due : (program hosts : List ℕ) (one two : Asked) (files : FilesChange) (given : List Loaded) (p h : Loaded)
+    (result : Result Verdict Stop) →
+    AllZip (GivesAsked files.held) (one ∷ two ∷ []) given → p ≡ get_or given 0 p → h ≡ get_or given 1 h →
+    one.name.now ≡ program → one.most ≡ PROGRAM_BYTES → two.name.now ≡ hosts → two.most ≡ HOSTS_BYTES →
+    files.loads_after ≡ counted_by 2 files.loads_before → files.faults_after ≡ files.faults_before →
+    ((b c : List ℕ) → IsLoaded PROGRAM_BYTES b p → IsLoaded HOSTS_BYTES c h →
+    EndsIn (DueForBytes (Check program hosts) (b ∷ c ∷ [])) result) →
+    EndsIn (IsDueForCommand (Check program hosts) files) result
+two_due program hosts one two files [] p h result all pa pb na ma nb mb loads faults due = absurd all
+two_due program hosts one two files (x ∷ []) p h result all pa pb na ma nb mb loads faults due = absurd all.1
+two_due program hosts one two files (x ∷ y ∷ z ∷ more) p h result all pa pb na ma nb mb loads faults due =
+    absurd all.1.1
+two_due program hosts one two files (x ∷ y ∷ []) p h result all pa pb na ma nb mb loads faults due =
+    let first = given_file files.held one program PROGRAM_BYTES x na ma all.0 in
+    let second = given_file files.held two hosts HOSTS_BYTES y nb mb all.1.0 in
+    all_due (Check program hosts) files (first.0 ∷ second.0 ∷ []) result (first.1, (second.1, tt)) loads faults
+    (due first.0 second.0 (subst (IsLoaded PROGRAM_BYTES first.0) (sym pa) first.2)
+    (subst (IsLoaded HOSTS_BYTES second.0) (sym pb) second.2))
+
+-- a command with a program, a host file and a script
+pub three_due : (command : CommandShape) (program hosts script : List ℕ) (one two three : Asked)
+    (files : FilesChange) (given : List Loaded) (p h s : Loaded) (result : Result Verdict Stop) →
+    files_of command ≡ program ∷ hosts ∷ script ∷ [] →
+    AllZip (GivesAsked files.held) (one ∷ two ∷ three ∷ []) given → p ≡ get_or given 0 p → h ≡ get_or given 1 h →
+    s ≡ get_or given 2 s →
+    one.name.now ≡ program → one.most ≡ PROGRAM_BYTES → two.name.now ≡ hosts → two.most ≡ HOSTS_BYTES →
+    three.name.now ≡ script → three.most ≡ SCRIPT_BYTES →
+    files.loads_after ≡ counted_by 3 files.loads_before → files.faults_after ≡ files.faults_before →
+    ((b c d : List ℕ) → IsLoaded PROGRAM_BYTES b p → IsLoaded HOSTS_BYTES c h → IsLoaded SCRIPT_BYTES d s →
+    EndsIn (DueForBytes command (b ∷ c ∷ d ∷ [])) result) →
+    EndsIn (IsDueForCommand command files) result
+three_due command program hosts script one two three files [] p h s result names all pa pb pc na ma nb mb nc mc loads
+    faults due = absurd all
+three_due command program hosts script one two three files (x ∷ []) p h s result names all pa pb pc na ma nb mb nc mc
+    loads faults due = absurd all.1
+three_due command program hosts script one two three files (x ∷ y ∷ []) p h s result names all pa pb pc na ma nb mb nc
+    mc loads faults due = absurd all.1.1
+three_due command program hosts script one two three files (x ∷ y ∷ z ∷ w ∷ more) p h s result names all pa pb pc na
+    ma nb mb nc mc loads faults due = absurd all.1.1.1
+three_due command program hosts script one two three files (x ∷ y ∷ z ∷ []) p h s result names all pa pb pc na ma nb
+    mb nc mc loads faults due =
+    let first = given_file files.held one program PROGRAM_BYTES x na ma all.0 in
+    let second = given_file files.held two hosts HOSTS_BYTES y nb mb all.1.0 in
+    let third = given_file files.held three script SCRIPT_BYTES z nc mc all.1.1.0 in
+    let told : AreTold files.held (program ∷ hosts ∷ script ∷ []) (first.0 ∷ second.0 ∷ third.0 ∷ []) =
+    (first.1, (second.1, (third.1, tt))) in
+    let names_told : AreTold files.held (files_of command) (first.0 ∷ second.0 ∷ third.0 ∷ []) =
+    subst (λ (all_names : List (List ℕ)). AreTold files.held all_names (first.0 ∷ second.0 ∷ third.0 ∷ [])) (sym names)
+    told in
+    let count : length (files_of command) ≡ 3 = ap length names in
+    all_due command files (first.0 ∷ second.0 ∷ third.0 ∷ []) result names_told
+    (loads ∙ ap (λ (n : ℕ). counted_by n files.loads_before) (sym count)) faults
+    (due first.0 second.0 third.0 (subst (IsLoaded PROGRAM_BYTES first.0) (sym pa) first.2)
+    (subst (IsLoaded HOSTS_BYTES second.0) (sym pb) second.2)
+    (subst (IsLoaded SCRIPT_BYTES third.0) (sym pc) third.2))

@@ -1,0 +1,21 @@
+use Rattle.jif_resolve.specs.declared.resolve_error.ResolveError.{ResolveError}
+use Rattle.jif_resolve.specs.declared.resolve_error.ResolveError.TheVariants as resolve
+use Rattle.jif_grammar.specs.DraftShapes.{draft_shape}
+use Rattle.jif_resolve.specs.Refusals.{IsRefusedFor}
+use Rattle.split_cli.specs.Verdicts.{program_refused, why_not_resolved}
+use Rattle.split_cli.proofs.Stages.{refusal_stops}
+use Rattle.split_cli.proofs.sources.resolved.Goals as goal
+
+pub returns-in-Ok-clause-numbered : goal.returns-in-Ok-clause-numbered
+returns-in-Ok-clause-numbered c = c.program_laws.ensures.well_numbered _ _ _ c.in-Ok.ensures.found
+
+pub returns-in-Ok-clause-authorities : goal.returns-in-Ok-clause-authorities
+returns-in-Ok-clause-authorities c =
+    rw (← c.principals.ensures.principals) (c.program_laws.ensures.authorities _ _ _ c.in-Ok.ensures.found)
+
+pub returns-in-Err-clause-resolved : goal.returns-in-Err-clause-resolved
+returns-in-Err-clause-resolved c =
+    refusal_stops (IsRefusedFor c.args.hosts.now.principals (draft_shape c.args.draft)) resolve.OutOfMemory
+    (λ (why : ResolveError). program_refused (why_not_resolved why)) c.in-Err.why c.not_resolved.result
+    c.stopped.result (rw c.principals.ensures.principals at c.in-Err.ensures.refused)
+    c.not_resolved.ensures.refused c.not_resolved.ensures.not_memory c.stopped.ensures

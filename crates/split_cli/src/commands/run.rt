@@ -1,0 +1,152 @@
+//! The command `run`.
+
+ghost use Rattle.std.specs.Prelude.{◌≡◌, ◌≤◌, ◌<◌, ◌^◌, ◌+◌, ◌++◌, ◌∷◌, [], ℕ, List, IfOk, OnOk, length, map};
+ghost use Rattle.std.specs.String.{string_bytes};
+ghost use Rattle.js_base.specs.declared.limits.TheConstants.{PROGRAM_BYTES, HOSTS_BYTES, SCRIPT_BYTES};
+ghost use Rattle.jif_tree.specs.Trees.{field_tree, program_tree};
+ghost use Rattle.split_cli.specs.Commands as command;
+ghost use Rattle.split_cli.specs.Due.{DueForBytes, IsDueForCommand};
+ghost use Rattle.split_cli.specs.Loading.{EndsIn, IsLoaded};
+ghost use Rattle.split_cli.specs.PlainRun.{DueForRun, end_line, end_status, run_report, store_lines};
+ghost use Rattle.split_cli.specs.Text.{line_text, lines_text};
+ghost use Rattle.split_cli.specs.Verdicts.{verdict_shape};
+
+use crate::commands::{host_file, program_file, script_file};
+use crate::load::{Loaded, load_all};
+use crate::row_line::push_row_line;
+use crate::sources::read_sources;
+use crate::stop::Stop;
+use crate::verdict::Verdict;
+use event_text::{EventsError, read_start};
+use jif_tree::{Field, Program, Row, Store};
+use js_base::{Files, OutOfMemory, Status};
+use source_run::RunEnd;
+use std::alloc::Global;
+use std::fmt::Write;
+
+/// What is due for `run P H START N`.
+pub fn due_for_run<F: Files>(
+    alloc: Global,
+    program: &str,
+    hosts: &str,
+    start: &str,
+    steps: u64,
+    files: &mut F,
+) -> Result<Verdict, Stop>
+    ensures due { EndsIn (IsDueForCommand (command.Run program.now hosts.now start.now steps)
+        (record {
+          held = F.held files.old;
+          loads_before = F.loads files.old;
+          loads_after = F.loads files.new;
+          faults_before = F.faults files.old;
+          faults_after = F.faults files.new;
+          failed = F.failed files.new;
+        })) result }
+    ensures loads { F.loads files.new ≤ F.loads files.old + 3 }
+    ensures saves { F.saves files.new ≡ F.saves files.old }
+    ensures held { F.held files.new ≡ F.held files.old }
+{
+    let asked = [program_file(program), host_file(hosts), script_file(start)];
+    let loaded = load_all(alloc, files, &asked)?;
+    let [p, h, s] = loaded.as_slice() else {
+        unreachable!();
+    };
+    due_for_loaded(alloc, start, steps, p, h, s)
+}
+
+/// What is due for a program, a host file and a file of starting values of this name that were loaded.
+fn due_for_loaded(
+    alloc: Global,
+    name: &str,
+    steps: u64,
+    program: &Loaded,
+    hosts: &Loaded,
+    start: &Loaded,
+) -> Result<Verdict, Stop>
+    ensures { (names others p h s : List ℕ) →
+        IsLoaded PROGRAM_BYTES p program.now → IsLoaded HOSTS_BYTES h hosts.now →
+        IsLoaded SCRIPT_BYTES s start.now →
+        EndsIn (DueForBytes (command.Run names others name.now steps) (p ∷ h ∷ s ∷ [])) result }
+{
+    let source = read_sources(alloc, program, hosts)?;
+    Ok(run_from(alloc, name, start, steps, &source.checked.program)?)
+}
+
+/// What is due for a run of at most so many steps, from the starting values of a file of this name.
+fn run_from(
+    alloc: Global,
+    name: &str,
+    start: &Loaded,
+    steps: u64,
+    program: &Program,
+) -> Result<Verdict, OutOfMemory>
+    requires { length program.now.fields.items < 2 ^ 32 }
+    ensures { IfOk result (λ verdict. (s : List ℕ) → IsLoaded SCRIPT_BYTES s start.now →
+        DueForRun name.now s steps (program_tree program.now) (verdict_shape verdict)) }
+{
+    let Loaded::Bytes(bytes) = start else {
+        return Verdict::too_long(alloc, name);
+    };
+    let mut store = match read_start(alloc, program, bytes) {
+        Ok(store) => store,
+        Err(EventsError::BadLine(line)) => return Verdict::no_form(alloc, name, line),
+        Err(EventsError::TooLong) => return Verdict::too_long(alloc, name),
+        Err(EventsError::OutOfMemory) => return Err(OutOfMemory),
+    };
+    let end = source_run::run(alloc, program, &mut store, steps)?;
+    run_report(alloc, &program.fields, steps, end, &store)
+}
+
+/// The report of a run of at most so many steps that ended in this way and left this store.
+fn run_report(
+    alloc: Global,
+    fields: &[Field],
+    steps: u64,
+    end: RunEnd,
+    store: &Store,
+) -> Result<Verdict, OutOfMemory>
+    ensures { IfOk result (λ verdict.
+        verdict_shape verdict ≡ run_report (map field_tree fields.now) steps end store.now) }
+{
+    let mut text = String::new(alloc);
+    push_end(&mut text, steps, end)?;
+    push_rows(&mut text, fields, store.rows())?;
+    let status = end_status(end);
+    Ok(Verdict::Print { status, text })
+}
+
+/// Adds the line that says how a run of at most so many steps ended.
+fn push_end(text: &mut String, steps: u64, end: RunEnd) -> Result<(), OutOfMemory>
+    ensures { OnOk result (string_bytes text.new ≡ string_bytes text.old ++ line_text (end_line steps end)) }
+{
+    match end {
+        RunEnd::Ended(taken) => writeln!(text, "ended after {taken} steps").map_err(
+            |_| OutOfMemory,
+        ),
+        RunEnd::NotYet => writeln!(text, "not ended after {steps} steps").map_err(|_| OutOfMemory),
+    }
+}
+
+/// The status of a run that ended in this way.
+fn end_status(end: RunEnd) -> Status
+    ensures { result ≡ end_status end }
+{
+    match end {
+        RunEnd::Ended(_) => Status::Done,
+        RunEnd::NotYet => Status::Spent,
+    }
+}
+
+/// Adds a line for each field that has a row.
+fn push_rows(text: &mut String, fields: &[Field], rows: &[Row]) -> Result<(), OutOfMemory>
+    ensures { OnOk result (string_bytes text.new
+        ≡ string_bytes text.old ++ lines_text (store_lines (map field_tree fields.now) rows.now)) }
+{
+    for (number, field) in fields.iter().enumerate() {
+        let Some(row) = rows.get(number) else {
+            return Ok(());
+        };
+        push_row_line(text, field.name.as_str(), row.elements())?;
+    }
+    Ok(())
+}

@@ -1,0 +1,154 @@
+//! What a program and a host file say: the hosts, and the program that is accepted with them.
+
+ghost use Rattle.std.specs.Prelude.{◌≡◌, ◌≤◌, ℕ, List, IfOk, MatchResult, length};
+ghost use Rattle.js_base.specs.declared.limits.TheConstants.{PROGRAM_BYTES, HOSTS_BYTES};
+ghost use Rattle.jif_lex.specs.Lexing.{LexFails};
+ghost use Rattle.jif_lex.specs.Tokens.{ReadsAs, tokens};
+ghost use Rattle.jif_grammar.specs.DraftShapes.{draft_shape};
+ghost use Rattle.host_decl.specs.Reading.{ReadsHosts, RefusesHosts};
+ghost use Rattle.jif_tree.specs.Limits.{IsWithinLimits};
+ghost use Rattle.jif_tree.specs.Numbering.{statement_numbers};
+ghost use Rattle.jif_tree.specs.Trees.{program_tree};
+ghost use Rattle.jif_tree.specs.WellNumbered.{IsWellNumbered};
+ghost use Rattle.jif_resolve.specs.Sizes.{IsSized};
+ghost use Rattle.label_check.specs.Checking.{AreAuthorities};
+ghost use Rattle.split_cli.specs.Loading.{EndsAs, IsLoaded};
+ghost use Rattle.split_cli.specs.SourceShapes.{source_shape};
+ghost use Rattle.split_cli.specs.Sources.{Lexed, Parsed, Drafted, HostsRead, Resolved, Labelled, Sources};
+
+use crate::load::Loaded;
+use crate::statement_lines::statement_lines;
+use crate::stop::{Stop, stopped};
+use crate::verdict::Verdict;
+use host_decl::{Hosts, HostsError, host_file_laws, read_hosts};
+use jif_lex::{LexError, Token, lex, token_laws};
+use jif_parse::parse;
+use jif_resolve::{program_laws, resolve, size_laws};
+use jif_tree::{Checked, Draft, Program};
+use label_check::check;
+use std::alloc::Global;
+
+/// An accepted program with its labels, and the hosts that it is for.
+#[derive(Drop)]
+pub struct Source {
+    pub hosts: Hosts,
+    pub checked: Checked,
+}
+
+/// The hosts and the accepted program of two files, or what is due where one of them is refused.
+pub fn read_sources(alloc: Global, program: &Loaded, hosts: &Loaded) -> Result<Source, Stop>
+    ensures sources { (p h : List ℕ) → IsLoaded PROGRAM_BYTES p program.now → IsLoaded HOSTS_BYTES h hosts.now →
+        EndsAs source_shape (Sources p h) result }
+    ensures limits { IfOk result (λ source. IsWithinLimits (program_tree source.checked.program)) }
+    ensures numbered { IfOk result (λ source. IsWellNumbered (program_tree source.checked.program)) }
+    // It has a program label for each statement.
+    ensures labels { IfOk result (λ source. length source.checked.pc.items
+        ≡ length (statement_numbers (program_tree source.checked.program))) }
+{
+    let draft = drafted(alloc, program)?;
+    let hosts = hosts_read(alloc, hosts)?;
+    let program = resolved(alloc, draft, &hosts)?;
+    let checked = labelled(alloc, program, &hosts)?;
+    Ok(Source { hosts, checked })
+}
+
+/// The draft of a program.
+fn drafted(alloc: Global, program: &Loaded) -> Result<Draft, Stop>
+    ensures drafted { (p : List ℕ) → IsLoaded PROGRAM_BYTES p program.now → EndsAs draft_shape (Drafted p) result }
+    ensures sized { IfOk result (λ draft. IsSized (draft_shape draft)) }
+{
+    let tokens = lexed(alloc, program)?;
+    parsed(alloc, &tokens)
+}
+
+/// The tokens of a program.
+fn lexed(alloc: Global, program: &Loaded) -> Result<Vec<Token>, Stop>
+    ensures lexed { (p : List ℕ) → IsLoaded PROGRAM_BYTES p program.now →
+        EndsAs (λ list. list.items) (Lexed p) result }
+    ensures few { IfOk result (λ list. length list.items ≤ PROGRAM_BYTES) }
+{
+    match tokens_of(alloc, program) {
+        Ok(tokens) => Ok(tokens),
+        Err(why) => Err(stopped(Verdict::not_lexed(alloc, why))),
+    }
+}
+
+/// The tokens of a program, or why it has none.
+fn tokens_of(alloc: Global, program: &Loaded) -> Result<Vec<Token>, LexError>
+    ensures tokens { (p : List ℕ) → IsLoaded PROGRAM_BYTES p program.now → MatchResult result
+        (λ list. (length p ≤ PROGRAM_BYTES) × ReadsAs p (tokens list.items))
+        (LexFails p) }
+    ensures few { IfOk result (λ list. length list.items ≤ PROGRAM_BYTES) }
+{
+    token_laws();
+    match program {
+        Loaded::Bytes(bytes) => lex(alloc, bytes),
+        Loaded::TooLong => Err(LexError::TooLong),
+    }
+}
+
+/// The draft that tokens are.
+fn parsed(alloc: Global, tokens: &[Token]) -> Result<Draft, Stop>
+    requires { length tokens.now ≤ PROGRAM_BYTES }
+    ensures parsed { EndsAs draft_shape (Parsed tokens.now) result }
+    ensures sized { IfOk result (λ draft. IsSized (draft_shape draft)) }
+{
+    size_laws();
+    match parse(alloc, tokens) {
+        Ok(draft) => Ok(draft),
+        Err(why) => Err(stopped(Verdict::not_parsed(alloc, why))),
+    }
+}
+
+/// The hosts of a host file.
+fn hosts_read(alloc: Global, file: &Loaded) -> Result<Hosts, Stop>
+    ensures { (h : List ℕ) → IsLoaded HOSTS_BYTES h file.now → EndsAs (λ hosts. hosts) (HostsRead h) result }
+{
+    match hosts_of(alloc, file) {
+        Ok(hosts) => Ok(hosts),
+        Err(why) => Err(stopped(Verdict::hosts_refused(alloc, &why))),
+    }
+}
+
+/// The hosts of a host file, or why it is refused.
+fn hosts_of(alloc: Global, file: &Loaded) -> Result<Hosts, HostsError>
+    ensures { (h : List ℕ) → IsLoaded HOSTS_BYTES h file.now →
+        MatchResult result (ReadsHosts h) (RefusesHosts h) }
+{
+    match file {
+        Loaded::Bytes(bytes) => read_hosts(alloc, bytes),
+        Loaded::TooLong => Err(HostsError::TooLong),
+    }
+}
+
+/// The program of a draft, by the principals of these hosts.
+fn resolved(alloc: Global, draft: Draft, hosts: &Hosts) -> Result<Program, Stop>
+    requires { IsSized (draft_shape draft) }
+    ensures resolved { EndsAs program_tree (Resolved hosts.now (draft_shape draft)) result }
+    ensures limits { IfOk result (λ program. IsWithinLimits (program_tree program)) }
+    ensures numbered { IfOk result (λ program. IsWellNumbered (program_tree program)) }
+    ensures authorities { IfOk result (λ program. AreAuthorities hosts.now.principals (program_tree program)) }
+{
+    program_laws();
+    match resolve(alloc, draft, hosts.principals()) {
+        Ok(program) => Ok(program),
+        Err(why) => Err(stopped(Verdict::not_resolved(alloc, why))),
+    }
+}
+
+/// The program with its labels, by the principals of these hosts.
+fn labelled(alloc: Global, program: Program, hosts: &Hosts) -> Result<Checked, Stop>
+    requires { AreAuthorities hosts.now.principals (program_tree program) }
+    ensures labelled { EndsAs (λ checked. record { file = hosts.now; tree = program_tree checked.program })
+        (Labelled hosts.now (program_tree program)) result }
+    ensures kept { IfOk result (λ checked. program_tree checked.program ≡ program_tree program) }
+    ensures labels { IfOk result (λ checked. length checked.pc.items
+        ≡ length (statement_numbers (program_tree program))) }
+{
+    let principals = hosts.principals();
+    let lines = statement_lines(alloc, &program)?;
+    match check(alloc, program, principals) {
+        Ok(checked) => Ok(checked),
+        Err(why) => Err(stopped(Verdict::labels_refused(alloc, principals, &lines, &why))),
+    }
+}
