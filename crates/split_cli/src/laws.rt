@@ -5,6 +5,8 @@ ghost use Rattle.js_base.specs.Counts.{last_count};
 ghost use Rattle.split_cli.specs.Verdicts.{VerdictShape};
 ghost use Rattle.split_cli.specs.Loads.{FilesChange, IsFileFault};
 ghost use Rattle.split_cli.specs.Due.{Due, IsDue};
+ghost use Rattle.split_cli.specs.Sources.{Source, Sources};
+ghost use Rattle.split_cli.specs.Stages.{Outcome};
 
 use host_decl::host_file_laws;
 use jif_grammar::grammar_laws;
@@ -15,6 +17,10 @@ use source_run::run_laws;
 
 /// Laws of what is due, for who reasons about answers. The call does nothing.
 pub fn due_laws()
+    // A program and a host file say one program and its hosts, or are refused for one cause.
+    ensures one_source { (program hosts : List ℕ) (first second : Outcome Source) →
+        Sources program hosts first → Sources program hosts second → first ≡ second }
+
     // For words and files that tell what they hold one verdict is due, after one number of loads.
     ensures one_verdict { (words : List (List ℕ)) (holds : List ℕ → Option (List ℕ))
         (number other : ℕ) (first second : VerdictShape) →

@@ -1,4 +1,4 @@
-use Rattle.split_cli.proofs.OneSource.{SourceLaws}
+use Rattle.split_cli.proofs.OneSource.{SourceLaws, sources_once}
 use Rattle.split_cli.proofs.OneVerdict.{AllLaws, due_once, answer_once, one_fault_place}
 use Rattle.split_cli.proofs.laws.due_laws.Goals as goal
 
@@ -35,6 +35,9 @@ all_laws c = record {
     one_answer = c.run_laws.ensures.one_answer;
   };
 }
+
+pub returns-clause-one_source : goal.returns-clause-one_source
+returns-clause-one_source c = sources_once (source_laws c)
 
 pub returns-clause-one_verdict : goal.returns-clause-one_verdict
 returns-clause-one_verdict c = due_once (all_laws c)
