@@ -1,0 +1,13 @@
+pub mod Somewhere
+pub mod Backings
+pub mod Rows
+pub mod ReadRows
+pub mod Exprs
+pub mod FoundRows
+pub mod Walked
+pub mod Sizes
+pub mod Nested
+pub mod WholePrograms
+pub mod Ordered
+pub mod Readers
+pub mod OneNeeds

@@ -1,0 +1,5 @@
+pub mod Labelled
+pub mod Needs
+pub mod Plan
+pub mod Finding
+pub mod NeedExamples
