@@ -1,0 +1,92 @@
+-- What it costs to send a value to the first of the hosts that read it, and to one more.
+use Rattle.std.proofs.Common.{◌≡◌, ◌≢◌, ◌∙◌, ℕ, ◌+◌, ◌-◌, ◌^◌, min, Bool, true, false, ◌&&◌, not, nat_eq, List, [], ◌∷◌}
+use Rattle.std.proofs.Common.{◌++◌}
+use Rattle.std.proofs.Common.{map, filter, cond, refl, ap, sym, subst, ne_eqb, eq-eqb, add-one, zero-add, append-nil}
+use Rattle.std.proofs.Common.{suc, zero, arith}
+use Rattle.std.proofs.Math.Bool.{and-false}
+use Rattle.std.proofs.lemmas.List.{map-append}
+use Rattle.std.proofs.lemmas.List.Elements.{filter-append}
+use Rattle.std.specs.List.{range_with_len}
+use Rattle.js_base.specs.declared.ids.HostId.{HostId}
+use Rattle.js_base.specs.declared.ids.VarId.{VarId}
+use Rattle.msg_cost.specs.Cost.{cost_of}
+use Rattle.msg_cost.specs.Moves.{PlannedShape}
+use Rattle.msg_cost.specs.Terms.{Term, exchange, reads_on}
+use Rattle.msg_cost.specs.Views.{capped}
+use Rattle.msg_cost.proofs.Sums.{Costs, costs_both}
+
+abbrev pub gets : PlannedShape → HostId → VarId → ℕ → Bool
+gets planned host x other = not (nat_eq other host.0) && reads_on planned x other
+
+-- those to the first so many hosts
+abbrev pub forwards_below : PlannedShape → ℕ → HostId → VarId → ℕ → List Term
+forwards_below planned weight host x count =
+    map (λ other. exchange weight host (record { 0 = other })) (filter (gets planned host x) (range_with_len 0 count))
+
+range_more : (first n : ℕ) → range_with_len first (suc n) ≡ range_with_len first n ++ (first + n) ∷ []
+range_more first zero = let same : first ≡ first + 0 = omega arith in ap (λ one. one ∷ []) same
+range_more first (suc n) =
+    let same : first + 1 + n ≡ first + suc n = omega arith in
+    ap (λ (others : List ℕ). first ∷ others) (range_more (first + 1) n
+    ∙ ap (λ one. range_with_len (first + 1) n ++ one ∷ []) same)
+
+pub to_next : (planned : PlannedShape) (weight : ℕ) (host : HostId) (x : VarId) (n : ℕ) →
+    forwards_below planned weight host x (n + 1)
+    ≡ forwards_below planned weight host x n
+    ++ map (λ other. exchange weight host (record { 0 = other })) (filter (gets planned host x) (n ∷ []))
+to_next planned weight host x n =
+    let send : ℕ → Term = λ other. exchange weight host (record { 0 = other }) in
+    ap (λ count. forwards_below planned weight host x count) (add-one n)
+    ∙ ap (λ others. map send (filter (gets planned host x) others))
+    (range_more 0 n ∙ ap (λ one. range_with_len 0 n ++ one ∷ []) (zero-add n))
+    ∙ ap (map send) (filter-append (gets planned host x) (range_with_len 0 n) (n ∷ []))
+    ∙ map-append send (filter (gets planned host x) (range_with_len 0 n)) (filter (gets planned host x) (n ∷ []))
+
+chosen : (planned : PlannedShape) (host : HostId) (x : VarId) (n : ℕ) → gets planned host x n ≡ true →
+    filter (gets planned host x) (n ∷ []) ≡ n ∷ []
+chosen planned host x n does = ap (λ b. cond b (n ∷ []) []) does
+
+not_chosen : (planned : PlannedShape) (host : HostId) (x : VarId) (n : ℕ) → gets planned host x n ≡ false →
+    filter (gets planned host x) (n ∷ []) ≡ []
+not_chosen planned host x n not_so = ap (λ b. cond b (n ∷ []) []) not_so
+
+-- a host that reads the variable, and is not the one that sends
+pub one_gets : (planned : PlannedShape) (weight : ℕ) (host : HostId) (x : VarId) (n total other : ℕ) →
+    n ≢ host.0 → reads_on planned x n ≡ true →
+    other ≡ capped (cost_of planned.hosts (exchange weight host (record { 0 = n }) ∷ [])) →
+    Costs planned.hosts (forwards_below planned weight host x n) total →
+    Costs planned.hosts (forwards_below planned weight host x (n + 1)) (min (total + other) (2 ^ 64 - 1))
+one_gets planned weight host x n total other apart reads cost so =
+    let send : ℕ → Term = λ one. exchange weight host (record { 0 = one }) in
+    let P : List Term → Type 0 = λ terms. Costs planned.hosts terms (min (total + other) (2 ^ 64 - 1)) in
+    let does : gets planned host x n ≡ true = rw (ne_eqb n host.0 apart) reads in
+    subst P (sym (to_next planned weight host x n
+    ∙ ap (λ more. forwards_below planned weight host x n ++ map send more) (chosen planned host x n does)))
+    (costs_both planned.hosts (forwards_below planned weight host x n) (send n ∷ []) total other so cost)
+
+-- the host that sends, or one that does not read the variable
+pub one_gets_not : (planned : PlannedShape) (weight : ℕ) (host : HostId) (x : VarId) (n total : ℕ) →
+    gets planned host x n ≡ false →
+    Costs planned.hosts (forwards_below planned weight host x n) total →
+    Costs planned.hosts (forwards_below planned weight host x (n + 1)) total
+one_gets_not planned weight host x n total not_so so =
+    let send : ℕ → Term = λ one. exchange weight host (record { 0 = one }) in
+    let P : List Term → Type 0 = λ terms. Costs planned.hosts terms total in
+    subst P (sym (to_next planned weight host x n
+    ∙ ap (λ more. forwards_below planned weight host x n ++ map send more) (not_chosen planned host x n not_so)
+    ∙ append-nil (forwards_below planned weight host x n))) so
+
+pub true_not_false : true ≡ false → ⊥
+true_not_false is = cc
+
+no_reader : (reads : Bool) → (reads ≡ true → ⊥) → (test : Bool) → (test && reads) ≡ false
+no_reader true none test = absurd (none refl)
+no_reader false none test = and-false test
+
+pub not_reading : (planned : PlannedShape) (host : HostId) (x : VarId) (n : ℕ) →
+    (reads_on planned x n ≡ true → ⊥) → gets planned host x n ≡ false
+not_reading planned host x n none = no_reader (reads_on planned x n) none (not (nat_eq n host.0))
+
+pub the_sender : (planned : PlannedShape) (host : HostId) (x : VarId) (n : ℕ) → n ≡ host.0 →
+    gets planned host x n ≡ false
+the_sender planned host x n is = rw (eq-eqb n host.0 is) refl

@@ -1,0 +1,11 @@
+pub mod Trusted
+pub mod Statements
+pub mod Readers
+pub mod Sums
+pub mod Forwards
+pub mod Walks
+pub mod Bounds
+pub mod OneHost
+pub mod Found
+pub mod Sizes
+pub mod Between

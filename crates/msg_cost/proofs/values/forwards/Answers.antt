@@ -1,0 +1,39 @@
+use Rattle.std.proofs.Common.{◌<◌, ◌+◌, ℕ, ◌∙◌, List, length, sym, ap, subst, arith}
+use Rattle.std.proofs.lemmas.List.{length-map}
+use Rattle.host_decl.specs.Hosts.{HostShape}
+use Rattle.js_base.specs.declared.bits.TheConstants.{WORD_BITS}
+use Rattle.msg_cost.specs.Views.{shape_of}
+use Rattle.msg_cost.proofs.Forwards.{forwards_below, one_gets, one_gets_not, not_reading, the_sender, true_not_false}
+use Rattle.msg_cost.proofs.Sums.{Costs}
+use Rattle.msg_cost.proofs.values.forwards.Goals as goal
+use Rattle.msg_cost.proofs.values.forwards.Goals.{then-other-host+then-has_bit, else-other-host}
+use Rattle.msg_cost.proofs.values.forwards.Goals.{else-other-host-via-then-other-host+else-has_bit}
+use Rattle.msg_cost.proofs.values.forwards.Goals.{else-other-host-via-else-other-host}
+
+pub loop-other-preserved : goal.loop-other-preserved
+loop-other-preserved c =
+    let planned = shape_of c.args.planned.now in
+    let P : ℕ → Type 0 = λ total. Costs planned.hosts
+    (forwards_below planned c.args.weight c.args.host c.args.x (c.loop-other.other + 1)) total in
+    let long = length-map planned.hosts.hosts (λ (host : HostShape). host.name) in
+    let few = c.hosts.ensures.sound.names.few in
+    let same = ap (λ (hosts : List HostShape). length hosts) c.hosts.ensures.hosts in
+    let small : c.loop-other.other < WORD_BITS = omega arith in
+    elim c.if-other-host.branch [
+      | then-other-host+then-has_bit w ↦
+          subst P (sym (w.total-is ∙ w.saturating_add-total.ensures))
+          (one_gets planned c.args.weight c.args.host c.args.x c.loop-other.other c.loop-other.total w.exchange.result
+          w.if-other-host.true
+          ((c.reading_hosts-reading.ensures c.loop-other.other small).0 (w.has_bit.ensures.0 w.if-has_bit.true))
+          w.exchange.ensures c.loop-other.invariant)
+      | else-other-host w ↦ subst P (sym w.total-is)
+          (one_gets_not planned c.args.weight c.args.host c.args.x c.loop-other.other c.loop-other.total
+          (elim w.else-other-host.branch [
+            | else-other-host-via-then-other-host+else-has_bit w' ↦
+                not_reading planned c.args.host c.args.x c.loop-other.other (λ reads.
+                true_not_false (sym (w'.has_bit.ensures.1
+                ((c.reading_hosts-reading.ensures c.loop-other.other small).1 reads)) ∙ w'.if-has_bit.false))
+            | else-other-host-via-else-other-host w' ↦
+                the_sender planned c.args.host c.args.x c.loop-other.other w'.if-other-host.false
+          ]) c.loop-other.invariant)
+    ]

@@ -1,0 +1,110 @@
+//! What statements and blocks cost.
+
+ghost use Rattle.std.specs.Prelude.{◌≡◌, ◌++◌, [], ◌∷◌};
+ghost use Rattle.jif_tree.specs.Trees.{done, block_tree};
+ghost use Rattle.need_labels.specs.Plan.{statement_host};
+ghost use Rattle.msg_cost.specs.Cost.{cost_of};
+ghost use Rattle.msg_cost.specs.Kept.{AreEnds};
+ghost use Rattle.msg_cost.specs.Moves.{on, block_end};
+ghost use Rattle.msg_cost.specs.Terms.{message, block_terms};
+ghost use Rattle.msg_cost.specs.Views.{shape_of, tree_before, capped};
+
+use crate::calls::call_cost;
+use crate::messages::{leave, message, move_on};
+use crate::planned::Planned;
+use crate::spot::Spot;
+use crate::tokens::{block_end, next_spot};
+use crate::values::{expr_cost, field_cost, forwards};
+use crate::weight::inside;
+use jif_tree::{Stmt, StmtKind, tree_laws};
+use js_base::HostId;
+use js_base::limits::HOSTS;
+
+/// The cost of the statements of a block that begins on this host.
+#[cycle(blocks)]
+pub fn block_cost(
+    planned: &Planned<'_>,
+    ends: &[HostId],
+    weight: u64,
+    home: HostId,
+    block: &[Stmt],
+) -> u64
+    requires { AreEnds (shape_of planned.now) ends.now }
+    ensures { result ≡ capped (cost_of planned.now.hosts.now
+        (block_terms (shape_of planned.now) weight (on home) (block_tree block.now))) }
+{
+    let mut total: u64 = 0;
+    let mut spot = Spot::on(home);
+    let mut noted = [0; HOSTS];
+    for (place, statement) in block.iter().enumerate() {
+        let next = next_spot(planned, spot, block, place, &mut noted);
+        total = total
+            .saturating_add(move_on(planned.hosts, weight, spot, next))
+            .saturating_add(statement_cost(planned, ends, weight, statement));
+        spot = next;
+    }
+    total.saturating_add(leave(planned.hosts, weight, spot))
+}
+
+/// The cost of a nested block, behind which this host gets the token back.
+#[cycle(blocks)]
+fn nested_cost(
+    planned: &Planned<'_>,
+    ends: &[HostId],
+    weight: u64,
+    host: HostId,
+    block: &[Stmt],
+) -> u64
+    requires { AreEnds (shape_of planned.now) ends.now }
+    ensures { result ≡ capped (cost_of planned.now.hosts.now
+        (block_terms (shape_of planned.now) weight (on host) (block_tree block.now)
+        ++ message weight (block_end (shape_of planned.now) host (block_tree block.now)) host ∷ [])) }
+{
+    let end = block_end(planned, host, block);
+    let back = message(planned.hosts, weight, end, host);
+    block_cost(planned, ends, weight, host, block).saturating_add(back)
+}
+
+/// The cost of a statement on its host, where the token is there already: that of a block that has it alone.
+#[cycle(blocks)]
+fn statement_cost(planned: &Planned<'_>, ends: &[HostId], weight: u64, statement: &Stmt) -> u64
+    requires { AreEnds (shape_of planned.now) ends.now }
+    ensures { result ≡ capped (cost_of planned.now.hosts.now
+        (block_terms (shape_of planned.now) weight (on (statement_host planned.now.plan.now statement.now.id))
+        (tree_before statement.now done))) }
+{
+    tree_laws();
+    let host = planned.plan.host_of(statement.id);
+    match &statement.kind {
+        StmtKind::Let { var, value } => {
+            let read = expr_cost(planned, weight, host, value);
+            read.saturating_add(forwards(planned, weight, host, *var))
+        }
+        StmtKind::SetField { field, value } => {
+            let read = expr_cost(planned, weight, host, value);
+            read.saturating_add(field_cost(planned, weight, host, *field))
+        }
+        StmtKind::SetElement {
+            field,
+            index,
+            value,
+        } => expr_cost(planned, weight, host, index)
+            .saturating_add(expr_cost(planned, weight, host, value))
+            .saturating_add(field_cost(planned, weight, host, *field)),
+        StmtKind::If { guard, yes, no } => expr_cost(planned, weight, host, guard)
+            .saturating_add(nested_cost(planned, ends, weight, host, yes))
+            .saturating_add(nested_cost(planned, ends, weight, host, no)),
+        StmtKind::While { guard, body } => {
+            let deeper = inside(weight);
+            let read = expr_cost(planned, deeper, host, guard);
+            read.saturating_add(nested_cost(planned, ends, deeper, host, body))
+        }
+        StmtKind::Call {
+            method,
+            args,
+            into,
+            ..
+        } => call_cost(planned, ends, weight, host, *method, args, *into),
+        StmtKind::Return { value } => expr_cost(planned, weight, host, value),
+    }
+}

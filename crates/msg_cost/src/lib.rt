@@ -1,0 +1,18 @@
+//! What the messages of a split program cost under a plan, counted over the program's tree.
+#![tactic(auto)]
+
+mod blocks;
+mod calls;
+mod ends;
+mod laws;
+mod messages;
+mod planned;
+mod program_cost;
+mod spot;
+mod tokens;
+mod trust;
+mod values;
+mod weight;
+
+pub use laws::{cost_examples, cost_laws};
+pub use program_cost::cost;

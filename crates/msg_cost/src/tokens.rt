@@ -1,0 +1,138 @@
+//! How the token of a method goes from host to host.
+
+ghost use Rattle.std.specs.Prelude.{◌≡◌, ◌+◌, ◌<◌, ◌≤◌, ◌∷◌, ◌↔◌, IsTrue, List, drop, length};
+ghost use Rattle.js_base.specs.declared.ids.StmtId.{StmtId};
+ghost use Rattle.jif_tree.specs.LabelRules.{method_at};
+ghost use Rattle.jif_tree.specs.Trees.{block_tree, program_tree};
+ghost use Rattle.msg_cost.specs.Kept.{AreTrustedTo};
+ghost use Rattle.msg_cost.specs.Moves.{link_cost, host_behind, return_host, entered, next_spot, block_end};
+ghost use Rattle.msg_cost.specs.Moves.{called_home};
+ghost use Rattle.msg_cost.specs.Views.{shape_of, ids_of};
+
+use crate::messages::link_cost;
+use crate::planned::Planned;
+use crate::spot::Spot;
+use crate::trust::is_trusted_from;
+use jif_tree::Stmt;
+use js_base::limits::HOSTS;
+use js_base::{HostId, MethodId};
+
+/// The host of the first statement behind the segment on this host with which the statements begin.
+fn host_behind(planned: &Planned<'_>, host: HostId, statements: &[Stmt]) -> Option<HostId>
+    ensures { result ≡ host_behind (shape_of planned.now) host (ids_of statements.now) }
+{
+    for statement in statements {
+        let other = planned.plan.host_of(statement.id);
+        if other.0 != host.0 {
+            return Some(other);
+        }
+    }
+    None
+}
+
+/// Whether the way from a host over the next one to another is shorter than the way straight to it.
+fn is_shorter(planned: &Planned<'_>, host: HostId, next: HostId, from: HostId) -> bool
+    ensures { IsTrue result ↔ (link_cost planned.now.hosts.now next from + link_cost planned.now.hosts.now host next
+        < link_cost planned.now.hosts.now host from) }
+{
+    let hosts = planned.hosts;
+    let over = u64::from(link_cost(hosts, next, from)) + u64::from(link_cost(hosts, host, next));
+    over < u64::from(link_cost(hosts, host, from))
+}
+
+/// The host that gets the token back of the segment on a host that begins at a place of a block.
+fn return_host(
+    planned: &Planned<'_>,
+    from: HostId,
+    host: HostId,
+    block: &[Stmt],
+    place: usize,
+    noted: &mut [usize; HOSTS],
+) -> HostId
+    requires here { place ≤ length block.now }
+    requires noted { AreTrustedTo (shape_of planned.now) block.now place noted.old }
+    ensures result { result ≡ return_host (shape_of planned.now) from host (ids_of (drop place block.now)) }
+    ensures noted { AreTrustedTo (shape_of planned.now) block.now place noted.new }
+{
+    let Some(next) = host_behind(planned, host, &block[place..]) else {
+        return from;
+    };
+    let trusted = is_trusted_from(planned, next, block, place, noted);
+    if trusted && is_shorter(planned, host, next, from) {
+        next
+    } else {
+        from
+    }
+}
+
+/// Where the statements of a block from a place on begin, which stand on a host, behind one that held the token.
+fn entered(
+    planned: &Planned<'_>,
+    from: HostId,
+    host: HostId,
+    block: &[Stmt],
+    place: usize,
+    noted: &mut [usize; HOSTS],
+) -> Spot
+    requires here { place ≤ length block.now }
+    requires noted { AreTrustedTo (shape_of planned.now) block.now place noted.old }
+    ensures result { result ≡ entered (shape_of planned.now) from host (ids_of (drop place block.now)) }
+    ensures noted { AreTrustedTo (shape_of planned.now) block.now place noted.new }
+{
+    if from.0 == host.0 {
+        return Spot::on(host);
+    }
+    if is_trusted_from(planned, host, block, place, noted) {
+        return Spot::on(host);
+    }
+    let back = return_host(planned, from, host, block, place, noted);
+    Spot {
+        host,
+        back: Some(back),
+    }
+}
+
+/// Where the statement at a place of a block runs. The hosts' places up to which they are known to be trusted are noted.
+pub fn next_spot(
+    planned: &Planned<'_>,
+    spot: Spot,
+    block: &[Stmt],
+    place: usize,
+    noted: &mut [usize; HOSTS],
+) -> Spot
+    requires here { place < length block.now }
+    requires noted { AreTrustedTo (shape_of planned.now) block.now place noted.old }
+    ensures result { (statement : StmtId) (others : List StmtId) →
+        ids_of (drop place block.now) ≡ statement ∷ others →
+        result ≡ next_spot (shape_of planned.now) spot statement others }
+    ensures noted { AreTrustedTo (shape_of planned.now) block.now (place + 1) noted.new }
+{
+    let host = planned.plan.host_of(block[place].id);
+    if spot.host.0 == host.0 {
+        spot
+    } else {
+        entered(planned, spot.end(), host, block, place, noted)
+    }
+}
+
+/// The host that holds the token behind a block that begins on this host.
+pub fn block_end(planned: &Planned<'_>, home: HostId, block: &[Stmt]) -> HostId
+    ensures { result ≡ block_end (shape_of planned.now) home (block_tree block.now) }
+{
+    let mut spot = Spot::on(home);
+    let mut noted = [0; HOSTS];
+    for place in 0..block.len() {
+        spot = next_spot(planned, spot, block, place, &mut noted);
+    }
+    spot.end()
+}
+
+/// The home of a method: the host of its head.
+pub fn called_home(planned: &Planned<'_>, method: MethodId) -> HostId
+    ensures { result ≡ called_home (shape_of planned.now) (method_at (program_tree planned.now.program.now) method) }
+{
+    match planned.program.methods.get(method.0 as usize) {
+        Some(called) => planned.plan.host_of(called.head),
+        None => HostId(0),
+    }
+}
