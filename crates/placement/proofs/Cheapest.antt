@@ -1,0 +1,79 @@
+-- The cheapest of some starting plans, plan by plan.
+use Rattle.std.proofs.Common.{◌≡◌, ℕ, ◌+◌, ◌<◌, ◌≤◌, ap, subst, arith, inl, inr}
+use Rattle.std.proofs.lemmas.Bool.{cases_order, cases_eq}
+use Rattle.need_labels.specs.Plan.{PlanShape}
+use Rattle.place_rules.specs.Allowed.{AllowedShape}
+use Rattle.placement.specs.Starting.{IsStartOf, IsCheapestStart}
+use Rattle.placement.proofs.Starts.{one_start}
+
+same_cost : (cost : PlanShape → ℕ) (allowed : AllowedShape) (host : ℕ) (first second : PlanShape) →
+    IsStartOf allowed host first → IsStartOf allowed host second → cost first ≡ cost second
+same_cost cost allowed host first second one two = ap cost (one_start allowed host first second one two)
+
+pub cheapest_one : (cost : PlanShape → ℕ) (allowed : AllowedShape) (plan : PlanShape) → IsStartOf allowed 0 plan →
+    IsCheapestStart cost allowed 1 plan
+cheapest_one cost allowed plan start = record {
+  host = 0;
+  known = omega arith;
+  start = start;
+  least = λ other another within that.
+      let none : other ≡ 0 = omega arith in
+      let P : ℕ → Type 0 = λ host. IsStartOf allowed host another in
+      let same = same_cost cost allowed 0 plan another start (subst P none that) in
+      omega arith;
+  first = λ earlier another less that. absurd (omega arith);
+}
+
+-- the next costs less
+pub cheapest_next : (cost : PlanShape → ℕ) (allowed : AllowedShape) (count price lower : ℕ) (best next : PlanShape) →
+    IsCheapestStart cost allowed count best → price ≡ cost best → IsStartOf allowed count next → lower ≡ cost next →
+    lower < price → IsCheapestStart cost allowed (count + 1) next
+cheapest_next cost allowed count price lower best next found costs start also less = record {
+  host = count;
+  known = omega arith;
+  start = start;
+  least = λ other another within that. elim (cases_eq other count) [
+    | inl last ↦
+        let P : ℕ → Type 0 = λ host. IsStartOf allowed host another in
+        let same = same_cost cost allowed count next another start (subst P last that) in
+        omega arith
+    | inr sooner ↦ let more = found.least other another (omega arith) that in omega arith
+  ];
+  first = λ earlier another sooner that. let more = found.least earlier another sooner that in omega arith;
+}
+
+-- the next costs as much or more
+pub cheapest_kept : (cost : PlanShape → ℕ) (allowed : AllowedShape) (count price higher : ℕ) (best next : PlanShape) →
+    IsCheapestStart cost allowed count best → price ≡ cost best → IsStartOf allowed count next → higher ≡ cost next →
+    price ≤ higher → IsCheapestStart cost allowed (count + 1) best
+cheapest_kept cost allowed count price higher best next found costs start also more = record {
+  host = found.host;
+  known = let known = found.known in omega arith;
+  start = found.start;
+  least = λ other another within that. elim (cases_eq other count) [
+    | inl last ↦
+        let P : ℕ → Type 0 = λ host. IsStartOf allowed host another in
+        let same = same_cost cost allowed count next another start (subst P last that) in
+        omega arith
+    | inr sooner ↦ found.least other another (omega arith) that
+  ];
+  first = found.first;
+}
+
+-- ---- one cheapest plan
+
+pub one_cheapest : (cost : PlanShape → ℕ) (allowed : AllowedShape) (count : ℕ) (first second : PlanShape) →
+    IsCheapestStart cost allowed count first → IsCheapestStart cost allowed count second → first ≡ second
+one_cheapest cost allowed count first second one two = elim (cases_order one.host two.host) [
+  | inl same ↦
+      let P : ℕ → Type 0 = λ host. IsStartOf allowed host first in
+      one_start allowed two.host first second (subst P same one.start) two.start
+  | inr (inl sooner) ↦
+      let less = two.first one.host first sooner one.start in
+      let more = one.least two.host second two.known two.start in
+      absurd (omega arith)
+  | inr (inr later) ↦
+      let less = one.first two.host second later two.start in
+      let more = two.least one.host first one.known one.start in
+      absurd (omega arith)
+]

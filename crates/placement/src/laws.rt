@@ -1,0 +1,30 @@
+//! Laws of plans.
+
+ghost use Rattle.std.specs.Prelude.{◌≡◌};
+ghost use Rattle.host_decl.specs.Hosts.{HostsShape};
+ghost use Rattle.need_labels.specs.Labelled.{Labelled};
+ghost use Rattle.need_labels.specs.Needs.{NeedsShape};
+ghost use Rattle.need_labels.specs.Plan.{PlanShape};
+ghost use Rattle.place_rules.specs.Allowed.{AllowedShape};
+ghost use Rattle.placement.specs.Placing.{IsPlaced, IsAllowedPlan, HasHosts};
+
+use place_rules::place_rule_laws;
+
+/// Laws of where programs stand, for whoever reasons about plans. The call does nothing.
+pub fn placement_laws()
+    // A program has one plan at most, by one row of words.
+    ensures one_plan { (labelled : Labelled) (needs : NeedsShape) (hosts : HostsShape)
+        (allowed other : AllowedShape) (first second : PlanShape) →
+        IsPlaced labelled needs hosts allowed first → IsPlaced labelled needs hosts other second →
+        (allowed ≡ other) × (first ≡ second) }
+
+    // Each field and each statement stands on a host that may hold it.
+    ensures allowed { (labelled : Labelled) (needs : NeedsShape) (hosts : HostsShape) (allowed : AllowedShape)
+        (plan : PlanShape) → IsPlaced labelled needs hosts allowed plan → IsAllowedPlan labelled needs hosts plan }
+
+    // All hosts of the plan are hosts.
+    ensures hosts { (labelled : Labelled) (needs : NeedsShape) (hosts : HostsShape) (allowed : AllowedShape)
+        (plan : PlanShape) → IsPlaced labelled needs hosts allowed plan → HasHosts hosts plan }
+{
+    place_rule_laws();
+}
