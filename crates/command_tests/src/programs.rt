@@ -64,7 +64,9 @@ fn refuses_programs(rt: HostRuntime) -> Result<(), Fail> {
 fn checks_labels_by_who_acts_for_whom(rt: HostRuntime) -> Result<(), Fail> {
     let up = "int{Alice:} a;\nint{Bob:} b;\nvoid main{}() {\na = b;\n}";
     let down = "int{Alice:} a;\nint{Bob:} b;\nvoid main{}() {\nb = a;\n}";
-    let accepted = "accepted 2 fields 1 methods 2 statements\n";
+    let accepted =
+        "accepted 2 fields 1 methods 2 statements\nfield a may A at A\nfield b may A at A\n\
+        statement 0 line 3 may A at A\nstatement 1 line 4 may A at A\ncost 0\n";
     let refused =
         "jifsplit: statement 1 (line 4): {Alice: Alice; Bob: Alice} may not flow to {Bob: Alice, Bob}\n";
     let cases = [
@@ -84,10 +86,6 @@ fn replays_what_hosts_can_run(rt: HostRuntime) -> Result<(), Fail> {
     let cases = [
         ("void main{}() { }", true),
         ("int{} a; void main{}() { a = 1; a = -1; }", true),
-        (
-            "void main{}() { a = 1; } int{Alice: Bob; Bob:} a = -3;",
-            true,
-        ),
         ("int{} a[2]; void main{}() { }", false),
         ("int{} a; void main{}() { a = - -1; }", false),
         ("int{} a; void main{}() { a = 1 + 1; }", false),
@@ -95,9 +93,7 @@ fn replays_what_hosts_can_run(rt: HostRuntime) -> Result<(), Fail> {
         ("void main{}() { int x = 1; }", false),
         ("void m{}() { } void main{}() { }", false),
         ("void main{}() where authority(Alice) { }", false),
-        ("void main{?:Alice}() { }", false),
         ("void main{Alice:}() { }", false),
-        ("int{?:Alice} a; void main{}() { }", false),
     ];
     for (text, built) in cases {
         let ended = replay(rt.alloc(), [Some(text), Some(HOSTS), Some("")])?;
@@ -106,17 +102,8 @@ fn replays_what_hosts_can_run(rt: HostRuntime) -> Result<(), Fail> {
             "",
             "jifsplit: program: not built yet\n",
         );
-        let held = text.contains("Alice: Bob; Bob:");
-        let unheld = ended.is(
-            Status::SourceRefused,
-            "",
-            "jifsplit: no host may hold field a\n",
-        );
         let done = ended.status() == Status::Done;
-        assert!(rt;
-            refused != built && unheld == held && done == (built && !held),
-            "at {text:?}"
-        );
+        assert!(rt; refused != built && done == built, "at {text:?}");
     }
     Ok(())
 }

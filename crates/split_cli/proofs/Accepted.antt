@@ -2,11 +2,10 @@
 use Rattle.std.proofs.Common.{◌≡◌, ℕ, List, ◌++◌, length, ap, ◌∙◌, append_assoc}
 use Rattle.std.specs.Prelude.{codes}
 use Rattle.std.specs.Fmt.{decimal}
-use Rattle.js_base.specs.declared.status.Status.TheVariants.{Done}
 use Rattle.jif_tree.specs.Trees.{ProgramTree}
 use Rattle.jif_tree.specs.Numbering.{statement_numbers}
-use Rattle.split_cli.specs.Verdicts.{Print}
-use Rattle.split_cli.specs.Check.{accepted_report}
+use Rattle.split_cli.specs.Check.{accepted_line}
+use Rattle.split_cli.specs.Text.{line_text}
 
 eight_parts : (a b c d e f g h : List ℕ) →
     a ++ (b ++ (c ++ (d ++ (e ++ (f ++ (g ++ h)))))) ≡ (a ++ b ++ c ++ d ++ e ++ f ++ g) ++ h
@@ -21,12 +20,12 @@ pub accepted_text : (tree : ProgramTree) (fields methods statements : ℕ) (text
     fields ≡ length tree.fields → methods ≡ length tree.methods → statements ≡ length (statement_numbers tree) →
     text ≡ codes "accepted " ++ (decimal fields ++ (codes " fields " ++ (decimal methods ++ (codes " methods "
     ++ (decimal statements ++ codes " statements\n"))))) →
-    Print Done text ≡ accepted_report tree
+    text ≡ line_text (accepted_line tree)
 unfolding line_of
 accepted_text tree fields methods statements text fields_are methods_are statements_are is =
-    ap (λ (bytes : List ℕ). Print Done bytes) (is
+    is
     ∙ eight_parts (codes "accepted ") (decimal fields) (codes " fields ") (decimal methods) (codes " methods ")
     (decimal statements) (codes " statements") (codes "\n")
     ∙ ap (λ (n : ℕ). line_of n methods statements ++ codes "\n") fields_are
     ∙ ap (λ (n : ℕ). line_of (length tree.fields) n statements ++ codes "\n") methods_are
-    ∙ ap (λ (n : ℕ). line_of (length tree.fields) (length tree.methods) n ++ codes "\n") statements_are)
+    ∙ ap (λ (n : ℕ). line_of (length tree.fields) (length tree.methods) n ++ codes "\n") statements_are

@@ -1,5 +1,5 @@
 -- From what is due to the headline.
-use Rattle.std.proofs.Common.{◌≡◌, ◌≢◌, ℕ, ◌≤◌, true, List, [], ◌∷◌, length, refl, sym, ◌∙◌, ap, subst}
+use Rattle.std.proofs.Common.{◌≡◌, ◌≢◌, ℕ, ◌<◌, ◌≤◌, true, List, [], ◌∷◌, length, refl, sym, ◌∙◌, ap, subst}
 use Rattle.std.proofs.Common.{⊎_elim, Option, Some}
 use Rattle.std.proofs.Common.{Result, Ok, Err, All, arith}
 use Rattle.std.specs.Prelude.{slice_index}
@@ -10,7 +10,7 @@ use Rattle.js_base.specs.declared.limits.TheConstants.{SCRIPT_BYTES}
 use Rattle.js_base.specs.Sink.{Takes}
 use Rattle.js_base.specs.declared.status.Status.{Status}
 use Rattle.js_base.specs.declared.status.Status.TheVariants.{Done, NoMemory, SourceRefused, InputRefused}
-use Rattle.host_decl.specs.Hosts.{HostsShape, AreHostNames, names_of}
+use Rattle.host_decl.specs.Hosts.{HostShape, HostsShape, AreHostNames, names_of}
 use Rattle.host_decl.specs.Reading.{ReadsHosts}
 use Rattle.jif_tree.specs.declared.program.Program.{Program}
 use Rattle.jif_tree.specs.Store.{starting_values}
@@ -24,6 +24,11 @@ use Rattle.jif_tree.specs.Trees.{ProgramTree}
 use Rattle.jif_tree.specs.WellNumbered.{IsWellNumbered}
 use Rattle.jif_grammar.specs.DraftShapes.{DraftShape}
 use Rattle.jif_resolve.specs.Verdicts.{IsProgramOf}
+use Rattle.need_labels.specs.Labelled as needs
+use Rattle.need_labels.specs.Needs.{NeedsShape}
+use Rattle.need_labels.specs.Plan.{PlanShape}
+use Rattle.place_rules.specs.Allowed.{AllowedShape}
+use Rattle.placement.specs.Placing.{IsPlaced, HasHosts}
 use Rattle.split_cli.specs.Built.{IsBuilt}
 use Rattle.split_cli.specs.Commands.{CommandShape, Replay, words_of}
 use Rattle.split_cli.specs.Verdicts.{VerdictShape, Refuse, Print, event_refused}
@@ -31,11 +36,14 @@ use Rattle.split_cli.specs.Loads.{FilesChange, Told}
 use Rattle.split_cli.specs.Stages.{Outcome, given, stopped, Then, DueThen}
 use Rattle.split_cli.specs.Sources.{Lexed, Parsed, Drafted, HostsRead, Resolved, Labelled, Source, Accepted}
 use Rattle.split_cli.specs.Sources.{AcceptedWith, Sources}
-use Rattle.split_cli.specs.Replay.{IsCoded, due_after, due_for_script, DueForReplay, not_built, no_holder, scripted}
+use Rattle.split_cli.specs.PlacedSources.{PlacedSource, AreChosen, OnHosts, PlacedSources, labelled_source}
+use Rattle.split_cli.specs.Replay.{IsCoded, due_after, due_for_script, DueForReplay, not_built, scripted, places_of}
+use Rattle.split_cli.specs.Replay.{main_head}
 use Rattle.split_cli.specs.Due.{DueForBytes, DueForCommand, absent, loaded, Due, no_words, for_command, IsDue}
 use Rattle.split_cli.specs.Answers.{SinkChange, Puts, IsAnswered, AnswersTo}
 use Rattle.split_cli.specs.Faithful.{IsReplayed, IsFaithful, PutsFaithfully}
 use Rattle.split_cli.proofs.Assigning.{only_assigns}
+use Rattle.split_cli.proofs.ReplayDue.{root_among}
 use Rattle.split_cli.proofs.OneVerdict.{one_command}
 use Rattle.split_cli.proofs.Stages.{stop_with}
 
@@ -50,14 +58,14 @@ unfolding Says
 refused_says program hosts events file line not_there = λ same. cc
 refused_says program hosts events file line host_busy = λ same. cc
 
-run_says : (program hosts events file : List ℕ) (source : Source) (tree : Program) (code : CodeShape) →
-    Sources program hosts (given source) → IsCoded source tree code → length events ≤ SCRIPT_BYTES →
+run_says : (program hosts events file : List ℕ) (placed : PlacedSource) (tree : Program) (code : CodeShape) →
+    PlacedSources program hosts (given placed) → IsCoded placed tree code → length events ≤ SCRIPT_BYTES →
     (read : List (ℕ × Event)) → script_of code.hosts events ≡ Ok read → (outcome : Result World (ℕ × Refusal)) →
     run code (world_at_start code (starting_values tree)) read ≡ outcome →
     Says program hosts events (due_after file code outcome)
 unfolding Says
-run_says program hosts events file source tree code accepted coded short read was (Ok w) ran = record {
-  source = source;
+run_says program hosts events file placed tree code accepted coded short read was (Ok w) ran = record {
+  placed = placed;
   tree = tree;
   code = code;
   accepted = accepted;
@@ -69,33 +77,52 @@ run_says program hosts events file source tree code accepted coded short read wa
   runs = ran;
   text_is = refl;
 }
-run_says program hosts events file source tree code accepted coded short read was (Err refused) ran =
+run_says program hosts events file placed tree code accepted coded short read was (Err refused) ran =
     refused_says program hosts events file refused.0 refused.1
 
-script_says : (program hosts events file : List ℕ) (source : Source) (tree : Program) (code : CodeShape) →
-    Sources program hosts (given source) → IsCoded source tree code → length events ≤ SCRIPT_BYTES →
+script_says : (program hosts events file : List ℕ) (placed : PlacedSource) (tree : Program) (code : CodeShape) →
+    PlacedSources program hosts (given placed) → IsCoded placed tree code → length events ≤ SCRIPT_BYTES →
     (read : Result (List (ℕ × Event)) ℕ) → script_of code.hosts events ≡ read →
     Says program hosts events (due_for_script file code (world_at_start code (starting_values tree)) read)
 unfolding Says
-script_says program hosts events file source tree code accepted coded short (Err line) was = λ same. cc
-script_says program hosts events file source tree code accepted coded short (Ok read) was =
-    run_says program hosts events file source tree code accepted coded short read was
+script_says program hosts events file placed tree code accepted coded short (Err line) was = λ same. cc
+script_says program hosts events file placed tree code accepted coded short (Ok read) was =
+    run_says program hosts events file placed tree code accepted coded short read was
     (run code (world_at_start code (starting_values tree)) read) refl
 
-replay_says : (file program hosts events : List ℕ) (source : Source) (verdict : VerdictShape) →
-    Sources program hosts (given source) → DueForReplay file events source verdict →
+replay_says : (file program hosts events : List ℕ) (placed : PlacedSource) (verdict : VerdictShape) →
+    PlacedSources program hosts (given placed) → DueForReplay file events placed verdict →
     Says program hosts events verdict
 unfolding Says
-replay_says file program hosts events source _ accepted (not_built none) = λ same. cc
-replay_says file program hosts events source _ accepted (no_holder tree name from unheld) = λ same. cc
-replay_says file program hosts events source verdict accepted (scripted tree code _ coded due) =
+replay_says file program hosts events placed _ accepted (not_built none) = λ same. cc
+replay_says file program hosts events placed verdict accepted (scripted tree code _ coded due) =
     ⊎_elim
     (λ long. subst (Says program hosts events) (sym long.1) (λ same. cc))
     (λ short. subst (Says program hosts events) (sym short.1)
-    (script_says program hosts events file source tree code accepted coded short.0 (script_of code.hosts events) refl))
+    (script_says program hosts events file placed tree code accepted coded short.0 (script_of code.hosts events) refl))
     due
 
 -- ---- what an accepted program and its hosts keep
+
+-- what the places gave
+places_given : (program hosts : List ℕ) (placed : PlacedSource) → PlacedSources program hosts (given placed) →
+    (source : Source) × Sources program hosts (given source) × AreChosen source placed
+places_given program hosts placed accepted =
+    ⊎_elim (λ both. (both.0, both.1, both.2)) (λ no. absurd (let other : given placed ≡ stopped no.0 = no.2 in cc))
+    accepted
+
+-- the source of a program with its places
+source_given : (program hosts : List ℕ) (placed : PlacedSource) → PlacedSources program hosts (given placed) →
+    Sources program hosts (given placed.source)
+source_given program hosts placed accepted =
+    let found = places_given program hosts placed accepted in
+    subst (λ (source : Source). Sources program hosts (given source)) (sym found.2.same) found.1
+
+chosen : (program hosts : List ℕ) (placed : PlacedSource) → PlacedSources program hosts (given placed) →
+    AreChosen placed.source placed
+chosen program hosts placed accepted =
+    let found = places_given program hosts placed accepted in
+    subst (λ (source : Source). AreChosen source placed) (sym found.2.same) found.2
 
 -- what a draft and the hosts gave
 accepted_of : (program hosts : List ℕ) (source : Source) → Sources program hosts (given source) →
@@ -142,17 +169,36 @@ well_numbered numbers program hosts source accepted =
 abbrev pub HostNamesLaw : Type 0
 HostNamesLaw = (bytes : List ℕ) (hosts : HostsShape) → ReadsHosts bytes hosts → AreHostNames (names_of hosts.hosts)
 
--- what the premises of the laws ask of an accepted program
-is_set : HostNamesLaw → NumbersLaw → (program hosts : List ℕ) (source : Source) (tree : Program) (code : CodeShape) →
-    Sources program hosts (given source) → IsCoded source tree code →
-    IsSet tree source.file code (starting_values tree)
-is_set names numbers program hosts source tree code accepted coded = record {
-  assigns = only_assigns tree (subst IsBuilt (sym coded.built_from.tree_is) coded.built_from.built)
-      (subst IsWellNumbered (sym coded.built_from.tree_is) (well_numbered numbers program hosts source accepted));
-  hosts_are = names hosts source.file (hosts_of program hosts source accepted);
-  code_is = coded.code_is;
-  rows = rw length-map;
-}
+-- the hosts of a plan are hosts
+abbrev pub PlanHostsLaw : Type 0
+PlanHostsLaw = (labelled : needs.Labelled) (need : NeedsShape) (file : HostsShape) (allowed : AllowedShape)
+    (plan : PlanShape) → IsPlaced labelled need file allowed plan → HasHosts file plan
+
+-- what the premises of the laws ask of an accepted program in its places
+is_set : HostNamesLaw → NumbersLaw → PlanHostsLaw → (program hosts : List ℕ) (placed : PlacedSource) (tree : Program)
+    (code : CodeShape) → PlacedSources program hosts (given placed) → IsCoded placed tree code →
+    IsSet tree placed.source.file code (starting_values tree)
+is_set names numbers plans program hosts placed tree code accepted coded =
+    let source = source_given program hosts placed accepted in
+    let file = names hosts placed.source.file (hosts_of program hosts placed.source source) in
+    let on =
+    plans (labelled_source placed.source) placed.needs placed.source.file placed.allowed placed.plan
+    (chosen program hosts placed accepted).plan in
+    let some : 0 < length placed.source.file.hosts =
+    omega (arith, file.some, length-map placed.source.file.hosts (λ (host : HostShape). host.name)) in
+    record {
+      assigns = only_assigns tree (subst IsBuilt (sym coded.tree_is) coded.built.program)
+          (subst IsWellNumbered (sym coded.tree_is) (well_numbered numbers program hosts placed.source source));
+      hosts_are = file;
+      places = places_of placed;
+      among = record {
+        root = root_among (length placed.source.file.hosts) placed.plan.statements
+            (main_head placed.source.tree).0 some on.statements;
+        fields = on.fields;
+      };
+      code_is = coded.code_is;
+      rows = rw length-map;
+    }
 
 -- the laws of hosts that all obey, of one program
 pub record Laws (tree : Program) (file : HostsShape) (code : CodeShape) (store : List (List ℤ))
@@ -167,12 +213,14 @@ AllLaws =
     (w : World) → IsSet tree file code store → run code (world_at_start code store) script ≡ Ok w →
     Laws tree file code store script w
 
-is_faithful : (program hosts events text : List ℕ) → HostNamesLaw → NumbersLaw → AllLaws →
+is_faithful : (program hosts events text : List ℕ) → HostNamesLaw → NumbersLaw → PlanHostsLaw → AllLaws →
     IsReplayed program hosts events text → IsFaithful program hosts events text
-is_faithful program hosts events text names numbers laws replayed =
+is_faithful program hosts events text names numbers plans laws replayed =
     let law =
-    laws replayed.tree replayed.source.file replayed.code (starting_values replayed.tree) replayed.script replayed.last
-    (is_set names numbers program hosts replayed.source replayed.tree replayed.code replayed.accepted replayed.coded)
+    laws replayed.tree replayed.placed.source.file replayed.code (starting_values replayed.tree) replayed.script
+    replayed.last
+    (is_set names numbers plans program hosts replayed.placed replayed.tree replayed.code replayed.accepted
+    replayed.coded)
     replayed.runs in
     let ended : IsAfter replayed.code (starting_values replayed.tree) replayed.script (length replayed.script)
     replayed.last =
@@ -217,6 +265,12 @@ sources_refuse program hosts =
     (λ verdict was. (SourceRefused, _, was.3, λ same. cc))
     (λ tree verdict was. (SourceRefused, _, was.3, λ same. cc))))
 
+placed_refuse : (program hosts : List ℕ) (verdict : VerdictShape) → PlacedSources program hosts (stopped verdict) →
+    IsRefusal verdict
+placed_refuse program hosts =
+    then_refuses (Sources program hosts) OnHosts (sources_refuse program hosts)
+    (λ source verdict was. (SourceRefused, _, was.2, λ same. cc))
+
 refusal_says : (program hosts events : List ℕ) (verdict : VerdictShape) → IsRefusal verdict →
     Says program hosts events verdict
 unfolding Says
@@ -225,10 +279,10 @@ refusal_says program hosts events verdict refusal = subst (Says program hosts ev
 -- ---- what is due for a replay
 
 bytes_say : (file program hosts events : List ℕ) (verdict : VerdictShape) →
-    DueThen (Sources program hosts) (DueForReplay file events) verdict → Says program hosts events verdict
+    DueThen (PlacedSources program hosts) (DueForReplay file events) verdict → Says program hosts events verdict
 bytes_say file program hosts events verdict due =
     ⊎_elim (λ both. replay_says file program hosts events both.0 verdict both.1 both.2)
-    (λ no. refusal_says program hosts events verdict (sources_refuse program hosts verdict no)) due
+    (λ no. refusal_says program hosts events verdict (placed_refuse program hosts verdict no)) due
 
 -- what the names stand for was replayed to this report
 record IsPrinted (program hosts events : List ℕ) (held : Option (List ℕ → Option (List ℕ))) (text : List ℕ)
@@ -305,14 +359,14 @@ puts_text : (text : List ℕ) (status : Status) (sink : SinkChange) → Puts tex
     Takes text sink.taken_before sink.taken_after × (Done ≡ status)
 puts_text text status sink puts = ⊎_elim (λ put. (put.1, put.0)) (λ fault. absurd (let no = fault.0 in cc)) puts
 
-verdict_done : (names : HostNamesLaw) (numbers : NumbersLaw) (laws : AllLaws) (program hosts events : List ℕ)
+verdict_done : (names : HostNamesLaw) (numbers : NumbersLaw) (plans : PlanHostsLaw) (laws : AllLaws) (program hosts events : List ℕ)
     (held : Option (List ℕ → Option (List ℕ))) (out err : SinkChange) (verdict : VerdictShape) →
     SaysOfFiles program hosts events held verdict → IsAnswered verdict Done out err →
     PutsFaithfully program hosts events held out.taken_before out.taken_after
 unfolding SaysOfFiles
-verdict_done names numbers laws program hosts events held out err (Refuse status line) says answered =
+verdict_done names numbers plans laws program hosts events held out err (Refuse status line) says answered =
     absurd (says (sym (puts_text line status err answered.1).1))
-verdict_done names numbers laws program hosts events held out err (Print status text) says answered = record {
+verdict_done names numbers plans laws program hosts events held out err (Print status text) says answered = record {
   program_bytes = says.program_bytes;
   hosts_bytes = says.hosts_bytes;
   events_bytes = says.events_bytes;
@@ -320,19 +374,19 @@ verdict_done names numbers laws program hosts events held out err (Print status 
   hosts_told = says.hosts_told;
   events_told = says.events_told;
   text = text;
-  faithful = is_faithful says.program_bytes says.hosts_bytes says.events_bytes text names numbers laws says.replayed;
+  faithful = is_faithful says.program_bytes says.hosts_bytes says.events_bytes text names numbers plans laws says.replayed;
   put = (puts_text text status out answered.1).0;
 }
 
 -- the headline, from the answer
-pub done_is_faithful : (names : HostNamesLaw) (numbers : NumbersLaw) (laws : AllLaws) (words : List (List ℕ))
+pub done_is_faithful : (names : HostNamesLaw) (numbers : NumbersLaw) (plans : PlanHostsLaw) (laws : AllLaws) (words : List (List ℕ))
     (files : FilesChange) (answer : Status) (out err : SinkChange) (program hosts events : List ℕ) →
     AnswersTo words files answer out err → words ≡ words_of (Replay program hosts events) → answer ≡ Done →
     PutsFaithfully program hosts events files.held out.taken_before out.taken_after
-done_is_faithful names numbers laws words files answer out err program hosts events answers asked done =
+done_is_faithful names numbers plans laws words files answer out err program hosts events answers asked done =
     ⊎_elim
     (λ memory. absurd (let no : NoMemory ≡ Done = sym memory.0 ∙ done in cc))
-    (λ due. verdict_done names numbers laws program hosts events files.held out err due.0
+    (λ due. verdict_done names numbers plans laws program hosts events files.held out err due.0
     (due_says program hosts events words files due.0 asked due.1)
     (subst (λ (s : Status). IsAnswered due.0 s out err) done due.2))
     answers

@@ -1,12 +1,12 @@
--- A replay of an accepted program by a script has one verdict.
-use Rattle.std.proofs.Common.{◌≡◌, ℕ, List, refl, sym, ap, ◌∙◌, subst, ⊎_elim, arith}
+-- A replay of an accepted program in its places by a script has one verdict.
+use Rattle.std.proofs.Common.{◌≡◌, ℕ, List, refl, sym, ◌∙◌, subst, ⊎_elim, arith}
 use Rattle.std.specs.Prelude.{ℤ}
 use Rattle.jif_tree.specs.Store.{starting_values}
 use Rattle.net_world.specs.first.Code.{CodeShape}
-use Rattle.split_cli.specs.Replay.{DueForScript, DueForReplay, not_built, no_holder, scripted}
-use Rattle.split_cli.specs.Sources.{Source}
-use Rattle.split_cli.specs.Verdicts.{VerdictShape, no_host_for_field}
-use Rattle.split_cli.proofs.OneCode.{one_unheld, held_or_unheld, one_code, same_fields}
+use Rattle.split_cli.specs.PlacedSources.{PlacedSource}
+use Rattle.split_cli.specs.Replay.{DueForScript, DueForReplay, not_built, scripted, places_of}
+use Rattle.split_cli.specs.Verdicts.{VerdictShape}
+use Rattle.split_cli.proofs.OneCode.{one_code}
 use Rattle.split_cli.proofs.TreeCode.{same_start}
 
 script_once : (file : List ℕ) (code : CodeShape) (values : List (List ℤ)) (events : List ℕ)
@@ -20,27 +20,17 @@ script_once file code values events first second one two =
     (λ right. left.1 ∙ sym right.1) two)
     one
 
-pub replay_once : (file events : List ℕ) (source : Source) (first second : VerdictShape) →
-    DueForReplay file events source first → DueForReplay file events source second → first ≡ second
-replay_once file events source _ _ (not_built none) (not_built also) = refl
-replay_once file events source _ _ (not_built none) (no_holder program name from unheld) = absurd (none from.built)
-replay_once file events source _ second (not_built none) (scripted program code _ coded due) =
-    absurd (none coded.built_from.built)
-replay_once file events source _ _ (no_holder program name from unheld) (not_built none) = absurd (none from.built)
-replay_once file events source _ _ (no_holder program name from unheld) (no_holder other more also unheld_too) =
-    ap no_host_for_field (one_unheld source.file.hosts program.fields.items other.fields.items name more
-    (same_fields program other (from.tree_is ∙ sym also.tree_is)) unheld unheld_too)
-replay_once file events source _ second (no_holder program name from unheld) (scripted other code _ coded due) =
-    absurd (held_or_unheld source.file.hosts other.fields.items program.fields.items code.fields name
-    (same_fields program other (from.tree_is ∙ sym coded.built_from.tree_is)) coded.code_is.fields unheld)
-replay_once file events source first _ (scripted program code _ coded due) (not_built none) =
-    absurd (none coded.built_from.built)
-replay_once file events source first _ (scripted program code _ coded due) (no_holder other name from unheld) =
-    absurd (held_or_unheld source.file.hosts program.fields.items other.fields.items code.fields name
-    (same_fields other program (from.tree_is ∙ sym coded.built_from.tree_is)) coded.code_is.fields unheld)
-replay_once file events source first second (scripted program code _ coded due) (scripted other more _ also due_too) =
-    let same = coded.built_from.tree_is ∙ sym also.built_from.tree_is in
-    let code_same : more ≡ code = sym (one_code source.file program other code more same coded.code_is also.code_is) in
+pub replay_once : (file events : List ℕ) (placed : PlacedSource) (first second : VerdictShape) →
+    DueForReplay file events placed first → DueForReplay file events placed second → first ≡ second
+replay_once file events placed _ _ (not_built none) (not_built also) = refl
+replay_once file events placed _ second (not_built none) (scripted program code _ coded due) =
+    absurd (none coded.built)
+replay_once file events placed first _ (scripted program code _ coded due) (not_built none) =
+    absurd (none coded.built)
+replay_once file events placed first second (scripted program code _ coded due) (scripted other more _ also due_too) =
+    let same = coded.tree_is ∙ sym also.tree_is in
+    let code_same : more ≡ code =
+    sym (one_code placed.source.file (places_of placed) program other code more same coded.code_is also.code_is) in
     let values_same : starting_values other ≡ starting_values program = sym (same_start program other same) in
     script_once file code (starting_values program) events first second due
     (subst (λ (c : CodeShape). DueForScript file c (starting_values program) events second) code_same

@@ -11,11 +11,13 @@ use Rattle.split_cli.specs.Commands.{CommandShape, Check, Run, Replay, IsStepCou
 use Rattle.split_cli.specs.Verdicts.{VerdictShape, no_such_file}
 use Rattle.split_cli.specs.Loads.{FilesChange, Told, IsHeld, counted_by, IsFirstAbsent, IsFileFault}
 use Rattle.split_cli.specs.Sources.{Sources}
-use Rattle.split_cli.specs.Check.{accepted_report}
+use Rattle.split_cli.specs.PlacedSources.{PlacedSources}
+use Rattle.split_cli.specs.Check.{plan_report}
 use Rattle.split_cli.specs.PlainRun.{DueForRun}
 use Rattle.split_cli.specs.Replay.{DueForReplay}
 use Rattle.split_cli.specs.Due.{DueForBytes, DueForFiles, DueForCommand, absent, loaded, Due, no_words, for_command}
 use Rattle.split_cli.specs.Due.{IsDue}
+use Rattle.split_cli.proofs.OnePlaced.{PlaceLaws, places_once}
 use Rattle.split_cli.proofs.OneReplay.{replay_once}
 use Rattle.split_cli.proofs.OneRun.{RunLaws, run_once}
 use Rattle.split_cli.proofs.OneSource.{SourceLaws, sources_once}
@@ -25,6 +27,7 @@ use Rattle.split_cli.proofs.Stages.{one_due}
 -- what is known of the parts of a command
 pub record AllLaws : Type 0 where
   pub sources : SourceLaws
+  pub places : PlaceLaws
   pub runs : RunLaws
 
 -- ---- what is due for the bytes of all files
@@ -32,14 +35,14 @@ pub record AllLaws : Type 0 where
 bytes_once : AllLaws → (command : CommandShape) (bytes : List (List ℕ)) (first second : VerdictShape) →
     DueForBytes command bytes first → DueForBytes command bytes second → first ≡ second
 bytes_once laws (Check program hosts) (p ∷ h ∷ []) first second one two =
-    one_due (Sources p h) (λ source end. end ≡ accepted_report source.tree) first second
-    (sources_once laws.sources p h) (λ source was here there. here ∙ sym there) one two
+    one_due (PlacedSources p h) (λ placed end. end ≡ plan_report placed) first second
+    (places_once laws.sources laws.places p h) (λ placed was here there. here ∙ sym there) one two
 bytes_once laws (Run program hosts start steps) (p ∷ h ∷ s ∷ []) first second one two =
     one_due (Sources p h) (λ source. DueForRun start s steps source.tree) first second
     (sources_once laws.sources p h) (λ source was. run_once laws.runs start s steps source.tree first second) one two
 bytes_once laws (Replay program hosts events) (p ∷ h ∷ e ∷ []) first second one two =
-    one_due (Sources p h) (DueForReplay events e) first second
-    (sources_once laws.sources p h) (λ source was. replay_once events e source first second) one two
+    one_due (PlacedSources p h) (DueForReplay events e) first second
+    (places_once laws.sources laws.places p h) (λ placed was. replay_once events e placed first second) one two
 bytes_once laws (Check program hosts) [] first second one two = absurd one
 bytes_once laws (Check program hosts) (p ∷ []) first second one two = absurd one
 bytes_once laws (Check program hosts) (p ∷ h ∷ s ∷ more) first second one two = absurd one

@@ -1,4 +1,4 @@
--- Why labels are refused, in the texts that are made of them.
+-- Why labels and places are refused, in the texts that are made of the causes.
 use Rattle.std.proofs.Common.{◌≡◌, ℕ, List, ◌++◌, sym, ap, ◌∙◌, append_assoc}
 use Rattle.std.specs.Prelude.{codes, slice_index}
 use Rattle.std.specs.Fmt.{decimal}
@@ -9,7 +9,11 @@ use Rattle.label_lattice.specs.Printed.{printed_label}
 use Rattle.label_check.specs.declared.check_error.CheckError.{CheckError}
 use Rattle.label_check.specs.declared.check_error.CheckError.TheVariants as check
 use Rattle.js_base.specs.declared.status.Status.TheVariants.{SourceRefused}
-use Rattle.split_cli.specs.Verdicts.{Refuse, error_line, refused_statement, why_not_labelled, labels_refused}
+use Rattle.jif_tree.specs.Numbering.{statement_lines}
+use Rattle.jif_tree.specs.Trees.{ProgramTree}
+use Rattle.place_rules.specs.declared.place_error.PlaceError.{PlaceError}
+use Rattle.place_rules.specs.declared.place_error.PlaceError.TheVariants as place
+use Rattle.split_cli.specs.Verdicts.{Refuse, error_line, refused_statement, why_not_labelled, labels_refused, unheld}
 
 four_parts : (a b c d : List ℕ) → a ++ (b ++ (c ++ d)) ≡ a ++ b ++ c ++ d
 four_parts a b c d = simp append_assoc
@@ -56,3 +60,19 @@ statement_text principals lines why statement line cause text statement_is line_
     ∙ ap (λ (n : ℕ). opening ++ decimal n ++ middle ++ decimal (slice_index lines n) ++ closing ++ cause) statement_is
     ∙ ap (λ (why_not : List ℕ). opening ++ decimal (refused_statement why).0 ++ middle
     ++ decimal (slice_index lines (refused_statement why).0) ++ closing ++ why_not) cause_is)
+
+five_parts : (a b c d e : List ℕ) → a ++ (b ++ (c ++ (d ++ e))) ≡ a ++ b ++ c ++ d ++ e
+five_parts a b c d e = simp append_assoc
+
+-- the statement that no host may hold
+pub unheld_text : (tree : ProgramTree) (lines : List ℕ) (why : PlaceError) (statement : StmtId) (line : ℕ)
+    (text : List ℕ) → why ≡ place.NoHostForStatement statement → lines ≡ statement_lines tree →
+    line ≡ slice_index lines statement.0 →
+    text ≡ codes "statement " ++ (decimal statement.0 ++ (codes " (line " ++ (decimal line ++ codes ")"))) →
+    text ≡ unheld tree why
+unheld_text tree lines why statement line text is lines_are line_is text_is =
+    let opening = codes "statement " in let middle = codes " (line " in let closing = codes ")" in
+    text_is ∙ five_parts opening (decimal statement.0) middle (decimal line) closing
+    ∙ ap (λ (n : ℕ). opening ++ decimal statement.0 ++ middle ++ decimal n ++ closing)
+    (line_is ∙ ap (λ (all : List ℕ). slice_index all statement.0) lines_are)
+    ∙ ap (unheld tree) (sym is)

@@ -1,12 +1,15 @@
 -- What is due for a replay, by the program and the hosts that were read and what was loaded of the script.
 use Rattle.std.proofs.Common.{◌≡◌, ℕ, zero, suc, ◌+◌, ◌<◌, ◌≤◌, List, [], ◌∷◌, ◌++◌, length, map, refl}
 use Rattle.std.proofs.Common.{subst, inl, slice_get, length-append, arith}
-use Rattle.std.specs.Prelude.{true, false}
-use Rattle.std.specs.List.{AllZip, flat_map}
+use Rattle.std.proofs.Common.{ap, sym, ◌∙◌}
+use Rattle.std.specs.Prelude.{true, false, All, unwrap_or}
+use Rattle.std.specs.List.{flat_map}
 use Rattle.std.proofs.lemmas.List.{length-map}
+use Rattle.js_base.specs.declared.ids.HostId.{HostId}
 use Rattle.js_base.specs.declared.limits.TheConstants.{SCRIPT_BYTES, FIELDS, STATEMENTS}
-use Rattle.host_decl.specs.Hosts.{HostsShape}
+use Rattle.host_decl.specs.Hosts.{AreHosts, HostShape, HostsShape}
 use Rattle.jif_tree.specs.declared.program.Program.{Program}
+use Rattle.jif_tree.specs.declared.program.Field.{Field}
 use Rattle.jif_tree.specs.declared.program.Method.{Method}
 use Rattle.jif_tree.specs.declared.program.Stmt.{Stmt}
 use Rattle.jif_tree.specs.declared.program.StmtKind.{StmtKind}
@@ -16,13 +19,15 @@ use Rattle.jif_tree.specs.Numbering.{block_statements}
 use Rattle.jif_tree.specs.SourceRun.{body_of, main_body}
 use Rattle.jif_tree.specs.Store.{starting_values}
 use Rattle.jif_tree.specs.Trees.{Heading, BlockTree, statement_tree, row_tree, block_tree, field_tree, MethodTree}
-use Rattle.jif_tree.specs.Trees.{method_tree, program_tree}
+use Rattle.jif_tree.specs.Trees.{ProgramTree, method_tree, program_tree}
 use Rattle.net_world.specs.first.Code.{CodeShape}
-use Rattle.net_world.specs.first.FirstCode.{IsFirstUnheld, IsCodeOf, IsPlaced}
+use Rattle.need_labels.specs.Plan.{PlanShape, first_host}
+use Rattle.placement.specs.Placing.{HasHosts}
+use Rattle.net_world.specs.first.FirstCode.{Places, AreAmong, IsCodeOf, placed_fields}
 use Rattle.split_cli.specs.Built.{IsBuilt}
-use Rattle.split_cli.specs.Sources.{Source}
-use Rattle.split_cli.specs.Replay.{IsCoded, DueForScript, DueForReplay, not_built, no_holder, scripted}
-use Rattle.split_cli.specs.Verdicts.{VerdictShape, program_not_built, no_host_for_field, too_long}
+use Rattle.split_cli.specs.PlacedSources.{PlacedSource}
+use Rattle.split_cli.specs.Replay.{IsCoded, DueForScript, DueForReplay, not_built, scripted, home_of, main_head, root_of, places_of}
+use Rattle.split_cli.specs.Verdicts.{VerdictShape, program_not_built, too_long}
 
 -- ---- sizes
 
@@ -75,48 +80,88 @@ pub main_size : (program : Program) → IsWithinLimits (program_tree program) �
 unfolding numbers_of
 main_size program limits = omega (arith, body_count program.methods.items program.main.0, limits.statements)
 
-zip_length : {A B : Type 0} (R : A → B → Type 0) (xs : List A) (ys : List B) → AllZip R xs ys → length xs ≡ length ys
-zip_length R [] [] all = refl
-zip_length R [] (y ∷ ys) all = absurd all
-zip_length R (x ∷ xs) [] all = absurd all
-zip_length R (x ∷ xs) (y ∷ ys) all = omega (arith, zip_length R xs ys all.1)
+pub placed_size : (fields : List Field) (hosts : List HostId) → length (placed_fields fields hosts) ≤ length fields
+placed_size [] hosts = omega arith
+placed_size (field ∷ fields) [] = omega arith
+placed_size (field ∷ fields) (host ∷ hosts) = omega (arith, placed_size fields hosts)
 
-pub code_size : (program : Program) (file : HostsShape) (code : CodeShape) → IsWithinLimits (program_tree program) →
-    IsCodeOf program file code → length code.fields ≤ FIELDS
-code_size program file code limits is =
+pub code_size : (program : Program) (file : HostsShape) (places : Places) (code : CodeShape) →
+    IsWithinLimits (program_tree program) → IsCodeOf program file places code → length code.fields ≤ FIELDS
+code_size program file places code limits is =
     omega (
       arith,
-      zip_length (IsPlaced file.hosts) program.fields.items code.fields is.fields,
+      ap length is.fields,
+      placed_size program.fields.items places.fields,
       length-map program.fields.items field_tree,
       limits.fields,
     )
 
 -- ---- what is due
 
-pub replay_not_built : (file events : List ℕ) (source : Source) → (IsBuilt source.tree → false ≡ true) →
-    DueForReplay file events source program_not_built
-replay_not_built file events source never =
-    not_built (λ built. let both : false ≡ true = never built in let none : ⊥ = cc in none)
+-- a program whose statements are not all on the root host, or that is not of the form that hosts run
+pub replay_not_built : (file events : List ℕ) (placed : PlacedSource) →
+    (IsBuilt placed.source.tree × All (λ host. host ≡ root_of placed) placed.plan.statements → false ≡ true) →
+    DueForReplay file events placed program_not_built
+replay_not_built file events placed never =
+    not_built (λ built. let both : false ≡ true = never (built.program, built.together) in let none : ⊥ = cc in none)
 
-pub replay_unheld : (file events name : List ℕ) (source : Source) (program : Program) →
-    program_tree program ≡ source.tree → IsBuilt source.tree →
-    IsFirstUnheld source.file.hosts program.fields.items name →
-    DueForReplay file events source (no_host_for_field name)
-replay_unheld file events name source program is built unheld =
-    no_holder program name (record { tree_is = is; built = built }) unheld
+pub coded : (placed : PlacedSource) (program : Program) (code : CodeShape) →
+    program_tree program ≡ placed.source.tree →
+    IsBuilt placed.source.tree × All (λ host. host ≡ root_of placed) placed.plan.statements →
+    IsCodeOf program placed.source.file (places_of placed) code → IsCoded placed program code
+coded placed program code is built code_is = record {
+  tree_is = is;
+  built = record { program = built.0; together = built.1 };
+  code_is = code_is;
+}
 
-pub coded : (source : Source) (program : Program) (code : CodeShape) → program_tree program ≡ source.tree →
-    IsBuilt source.tree → IsCodeOf program source.file code → IsCoded source program code
-coded source program code is built code_is =
-    record { built_from = record { tree_is = is; built = built }; code_is = code_is }
+pub replay_too_long : (file events : List ℕ) (placed : PlacedSource) (program : Program) (code : CodeShape) →
+    IsCoded placed program code → SCRIPT_BYTES < length events → DueForReplay file events placed (too_long file)
+replay_too_long file events placed program code is more = scripted program code (too_long file) is (inl (more, refl))
 
-pub replay_too_long : (file events : List ℕ) (source : Source) (program : Program) (code : CodeShape) →
-    IsCoded source program code → SCRIPT_BYTES < length events → DueForReplay file events source (too_long file)
-replay_too_long file events source program code is more = scripted program code (too_long file) is (inl (more, refl))
-
-pub replay_scripted : (file events bytes : List ℕ) (source : Source) (program : Program) (code : CodeShape)
-    (verdict : VerdictShape) → IsCoded source program code → bytes ≡ events →
-    DueForScript file code (starting_values program) bytes verdict → DueForReplay file events source verdict
-replay_scripted file events bytes source program code verdict is same due =
+pub replay_scripted : (file events bytes : List ℕ) (placed : PlacedSource) (program : Program) (code : CodeShape)
+    (verdict : VerdictShape) → IsCoded placed program code → bytes ≡ events →
+    DueForScript file code (starting_values program) bytes verdict → DueForReplay file events placed verdict
+replay_scripted file events bytes placed program code verdict is same due =
     scripted program code verdict is
     (subst (λ (e : List ℕ). DueForScript file code (starting_values program) e verdict) same due)
+
+-- the root host of a plan is one of its hosts
+pub root_among : (count : ℕ) (statements : List HostId) (number : ℕ) → 0 < count →
+    All (λ host. host.0 < count) statements → (unwrap_or (slice_get statements number) first_host).0 < count
+root_among count [] number some all = some
+root_among count (s ∷ statements) zero some all = all 0 s (omega arith)
+root_among count (s ∷ statements) (suc number) some all =
+    root_among count statements number some (λ k d lt. all (suc k) d (omega arith))
+
+-- where the code stands, on the hosts of a file
+pub places_among : (file : HostsShape) (tree : ProgramTree) (plan : PlanShape) (rows : List HostShape) (root : HostId)
+    (fields : List HostId) → AreHosts file → HasHosts file plan → rows ≡ file.hosts → root ≡ home_of tree plan →
+    fields ≡ plan.fields → AreAmong (length rows) (record { root = root; fields = fields })
+places_among file tree plan rows root fields sound on same root_is fields_are =
+    let some : 0 < length file.hosts =
+    omega (arith, sound.names.some, length-map file.hosts (λ (host : HostShape). host.name)) in
+    let count : length file.hosts ≡ length rows = ap length (sym same) in
+    let R : HostId → Type 0 = λ one. one.0 < length rows in
+    let F : List HostId → Type 0 = λ all. All (λ host. host.0 < length rows) all in
+    let N : ℕ → Type 0 = λ n. All (λ host. host.0 < n) plan.fields in
+    record {
+      root = subst R (sym root_is)
+          (omega (arith, count, root_among (length file.hosts) plan.statements (main_head tree).0 some on.statements));
+      fields = subst F (sym fields_are) (subst N count on.fields);
+    }
+
+-- the code that was made
+pub coded_at : (placed : PlacedSource) (program : Program) (code : CodeShape) (rows : List HostShape) (root : HostId)
+    (fields : List HostId) → program_tree program ≡ placed.source.tree →
+    IsBuilt placed.source.tree × All (λ host. host ≡ root_of placed) placed.plan.statements →
+    rows ≡ placed.source.file.hosts → root ≡ root_of placed → fields ≡ placed.plan.fields →
+    ((file : HostsShape) → rows ≡ file.hosts →
+    IsCodeOf program file (record { root = root; fields = fields }) code) → IsCoded placed program code
+coded_at placed program code rows root fields is built same root_is fields_are made =
+    let of_root : HostId → Places = λ one. record { root = one; fields = fields } in
+    let of_fields : List HostId → Places = λ all. record { root = root_of placed; fields = all } in
+    let there : record { root = root; fields = fields } ≡ places_of placed = ap of_root root_is ∙ ap of_fields fields_are in
+    coded placed program code is built
+    (subst (λ (places : Places). IsCodeOf program placed.source.file places code) there
+    (made placed.source.file same))

@@ -26,7 +26,7 @@ pub from_ok : {T E P : Type 0} (r : Result T E) → true ≡ is_ok r → OnOk r 
 from_ok (Ok x) ok is = is
 from_ok (Err e) ok is = cc
 
-lines_more : (lines : List (List ℕ)) (line : List ℕ) →
+pub lines_more : (lines : List (List ℕ)) (line : List ℕ) →
     lines_text (lines ++ line ∷ []) ≡ lines_text lines ++ (line ++ 10 ∷ [])
 lines_more lines line = sym (flat_map_more (λ line. line ++ 10 ∷ []) [] lines line)
 
@@ -41,7 +41,8 @@ numbered_push F f nil cons n (y ∷ xs) x place is =
     rw (cons n y (xs ++ x ∷ []), cons n y xs)
     (ap (λ lines. f n y ∷ lines) (numbered_push F f nil cons (n + 1) xs x place (omega arith)))
 
-numbered_more : {X : Type 0} (F : ℕ → List X → List (List ℕ)) (f : ℕ → X → List ℕ) → ((n : ℕ) → F n [] ≡ []) →
+-- so F of one element more adds its line
+pub numbered_more : {X : Type 0} (F : ℕ → List X → List (List ℕ)) (f : ℕ → X → List ℕ) → ((n : ℕ) → F n [] ≡ []) →
     ((n : ℕ) (x : X) (xs : List X) → F n (x ∷ xs) ≡ f n x ∷ F (n + 1) xs) → (xs : List X) (i : ℕ) (d : X) →
     i < length xs → lines_text (F 0 (take (i + 1) xs))
     ≡ lines_text (F 0 (take i xs)) ++ (f i (get_or xs i d) ++ 10 ∷ [])

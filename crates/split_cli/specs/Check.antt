@@ -1,10 +1,13 @@
--- What `check` prints of a program that is accepted.
-use Rattle.std.specs.Prelude.{ℕ, List, ◌++◌, codes, length}
+-- What `check` prints of a program that is accepted and has places on its hosts.
+use Rattle.std.specs.Prelude.{ℕ, List, [], ◌∷◌, ◌++◌, codes, length}
 use Rattle.std.specs.Fmt.{decimal}
 use Rattle.js_base.specs.declared.status.Status.TheVariants.{Done}
 use Rattle.jif_tree.specs.Trees.{ProgramTree}
 use Rattle.jif_tree.specs.Numbering.{statement_numbers}
-use Rattle.split_cli.specs.Text.{line_text}
+use Rattle.msg_cost.specs.Cost.{plan_cost}
+use Rattle.split_cli.specs.PlacedSources.{PlacedSource, labelled_source}
+use Rattle.split_cli.specs.PlaceLines.{place_lines}
+use Rattle.split_cli.specs.Text.{lines_text}
 use Rattle.split_cli.specs.Verdicts.{VerdictShape, Print}
 
 -- `accepted F fields M methods S statements`, where the heads of methods count as statements
@@ -13,5 +16,12 @@ accepted_line tree =
     codes "accepted " ++ decimal (length tree.fields) ++ codes " fields " ++ decimal (length tree.methods)
     ++ codes " methods " ++ decimal (length (statement_numbers tree)) ++ codes " statements"
 
-abbrev pub accepted_report : ProgramTree → VerdictShape
-accepted_report tree = Print Done (line_text (accepted_line tree))
+-- `cost C`, of the plan
+abbrev pub cost_line : PlacedSource → List ℕ
+cost_line placed =
+    codes "cost "
+    ++ decimal (plan_cost (labelled_source placed.source) placed.needs placed.source.file placed.plan)
+
+abbrev pub plan_report : PlacedSource → VerdictShape
+plan_report placed =
+    Print Done (lines_text (accepted_line placed.source.tree ∷ place_lines placed ++ cost_line placed ∷ []))

@@ -6,7 +6,8 @@ use Rattle.split_cli.specs.Verdicts.{VerdictShape, usage, no_such_file}
 use Rattle.split_cli.specs.Loads.{FilesChange, Told, LoadsWell, IsFirstAbsent, IsFileFault}
 use Rattle.split_cli.specs.Stages.{DueThen}
 use Rattle.split_cli.specs.Sources.{Sources}
-use Rattle.split_cli.specs.Check.{accepted_report}
+use Rattle.split_cli.specs.PlacedSources.{PlacedSources}
+use Rattle.split_cli.specs.Check.{plan_report}
 use Rattle.split_cli.specs.PlainRun.{DueForRun}
 use Rattle.split_cli.specs.Replay.{DueForReplay}
 
@@ -14,11 +15,11 @@ use Rattle.split_cli.specs.Replay.{DueForReplay}
 -- of its own.
 abbrev pub DueForBytes : CommandShape → List (List ℕ) → VerdictShape → Type 0
 DueForBytes (Check program hosts) (p ∷ h ∷ []) verdict =
-    DueThen (Sources p h) (λ source end. end ≡ accepted_report source.tree) verdict
+    DueThen (PlacedSources p h) (λ placed end. end ≡ plan_report placed) verdict
 DueForBytes (Run program hosts start steps) (p ∷ h ∷ s ∷ []) verdict =
     DueThen (Sources p h) (λ source. DueForRun start s steps source.tree) verdict
 DueForBytes (Replay program hosts events) (p ∷ h ∷ e ∷ []) verdict =
-    DueThen (Sources p h) (DueForReplay events e) verdict
+    DueThen (PlacedSources p h) (DueForReplay events e) verdict
 DueForBytes command bytes verdict = ⊥
 
 -- What is due for a command whose files are all held. Where files do not tell what they hold, they hold some bytes.

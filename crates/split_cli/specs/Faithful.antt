@@ -13,17 +13,17 @@ use Rattle.net_world.specs.first.AllObey.{FieldsAre, Follows, IsIdle}
 use Rattle.split_cli.specs.Loads.{Told}
 use Rattle.split_cli.specs.Replay.{IsCoded}
 use Rattle.split_cli.specs.Report.{report}
-use Rattle.split_cli.specs.Sources.{Source, Sources}
+use Rattle.split_cli.specs.PlacedSources.{PlacedSource, PlacedSources}
 use Rattle.split_cli.specs.Stages.{given}
 
 -- A program, a host file and a script of events of these bytes were replayed, to this report.
 pub record IsReplayed (program hosts events : List ℕ) (text : List ℕ) : Type 0 where
-  -- what the two files say, the program as a tree, and its code on the hosts
-  pub source : Source
+  -- what the two files say and what is chosen for it, the program as a tree, and its code on the hosts
+  pub placed : PlacedSource
   pub tree : Program
   pub code : CodeShape
-  pub accepted : Sources program hosts (given source)
-  pub coded : IsCoded source tree code
+  pub accepted : PlacedSources program hosts (given placed)
+  pub coded : IsCoded placed tree code
   -- the events of the script, and the world that they lead to from the start
   pub script : List (ℕ × Event)
   pub last : World

@@ -5,9 +5,11 @@ pub mod Check
 pub mod Commands
 pub mod Due
 pub mod Faithful
-pub mod FirstCodes
 pub mod Loading
 pub mod Loads
+pub mod PlaceLines
+pub mod PlacedShapes
+pub mod PlacedSources
 pub mod PlainRun
 pub mod Replay
 pub mod Report

@@ -1,10 +1,12 @@
 -- What may be due for words and files: a refusal with its status and its line, or a report with its status. A word, a
 -- line and a file are lists of bytes.
-use Rattle.std.specs.Prelude.{ℕ, List, [], ◌∷◌, ◌++◌, codes, slice_index, string_bytes}
+use Rattle.std.specs.Prelude.{ℕ, List, [], ◌∷◌, ◌++◌, codes, slice_get, slice_index, string_bytes, unwrap_or}
 use Rattle.std.specs.Fmt.{decimal}
+use Rattle.std.specs.Option.{option_map}
 use Rattle.js_base.specs.declared.text.TheConstants.{LINE_FEED}
 use Rattle.js_base.specs.declared.status.Status.{Status}
 use Rattle.js_base.specs.declared.status.Status.TheVariants.{Usage, SourceRefused, InputRefused, FileFault}
+use Rattle.js_base.specs.declared.ids.FieldId.{FieldId}
 use Rattle.js_base.specs.declared.ids.StmtId.{StmtId}
 use Rattle.principals.specs.ActsFor.{Declared}
 use Rattle.principals.specs.Refusal.{PrincipalRefusal}
@@ -22,6 +24,10 @@ use Rattle.jif_resolve.specs.declared.resolve_error.ResolveError.{ResolveError}
 use Rattle.jif_resolve.specs.declared.resolve_error.ResolveError.TheVariants as resolve
 use Rattle.label_check.specs.declared.check_error.CheckError.{CheckError}
 use Rattle.label_check.specs.declared.check_error.CheckError.TheVariants as check
+use Rattle.jif_tree.specs.Numbering.{statement_lines}
+use Rattle.jif_tree.specs.Trees.{ProgramTree}
+use Rattle.place_rules.specs.declared.place_error.PlaceError.{PlaceError}
+use Rattle.place_rules.specs.declared.place_error.PlaceError.TheVariants as place
 use Rattle.net_world.specs.first.World.{Refusal, not_there, host_busy}
 use Rattle.split_cli.specs.declared.verdict.Verdict as verdict
 use Rattle.split_cli.specs.declared.verdict.Verdict.TheVariants as variants
@@ -154,8 +160,19 @@ hosts_refused why = Refuse InputRefused (error_line (codes "hosts: " ++ why_no_h
 
 -- ---- places
 
-abbrev pub no_host_for_field : List ℕ → VerdictShape
-no_host_for_field name = Refuse SourceRefused (error_line (codes "no host may hold field " ++ name))
+abbrev pub name_of_field : ProgramTree → FieldId → List ℕ
+name_of_field tree field = unwrap_or (option_map (λ one. one.name) (slice_get tree.fields field.0)) []
+
+-- what of the program no host may hold
+abbrev pub unheld : ProgramTree → PlaceError → List ℕ
+unheld tree place.OutOfMemory = []
+unheld tree (place.NoHostForField field) = codes "field " ++ name_of_field tree field
+unheld tree (place.NoHostForStatement statement) =
+    codes "statement " ++ decimal statement.0 ++ codes " (line "
+    ++ decimal (slice_index (statement_lines tree) statement.0) ++ codes ")"
+
+abbrev pub places_refused : ProgramTree → PlaceError → VerdictShape
+places_refused tree why = Refuse SourceRefused (error_line (codes "no host may hold " ++ unheld tree why))
 
 -- ---- scripts
 

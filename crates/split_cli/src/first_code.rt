@@ -1,70 +1,61 @@
-//! The code of a program on its hosts: all statements on the first host, and each field on the first that may hold it.
+//! The code of a program on its hosts: all statements on the root host, and each field on a host of its own.
 
-ghost use Rattle.std.specs.Prelude.{◌≡◌, ◌+◌, ◌^◌, ◌<◌, [], ◌∷◌, ◌++◌, IfOk, MatchResult};
+ghost use Rattle.std.specs.Prelude.{◌≡◌, ◌+◌, ◌^◌, ◌<◌, ◌≤◌, [], ◌∷◌, ◌++◌, IfOk, OnOk};
 ghost use Rattle.std.specs.Prelude.{length, map, replicate};
 ghost use Rattle.std.specs.String.{string_bytes};
 ghost use Rattle.jif_tree.specs.Assignments.{assignment_of};
 ghost use Rattle.jif_tree.specs.SourceRun.{main_body};
-ghost use Rattle.net_world.specs.first.FirstCode.{IsCodeOf, instruction_of, root_part};
-ghost use Rattle.split_cli.specs.FirstCodes.{HaveNoCode};
+ghost use Rattle.host_decl.specs.Hosts.{HostsShape};
+ghost use Rattle.net_world.specs.first.FirstCode.{AreAmong, IsCodeOf, instruction_of, parts_with_root, placed_fields};
+ghost use Rattle.net_world.specs.first.FirstCode.{root_part};
 
-mod placement;
-
-use host_decl::{HostRow, Hosts};
-use jif_tree::{Expr, Program, Stmt, StmtKind, negated};
+use host_decl::HostRow;
+use jif_tree::{Expr, Field, Program, Stmt, StmtKind, negated};
+use js_base::limits::HOSTS;
 use js_base::text::owned_text;
 use js_base::{FieldId, HostId, OutOfMemory, StmtId};
-use net_world::first::code::{Code, Instr, Op, Part};
-use placement::placed_fields;
-use std::alloc::{AllocFailed, Global};
-use thiserror::Error;
+use net_world::first::code::{Code, CodeField, Instr, Op, Part};
+use std::alloc::Global;
 
-/// Why there is no code of a program.
-#[derive(Debug, Drop, Error)]
-pub enum CodeError {
-    #[error("out of memory")]
-    OutOfMemory,
-    /// The name of the first field that no host may hold.
-    #[error("no host may hold field {0}")]
-    NoHostForField(String),
-}
-
-impl From<OutOfMemory> for CodeError {
-    ghost use Rattle.std.specs.Prelude.{◌≡◌};
-    ghost use Rattle.split_cli.specs.declared.first_code.CodeError.TheVariants as error;
-
-    ghost from_gives = { λ _ e. e ≡ error.OutOfMemory };
-
-    fn from(_error: OutOfMemory) -> CodeError {
-        CodeError::OutOfMemory
-    }
-}
-
-impl<T: Drop> From<AllocFailed<T>> for CodeError {
-    ghost use Rattle.std.specs.Prelude.{◌≡◌};
-    ghost use Rattle.split_cli.specs.declared.first_code.CodeError.TheVariants as error;
-
-    ghost from_gives = { λ _ e. e ≡ error.OutOfMemory };
-
-    fn from(_error: AllocFailed<T>) -> CodeError {
-        CodeError::OutOfMemory
-    }
-}
-
-/// The code of a program on these hosts. `main` has fewer than 2^32 - 1 statements, so that its places are numbers of
-/// 32 bits.
-pub fn code_of(alloc: Global, program: &Program, hosts: &Hosts) -> Result<Code, CodeError>
-    requires { length (main_body program.now) + 1 < 2 ^ 32 }
-    ensures { MatchResult result
-        (IsCodeOf program.now hosts.now)
-        (HaveNoCode hosts.now.hosts program.now.fields.items) }
+/// The code of a program on these hosts: all statements on the root host, and each field on a host of its own. `main`
+/// has fewer than 2^32 - 1 statements, so that its places are numbers of 32 bits.
+pub fn code_of(
+    alloc: Global,
+    program: &Program,
+    hosts: &[HostRow],
+    root: HostId,
+    fields: &[HostId],
+) -> Result<Code, OutOfMemory>
+    requires size { length (main_body program.now) + 1 < 2 ^ 32 }
+    requires hosts { length hosts.now ≤ HOSTS }
+    requires each { length fields.now ≡ length program.now.fields.items }
+    requires among { AreAmong (length hosts.now) (record { root = root; fields = fields.now }) }
+    ensures { IfOk result (λ code. (file : HostsShape) → hosts.now ≡ file.hosts →
+        IsCodeOf program.now file (record { root = root; fields = fields.now }) code) }
 {
-    let rows = hosts.hosts();
-    let fields = placed_fields(alloc, &program.fields, rows)?;
-    let names = host_names(alloc, rows)?;
-    let root = main_part(alloc, program)?;
-    let parts = all_parts(alloc, root, rows.len() - 1)?;
-    Ok(Code::new(names, fields, parts, HostId(0)))
+    let placed = placed_fields(alloc, &program.fields, fields)?;
+    let names = host_names(alloc, hosts)?;
+    let part = main_part(alloc, program)?;
+    let parts = all_parts(alloc, hosts.len(), root, part)?;
+    Ok(Code::new(names, placed, parts, root))
+}
+
+/// The fields, each with its host.
+fn placed_fields(
+    alloc: Global,
+    fields: &[Field],
+    hosts: &[HostId],
+) -> Result<Vec<CodeField>, OutOfMemory>
+    requires { length hosts.now ≡ length fields.now }
+    ensures { IfOk result (λ placed. placed.items ≡ placed_fields fields.now hosts.now) }
+{
+    let mut placed = Vec::new(alloc);
+    for (number, field) in fields.iter().enumerate() {
+        let name = owned_text(alloc, field.name.as_str())?;
+        let host = hosts[number];
+        placed.push(CodeField { name, host })?;
+    }
+    Ok(placed)
 }
 
 /// The hosts' names in order.
@@ -136,15 +127,31 @@ pub fn assignment_of(what: &StmtKind) -> Option<(FieldId, i64)>
     }
 }
 
-/// The root's part, which is the first, and an empty one for each other host.
-fn all_parts(alloc: Global, root: Part, others: usize) -> Result<Vec<Part>, OutOfMemory>
-    ensures { IfOk result (λ parts. parts.items ≡ root ∷ replicate others []) }
+/// The part of the root host, and an empty one for each of the other hosts.
+fn all_parts(
+    alloc: Global,
+    count: usize,
+    root: HostId,
+    part: Part,
+) -> Result<Vec<Part>, OutOfMemory>
+    requires { root.0 < count }
+    ensures { IfOk result (λ parts. parts.items ≡ parts_with_root count root.0 part) }
 {
+    let before = root.0 as usize;
     let mut parts = Vec::new(alloc);
-    parts.push(root)?;
-    for _made in 0..others {
+    push_empty(alloc, &mut parts, before)?;
+    parts.push(part)?;
+    push_empty(alloc, &mut parts, count - before - 1)?;
+    Ok(parts)
+}
+
+/// Adds so many empty parts.
+fn push_empty(alloc: Global, parts: &mut Vec<Part>, count: usize) -> Result<(), OutOfMemory>
+    ensures { OnOk result (parts.new.items ≡ parts.old.items ++ replicate count []) }
+{
+    for _made in 0..count {
         let empty = Part::new(Vec::new(alloc));
         parts.push(empty)?;
     }
-    Ok(parts)
+    Ok(())
 }

@@ -5,6 +5,7 @@ ghost use Rattle.js_base.specs.Counts.{last_count};
 ghost use Rattle.split_cli.specs.Verdicts.{VerdictShape};
 ghost use Rattle.split_cli.specs.Loads.{FilesChange, IsFileFault};
 ghost use Rattle.split_cli.specs.Due.{Due, IsDue};
+ghost use Rattle.split_cli.specs.PlacedSources.{PlacedSource, PlacedSources};
 ghost use Rattle.split_cli.specs.Sources.{Source, Sources};
 ghost use Rattle.split_cli.specs.Stages.{Outcome};
 
@@ -13,6 +14,9 @@ use jif_grammar::grammar_laws;
 use jif_lex::lex_laws;
 use jif_resolve::{program_laws, resolve_laws};
 use label_check::failure_laws;
+use need_labels::need_laws;
+use place_rules::place_rule_laws;
+use placement::placement_laws;
 use source_run::run_laws;
 
 /// Laws of what is due, for who reasons about answers. The call does nothing.
@@ -20,6 +24,10 @@ pub fn due_laws()
     // A program and a host file say one program and its hosts, or are refused for one cause.
     ensures one_source { (program hosts : List ℕ) (first second : Outcome Source) →
         Sources program hosts first → Sources program hosts second → first ≡ second }
+
+    // Its parts get one row of places, or the first that no host may hold is named.
+    ensures one_plan { (program hosts : List ℕ) (first second : Outcome PlacedSource) →
+        PlacedSources program hosts first → PlacedSources program hosts second → first ≡ second }
 
     // For words and files that tell what they hold one verdict is due, after one number of loads.
     ensures one_verdict { (words : List (List ℕ)) (holds : List ℕ → Option (List ℕ))
@@ -44,5 +52,8 @@ pub fn due_laws()
     resolve_laws();
     program_laws();
     failure_laws();
+    need_laws();
+    place_rule_laws();
+    placement_laws();
     run_laws();
 }

@@ -6,6 +6,8 @@ mod commands;
 mod first_code;
 mod laws;
 mod load;
+mod place_lines;
+mod placed;
 mod report;
 mod row_line;
 mod sources;

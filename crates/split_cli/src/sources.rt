@@ -10,9 +10,12 @@ ghost use Rattle.jif_tree.specs.Limits.{IsWithinLimits};
 ghost use Rattle.jif_tree.specs.Numbering.{statement_numbers};
 ghost use Rattle.jif_tree.specs.Trees.{program_tree};
 ghost use Rattle.jif_tree.specs.WellNumbered.{IsWellNumbered};
-ghost use Rattle.jif_resolve.specs.Sizes.{IsSized};
+ghost use Rattle.jif_resolve.specs.Sizes.{IsSized, IsLimited};
 ghost use Rattle.label_check.specs.Checking.{AreAuthorities};
+ghost use Rattle.msg_cost.specs.Limits as few;
+ghost use Rattle.need_labels.specs.Labelled.{labelled_of};
 ghost use Rattle.split_cli.specs.Loading.{EndsAs, IsLoaded};
+ghost use Rattle.split_cli.specs.PlacedSources.{labelled_source};
 ghost use Rattle.split_cli.specs.SourceShapes.{source_shape};
 ghost use Rattle.split_cli.specs.Sources.{Lexed, Parsed, Drafted, HostsRead, Resolved, Labelled, Sources};
 
@@ -23,7 +26,7 @@ use crate::verdict::Verdict;
 use host_decl::{Hosts, HostsError, host_file_laws, read_hosts};
 use jif_lex::{LexError, Token, lex, token_laws};
 use jif_parse::parse;
-use jif_resolve::{program_laws, resolve, size_laws};
+use jif_resolve::{limit_laws, program_laws, resolve, size_laws};
 use jif_tree::{Checked, Draft, Program};
 use label_check::check;
 use std::alloc::Global;
@@ -44,6 +47,10 @@ pub fn read_sources(alloc: Global, program: &Loaded, hosts: &Loaded) -> Result<S
     // It has a program label for each statement.
     ensures labels { IfOk result (λ source. length source.checked.pc.items
         ≡ length (statement_numbers (program_tree source.checked.program))) }
+    ensures labelled { IfOk result (λ source. labelled_of source.checked ≡ labelled_source (source_shape source)) }
+    ensures sized { IfOk result (λ source. few.IsSized (program_tree source.checked.program)) }
+    ensures authorities { IfOk result
+        (λ source. AreAuthorities source.hosts.principals (program_tree source.checked.program)) }
 {
     let draft = drafted(alloc, program)?;
     let hosts = hosts_read(alloc, hosts)?;
@@ -56,6 +63,7 @@ pub fn read_sources(alloc: Global, program: &Loaded, hosts: &Loaded) -> Result<S
 fn drafted(alloc: Global, program: &Loaded) -> Result<Draft, Stop>
     ensures drafted { (p : List ℕ) → IsLoaded PROGRAM_BYTES p program.now → EndsAs draft_shape (Drafted p) result }
     ensures sized { IfOk result (λ draft. IsSized (draft_shape draft)) }
+    ensures limited { IfOk result (λ draft. IsLimited (draft_shape draft)) }
 {
     let tokens = lexed(alloc, program)?;
     parsed(alloc, &tokens)
@@ -92,8 +100,10 @@ fn parsed(alloc: Global, tokens: &[Token]) -> Result<Draft, Stop>
     requires { length tokens.now ≤ PROGRAM_BYTES }
     ensures parsed { EndsAs draft_shape (Parsed tokens.now) result }
     ensures sized { IfOk result (λ draft. IsSized (draft_shape draft)) }
+    ensures limited { IfOk result (λ draft. IsLimited (draft_shape draft)) }
 {
     size_laws();
+    limit_laws();
     match parse(alloc, tokens) {
         Ok(draft) => Ok(draft),
         Err(why) => Err(stopped(Verdict::not_parsed(alloc, why))),
@@ -123,11 +133,13 @@ fn hosts_of(alloc: Global, file: &Loaded) -> Result<Hosts, HostsError>
 
 /// The program of a draft, by the principals of these hosts.
 fn resolved(alloc: Global, draft: Draft, hosts: &Hosts) -> Result<Program, Stop>
-    requires { IsSized (draft_shape draft) }
+    requires sized { IsSized (draft_shape draft) }
+    requires limited { IsLimited (draft_shape draft) }
     ensures resolved { EndsAs program_tree (Resolved hosts.now (draft_shape draft)) result }
     ensures limits { IfOk result (λ program. IsWithinLimits (program_tree program)) }
     ensures numbered { IfOk result (λ program. IsWellNumbered (program_tree program)) }
     ensures authorities { IfOk result (λ program. AreAuthorities hosts.now.principals (program_tree program)) }
+    ensures few { IfOk result (λ program. few.IsSized (program_tree program)) }
 {
     program_laws();
     match resolve(alloc, draft, hosts.principals()) {
@@ -144,6 +156,8 @@ fn labelled(alloc: Global, program: Program, hosts: &Hosts) -> Result<Checked, S
     ensures kept { IfOk result (λ checked. program_tree checked.program ≡ program_tree program) }
     ensures labels { IfOk result (λ checked. length checked.pc.items
         ≡ length (statement_numbers (program_tree program))) }
+    ensures found { IfOk result (λ checked. labelled_of checked
+        ≡ labelled_source (record { file = hosts.now; tree = program_tree program })) }
 {
     let principals = hosts.principals();
     let lines = statement_lines(alloc, &program)?;

@@ -19,6 +19,7 @@ use host_decl::host_file_laws;
 use jif_resolve::program_laws;
 use js_base::{Files, OutOfMemory, PutError, Sink, Status};
 use net_world::first::laws::all_obey_laws;
+use placement::placement_laws;
 use std::alloc::Global;
 
 /// Runs `jifsplit` on the words after its name.
@@ -82,6 +83,7 @@ pub fn jifsplit<F: Files, S: Sink, E: Sink>(
     host_file_laws();
     program_laws();
     all_obey_laws();
+    placement_laws();
     answered(alloc, words, files, out, err)
 }
 

@@ -1,19 +1,24 @@
 //! What is due for words and files, with the lines of all refusals.
 
-ghost use Rattle.std.specs.Prelude.{◌≡◌, ◌≢◌, IfOk, slice_index};
+ghost use Rattle.std.specs.Prelude.{◌≡◌, ◌≢◌, [], IfOk, map, slice_get, slice_index, unwrap_or};
+ghost use Rattle.std.specs.Option.{option_map};
 ghost use Rattle.std.specs.String.{string_bytes};
+ghost use Rattle.jif_tree.specs.Trees.{field_tree, program_tree};
 ghost use Rattle.host_decl.specs.Refusal as hosts;
 ghost use Rattle.principals.specs.Refusal as principals;
 ghost use Rattle.split_cli.specs.Verdicts as verdicts;
 
+use crate::statement_lines::statement_lines;
 use host_decl::HostsError;
 use jif_grammar::What;
 use jif_lex::LexError;
 use jif_parse::ParseError;
 use jif_resolve::ResolveError;
-use js_base::{OutOfMemory, Status, StmtId};
+use jif_tree::{Field, Program};
+use js_base::{FieldId, OutOfMemory, Status, StmtId};
 use label_check::CheckError;
 use label_lattice::label_text;
+use place_rules::PlaceError;
 use principals::{PrincipalError, Principals};
 use std::alloc::{AllocError, Global};
 
@@ -150,11 +155,21 @@ impl Verdict {
         Verdict::refusal(alloc, Status::InputRefused, text.as_str())
     }
 
-    /// No host may hold a field of the program.
-    pub fn no_host_for_field(alloc: Global, field: &str) -> Result<Verdict, OutOfMemory>
-        ensures { IfOk result (λ verdict. verdict_shape verdict ≡ verdicts.no_host_for_field field.now) }
+    /// No host may hold some part of the program.
+    ///
+    /// # Errors
+    /// Always where it was not found because memory ran out.
+    pub fn places_refused(
+        alloc: Global,
+        program: &Program,
+        why: &PlaceError,
+    ) -> Result<Verdict, OutOfMemory>
+        ensures refused { IfOk result (λ verdict.
+            verdict_shape verdict ≡ verdicts.places_refused (program_tree program.now) why.now) }
+        ensures not_memory { IfOk result (λ verdict. why.now ≢ PlaceError.OutOfMemory) }
     {
-        let text = format!(in alloc; "no host may hold field {field}")?;
+        let what = unheld(alloc, program, why)?;
+        let text = format!(in alloc; "no host may hold {what}")?;
         Verdict::refusal(alloc, Status::SourceRefused, text.as_str())
     }
 
@@ -293,6 +308,37 @@ fn why_not_labelled(
             alloc,
             "program label not trusted",
         )?),
+    }
+}
+
+/// What of a program no host may hold.
+fn unheld(alloc: Global, program: &Program, why: &PlaceError) -> Result<String, OutOfMemory>
+    ensures text { IfOk result
+        (λ text. string_bytes text ≡ verdicts.unheld (program_tree program.now) why.now) }
+    ensures not_memory { IfOk result (λ text. why.now ≢ PlaceError.OutOfMemory) }
+{
+    match why {
+        PlaceError::OutOfMemory => Err(OutOfMemory),
+        PlaceError::NoHostForField(field) => {
+            let name = field_name(&program.fields, *field);
+            Ok(format!(in alloc; "field {name}")?)
+        }
+        PlaceError::NoHostForStatement(statement) => {
+            let lines = statement_lines(alloc, program)?;
+            let number = statement.0;
+            let line = line_of(&lines, number);
+            Ok(format!(in alloc; "statement {number} (line {line})")?)
+        }
+    }
+}
+
+/// The name of a field, empty where there is no such field.
+fn field_name(fields: &[Field], field: FieldId) -> &str
+    ensures { result.now ≡ unwrap_or (option_map (λ one. one.name) (slice_get (map field_tree fields.now) field.0)) [] }
+{
+    match fields.get(field.0 as usize) {
+        Some(one) => one.name.as_str(),
+        None => "",
     }
 }
 

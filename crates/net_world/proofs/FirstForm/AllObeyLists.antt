@@ -1,8 +1,8 @@
 -- What a change of one element does to the others.
 use Rattle.std.proofs.Common.{◌≡◌, ◌≢◌, ℕ, zero, suc, ◌<◌, ℤ, pos, Bool, true, false, ◌||◌, List, [], ◌∷◌, ◌++◌, length}
 use Rattle.std.proofs.Common.{map, replicate, refl, ap, subst, ◌∙◌, arith, Some, None, get_or}
-use Rattle.std.specs.Prelude.{slice_get, slice_set, position, IsSomeAnd, All, unwrap_or, nat_lt}
-use Rattle.std.specs.List.{list_any, AllZip}
+use Rattle.std.specs.Prelude.{slice_get, slice_set, position, All, unwrap_or, nat_lt}
+use Rattle.std.specs.List.{list_any}
 use Rattle.std.proofs.lemmas.Bool.{or_right, cond-true, lt-ltb}
 use Rattle.std.proofs.lemmas.Option.{slice_get-get_or}
 use Rattle.js_base.specs.declared.ids.HostId.{HostId}
@@ -107,32 +107,10 @@ get-from_All P [] i x all there = absurd (cc)
 get-from_All P (y ∷ xs) zero x all there = subst P (let same : y ≡ x = cc in same) (all 0 y (omega arith))
 get-from_All P (y ∷ xs) (suc i) x all there = get-from_All P xs i x (λ k d lt. all (suc k) d (omega arith)) there
 
--- what holds of an element, where there is one
-pub get_has : {X : Type 0} (xs : List X) (i : ℕ) (P : X → Type 0) → IsSomeAnd (slice_get xs i) P → i < length xs
-get_has [] i P has = absurd has
-get_has (x ∷ xs) zero P has = omega arith
-get_has (x ∷ xs) (suc i) P has = let lt = get_has xs i P has in omega arith
-
 pub get_within : {X : Type 0} (xs : List X) (i : ℕ) → i < length xs → (x : X) × (slice_get xs i ≡ Some x)
 get_within [] i lt = absurd (omega arith)
 get_within (x ∷ xs) zero lt = (x, refl)
 get_within (x ∷ xs) (suc i) lt = get_within xs i (omega arith)
-
-pub length-zip : {A B : Type 0} (R : A → B → Type 0) (xs : List A) (ys : List B) → AllZip R xs ys →
-    length xs ≡ length ys
-length-zip R [] [] zip = refl
-length-zip R [] (y ∷ ys) zip = absurd zip
-length-zip R (x ∷ xs) [] zip = absurd zip
-length-zip R (x ∷ xs) (y ∷ ys) zip = ap suc (length-zip R xs ys zip.1)
-
--- each element of the second list has its element of the first
-pub zip_at : {A B : Type 0} (R : A → B → Type 0) (xs : List A) (ys : List B) (i : ℕ) (y : B) → AllZip R xs ys →
-    slice_get ys i ≡ Some y → (x : A) × R x y
-zip_at R [] [] i y zip there = absurd (cc)
-zip_at R [] (z ∷ ys) i y zip there = absurd zip
-zip_at R (x ∷ xs) [] i y zip there = absurd zip
-zip_at R (x ∷ xs) (z ∷ ys) zero y zip there = (x, subst (R x) (let same : z ≡ y = cc in same) zip.0)
-zip_at R (x ∷ xs) (z ∷ ys) (suc i) y zip there = zip_at R xs ys i y zip.1 there
 
 -- a list and one more element
 pub get-map_push : {X Y : Type 0} (f : X → Y) (xs : List X) (i : ℕ) (x : X) (end : Y) → slice_get xs i ≡ Some x →

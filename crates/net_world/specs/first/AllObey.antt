@@ -10,15 +10,17 @@ use Rattle.jif_tree.specs.Assignments.{AssignsNumbers}
 use Rattle.net_world.specs.declared.first.events.Event.{Event}
 use Rattle.net_world.specs.first.Code.{CodeShape, FieldShape}
 use Rattle.host_decl.specs.Hosts.{HostsShape, AreHostNames, names_of}
-use Rattle.net_world.specs.first.FirstCode.{IsCodeOf}
+use Rattle.net_world.specs.first.FirstCode.{Places, AreAmong, IsCodeOf}
 use Rattle.net_world.specs.first.World.{World, run, world_at_start, field_row, has_halted}
 
--- `main` assigns numbers to fields, the code is that of the program on these hosts, and the store has a row for each
--- field
+-- `main` assigns numbers to fields, the code is that of the program in some places on these hosts, and the store has a
+-- row for each field
 pub record IsSet (program : Program) (file : HostsShape) (code : CodeShape) (store : List (List ℤ)) : Type 0 where
   pub assigns : AssignsNumbers program
   pub hosts_are : AreHostNames (names_of file.hosts)
-  pub code_is : IsCodeOf program file code
+  pub places : Places
+  pub among : AreAmong (length file.hosts) places
+  pub code_is : IsCodeOf program file places code
   pub rows : length store ≡ length program.fields.items
 
 -- each field has on its host what the store has

@@ -2,22 +2,33 @@
 
 ghost use Rattle.std.specs.Prelude.{◌≡◌, ◌≤◌, ◌+◌, ◌∷◌, [], ℕ, List, IfOk, length};
 ghost use Rattle.js_base.specs.declared.limits.TheConstants.{PROGRAM_BYTES, HOSTS_BYTES};
+ghost use Rattle.std.specs.String.{string_bytes};
+ghost use Rattle.jif_tree.specs.Limits.{IsWithinLimits};
 ghost use Rattle.jif_tree.specs.Numbering.{statement_numbers};
 ghost use Rattle.jif_tree.specs.Trees.{program_tree};
+ghost use Rattle.msg_cost.specs.Limits.{IsSized};
+ghost use Rattle.need_labels.specs.Labelled.{labelled_of};
 ghost use Rattle.split_cli.specs.Commands as command;
-ghost use Rattle.split_cli.specs.Check.{accepted_report};
+ghost use Rattle.split_cli.specs.Check.{accepted_line, plan_report};
 ghost use Rattle.split_cli.specs.Due.{DueForBytes, IsDueForCommand};
 ghost use Rattle.split_cli.specs.Loading.{EndsIn, IsLoaded};
+ghost use Rattle.split_cli.specs.PlacedShapes.{placed_shape};
+ghost use Rattle.split_cli.specs.PlacedSources.{labelled_source};
+ghost use Rattle.split_cli.specs.SourceShapes.{source_shape};
+ghost use Rattle.split_cli.specs.Text.{line_text};
 ghost use Rattle.split_cli.specs.Verdicts.{verdict_shape};
 
 use crate::commands::{host_file, program_file};
 use crate::load::{Loaded, load_all};
-use crate::sources::read_sources;
+use crate::place_lines::push_places;
+use crate::placed::{PlacedSource, read_places};
 use crate::stop::Stop;
 use crate::verdict::Verdict;
 use jif_tree::Checked;
 use js_base::{Files, OutOfMemory, Status};
+use msg_cost::cost;
 use std::alloc::Global;
+use std::fmt::Write;
 
 /// What is due for `check P H`.
 pub fn due_for_check<F: Files>(
@@ -53,24 +64,45 @@ fn due_for_loaded(alloc: Global, program: &Loaded, hosts: &Loaded) -> Result<Ver
         IsLoaded PROGRAM_BYTES p program.now → IsLoaded HOSTS_BYTES h hosts.now →
         EndsIn (DueForBytes (command.Check names others) (p ∷ h ∷ [])) result }
 {
-    let source = read_sources(alloc, program, hosts)?;
-    Ok(accepted(alloc, &source.checked)?)
+    let placed = read_places(alloc, program, hosts)?;
+    Ok(plan_report(alloc, &placed)?)
 }
 
-/// The report of a program that is accepted: how many fields, methods and statements it has. It has a program label for
-/// each statement.
-fn accepted(alloc: Global, checked: &Checked) -> Result<Verdict, OutOfMemory>
-    requires { length checked.now.pc.items ≡ length (statement_numbers (program_tree checked.now.program)) }
-    ensures { IfOk result (λ verdict. verdict_shape verdict ≡ accepted_report (program_tree checked.now.program)) }
+/// The report of a program in its places: how much there is of it, which hosts may hold what, where it stands, and what
+/// its plan costs. It has a program label for each statement.
+fn plan_report(alloc: Global, placed: &PlacedSource) -> Result<Verdict, OutOfMemory>
+    requires limits { IsWithinLimits (program_tree placed.now.source.checked.program) }
+    requires sized { IsSized (program_tree placed.now.source.checked.program) }
+    requires labels { length placed.now.source.checked.pc.items
+        ≡ length (statement_numbers (program_tree placed.now.source.checked.program)) }
+    requires labelled { labelled_of placed.now.source.checked
+        ≡ labelled_source (source_shape placed.now.source) }
+    ensures { IfOk result (λ verdict. verdict_shape verdict ≡ plan_report (placed_shape placed.now)) }
 {
-    let fields = checked.program.fields.len();
-    let methods = checked.program.methods.len();
-    let statements = checked.pc.len();
-    let text = format!(in alloc;
-        "accepted {fields} fields {methods} methods {statements} statements\n"
-    )?;
+    let mut text = accepted(alloc, &placed.source.checked)?;
+    push_places(alloc, &mut text, placed)?;
+    let cost = cost(
+        &placed.source.checked,
+        &placed.needs,
+        &placed.source.hosts,
+        &placed.plan,
+    );
+    writeln!(text, "cost {cost}").map_err(|_| OutOfMemory)?;
     Ok(Verdict::Print {
         status: Status::Done,
         text,
     })
+}
+
+/// The line of a program that is accepted: how many fields, methods and statements it has. It has a program label for
+/// each statement.
+fn accepted(alloc: Global, checked: &Checked) -> Result<String, OutOfMemory>
+    requires { length checked.now.pc.items ≡ length (statement_numbers (program_tree checked.now.program)) }
+    ensures { IfOk result
+        (λ text. string_bytes text ≡ line_text (accepted_line (program_tree checked.now.program))) }
+{
+    let fields = checked.program.fields.len();
+    let methods = checked.program.methods.len();
+    let statements = checked.pc.len();
+    Ok(format!(in alloc; "accepted {fields} fields {methods} methods {statements} statements\n")?)
 }

@@ -6,19 +6,20 @@ ghost use Rattle.jif_tree.specs.Limits.{IsWithinLimits};
 ghost use Rattle.jif_tree.specs.Store.{starting_values};
 ghost use Rattle.jif_tree.specs.Trees.{program_tree};
 ghost use Rattle.jif_tree.specs.WellNumbered.{IsWellNumbered};
+ghost use Rattle.placement.specs.Placing.{HasHosts};
 ghost use Rattle.split_cli.specs.Commands as command;
 ghost use Rattle.split_cli.specs.Due.{DueForBytes, IsDueForCommand};
 ghost use Rattle.split_cli.specs.Loading.{EndsIn, IsLoaded};
 ghost use Rattle.split_cli.specs.Replay.{DueForReplay, DueForScript};
-ghost use Rattle.split_cli.specs.SourceShapes.{source_shape};
+ghost use Rattle.split_cli.specs.PlacedShapes.{placed_shape};
 ghost use Rattle.split_cli.specs.Verdicts.{verdict_shape};
 
-use crate::built::is_built;
+use crate::built::{is_built_there, root_of};
 use crate::commands::{host_file, program_file, script_file};
-use crate::first_code::{CodeError, code_of};
+use crate::first_code::code_of;
 use crate::load::{Loaded, load_all};
+use crate::placed::{PlacedSource, read_places};
 use crate::report::report_text;
-use crate::sources::{Source, read_sources};
 use crate::stop::Stop;
 use crate::verdict::Verdict;
 use jif_tree::{Program, Store};
@@ -70,33 +71,31 @@ fn due_for_loaded(
         IsLoaded SCRIPT_BYTES e events.now →
         EndsIn (DueForBytes (command.Replay names others name.now) (p ∷ h ∷ e ∷ [])) result }
 {
-    let source = read_sources(alloc, program, hosts)?;
-    Ok(replay_from(alloc, name, events, &source)?)
+    let placed = read_places(alloc, program, hosts)?;
+    Ok(replay_from(alloc, name, events, &placed)?)
 }
 
-/// What is due for a script of this name, on the hosts and with the program that were read.
+/// What is due for a script of this name, for a program in its places on the hosts that were read.
 fn replay_from(
     alloc: Global,
     name: &str,
     events: &Loaded,
-    source: &Source,
+    placed: &PlacedSource,
 ) -> Result<Verdict, OutOfMemory>
-    requires limits { IsWithinLimits (program_tree source.now.checked.program) }
-    requires numbered { IsWellNumbered (program_tree source.now.checked.program) }
+    requires limits { IsWithinLimits (program_tree placed.now.source.checked.program) }
+    requires numbered { IsWellNumbered (program_tree placed.now.source.checked.program) }
+    requires each { length placed.now.plan.fields ≡ length placed.now.source.checked.program.fields.items }
+    requires hosts { HasHosts placed.now.source.hosts placed.now.plan }
     ensures { IfOk result (λ verdict. (e : List ℕ) → IsLoaded SCRIPT_BYTES e events.now →
-        DueForReplay name.now e (source_shape source.now) (verdict_shape verdict)) }
+        DueForReplay name.now e (placed_shape placed.now) (verdict_shape verdict)) }
 {
-    let program = &source.checked.program;
-    if !is_built(program) {
+    let program = &placed.source.checked.program;
+    if !is_built_there(program, &placed.plan) {
         return Verdict::program_not_built(alloc);
     }
-    let code = match code_of(alloc, program, &source.hosts) {
-        Ok(code) => code,
-        Err(CodeError::NoHostForField(field)) => {
-            return Verdict::no_host_for_field(alloc, field.as_str());
-        }
-        Err(CodeError::OutOfMemory) => return Err(OutOfMemory),
-    };
+    let hosts = placed.source.hosts.hosts();
+    let root = root_of(program, &placed.plan);
+    let code = code_of(alloc, program, hosts, root, placed.plan.fields())?;
     match events {
         Loaded::Bytes(bytes) => replayed(alloc, name, program, &code, bytes),
         Loaded::TooLong => Verdict::too_long(alloc, name),

@@ -1,9 +1,8 @@
-use Rattle.std.proofs.Common.{refl}
-use Rattle.split_cli.proofs.FirstCode.{code_sound, made_code}
+use Rattle.split_cli.proofs.FirstCode.{made_sound}
 use Rattle.split_cli.proofs.first_code.code_of.Goals as goal
 
 pub new-requires : goal.new-requires
 new-requires c =
-    code_sound c.args.program.now c.args.hosts.now _ c.hosts-rows.ensures.sound.names c.requires
-    (made_code _ _ c.hosts-rows.result.now _ _ _ _ _ c.hosts-rows.ensures.hosts c.deref.ensures.value
-    c.in_ok-names.ensures c.in_ok-fields.ensures (rw c.in_ok-root.ensures at c.in_ok-parts.ensures) refl)
+    made_sound c.args.program.now c.args.hosts.now (record { root = c.args.root; fields = c.args.fields.now }) _ _ _
+    c.requires.hosts c.requires.size c.requires.among c.in_ok-names.ensures
+    (rw c.deref.ensures.value at c.in_ok-placed.ensures) (rw c.in_ok-part.ensures at c.in_ok-parts.ensures)

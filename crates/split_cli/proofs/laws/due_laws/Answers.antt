@@ -1,3 +1,4 @@
+use Rattle.split_cli.proofs.OnePlaced.{PlaceLaws, places_once}
 use Rattle.split_cli.proofs.OneSource.{SourceLaws, sources_once}
 use Rattle.split_cli.proofs.OneVerdict.{AllLaws, due_once, answer_once, one_fault_place}
 use Rattle.split_cli.proofs.laws.due_laws.Goals as goal
@@ -27,9 +28,18 @@ source_laws c = record {
   };
 }
 
+place_laws : (c : goal.After-run_laws) → PlaceLaws
+place_laws c = record {
+  one_needs = c.need_laws.ensures.one_needs;
+  one_plan = c.placement_laws.ensures.one_plan;
+  one_refusal = c.place_rule_laws.ensures.one_refusal;
+  never_both = c.place_rule_laws.ensures.never_both;
+}
+
 all_laws : (c : goal.After-run_laws) → AllLaws
 all_laws c = record {
   sources = source_laws c;
+  places = place_laws c;
   runs = record {
     same_runs = c.run_laws.ensures.same_runs;
     one_answer = c.run_laws.ensures.one_answer;
@@ -38,6 +48,9 @@ all_laws c = record {
 
 pub returns-clause-one_source : goal.returns-clause-one_source
 returns-clause-one_source c = sources_once (source_laws c)
+
+pub returns-clause-one_plan : goal.returns-clause-one_plan
+returns-clause-one_plan c = places_once (source_laws c) (place_laws c)
 
 pub returns-clause-one_verdict : goal.returns-clause-one_verdict
 returns-clause-one_verdict c = due_once (all_laws c)

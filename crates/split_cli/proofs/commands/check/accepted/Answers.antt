@@ -13,4 +13,4 @@ returns c =
     accepted_text (program_tree program) _ _ _ _
     (c.len-fields.ensures ∙ fields ∙ sym (length-map program.fields.items field_tree))
     (c.len-methods.ensures ∙ methods ∙ sym (length-map program.methods.items method_tree))
-    (c.len-statements.ensures ∙ statements ∙ c.requires) c.in_ok-text.ensures.ok
+    (c.len-statements.ensures ∙ statements ∙ c.requires) c.in_ok-format.ensures.ok

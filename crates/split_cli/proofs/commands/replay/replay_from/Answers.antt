@@ -1,61 +1,76 @@
-use Rattle.std.proofs.Common.{refl, sym, ap, ◌∙◌, subst, arith, String, Global}
-use Rattle.std.specs.String.{string_bytes}
+use Rattle.std.proofs.Common.{arith, ap, length, refl, subst, ◌∙◌, sym}
+use Rattle.std.proofs.lemmas.List.{length-map}
 use Rattle.std.proofs.lemmas.Result.{IfOk-weaker}
-use Rattle.net_world.specs.first.FirstCode.{IsFirstUnheld}
+use Rattle.host_decl.specs.Hosts.{HostShape}
 use Rattle.js_base.specs.declared.limits.TheConstants.{SCRIPT_BYTES}
+use Rattle.jif_tree.specs.Trees.{program_tree}
 use Rattle.split_cli.specs.Loading.{IsLoaded}
+use Rattle.split_cli.specs.PlacedShapes.{placed_shape}
 use Rattle.split_cli.specs.Replay.{DueForReplay}
-use Rattle.split_cli.specs.SourceShapes.{source_shape}
-use Rattle.split_cli.proofs.ReplayDue.{main_size, code_size, coded, replay_not_built, replay_unheld, replay_too_long}
-use Rattle.split_cli.proofs.ReplayDue.{replay_scripted}
+use Rattle.split_cli.proofs.ReplayDue.{main_size, code_size, replay_not_built, replay_too_long, replay_scripted}
+use Rattle.split_cli.proofs.ReplayDue.{places_among, coded_at}
 use Rattle.split_cli.proofs.RunDue.{are_bytes}
 use Rattle.split_cli.proofs.commands.replay.replay_from.Goals as goal
 
-pub returns-then-not-is_built : goal.returns-then-not-is_built
-returns-then-not-is_built c =
+pub returns-then-not-is_built_there : goal.returns-then-not-is_built_there
+returns-then-not-is_built_there c =
     IfOk-weaker c.program_not_built.result _ _ (λ verdict is e loaded.
-    subst (DueForReplay c.args.name.now e (source_shape c.args.source.now)) (sym is)
-    (replay_not_built c.args.name.now e (source_shape c.args.source.now) c.if-not-is_built.ensures.1))
+    subst (DueForReplay c.args.name.now e (placed_shape c.args.placed.now)) (sym is)
+    (replay_not_built c.args.name.now e (placed_shape c.args.placed.now) c.if-not-is_built_there.ensures.1))
     c.program_not_built.ensures
 
-pub code_of-requires : goal.code_of-requires
-code_of-requires c = omega (arith, main_size c.args.source.now.checked.program c.requires.limits)
+pub code_of-requires-clause-size : goal.code_of-requires-clause-size
+code_of-requires-clause-size c = omega (arith, main_size c.args.placed.now.source.checked.program c.requires.limits)
 
-pub returns-in-Err-NoHostForField : goal.returns-in-Err-NoHostForField
-returns-in-Err-NoHostForField c =
-    let program = c.args.source.now.checked.program in
-    IfOk-weaker c.no_host_for_field.result _ _ (λ verdict is e loaded.
-    let unheld =
-    subst (IsFirstUnheld c.args.source.now.hosts.hosts program.fields.items) (sym (c.as_str.ensures.value
-    ∙ ap (λ (field : String Global). string_bytes field) c.in-Err-NoHostForField.field-is))
-    (rw c.in-Err-NoHostForField.field-0-is at c.in-Err-NoHostForField.ensures) in
-    subst (DueForReplay c.args.name.now e (source_shape c.args.source.now)) (sym is)
-    (replay_unheld c.args.name.now e _ (source_shape c.args.source.now) program refl
-    (c.if-not-is_built.ensures.0 refl) unheld))
-    c.no_host_for_field.ensures
+pub code_of-requires-clause-hosts : goal.code_of-requires-clause-hosts
+code_of-requires-clause-hosts c =
+    omega (
+      arith,
+      c.hosts-hosts.ensures.sound.names.few,
+      ap length c.hosts-hosts.ensures.hosts,
+      length-map c.args.placed.now.source.hosts.hosts (λ (host : HostShape). host.name),
+    )
+
+pub code_of-requires-clause-each : goal.code_of-requires-clause-each
+code_of-requires-clause-each c = ap length c.fields.ensures ∙ c.requires.each
+
+pub code_of-requires-clause-among : goal.code_of-requires-clause-among
+code_of-requires-clause-among c =
+    places_among c.args.placed.now.source.hosts (program_tree c.args.placed.now.source.checked.program)
+    c.args.placed.now.plan _ _ _ c.hosts-hosts.ensures.sound c.requires.hosts c.hosts-hosts.ensures.hosts
+    c.root_of-root.ensures c.fields.ensures
 
 pub replayed-requires : goal.replayed-requires
 replayed-requires c =
-    omega (arith, code_size c.args.source.now.checked.program _ _ c.requires.limits c.in-Ok.ensures)
+    let file = c.args.placed.now.source.hosts in
+    omega (
+      arith,
+      code_size c.args.placed.now.source.checked.program file _ _ c.requires.limits
+          (c.in_ok-code.ensures file c.hosts-hosts.ensures.hosts),
+    )
 
 pub returns-in-Bytes : goal.returns-in-Bytes
 returns-in-Bytes c =
-    let program = c.args.source.now.checked.program in
-    let source = source_shape c.args.source.now in
+    let placed = placed_shape c.args.placed.now in
+    let program = c.args.placed.now.source.checked.program in
     IfOk-weaker c.replayed.result _ _ (λ verdict due e loaded.
-    replay_scripted c.args.name.now e c.deref.result.now source program _ _
-    (coded source program _ refl (c.if-not-is_built.ensures.0 refl) c.in-Ok.ensures)
+    replay_scripted c.args.name.now e c.deref.result.now placed program _ _
+    (coded_at placed program _ c.hosts-hosts.result.now c.root_of-root.result c.fields.result.now refl
+    (c.if-not-is_built_there.ensures.0 refl) c.hosts-hosts.ensures.hosts c.root_of-root.ensures c.fields.ensures
+    c.in_ok-code.ensures)
     (are_bytes e c.deref.result.now c.args.events.now c.in-Bytes.bytes c.in-Bytes.is c.deref.ensures.value loaded).same
     due)
     c.replayed.ensures
 
 pub returns : goal.returns
 returns c =
-    let program = c.args.source.now.checked.program in
-    let source = source_shape c.args.source.now in
+    let placed = placed_shape c.args.placed.now in
+    let program = c.args.placed.now.source.checked.program in
     IfOk-weaker c.too_long.result _ _ (λ verdict is e loaded.
-    subst (DueForReplay c.args.name.now e source) (sym is)
-    (replay_too_long c.args.name.now e source program _
-    (coded source program _ refl (c.if-not-is_built.ensures.0 refl) c.in-Ok.ensures)
+    subst (DueForReplay c.args.name.now e placed) (sym is)
+    (replay_too_long c.args.name.now e placed program _
+    (coded_at placed program _ c.hosts-hosts.result.now c.root_of-root.result c.fields.result.now refl
+    (c.if-not-is_built_there.ensures.0 refl) c.hosts-hosts.ensures.hosts c.root_of-root.ensures c.fields.ensures
+    c.in_ok-code.ensures)
     (subst (IsLoaded SCRIPT_BYTES e) c.in-TooLong.is loaded)))
     c.too_long.ensures
