@@ -1,0 +1,35 @@
+use Rattle.std.proofs.Common.{refl}
+use Rattle.msg_cost.specs.Moves.{is_trusted_by}
+use Rattle.split_rules.proofs.laws.worked_laws.Goals as goal
+
+pub returns-clause-sent : goal.returns-clause-sent
+unfolding is_trusted_by
+returns-clause-sent c = refl
+
+pub returns-clause-sent_entries : goal.returns-clause-sent_entries
+unfolding is_trusted_by
+returns-clause-sent_entries c = refl
+
+pub returns-clause-past : goal.returns-clause-past
+unfolding is_trusted_by
+returns-clause-past c = refl
+
+pub returns-clause-past_entries : goal.returns-clause-past_entries
+unfolding is_trusted_by
+returns-clause-past_entries c = refl
+
+pub returns-clause-back : goal.returns-clause-back
+unfolding is_trusted_by
+returns-clause-back c = refl
+
+pub returns-clause-back_entries : goal.returns-clause-back_entries
+unfolding is_trusted_by
+returns-clause-back_entries c = refl
+
+pub returns-clause-loops : goal.returns-clause-loops
+unfolding is_trusted_by
+returns-clause-loops c = refl
+
+pub returns-clause-loop_entries : goal.returns-clause-loop_entries
+unfolding is_trusted_by
+returns-clause-loop_entries c = refl

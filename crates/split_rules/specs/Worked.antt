@@ -1,0 +1,131 @@
+-- Small programs and plans, whose code is worked out.
+use Rattle.std.specs.Prelude.{ℕ, List, [], ◌∷◌, map, None, codes, pos, false}
+use Rattle.js_base.specs.declared.binary_operator.BinOp.TheVariants as operator
+use Rattle.js_base.specs.declared.ids.HostId.{HostId}
+use Rattle.js_base.specs.declared.ids.FieldId.{FieldId}
+use Rattle.js_base.specs.declared.ids.VarId.{VarId}
+use Rattle.js_base.specs.declared.ids.StmtId.{StmtId}
+use Rattle.principals.specs.ActsFor.{Declared}
+use Rattle.label_lattice.specs.declared.label.Label.{Label}
+use Rattle.label_lattice.specs.Lattice.{free_rows, empty_label}
+use Rattle.host_decl.specs.Hosts.{HostShape}
+use Rattle.jif_tree.specs.Trees.{ExprTree, number, local, scalar, binary, Heading, BlockTree, done, set_local, set_field}
+use Rattle.jif_tree.specs.Trees.{loop, FieldTree, VarTree, MethodTree, ProgramTree}
+use Rattle.host_code.specs.declared.instruction.Op.{Op}
+use Rattle.msg_cost.specs.Moves.{PlannedShape}
+use Rattle.split_rules.specs.Emissions.{Emission}
+use Rattle.split_rules.specs.SplitCode.{emitted_on, entries_in}
+use Rattle.split_rules.specs.Walk.{program_emissions}
+
+abbrev pub host_id : ℕ → HostId
+host_id place = record { 0 = place }
+
+abbrev pub field_id : ℕ → FieldId
+field_id place = record { 0 = place }
+
+abbrev pub var_id : ℕ → VarId
+var_id place = record { 0 = place }
+
+abbrev pub statement_id : ℕ → StmtId
+statement_id place = record { 0 = place }
+
+abbrev pub heading : ℕ → Heading
+heading place = record { id = statement_id place; line = 1 }
+
+-- trusted by the principals of a word
+abbrev pub trusted_by : ℕ → Label
+trusted_by word = record { rows = free_rows; trust = word }
+
+-- a host of such a label; what it may see does not matter here
+abbrev pub a_host : ℕ → HostShape
+a_host word = record { name = codes "H"; label = trusted_by word; key = []; path = [] }
+
+abbrev pub a_field : FieldTree
+a_field = record { name = codes "f"; label = empty_label; size = 1; array = false; first = pos 0 }
+
+abbrev pub a_local : VarTree
+a_local = record { method = record { 0 = 0 }; name = codes "x"; label = None }
+
+abbrev pub main_of : BlockTree → MethodTree
+main_of body = record {
+  name = codes "main";
+  begin = empty_label;
+  params = [];
+  result = None;
+  authority = [];
+  head = statement_id 0;
+  line = 1;
+  body = body;
+}
+
+-- `main` alone, with two fields and a local
+abbrev pub program_of : BlockTree → ProgramTree
+program_of body = record {
+  fields = a_field ∷ a_field ∷ [];
+  vars = a_local ∷ [];
+  methods = main_of body ∷ [];
+  main = record { 0 = 0 };
+}
+
+abbrev pub nobody : Declared
+nobody = record { names = []; pairs = [] }
+
+-- a program on some hosts, by what its statements need, who reads the local, and where everything stands
+abbrev pub planned_on : List HostShape → List (List ℕ) → List ℕ → List StmtId → List HostId → List HostId → BlockTree →
+    PlannedShape
+planned_on hosts costs need readers fields statements body = record {
+  program = program_of body;
+  needs = record { used = []; need = need; loc = []; readers = readers ∷ [] };
+  hosts = record { principals = nobody; hosts = hosts; costs = costs };
+  plan = record { fields = fields; statements = statements };
+}
+
+abbrev pub emissions_on : PlannedShape → List Emission
+emissions_on planned =
+    program_emissions nobody (record { program = planned.program; var_labels = []; pc = [] }) planned
+
+abbrev pub operations_on : PlannedShape → ℕ → List Op
+operations_on planned host = map (λ one. one.op) (emitted_on (host_id host) (emissions_on planned))
+
+abbrev pub entry_hosts : PlannedShape → List ℕ
+entry_hosts planned = map (λ named. named.host.0) (entries_in (emissions_on planned))
+
+-- the field of this number is increased by an expression
+abbrev pub increased : ℕ → ExprTree → ExprTree
+increased field by = binary operator.Add (scalar (field_id field)) by
+
+-- A local of one host is read on another, which is handed the right to go on.
+abbrev pub sent_local : PlannedShape
+sent_local =
+    planned_on (a_host 1 ∷ a_host 0 ∷ []) ((0 ∷ 1 ∷ []) ∷ (1 ∷ 0 ∷ []) ∷ []) (1 ∷ 1 ∷ 0 ∷ []) (statement_id 2 ∷ [])
+    (host_id 1 ∷ host_id 1 ∷ []) (host_id 0 ∷ host_id 0 ∷ host_id 1 ∷ [])
+    (set_local (heading 1) (var_id 0) (number (pos 7))
+    (set_field (heading 2) (field_id 0) (increased 0 (local (var_id 0))) done))
+
+-- Of two statements on other hosts the first is lent the right to go on, and gives it to the host of the second, since
+-- the way back is long.
+abbrev pub lent_past : PlannedShape
+lent_past =
+    planned_on (a_host 3 ∷ a_host 0 ∷ a_host 1 ∷ [])
+    ((0 ∷ 1 ∷ 1 ∷ []) ∷ (10 ∷ 0 ∷ 1 ∷ []) ∷ (1 ∷ 1 ∷ 0 ∷ []) ∷ []) (3 ∷ 0 ∷ 1 ∷ []) []
+    (host_id 1 ∷ host_id 2 ∷ []) (host_id 0 ∷ host_id 1 ∷ host_id 2 ∷ [])
+    (set_field (heading 1) (field_id 0) (increased 0 (number (pos 1)))
+    (set_field (heading 2) (field_id 1) (increased 1 (number (pos 1))) done))
+
+-- The same where each way costs the same: it comes back to the first host.
+abbrev pub lent_back : PlannedShape
+lent_back =
+    planned_on (a_host 3 ∷ a_host 0 ∷ a_host 1 ∷ [])
+    ((0 ∷ 1 ∷ 1 ∷ []) ∷ (1 ∷ 0 ∷ 1 ∷ []) ∷ (1 ∷ 1 ∷ 0 ∷ []) ∷ []) (3 ∷ 0 ∷ 1 ∷ []) []
+    (host_id 1 ∷ host_id 2 ∷ []) (host_id 0 ∷ host_id 1 ∷ host_id 2 ∷ [])
+    (set_field (heading 1) (field_id 0) (increased 0 (number (pos 1)))
+    (set_field (heading 2) (field_id 1) (increased 1 (number (pos 1))) done))
+
+-- A loop whose body stands partly on another host.
+abbrev pub looped : PlannedShape
+looped =
+    planned_on (a_host 1 ∷ a_host 0 ∷ []) ((0 ∷ 1 ∷ []) ∷ (1 ∷ 0 ∷ []) ∷ []) (1 ∷ 1 ∷ 0 ∷ 1 ∷ []) []
+    (host_id 0 ∷ host_id 1 ∷ []) (host_id 0 ∷ host_id 0 ∷ host_id 1 ∷ host_id 0 ∷ [])
+    (loop (heading 1) (binary operator.Less (scalar (field_id 0)) (number (pos 4)))
+    (set_field (heading 2) (field_id 1) (increased 1 (scalar (field_id 0)))
+    (set_field (heading 3) (field_id 0) (increased 0 (number (pos 1))) done)) done)

@@ -1,0 +1,37 @@
+//! Laws of the splitting. The calls do nothing.
+
+ghost use Rattle.std.specs.Prelude.{◌≡◌, ◌∷◌, [], pos};
+ghost use Rattle.js_base.specs.declared.binary_operator.BinOp.TheVariants as operator;
+ghost use Rattle.host_code.specs.declared.instruction.Op.TheVariants as op;
+ghost use Rattle.host_code.specs.declared.code_expr.Node.TheVariants as node;
+ghost use Rattle.split_rules.specs.Expressions.{first_element};
+ghost use Rattle.split_rules.specs.Walk.{entry_id};
+ghost use Rattle.split_rules.specs.Worked.{sent_local, lent_past, lent_back, looped, operations_on, entry_hosts};
+ghost use Rattle.split_rules.specs.Worked.{field_id, var_id, host_id};
+
+/// The instructions of some small programs on each of their hosts, and the hosts of their entries.
+pub fn worked_laws()
+    // A local is sent to the host that reads it, and then that host is handed the right to go on.
+    ensures sent { operations_on sent_local 0 ≡ op.Let (var_id 0) (node.Number (pos 7) ∷ [])
+        ∷ op.Send (var_id 0) (host_id 1) ∷ op.Go (entry_id 2) (host_id 1) ∷ [] }
+    ensures sent_to { operations_on sent_local 1 ≡ op.Read (field_id 0) first_element
+        ∷ op.Put (field_id 0) first_element (node.Temp 0 ∷ node.Var (var_id 0) ∷ node.Binary operator.Add ∷ [])
+        ∷ op.Back ∷ [] }
+    ensures sent_entries { entry_hosts sent_local ≡ 0 ∷ 0 ∷ 1 ∷ [] }
+    // Where the way back is long, the host of what follows is asked to take it back.
+    ensures past { operations_on lent_past 0 ≡ op.Ask (entry_id 2) (host_id 2) ∷ op.Go (entry_id 3) (host_id 1) ∷ [] }
+    ensures past_entries { entry_hosts lent_past ≡ 0 ∷ 0 ∷ 2 ∷ 1 ∷ [] }
+    // Otherwise the host that held it takes it back, and hands it on.
+    ensures back { operations_on lent_back 0
+        ≡ op.Push (entry_id 2) ∷ op.Go (entry_id 3) (host_id 1) ∷ op.Go (entry_id 4) (host_id 2) ∷ [] }
+    ensures back_entries { entry_hosts lent_back ≡ 0 ∷ 0 ∷ 0 ∷ 1 ∷ 2 ∷ [] }
+    // Behind its guard a loop pushes the entry that stands at the guard.
+    ensures loops { operations_on looped 0 ≡ op.Read (field_id 0) first_element
+        ∷ op.Branch (node.Temp 0 ∷ node.Number (pos 4) ∷ node.Binary operator.Less ∷ []) 0
+        ∷ op.Push (entry_id 2)
+        ∷ op.Push (entry_id 3) ∷ op.Go (entry_id 4) (host_id 1)
+        ∷ op.Read (field_id 0) first_element
+        ∷ op.Put (field_id 0) first_element (node.Temp 0 ∷ node.Number (pos 1) ∷ node.Binary operator.Add ∷ [])
+        ∷ op.Back ∷ op.Back ∷ [] }
+    ensures loop_entries { entry_hosts looped ≡ 0 ∷ 0 ∷ 0 ∷ 0 ∷ 1 ∷ [] }
+{}

@@ -1,0 +1,6 @@
+//! How a program is split into the code of its hosts: definitions and their laws.
+#![tactic(auto)]
+
+mod laws;
+
+pub use laws::worked_laws;
