@@ -1,0 +1,1369 @@
+//! The command `check` in stock Rust, to compare with: `stock check P H` puts the lines that `jifsplit check P H` puts.
+//! Labels are 63 words and one, names of principals are looked up in a row, and each starting plan is counted over the
+//! whole program, as in the crates. Of the host file it reads no more of TOML than a line for each key.
+
+#[allow(dead_code)]
+#[path = "../parse/parser.rs"]
+mod parser;
+
+use parser::{Draft, ExprDraft, LabelDraft, MethodDraft, NameDraft, StmtDraft, StmtKindDraft};
+use parser::{LexError, ParseError, What, lex, parse, parse_label};
+use std::collections::HashMap;
+use std::fmt::Write as _;
+use std::io::Write as _;
+use std::process::ExitCode;
+
+/// Why there is no report: the status and the line.
+struct Stop(u8, String);
+
+fn program_stop(why: impl std::fmt::Display) -> Stop {
+    Stop(3, format!("program: {why}"))
+}
+
+fn hosts_stop(why: impl std::fmt::Display) -> Stop {
+    Stop(4, format!("hosts: {why}"))
+}
+
+// ---- principals and labels
+
+const PRINCIPALS: usize = 63;
+
+/// The bit of the reader who stands for everyone who is not declared.
+const OUTSIDER: u64 = 1 << PRINCIPALS;
+
+struct Principals {
+    names: Vec<String>,
+    /// For each principal a word with a bit for each whom it acts for.
+    rows: [u64; PRINCIPALS],
+}
+
+impl Principals {
+    fn new(names: Vec<String>) -> Principals {
+        Principals { names, rows: std::array::from_fn(|place| 1 << place) }
+    }
+
+    fn add_pair(&mut self, first: usize, second: usize) {
+        let reached = self.rows[second];
+        for row in &mut self.rows {
+            if *row >> first & 1 == 1 {
+                *row |= reached;
+            }
+        }
+    }
+
+    fn find(&self, name: &str) -> Option<usize> {
+        self.names.iter().position(|own| own == name)
+    }
+
+    fn acts_for(&self, p: usize, q: usize) -> bool {
+        self.rows[p] >> q & 1 == 1
+    }
+
+    /// Adds the names of those whose bits a word has.
+    fn push_names(&self, text: &mut String, word: u64) {
+        let mut parting = "";
+        for (place, name) in self.names.iter().enumerate() {
+            if word >> place & 1 == 1 {
+                text.push_str(parting);
+                text.push_str(name);
+                parting = ", ";
+            }
+        }
+    }
+}
+
+#[derive(Clone, Copy)]
+struct Label {
+    /// For each owner a word with a bit for each reader that the owner allows.
+    rows: [u64; PRINCIPALS],
+    /// A word with a bit for each principal that trusts.
+    trust: u64,
+}
+
+fn is_within(word: u64, other: u64) -> bool {
+    word & !other == 0
+}
+
+impl Label {
+    const EMPTY: Label = Label { rows: [u64::MAX; PRINCIPALS], trust: 0 };
+
+    fn bottom(principals: &Principals) -> Label {
+        Label { trust: (1 << principals.names.len()) - 1, ..Label::EMPTY }
+    }
+
+    fn add_policy(&mut self, principals: &Principals, owner: usize, readers: &[usize]) {
+        let count = principals.names.len();
+        let mut forbidden = OUTSIDER;
+        for place in 0..count {
+            if !principals.acts_for(place, owner) && !readers.iter().any(|reader| principals.acts_for(place, *reader)) {
+                forbidden |= 1 << place;
+            }
+        }
+        for place in 0..count {
+            if principals.acts_for(owner, place) {
+                self.rows[place] &= !forbidden;
+            }
+        }
+    }
+
+    fn add_trust(&mut self, principals: &Principals, members: &[usize]) {
+        for member in members {
+            self.trust |= principals.rows[*member];
+        }
+    }
+
+    fn add(&mut self, other: &Label) {
+        for (row, other) in self.rows.iter_mut().zip(&other.rows) {
+            *row &= other;
+        }
+        self.trust &= other.trust;
+    }
+
+    fn join(mut self, other: &Label) -> Label {
+        self.add(other);
+        self
+    }
+
+    /// The confidentiality of the label and this integrity.
+    fn trusted_by(self, trust: u64) -> Label {
+        Label { trust, ..self }
+    }
+
+    fn conf_flows(&self, to: &Label) -> bool {
+        self.rows.iter().zip(&to.rows).all(|(from, to)| is_within(*to, *from))
+    }
+
+    fn flows(&self, to: &Label) -> bool {
+        self.conf_flows(to) && is_within(to.trust, self.trust)
+    }
+
+    fn text(&self, principals: &Principals) -> String {
+        let mut text = String::from("{");
+        let mut parting = "";
+        for (name, row) in principals.names.iter().zip(&self.rows) {
+            if *row != u64::MAX {
+                text.push_str(parting);
+                text.push_str(name);
+                text.push_str(": ");
+                principals.push_names(&mut text, *row);
+                parting = "; ";
+            }
+        }
+        if self.trust != 0 {
+            text.push_str(parting);
+            text.push_str("?: ");
+            principals.push_names(&mut text, self.trust);
+        }
+        text.push('}');
+        text
+    }
+}
+
+// ---- the host file
+
+struct Host {
+    name: String,
+    label: Label,
+}
+
+struct Hosts {
+    hosts: Vec<Host>,
+    costs: Vec<Vec<u64>>,
+}
+
+enum Value {
+    Text(String),
+    Number(u64),
+    List(Vec<Value>),
+}
+
+impl Value {
+    fn into_text(self) -> Option<String> {
+        match self {
+            Value::Text(text) => Some(text),
+            _ => None,
+        }
+    }
+
+    fn into_list(self) -> Option<Vec<Value>> {
+        match self {
+            Value::List(values) => Some(values),
+            _ => None,
+        }
+    }
+
+    fn into_number(self) -> Option<u64> {
+        match self {
+            Value::Number(number) => Some(number),
+            _ => None,
+        }
+    }
+}
+
+type Table = HashMap<String, Value>;
+
+/// The value with which a line begins, and what stands behind it: a text in double quotes without escapes, a number in
+/// decimal digits, or an array of values.
+fn value(line: &str) -> Option<(Value, &str)> {
+    if let Some(rest) = line.strip_prefix('"') {
+        let (text, rest) = rest.split_once('"')?;
+        return Some((Value::Text(text.to_owned()), rest.trim_start()));
+    }
+    let Some(rest) = line.strip_prefix('[') else {
+        let end = line.find(|digit: char| !digit.is_ascii_digit()).unwrap_or(line.len());
+        return Some((Value::Number(line[..end].parse().ok()?), line[end..].trim_start()));
+    };
+    let mut values = Vec::new();
+    let mut rest = rest.trim_start();
+    while !rest.starts_with(']') {
+        let (one, behind) = value(rest)?;
+        values.push(one);
+        rest = match behind.strip_prefix(',') {
+            Some(behind) => behind.trim_start(),
+            None if behind.starts_with(']') => behind,
+            None => return None,
+        };
+    }
+    Some((Value::List(values), rest[1..].trim_start()))
+}
+
+/// The tables of a file, each with its heading. That of the top level is the first, and its heading is empty.
+fn tables(text: &str) -> Option<Vec<(&str, Table)>> {
+    let mut tables = vec![("", Table::new())];
+    for line in text.lines().map(str::trim) {
+        if line == "[[host]]" || line == "[[link]]" {
+            tables.push((line, Table::new()));
+        } else if !line.is_empty() && !line.starts_with('#') {
+            let (key, given) = line.split_once('=')?;
+            let (value, rest) = value(given.trim_start())?;
+            let (_, table) = tables.last_mut()?;
+            if !rest.is_empty() && !rest.starts_with('#') || table.insert(key.trim().to_owned(), value).is_some() {
+                return None;
+            }
+        }
+    }
+    Some(tables)
+}
+
+fn take<T>(table: &mut Table, key: &str, into: fn(Value) -> Option<T>) -> Result<T, Stop> {
+    table.remove(key).and_then(into).ok_or_else(|| hosts_stop(format!("bad key {key}")))
+}
+
+fn texts(values: Vec<Value>, key: &str) -> Result<Vec<String>, Stop> {
+    let texts: Option<Vec<String>> = values.into_iter().map(Value::into_text).collect();
+    texts.ok_or_else(|| hosts_stop(format!("bad key {key}")))
+}
+
+fn principals_of(top: &mut Table) -> Result<Principals, Stop> {
+    let names = texts(take(top, "principals", Value::into_list)?, "principals")?;
+    if names.len() > PRINCIPALS {
+        return Err(hosts_stop("too many principals"));
+    }
+    if let Some(place) = (0..names.len()).find(|place| names[..*place].contains(&names[*place])) {
+        return Err(hosts_stop(format!("principal {} twice", names[place])));
+    }
+    let mut principals = Principals::new(names);
+    if top.contains_key("acts_for") {
+        for pair in take(top, "acts_for", Value::into_list)? {
+            let pair = texts(pair.into_list().unwrap_or_default(), "acts_for")?;
+            let [first, second] = &pair[..] else {
+                return Err(hosts_stop("bad key acts_for"));
+            };
+            let find = |name: &str| {
+                principals.find(name).ok_or_else(|| hosts_stop(format!("unknown principal {name}")))
+            };
+            let (first, second) = (find(first)?, find(second)?);
+            principals.add_pair(first, second);
+        }
+    }
+    Ok(principals)
+}
+
+/// The label that a text writes over these principals.
+fn label_in(text: &str, principals: &Principals) -> Option<Label> {
+    let tokens = lex(text.as_bytes()).ok()?;
+    let draft = parse_label(&tokens).ok()?;
+    let mut resolver = Resolver::new(principals, HashMap::new());
+    let label = resolver.label(&draft);
+    resolver.fault.is_none().then_some(label)
+}
+
+fn read_hosts(bytes: &[u8]) -> Result<(Principals, Hosts), Stop> {
+    if bytes.len() > 65_536 {
+        return Err(hosts_stop("too long"));
+    }
+    let text = std::str::from_utf8(bytes).map_err(|_| hosts_stop("not TOML"))?;
+    let mut tables = tables(text).ok_or_else(|| hosts_stop("not TOML"))?;
+    let principals = principals_of(&mut tables[0].1)?;
+    let (host_tables, link_tables): (Vec<_>, Vec<_>) =
+        tables.into_iter().skip(1).partition(|(heading, _)| *heading == "[[host]]");
+    if host_tables.is_empty() {
+        return Err(hosts_stop("no host"));
+    }
+    if host_tables.len() > 16 {
+        return Err(hosts_stop("too many hosts"));
+    }
+    let mut hosts: Vec<Host> = Vec::new();
+    for (_, mut table) in host_tables {
+        let name = take(&mut table, "name", Value::into_text)?;
+        let text = take(&mut table, "label", Value::into_text)?;
+        if hosts.iter().any(|host| host.name == name) {
+            return Err(hosts_stop(format!("host {name} twice")));
+        }
+        let label = label_in(&text, &principals).ok_or_else(|| hosts_stop(format!("bad label of host {name}")))?;
+        hosts.push(Host { name, label });
+    }
+    let mut costs: Vec<Vec<Option<u64>>> = vec![vec![None; hosts.len()]; hosts.len()];
+    for (number, (_, mut table)) in link_tables.into_iter().enumerate() {
+        let from = take(&mut table, "from", Value::into_text)?;
+        let to = take(&mut table, "to", Value::into_text)?;
+        let cost = take(&mut table, "cost", Value::into_number)?;
+        let find = |name: String| hosts.iter().position(|host| host.name == name);
+        match (find(from), find(to)) {
+            (Some(from), Some(to)) if from != to && (1..=1000).contains(&cost) && costs[from][to].is_none() => {
+                costs[from][to] = Some(cost);
+            }
+            _ => return Err(hosts_stop(format!("bad link {number}"))),
+        }
+    }
+    let cost = |(from, row): (usize, Vec<Option<u64>>)| {
+        let column = row.iter().enumerate().map(|(to, cost)| if from == to { 0 } else { cost.unwrap_or(1) });
+        column.collect()
+    };
+    let costs = costs.into_iter().enumerate().map(cost).collect();
+    Ok((principals, Hosts { hosts, costs }))
+}
+
+// ---- programs whose names are resolved
+
+struct Program {
+    fields: Vec<Field>,
+    /// The label of each variable; none for a local that is declared without one.
+    vars: Vec<Option<Label>>,
+    methods: Vec<Method>,
+    main: usize,
+    /// The lines of the statements.
+    lines: Vec<u32>,
+}
+
+struct Field {
+    name: String,
+    label: Label,
+}
+
+struct Method {
+    begin: Label,
+    params: Vec<usize>,
+    result: Option<usize>,
+    authority: Vec<usize>,
+    head: usize,
+    body: Vec<Stmt>,
+}
+
+struct Stmt {
+    id: usize,
+    kind: StmtKind,
+}
+
+enum StmtKind {
+    Let { var: usize, value: Expr },
+    SetField { field: usize, value: Expr },
+    SetElement { field: usize, index: Expr, value: Expr },
+    If { guard: Expr, yes: Vec<Stmt>, no: Vec<Stmt> },
+    While { guard: Expr, body: Vec<Stmt> },
+    Call { method: usize, args: Vec<Expr>, into: Option<usize> },
+    Return { value: Expr },
+}
+
+/// Operators are not kept, since neither labels nor costs ask for them.
+enum Expr {
+    Number,
+    Local(usize),
+    Scalar(usize),
+    Element(usize, Box<Expr>),
+    Unary(Box<Expr>),
+    Binary(Box<Expr>, Box<Expr>),
+    Declassify(Box<Expr>, Box<Label>),
+    Endorse(Box<Expr>, Box<Label>),
+}
+
+// ---- names
+
+/// The kinds of faults, in the order in which those of one token come.
+#[derive(Clone, Copy, PartialEq, Eq, PartialOrd, Ord)]
+enum FaultKind {
+    UnknownName,
+    Twice,
+    WrongType,
+    WrongCount,
+}
+
+#[derive(Clone, Copy)]
+enum Meaning {
+    Variable(usize),
+    Plain(usize),
+    Array(usize),
+    /// Its number, how many parameters it has, and whether it has a result.
+    Method(usize, usize, bool),
+}
+
+struct Resolver<'a> {
+    principals: &'a Principals,
+    /// Where a name is first declared, and what it then stands for.
+    globals: HashMap<&'a str, (u32, Meaning)>,
+    fault: Option<(u32, FaultKind)>,
+    vars: Vec<Option<Label>>,
+    lines: Vec<u32>,
+    /// The names of the parameters and locals of the method so far.
+    taken: Vec<&'a str>,
+    /// Those that are known.
+    known: Vec<(&'a str, usize)>,
+}
+
+fn globals_of(draft: &Draft) -> HashMap<&str, (u32, Meaning)> {
+    let mut globals: HashMap<&str, (u32, Meaning)> = HashMap::new();
+    let fields = draft.fields.iter().enumerate().map(|(number, field)| {
+        let meaning = if field.array { Meaning::Array(number) } else { Meaning::Plain(number) };
+        (&field.name, meaning)
+    });
+    let methods = draft.methods.iter().enumerate().map(|(number, method)| {
+        (&method.name, Meaning::Method(number, method.params.len(), method.result.is_some()))
+    });
+    for (name, meaning) in fields.chain(methods) {
+        let first = globals.entry(&name.text).or_insert((name.at, meaning));
+        if name.at < first.0 {
+            *first = (name.at, meaning);
+        }
+    }
+    globals
+}
+
+impl<'a> Resolver<'a> {
+    fn new(principals: &'a Principals, globals: HashMap<&'a str, (u32, Meaning)>) -> Resolver<'a> {
+        Resolver {
+            principals,
+            globals,
+            fault: None,
+            vars: Vec::new(),
+            lines: Vec::new(),
+            taken: Vec::new(),
+            known: Vec::new(),
+        }
+    }
+
+    fn fault_if(&mut self, wrong: bool, at: u32, kind: FaultKind) {
+        if wrong && self.fault.is_none_or(|first| (at, kind) < first) {
+            self.fault = Some((at, kind));
+        }
+    }
+
+    fn fault(&mut self, at: u32, kind: FaultKind) {
+        self.fault_if(true, at, kind);
+    }
+
+    fn principal(&mut self, name: &NameDraft) -> usize {
+        self.principals.find(&name.text).unwrap_or_else(|| {
+            self.fault(name.at, FaultKind::UnknownName);
+            0
+        })
+    }
+
+    fn principals(&mut self, names: &[NameDraft]) -> Vec<usize> {
+        names.iter().map(|name| self.principal(name)).collect()
+    }
+
+    fn label(&mut self, draft: &LabelDraft) -> Label {
+        let mut label = Label::EMPTY;
+        for policy in &draft.policies {
+            let owner = self.principal(&policy.owner);
+            let readers = self.principals(&policy.readers);
+            label.add_policy(self.principals, owner, &readers);
+        }
+        if let Some(members) = &draft.trust {
+            let members = self.principals(members);
+            label.add_trust(self.principals, &members);
+        }
+        label
+    }
+
+    fn meaning(&self, name: &str) -> Option<Meaning> {
+        match self.known.iter().rev().find(|(known, _)| *known == name) {
+            Some((_, var)) => Some(Meaning::Variable(*var)),
+            None => self.globals.get(name).map(|(_, meaning)| *meaning),
+        }
+    }
+
+    fn wrong(&mut self, name: &NameDraft, meaning: Option<Meaning>) {
+        let kind = if meaning.is_none() { FaultKind::UnknownName } else { FaultKind::WrongType };
+        self.fault(name.at, kind);
+    }
+
+    fn array(&mut self, name: &NameDraft) -> usize {
+        match self.meaning(&name.text) {
+            Some(Meaning::Array(field)) => field,
+            other => {
+                self.wrong(name, other);
+                0
+            }
+        }
+    }
+
+    fn declare(&mut self, name: &'a NameDraft, label: Option<Label>) -> usize {
+        let var = self.vars.len();
+        self.vars.push(label);
+        self.taken.push(&name.text);
+        self.known.push((&name.text, var));
+        var
+    }
+
+    fn test_local(&mut self, name: &NameDraft) {
+        let name_taken = self.globals.contains_key(&*name.text) || self.taken.contains(&&*name.text);
+        self.fault_if(name_taken, name.at, FaultKind::Twice);
+    }
+
+    fn expr(&mut self, draft: &ExprDraft) -> Expr {
+        match draft {
+            ExprDraft::Number(_) => Expr::Number,
+            ExprDraft::Name(name) => match self.meaning(&name.text) {
+                Some(Meaning::Variable(var)) => Expr::Local(var),
+                Some(Meaning::Plain(field)) => Expr::Scalar(field),
+                other => {
+                    self.wrong(name, other);
+                    Expr::Number
+                }
+            },
+            ExprDraft::Element(name, index) => {
+                let field = self.array(name);
+                Expr::Element(field, self.boxed(index))
+            }
+            ExprDraft::Not(operand) | ExprDraft::Negate(operand) => Expr::Unary(self.boxed(operand)),
+            ExprDraft::Binary(_, left, right) => {
+                let left = self.boxed(left);
+                Expr::Binary(left, self.boxed(right))
+            }
+            ExprDraft::Declassify(operand, label) => {
+                let operand = self.boxed(operand);
+                Expr::Declassify(operand, Box::new(self.label(label)))
+            }
+            ExprDraft::Endorse(operand, label) => {
+                let operand = self.boxed(operand);
+                Expr::Endorse(operand, Box::new(self.label(label)))
+            }
+        }
+    }
+
+    fn boxed(&mut self, draft: &ExprDraft) -> Box<Expr> {
+        Box::new(self.expr(draft))
+    }
+
+    fn next_statement(&mut self, line: u32) -> usize {
+        self.lines.push(line);
+        self.lines.len() - 1
+    }
+
+    fn block(&mut self, drafts: &'a [StmtDraft], gives: bool) -> Vec<Stmt> {
+        let mark = self.known.len();
+        let block = drafts.iter().map(|draft| self.statement(draft, gives)).collect();
+        self.known.truncate(mark);
+        block
+    }
+
+    fn statement(&mut self, draft: &'a StmtDraft, gives: bool) -> Stmt {
+        let id = self.next_statement(draft.line);
+        let kind = match &draft.kind {
+            StmtKindDraft::Declare { label, name, value } => {
+                let label = label.as_ref().map(|label| self.label(label));
+                self.test_local(name);
+                let value = self.expr(value);
+                StmtKind::Let { var: self.declare(name, label), value }
+            }
+            StmtKindDraft::Assign { name, value } => {
+                let meaning = self.meaning(&name.text);
+                let value = self.expr(value);
+                match meaning {
+                    Some(Meaning::Variable(var)) => StmtKind::Let { var, value },
+                    Some(Meaning::Plain(field)) => StmtKind::SetField { field, value },
+                    other => {
+                        self.wrong(name, other);
+                        StmtKind::Return { value }
+                    }
+                }
+            }
+            StmtKindDraft::AssignElement { array, index, value } => {
+                let field = self.array(array);
+                let index = self.expr(index);
+                StmtKind::SetElement { field, index, value: self.expr(value) }
+            }
+            StmtKindDraft::If { guard, yes, no } => {
+                let guard = self.expr(guard);
+                let yes = self.block(yes, gives);
+                StmtKind::If { guard, yes, no: self.block(no, gives) }
+            }
+            StmtKindDraft::While { guard, body } => {
+                let guard = self.expr(guard);
+                StmtKind::While { guard, body: self.block(body, gives) }
+            }
+            StmtKindDraft::Call { method, args, into } => self.call(method, args, into.as_ref()),
+            StmtKindDraft::Return { value } => {
+                self.fault_if(!gives, draft.at, FaultKind::WrongType);
+                StmtKind::Return { value: self.expr(value) }
+            }
+        };
+        Stmt { id, kind }
+    }
+
+    fn call(&mut self, name: &NameDraft, args: &[ExprDraft], into: Option<&NameDraft>) -> StmtKind {
+        let method = match self.meaning(&name.text) {
+            Some(Meaning::Method(method, params, gives)) => {
+                self.fault_if(into.is_some() != gives, name.at, FaultKind::WrongType);
+                self.fault_if(args.len() != params, name.at, FaultKind::WrongCount);
+                method
+            }
+            other => {
+                self.wrong(name, other);
+                0
+            }
+        };
+        let into = into.map(|name| match self.meaning(&name.text) {
+            Some(Meaning::Variable(var)) => var,
+            other => {
+                self.wrong(name, other);
+                0
+            }
+        });
+        let args = args.iter().map(|arg| self.expr(arg)).collect();
+        StmtKind::Call { method, args, into }
+    }
+
+    fn method(&mut self, draft: &'a MethodDraft) -> Method {
+        self.taken.clear();
+        self.known.clear();
+        let given = draft.result.as_ref().map(|label| self.label(label));
+        let begin = self.label(&draft.begin);
+        let mut params = Vec::new();
+        for param in &draft.params {
+            let label = self.label(&param.label);
+            self.test_local(&param.name);
+            params.push(self.declare(&param.name, Some(label)));
+        }
+        let authority = self.principals(&draft.authority);
+        let ends = matches!(draft.body.last(), Some(StmtDraft { kind: StmtKindDraft::Return { .. }, .. }));
+        self.fault_if(given.is_some() && !ends, draft.name.at, FaultKind::WrongType);
+        let head = self.next_statement(draft.line);
+        let body = self.block(&draft.body, given.is_some());
+        let result = given.map(|label| {
+            self.vars.push(Some(label));
+            self.vars.len() - 1
+        });
+        Method { begin, params, result, authority, head, body }
+    }
+}
+
+fn resolve(draft: &Draft, principals: &Principals) -> Result<Program, Stop> {
+    let mut resolver = Resolver::new(principals, globals_of(draft));
+    let names = draft.fields.iter().map(|field| &field.name).chain(draft.methods.iter().map(|method| &method.name));
+    for name in names {
+        let repeats = resolver.globals[&*name.text].0 < name.at;
+        resolver.fault_if(repeats, name.at, FaultKind::Twice);
+    }
+    let mut fields = Vec::new();
+    for field in &draft.fields {
+        fields.push(Field { name: field.name.text.clone(), label: resolver.label(&field.label) });
+    }
+    let methods = draft.methods.iter().map(|method| resolver.method(method)).collect();
+    if let Some((at, kind)) = resolver.fault {
+        let cause = match kind {
+            FaultKind::UnknownName => "unknown name",
+            FaultKind::Twice => "name twice",
+            FaultKind::WrongType => "wrong type",
+            FaultKind::WrongCount => "wrong count",
+        };
+        return Err(program_stop(format!("{cause} at token {at}")));
+    }
+    let is_main =
+        |method: &MethodDraft| method.name.text == "main" && method.params.is_empty() && method.result.is_none();
+    let main = draft.methods.iter().position(is_main).ok_or_else(|| program_stop("no main"))?;
+    Ok(Program { fields, vars: resolver.vars, methods, main, lines: resolver.lines })
+}
+
+// ---- labels
+
+enum Refusal {
+    BadFlow(Box<(Label, Label)>),
+    BadBegin(Box<(Label, Label)>),
+    NoAuthority,
+    NotTrusted,
+}
+
+/// What the labels of the expressions of a method are found from.
+struct Exprs<'a> {
+    principals: &'a Principals,
+    fields: &'a [Field],
+    authority: &'a [usize],
+}
+
+struct Checker<'a> {
+    exprs: Exprs<'a>,
+    methods: &'a [Method],
+    result: Option<usize>,
+    labels: Vec<Option<Label>>,
+    pcs: Vec<Label>,
+}
+
+type Asked<T> = Result<T, Refusal>;
+
+fn released(to: &Label, pc: &Label, from: &Label) -> Label {
+    to.join(pc).trusted_by(from.trust)
+}
+
+fn endorsed(to: &Label, pc: &Label, from: &Label) -> Label {
+    from.trusted_by(to.trust & pc.trust)
+}
+
+impl Exprs<'_> {
+    /// Checks what a release asks for.
+    fn release(&self, pc: &Label, from: &Label, to: &Label) -> Asked<()> {
+        let mut allowed = *to;
+        for member in self.authority {
+            allowed.add_policy(self.principals, *member, &[]);
+        }
+        if !from.conf_flows(&allowed) {
+            return Err(Refusal::NoAuthority);
+        }
+        if self.authority.iter().any(|member| pc.trust >> member & 1 == 0) {
+            return Err(Refusal::NotTrusted);
+        }
+        Ok(())
+    }
+
+    /// Checks what an endorsement asks for.
+    fn endorse(&self, from: &Label, to: &Label) -> Asked<()> {
+        let allowed = self.authority.iter().fold(from.trust, |trust, member| trust | self.principals.rows[*member]);
+        if is_within(to.trust, allowed) { Ok(()) } else { Err(Refusal::NoAuthority) }
+    }
+
+    /// The label of an expression, where all is met that its parts ask for.
+    fn checked(&self, labels: &[Option<Label>], pc: &Label, expr: &Expr) -> Asked<Label> {
+        Ok(match expr {
+            Expr::Number => Label::bottom(self.principals),
+            Expr::Local(var) => labels[*var].unwrap_or(Label::EMPTY),
+            Expr::Scalar(field) => self.fields[*field].label,
+            Expr::Element(field, index) => self.checked(labels, pc, index)?.join(&self.fields[*field].label),
+            Expr::Unary(operand) => self.checked(labels, pc, operand)?,
+            Expr::Binary(left, right) => {
+                let left = self.checked(labels, pc, left)?;
+                left.join(&self.checked(labels, pc, right)?)
+            }
+            Expr::Declassify(operand, to) => {
+                let from = self.checked(labels, pc, operand)?;
+                self.release(pc, &from, to)?;
+                released(to, pc, &from)
+            }
+            Expr::Endorse(operand, to) => {
+                let from = self.checked(labels, pc, operand)?;
+                self.endorse(&from, to)?;
+                endorsed(to, pc, &from)
+            }
+        })
+    }
+}
+
+fn ask_flow(pc: &Label, from: &Label, to: &Label) -> Asked<()> {
+    let joined = from.join(pc);
+    if joined.flows(to) { Ok(()) } else { Err(Refusal::BadFlow(Box::new((joined, *to)))) }
+}
+
+impl Checker<'_> {
+    fn expr(&self, pc: &Label, expr: &Expr) -> Asked<Label> {
+        self.exprs.checked(&self.labels, pc, expr)
+    }
+
+    fn label(&self, var: usize) -> Label {
+        self.labels[var].unwrap_or(Label::EMPTY)
+    }
+
+    fn block(&mut self, pc: &Label, block: &[Stmt]) -> Result<(), (usize, Refusal)> {
+        for statement in block {
+            match &statement.kind {
+                StmtKind::If { guard, yes, no } => {
+                    let from = self.expr(pc, guard).map_err(|why| (statement.id, why))?;
+                    let inside = from.join(pc);
+                    self.pcs.push(*pc);
+                    self.block(&inside, yes)?;
+                    self.block(&inside, no)?;
+                }
+                StmtKind::While { guard, body } => {
+                    let from = self.expr(pc, guard).map_err(|why| (statement.id, why))?;
+                    let inside = from.join(pc);
+                    self.expr(&inside, guard).map_err(|why| (statement.id, why))?;
+                    self.pcs.push(inside);
+                    self.block(&inside, body)?;
+                }
+                other => {
+                    self.plain(pc, other).map_err(|why| (statement.id, why))?;
+                    self.pcs.push(*pc);
+                }
+            }
+        }
+        Ok(())
+    }
+
+    /// Checks a statement that has no others in it.
+    fn plain(&mut self, pc: &Label, kind: &StmtKind) -> Asked<()> {
+        match kind {
+            StmtKind::Let { var, value } => {
+                let from = self.expr(pc, value)?;
+                let to = *self.labels[*var].get_or_insert_with(|| from.join(pc));
+                ask_flow(pc, &from, &to)
+            }
+            StmtKind::SetField { field, value } => {
+                let from = self.expr(pc, value)?;
+                ask_flow(pc, &from, &self.exprs.fields[*field].label)
+            }
+            StmtKind::SetElement { field, index, value } => {
+                let at = self.expr(pc, index)?;
+                let from = self.expr(pc, value)?;
+                ask_flow(pc, &at.join(&from), &self.exprs.fields[*field].label)
+            }
+            StmtKind::Call { method, args, into } => {
+                let called = &self.methods[*method];
+                let from: Vec<Label> = args.iter().map(|arg| self.expr(pc, arg)).collect::<Asked<_>>()?;
+                if !pc.flows(&called.begin) {
+                    return Err(Refusal::BadBegin(Box::new((*pc, called.begin))));
+                }
+                for (from, param) in from.iter().zip(&called.params) {
+                    ask_flow(pc, from, &self.label(*param))?;
+                }
+                match (called.result, into) {
+                    (Some(result), Some(into)) => ask_flow(pc, &self.label(result), &self.label(*into)),
+                    _ => Ok(()),
+                }
+            }
+            StmtKind::Return { value } => {
+                let from = self.expr(pc, value)?;
+                match self.result {
+                    Some(result) => ask_flow(pc, &from, &self.label(result)),
+                    None => Ok(()),
+                }
+            }
+            StmtKind::If { .. } | StmtKind::While { .. } => Ok(()),
+        }
+    }
+}
+
+/// What was found of a program whose labels are kept: the label of each variable, and the program label of each
+/// statement.
+struct Found {
+    labels: Vec<Option<Label>>,
+    pcs: Vec<Label>,
+}
+
+fn check(program: &mut Program, principals: &Principals) -> Result<Found, Stop> {
+    let exprs = Exprs { principals, fields: &program.fields, authority: &[] };
+    let labels = std::mem::take(&mut program.vars);
+    let mut checker = Checker { exprs, methods: &program.methods, result: None, labels, pcs: Vec::new() };
+    for method in &program.methods {
+        checker.exprs.authority = &method.authority;
+        checker.result = method.result;
+        checker.pcs.push(method.begin);
+        checker.block(&method.begin, &method.body).map_err(|(id, why)| {
+            let cause = match why {
+                Refusal::BadFlow(labels) => {
+                    let (from, to) = (labels.0.text(principals), labels.1.text(principals));
+                    format!("{from} may not flow to {to}")
+                }
+                Refusal::BadBegin(labels) => {
+                    let (pc, begin) = (labels.0.text(principals), labels.1.text(principals));
+                    format!("program label {pc} may not flow to begin label {begin}")
+                }
+                Refusal::NoAuthority => "no authority".to_owned(),
+                Refusal::NotTrusted => "program label not trusted".to_owned(),
+            };
+            Stop(3, format!("statement {id} (line {}): {cause}", program.lines[id]))
+        })?;
+    }
+    Ok(Found { labels: checker.labels, pcs: checker.pcs })
+}
+
+// ---- needs
+
+/// What is needed of hosts.
+struct Needs {
+    /// By statement, what its execution tells.
+    used: Vec<Label>,
+    /// By statement, a word with a bit for each principal that has to trust its host.
+    need: Vec<u64>,
+    /// By field, what its reads tell.
+    told: Vec<Label>,
+    /// By variable, the statements whose own expressions read it.
+    readers: Vec<Vec<usize>>,
+}
+
+/// Walks over the statements of a method.
+struct NeedsWalk<'a> {
+    principals: &'a Principals,
+    program: &'a Program,
+    found: &'a Found,
+    /// For whom the method's authority acts.
+    releasing: u64,
+    result: Option<usize>,
+    needs: Needs,
+}
+
+impl NeedsWalk<'_> {
+    fn label(&self, var: usize) -> &Label {
+        self.found.labels[var].as_ref().unwrap_or(&Label::EMPTY)
+    }
+
+    fn trust(&self, var: Option<usize>) -> u64 {
+        var.map_or(0, |var| self.label(var).trust)
+    }
+
+    /// The label of an expression of a statement. Adds what it tells, and who has to be trusted where it releases.
+    fn expr(&mut self, id: usize, pc: &Label, expr: &Expr) -> Label {
+        let label = match expr {
+            Expr::Number => Label::bottom(self.principals),
+            Expr::Local(var) => {
+                let readers = &mut self.needs.readers[*var];
+                if readers.last() != Some(&id) {
+                    readers.push(id);
+                }
+                *self.label(*var)
+            }
+            Expr::Scalar(field) => {
+                self.needs.told[*field].add(pc);
+                self.program.fields[*field].label
+            }
+            Expr::Element(field, index) => {
+                let at = self.expr(id, pc, index);
+                let told = &mut self.needs.told[*field];
+                told.add(pc);
+                told.add(&at);
+                at.join(&self.program.fields[*field].label)
+            }
+            Expr::Unary(operand) => self.expr(id, pc, operand),
+            Expr::Binary(left, right) => {
+                let left = self.expr(id, pc, left);
+                left.join(&self.expr(id, pc, right))
+            }
+            Expr::Declassify(operand, to) => {
+                let from = self.expr(id, pc, operand);
+                self.needs.need[id] |= self.releasing;
+                released(to, pc, &from)
+            }
+            Expr::Endorse(operand, to) => {
+                let from = self.expr(id, pc, operand);
+                endorsed(to, pc, &from)
+            }
+        };
+        self.needs.used[id].add(&label);
+        label
+    }
+
+    /// Adds the needs of the statements of a block, and gives who has to be trusted for any of them.
+    fn block(&mut self, block: &[Stmt]) -> u64 {
+        block.iter().fold(0, |word, statement| word | self.statement(statement))
+    }
+
+    fn statement(&mut self, statement: &Stmt) -> u64 {
+        let (id, program, found) = (statement.id, self.program, self.found);
+        let pc = &found.pcs[id];
+        self.needs.used.push(*pc);
+        self.needs.need.push(0);
+        let changed = match &statement.kind {
+            StmtKind::Let { var, value } => {
+                self.expr(id, pc, value);
+                self.trust(Some(*var))
+            }
+            StmtKind::SetField { field, value } => {
+                self.expr(id, pc, value);
+                program.fields[*field].label.trust
+            }
+            StmtKind::SetElement { field, index, value } => {
+                self.expr(id, pc, index);
+                self.expr(id, pc, value);
+                program.fields[*field].label.trust
+            }
+            StmtKind::If { guard, yes, no } => {
+                self.expr(id, pc, guard);
+                self.block(yes) | self.block(no)
+            }
+            StmtKind::While { guard, body } => {
+                self.expr(id, pc, guard);
+                self.block(body)
+            }
+            StmtKind::Call { method, args, into } => {
+                for arg in args {
+                    self.expr(id, pc, arg);
+                }
+                let called = &program.methods[*method];
+                self.needs.used[id].add(&called.begin);
+                if let (Some(result), Some(_)) = (called.result, into) {
+                    let kept = *self.label(result);
+                    self.needs.used[id].add(&kept);
+                }
+                let given = called.params.iter().fold(0, |word, param| word | self.trust(Some(*param)));
+                called.begin.trust | given | self.trust(*into)
+            }
+            StmtKind::Return { value } => {
+                self.expr(id, pc, value);
+                self.trust(self.result)
+            }
+        };
+        self.needs.need[id] |= changed;
+        self.needs.need[id]
+    }
+}
+
+fn needs_of(principals: &Principals, program: &Program, found: &Found) -> Needs {
+    let needs = Needs {
+        used: Vec::new(),
+        need: Vec::new(),
+        told: vec![Label::bottom(principals); program.fields.len()],
+        readers: vec![Vec::new(); found.labels.len()],
+    };
+    let mut walk = NeedsWalk { principals, program, found, releasing: 0, result: None, needs };
+    for method in &program.methods {
+        walk.releasing = method.authority.iter().fold(0, |word, member| word | principals.rows[*member]);
+        walk.result = method.result;
+        walk.needs.used.push(method.begin);
+        walk.needs.need.push(method.begin.trust);
+        walk.block(&method.body);
+    }
+    walk.needs
+}
+
+// ---- which hosts may hold what
+
+/// A word of hosts for each field and each statement.
+struct Allowed {
+    fields: Vec<u16>,
+    statements: Vec<u16>,
+}
+
+fn holders(hosts: &Hosts, told: &Label, need: u64) -> u16 {
+    let mut word = 0;
+    for (place, host) in hosts.hosts.iter().enumerate() {
+        if told.conf_flows(&host.label) && is_within(need, host.label.trust) {
+            word |= 1 << place;
+        }
+    }
+    word
+}
+
+fn allowed_on(program: &Program, needs: &Needs, hosts: &Hosts) -> Result<Allowed, Stop> {
+    let field_word =
+        |(field, told): (&Field, &Label)| holders(hosts, &field.label.join(told), field.label.trust);
+    let fields: Vec<u16> = program.fields.iter().zip(&needs.told).map(field_word).collect();
+    if let Some(field) = fields.iter().position(|word| *word == 0) {
+        return Err(Stop(3, format!("no host may hold field {}", program.fields[field].name)));
+    }
+    let statements: Vec<u16> =
+        needs.used.iter().zip(&needs.need).map(|(used, need)| holders(hosts, used, *need)).collect();
+    if let Some(id) = statements.iter().position(|word| *word == 0) {
+        return Err(Stop(3, format!("no host may hold statement {id} (line {})", program.lines[id])));
+    }
+    Ok(Allowed { fields, statements })
+}
+
+// ---- plans
+
+struct Plan {
+    fields: Vec<usize>,
+    statements: Vec<usize>,
+}
+
+/// The plan by which all that a host may hold stands on it, and everything else on the first host that may hold it.
+fn starting_plan(allowed: &Allowed, host: usize) -> Plan {
+    let chosen = |word: &u16| if word >> host & 1 == 1 { host } else { word.trailing_zeros() as usize };
+    Plan {
+        fields: allowed.fields.iter().map(chosen).collect(),
+        statements: allowed.statements.iter().map(chosen).collect(),
+    }
+}
+
+/// Which host runs the statements of a block from some statement on, and which gets the right to go on behind a segment
+/// to whose host it is lent.
+#[derive(Clone, Copy)]
+struct Spot {
+    host: usize,
+    back: Option<usize>,
+}
+
+impl Spot {
+    fn on(host: usize) -> Spot {
+        Spot { host, back: None }
+    }
+
+    fn end(self) -> usize {
+        self.back.unwrap_or(self.host)
+    }
+}
+
+/// What a plan costs.
+struct Costs<'a> {
+    program: &'a Program,
+    needs: &'a Needs,
+    hosts: &'a Hosts,
+    plan: &'a Plan,
+}
+
+impl Costs<'_> {
+    fn message(&self, weight: u64, from: usize, to: usize) -> u64 {
+        weight * self.hosts.costs[from][to]
+    }
+
+    fn exchange(&self, weight: u64, from: usize, to: usize) -> u64 {
+        weight * (self.hosts.costs[from][to] + self.hosts.costs[to][from])
+    }
+
+    fn is_trusted_for_all(&self, host: usize, statements: &[Stmt]) -> bool {
+        let trust = self.hosts.hosts[host].label.trust;
+        statements.iter().all(|statement| is_within(self.needs.need[statement.id], trust))
+    }
+
+    fn return_host(&self, from: usize, host: usize, statements: &[Stmt]) -> usize {
+        let others = statements.iter().map(|statement| self.plan.statements[statement.id]);
+        let costs = &self.hosts.costs;
+        match others.into_iter().find(|other| *other != host) {
+            Some(next)
+                if self.is_trusted_for_all(next, statements)
+                    && costs[host][next] + costs[next][from] < costs[host][from] =>
+            {
+                next
+            }
+            _ => from,
+        }
+    }
+
+    /// Where the first of these statements runs, behind a spot.
+    fn next_spot(&self, spot: Spot, statements: &[Stmt]) -> Spot {
+        let host = self.plan.statements[statements[0].id];
+        if spot.host == host {
+            return spot;
+        }
+        let from = spot.end();
+        if from == host || self.is_trusted_for_all(host, statements) {
+            return Spot::on(host);
+        }
+        Spot { host, back: Some(self.return_host(from, host, statements)) }
+    }
+
+    /// The host that holds the right to go on behind a block that begins on a host.
+    fn block_end(&self, home: usize, block: &[Stmt]) -> usize {
+        (0..block.len()).fold(Spot::on(home), |spot, place| self.next_spot(spot, &block[place..])).end()
+    }
+
+    fn leave(&self, weight: u64, spot: Spot) -> u64 {
+        spot.back.map_or(0, |back| self.message(weight, spot.host, back))
+    }
+
+    fn move_on(&self, weight: u64, spot: Spot, next: Spot) -> u64 {
+        if spot.host == next.host {
+            return 0;
+        }
+        let from = spot.end();
+        let mut cost = self.leave(weight, spot);
+        if from != next.host {
+            cost += next.back.map_or(0, |back| self.exchange(weight, from, back));
+            cost += self.message(weight, from, next.host);
+        }
+        cost
+    }
+
+    fn field(&self, weight: u64, host: usize, field: usize) -> u64 {
+        self.exchange(weight, host, self.plan.fields[field])
+    }
+
+    fn expr(&self, weight: u64, host: usize, expr: &Expr) -> u64 {
+        match expr {
+            Expr::Number | Expr::Local(_) => 0,
+            Expr::Scalar(field) => self.field(weight, host, *field),
+            Expr::Element(field, index) => self.expr(weight, host, index) + self.field(weight, host, *field),
+            Expr::Binary(left, right) => self.expr(weight, host, left) + self.expr(weight, host, right),
+            Expr::Unary(operand) | Expr::Declassify(operand, _) | Expr::Endorse(operand, _) => {
+                self.expr(weight, host, operand)
+            }
+        }
+    }
+
+    /// The cost of sending a variable's value to each other host that reads it.
+    fn forwards(&self, weight: u64, host: usize, var: usize) -> u64 {
+        let readers = self.needs.readers[var].iter();
+        let reading = readers.fold(0u16, |word, reader| word | 1 << self.plan.statements[*reader]);
+        let others = (0..self.hosts.hosts.len()).filter(|other| *other != host && reading >> other & 1 == 1);
+        others.map(|other| self.exchange(weight, host, other)).sum()
+    }
+
+    fn home(&self, method: usize) -> usize {
+        self.plan.statements[self.program.methods[method].head]
+    }
+
+    fn end(&self, method: usize) -> usize {
+        self.block_end(self.home(method), &self.program.methods[method].body)
+    }
+
+    fn block(&self, weight: u64, home: usize, block: &[Stmt]) -> u64 {
+        let mut total = 0;
+        let mut spot = Spot::on(home);
+        for (place, statement) in block.iter().enumerate() {
+            let next = self.next_spot(spot, &block[place..]);
+            total += self.move_on(weight, spot, next) + self.statement(weight, statement);
+            spot = next;
+        }
+        total + self.leave(weight, spot)
+    }
+
+    /// The cost of a block in a statement, behind which this host gets back the right to go on.
+    fn nested(&self, weight: u64, host: usize, block: &[Stmt]) -> u64 {
+        self.block(weight, host, block) + self.message(weight, self.block_end(host, block), host)
+    }
+
+    fn statement(&self, weight: u64, statement: &Stmt) -> u64 {
+        let host = self.plan.statements[statement.id];
+        match &statement.kind {
+            StmtKind::Let { var, value } => self.expr(weight, host, value) + self.forwards(weight, host, *var),
+            StmtKind::SetField { field, value } => {
+                self.expr(weight, host, value) + self.field(weight, host, *field)
+            }
+            StmtKind::SetElement { field, index, value } => {
+                self.expr(weight, host, index) + self.expr(weight, host, value) + self.field(weight, host, *field)
+            }
+            StmtKind::If { guard, yes, no } => {
+                self.expr(weight, host, guard) + self.nested(weight, host, yes) + self.nested(weight, host, no)
+            }
+            StmtKind::While { guard, body } => {
+                let deeper = (8 * weight).min(8u64.pow(6));
+                self.expr(deeper, host, guard) + self.nested(deeper, host, body)
+            }
+            StmtKind::Call { method, args, into } => self.call(weight, host, *method, args, *into),
+            StmtKind::Return { value } => self.expr(weight, host, value),
+        }
+    }
+
+    fn call(&self, weight: u64, host: usize, method: usize, args: &[Expr], into: Option<usize>) -> u64 {
+        let params = &self.program.methods[method].params;
+        let given = args.iter().zip(params).map(|(arg, param)| {
+            self.expr(weight, host, arg) + self.forwards(weight, host, *param)
+        });
+        let end = self.end(method);
+        let kept = into.map_or(0, |into| self.exchange(weight, end, host) + self.forwards(weight, host, into));
+        given.sum::<u64>() + self.message(weight, host, self.home(method)) + self.message(weight, end, host) + kept
+    }
+
+    fn program(&self) -> u64 {
+        let methods = 0..self.program.methods.len();
+        let bodies = methods.map(|method| self.block(1, self.home(method), &self.program.methods[method].body));
+        let main = self.program.main;
+        bodies.sum::<u64>() + self.message(1, self.end(main), self.home(main))
+    }
+}
+
+/// The cheapest of the starting plans, of two that cost the same that of the earlier host, and its cost.
+fn cheapest_plan(program: &Program, needs: &Needs, hosts: &Hosts, allowed: &Allowed) -> (Plan, u64) {
+    let plans = (0..hosts.hosts.len()).map(|host| {
+        let plan = starting_plan(allowed, host);
+        let cost = Costs { program, needs, hosts, plan: &plan }.program();
+        (plan, cost)
+    });
+    plans.min_by_key(|(_, cost)| *cost).expect("a host")
+}
+
+// ---- the report
+
+fn push_places(text: &mut String, hosts: &Hosts, word: u16, at: usize) {
+    text.push_str(" may");
+    for (place, host) in hosts.hosts.iter().enumerate() {
+        if word >> place & 1 == 1 {
+            text.push(' ');
+            text.push_str(&host.name);
+        }
+    }
+    text.push_str(" at ");
+    text.push_str(&hosts.hosts[at].name);
+    text.push('\n');
+}
+
+fn report(program: &Program, hosts: &Hosts, allowed: &Allowed, plan: &Plan, cost: u64) -> String {
+    let mut text = format!(
+        "accepted {} fields {} methods {} statements\n",
+        program.fields.len(),
+        program.methods.len(),
+        program.lines.len()
+    );
+    for ((field, word), at) in program.fields.iter().zip(&allowed.fields).zip(&plan.fields) {
+        let _ = write!(text, "field {}", field.name);
+        push_places(&mut text, hosts, *word, *at);
+    }
+    for (id, line) in program.lines.iter().enumerate() {
+        let _ = write!(text, "statement {id} line {line}");
+        push_places(&mut text, hosts, allowed.statements[id], plan.statements[id]);
+    }
+    let _ = writeln!(text, "cost {cost}");
+    text
+}
+
+fn why_no_tokens(why: LexError) -> Stop {
+    match why {
+        LexError::BadByte(at) => program_stop(format!("bad byte at {at}")),
+        LexError::BadNumber(at) => program_stop(format!("bad number at {at}")),
+        LexError::TooLong => program_stop("too long"),
+    }
+}
+
+fn why_no_program(why: ParseError) -> Stop {
+    match why {
+        ParseError::Unexpected(at) => program_stop(format!("unexpected token {at}")),
+        ParseError::TooDeep => program_stop("nested past 64"),
+        ParseError::TooMany(what) => {
+            let name = match what {
+                What::Fields => "fields",
+                What::Methods => "methods",
+                What::Parameters => "parameters",
+                What::Locals => "locals",
+                What::Statements => "statements",
+                What::Nodes => "expression nodes",
+                What::Elements => "array elements",
+            };
+            program_stop(format!("too many {name}"))
+        }
+    }
+}
+
+fn load(name: &str) -> Result<Vec<u8>, Stop> {
+    std::fs::read(name).map_err(|why| match why.kind() {
+        std::io::ErrorKind::NotFound => Stop(4, format!("{name}: no such file")),
+        _ => Stop(6, format!("file fault: {name}")),
+    })
+}
+
+fn checked(program: &str, hosts: &str) -> Result<String, Stop> {
+    let (program, hosts) = (load(program)?, load(hosts)?);
+    let tokens = lex(&program).map_err(why_no_tokens)?;
+    let draft = parse(&tokens).map_err(why_no_program)?;
+    let (principals, hosts) = read_hosts(&hosts)?;
+    let mut program = resolve(&draft, &principals)?;
+    let found = check(&mut program, &principals)?;
+    let needs = needs_of(&principals, &program, &found);
+    let allowed = allowed_on(&program, &needs, &hosts)?;
+    let (plan, cost) = cheapest_plan(&program, &needs, &hosts, &allowed);
+    Ok(report(&program, &hosts, &allowed, &plan, cost))
+}
+
+fn main() -> ExitCode {
+    let words: Vec<String> = std::env::args().skip(1).collect();
+    let result = match &words[..] {
+        [command, program, hosts] if command == "check" => checked(program, hosts),
+        _ => Err(Stop(2, "usage: check P H".to_owned())),
+    };
+    match result {
+        Ok(text) => match std::io::stdout().write_all(text.as_bytes()) {
+            Ok(()) => ExitCode::SUCCESS,
+            Err(_) => ExitCode::from(7),
+        },
+        Err(Stop(status, line)) => {
+            eprintln!("jifsplit: {line}");
+            ExitCode::from(status)
+        }
+    }
+}
