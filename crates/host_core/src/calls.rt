@@ -45,10 +45,44 @@ impl Host {
         ensures me { self.new.me ≡ self.old.me }
         ensures sent { IfOk result (λ sent. SentFits code.now self.old.me sent) }
     {
+        let mut sent = None;
+        self.deliver_into(code, from, &message, &mut sent)?;
+        Ok(sent)
+    }
+
+    /// What `deliver` does, with what is sent laid where the caller says. After an error nothing is laid there.
+    ///
+    /// # Errors
+    /// As of `deliver`.
+    // A message is large, and each call that hands one on by value copies it.
+    pub fn deliver_into(
+        &mut self,
+        code: &Code,
+        from: HostId,
+        message: &Message,
+        sent: &mut Sent,
+    ) -> Result<(), HostError>
+        requires rest { self.old.running ≡ None }
+        requires fits { HostFits code.now self.old }
+        requires from { IsOther code.now self.old.me from }
+        requires tokens { TokensFit code.now message.now }
+        ensures ok { OnOk result (IsTaking code.now (state_of self.old) from message.now
+            (record { state = state_of self.new; sent = sent.new })) }
+        ensures err { OnErr result (state_of self.new ≡ state_of self.old) }
+        ensures stopped { IsErrOf result HostError.Stopped ↔ IsStopped self.old }
+        ensures kept { IsErrOf result HostError.Stopped → self.new ≡ self.old }
+        ensures out_of_memory { IsErrOf result HostError.OutOfMemory → IsTrue self.new.stopped }
+        ensures counted { OnOk result
+            ((self.new.calls ≡ self.old.calls + 1) × (self.new.stopped ≡ self.old.stopped)) }
+        ensures fits { HostFits code.now self.new }
+        ensures me { self.new.me ≡ self.old.me }
+        ensures sent { OnOk result (SentFits code.now self.old.me sent.new) }
+        ensures unsent { OnErr result (sent.new ≡ sent.old) }
+    {
         code_laws(code);
         self.begin()?;
-        match self.take(code, from, message) {
-            Ok(sent) => Ok(sent),
+        match self.take(code, from, message, sent) {
+            Ok(()) => Ok(()),
             Err(OutOfMemory) => {
                 self.stopped = true;
                 Err(HostError::OutOfMemory)
@@ -75,13 +109,39 @@ impl Host {
         ensures me { self.new.me ≡ self.old.me }
         ensures sent { IfOk result (λ sent. SentFits code.now self.old.me sent) }
     {
+        let mut sent = None;
+        self.turn_into(code, &mut sent)?;
+        Ok(sent)
+    }
+
+    /// What `turn` does, with what is sent laid where the caller says. After an error nothing is laid there.
+    ///
+    /// # Errors
+    /// As of `deliver`.
+    pub fn turn_into(&mut self, code: &Code, sent: &mut Sent) -> Result<(), HostError>
+        requires runs { IsSome self.old.running }
+        requires fits { HostFits code.now self.old }
+        ensures ok { OnOk result (IsTurn code.now (state_of self.old)
+            (record { state = state_of self.new; sent = sent.new })) }
+        ensures err { OnErr result (state_of self.new ≡ state_of self.old) }
+        ensures stopped { IsErrOf result HostError.Stopped ↔ IsStopped self.old }
+        ensures kept { IsErrOf result HostError.Stopped → self.new ≡ self.old }
+        ensures out_of_memory { IsErrOf result HostError.OutOfMemory → IsTrue self.new.stopped }
+        ensures counted { OnOk result
+            ((self.new.calls ≡ self.old.calls + 1) × (self.new.stopped ≡ self.old.stopped)) }
+        ensures fits { HostFits code.now self.new }
+        ensures me { self.new.me ≡ self.old.me }
+        ensures sent { OnOk result (SentFits code.now self.old.me sent.new) }
+        ensures unsent { OnErr result (sent.new ≡ sent.old) }
+    {
         code_laws(code);
         self.begin()?;
         let Some(thread) = self.running.take() else {
-            return Ok(None);
+            *sent = None;
+            return Ok(());
         };
-        match self.run(code, thread) {
-            Ok(sent) => Ok(sent),
+        match self.run(code, thread, sent) {
+            Ok(()) => Ok(()),
             Err(OutOfMemory) => {
                 self.stopped = true;
                 Err(HostError::OutOfMemory)
@@ -90,117 +150,134 @@ impl Host {
     }
 
     /// What the host does with a message, once the call was counted and there is room.
-    fn take(&mut self, code: &Code, from: HostId, message: Message) -> Result<Sent, OutOfMemory>
+    fn take(
+        &mut self,
+        code: &Code,
+        from: HostId,
+        message: &Message,
+        sent: &mut Sent,
+    ) -> Result<(), OutOfMemory>
         requires ready { IsReady self.old }
         requires checks { AreChecksOf code.now self.old.me self.old.checks }
         requires from { from.0 < HOSTS }
         requires serials { length self.old.stack.serials ≡ length code.now.entries }
-        ensures ok { IfOk result (λ sent.
-            IsTaking code.now (state_of self.old) from message (record { state = state_of self.new; sent = sent })) }
+        ensures ok { OnOk result (IsTaking code.now (state_of self.old) from message.now
+            (record { state = state_of self.new; sent = sent.new })) }
         ensures err { OnErr result (state_of self.new ≡ state_of self.old) }
+        ensures unsent { OnErr result (sent.new ≡ sent.old) }
         ensures same { IsSameHost self.old self.new }
     {
-        match message {
+        *sent = match *message {
             Message::Get {
                 request,
                 field,
                 index,
-            } => Ok(self.take_get(code, from, request, field, index)),
+            } => self.take_get(code, from, request, field, index),
             Message::Set {
                 request,
                 field,
                 index,
                 value,
-            } => Ok(self.take_set(code, from, request, field, index, value)),
+            } => self.take_set(code, from, request, field, index, value),
             Message::Forward {
                 request,
                 frame,
                 var,
                 value,
-            } => Ok(self.take_forward(code, from, request, frame, var, value)),
+            } => self.take_forward(code, from, request, frame, var, value),
             Message::Sync {
                 request,
                 frame,
                 entry,
                 token,
-            } => Ok(self.take_sync(code, from, request, frame, entry, token)),
+            } => self.take_sync(code, from, request, frame, entry, token),
             Message::Rgoto {
                 frame,
                 entry,
                 token,
             } => {
                 self.take_rgoto(code, from, frame, entry, token);
-                Ok(None)
+                None
             }
             Message::Lgoto { token } => {
                 self.take_lgoto(code, from, token);
-                Ok(None)
+                None
             }
             Message::Value { request, value } => {
                 self.take_value(code, from, request, value)?;
-                Ok(None)
+                None
             }
             Message::Ack { request } => {
                 self.take_ack(code, from, request);
-                Ok(None)
+                None
             }
             Message::Token { request, token } => {
                 self.take_token(code, from, request, token);
-                Ok(None)
+                None
             }
-        }
+        };
+        Ok(())
     }
 
     /// The thread runs its instruction.
-    fn run(&mut self, code: &Code, thread: Thread) -> Result<Sent, OutOfMemory>
+    fn run(&mut self, code: &Code, thread: Thread, sent: &mut Sent) -> Result<(), OutOfMemory>
         requires ready { IsReady self.old }
         requires serials { length self.old.stack.serials ≡ length code.now.entries }
         requires sound { IsSoundCode code.now }
         requires me { IsHost code.now self.old.me }
-        ensures ok { IfOk result (λ sent.
-            IsRunning code.now (state_of self.old) thread (instruction_at code.now self.old.me thread.at)
-            (record { state = state_of self.new; sent = sent })) }
+        ensures ok { OnOk result
+            (IsRunning code.now (state_of self.old) thread (instruction_at code.now self.old.me thread.at)
+            (record { state = state_of self.new; sent = sent.new })) }
         ensures err { OnErr result (state_of self.new ≡ with_running (state_of self.old) (Some thread)) }
+        ensures unsent { OnErr result (sent.new ≡ sent.old) }
         ensures same { IsSameHost self.old self.new }
     {
         match code.instruction(self.me, thread.at()) {
-            Some(instruction) => self.run_operation(code, thread, &instruction.op),
+            Some(instruction) => self.run_operation(code, thread, &instruction.op, sent),
             None => {
                 self.running = Some(thread);
-                Ok(None)
+                *sent = None;
+                Ok(())
             }
         }
     }
 
     /// The thread runs an instruction.
-    fn run_operation(&mut self, code: &Code, thread: Thread, op: &Op) -> Result<Sent, OutOfMemory>
+    fn run_operation(
+        &mut self,
+        code: &Code,
+        thread: Thread,
+        op: &Op,
+        sent: &mut Sent,
+    ) -> Result<(), OutOfMemory>
         requires ready { IsReady self.old }
         requires next { thread.at + 1 < 2 ^ 32 }
         requires entry { PushesWithin (length self.old.stack.serials) op.now }
-        ensures ok { IfOk result (λ sent.
-            IsOperation code.now (state_of self.old) thread op.now
-            (record { state = state_of self.new; sent = sent })) }
+        ensures ok { OnOk result (IsOperation code.now (state_of self.old) thread op.now
+            (record { state = state_of self.new; sent = sent.new })) }
         ensures err { OnErr result (state_of self.new ≡ with_running (state_of self.old) (Some thread)) }
+        ensures unsent { OnErr result (sent.new ≡ sent.old) }
         ensures same { IsSameHost self.old self.new }
     {
         let frame = thread.frame();
         let new_frame = thread.new_frame();
-        match op {
-            Op::Read(field, index) => self.read(code, thread, *field, index),
-            Op::Let(var, value) => Ok(self.assign(thread, frame, *var, value)),
-            Op::Put(field, index, value) => Ok(self.put(code, thread, *field, index, value)),
-            Op::Send(var, to) => Ok(self.send(thread, frame, *var, *to)),
-            Op::Frame(site) => Ok(self.make_frame(thread, *site)),
-            Op::Arg(var, value) => Ok(self.assign(thread, new_frame, *var, value)),
-            Op::Pass(var, to) => Ok(self.send(thread, new_frame, *var, *to)),
-            Op::Push(entry) => Ok(self.push(thread, *entry)),
-            Op::Ask(entry, on) => Ok(self.ask(thread, *entry, *on)),
-            Op::Go(entry, on) => Ok(self.go(thread, frame, *entry, *on)),
-            Op::Call(entry, on) => Ok(self.call(code, thread, *entry, *on)),
-            Op::Ret(var, value) => Ok(self.return_value(code, thread, *var, value)),
-            Op::Back => Ok(self.give_back(code, thread)),
-            Op::Branch(guard, target) => Ok(self.branch(thread, guard, *target)),
-        }
+        *sent = match op {
+            Op::Read(field, index) => self.read(code, thread, *field, index)?,
+            Op::Let(var, value) => self.assign(thread, frame, *var, value),
+            Op::Put(field, index, value) => self.put(code, thread, *field, index, value),
+            Op::Send(var, to) => self.send(thread, frame, *var, *to),
+            Op::Frame(site) => self.make_frame(thread, *site),
+            Op::Arg(var, value) => self.assign(thread, new_frame, *var, value),
+            Op::Pass(var, to) => self.send(thread, new_frame, *var, *to),
+            Op::Push(entry) => self.push(thread, *entry),
+            Op::Ask(entry, on) => self.ask(thread, *entry, *on),
+            Op::Go(entry, on) => self.go(thread, frame, *entry, *on),
+            Op::Call(entry, on) => self.call(code, thread, *entry, *on),
+            Op::Ret(var, value) => self.return_value(code, thread, *var, value),
+            Op::Back => self.give_back(code, thread),
+            Op::Branch(guard, target) => self.branch(thread, guard, *target),
+        };
+        Ok(())
     }
 }
 

@@ -1,6 +1,6 @@
 -- The step is that of the table, and keeps what holds of the host.
 use Rattle.host_core.proofs.CallsKept.{deliver_kept, few_hosts}
-use Rattle.host_core.proofs.host.Host.deliver.Goals as goal
+use Rattle.host_core.proofs.host.Host.deliver_into.Goals as goal
 
 pub take-requires-clause-from : goal.take-requires-clause-from
 take-requires-clause-from c =
@@ -8,14 +8,14 @@ take-requires-clause-from c =
 
 pub returns-in-Ok-clause-fits : goal.returns-in-Ok-clause-fits
 returns-in-Ok-clause-fits c =
-    (deliver_kept c.args.code.now c.args.self.now c.begin.new.self c.take.new.self c.args.from c.args.message
-    c.in-Ok.sent
+    (deliver_kept c.args.code.now c.args.self.now c.begin.new.self c.take.new.self c.args.from c.args.message.now
+    c.take.new.sent
     c.code_laws.ensures c.requires.fits c.requires.from c.requires.tokens c.begin.ensures.same c.begin.ensures.checks
     c.in-Ok.ensures.same c.in-Ok.ensures.ok).0
 
 pub returns-in-Ok-clause-sent : goal.returns-in-Ok-clause-sent
 returns-in-Ok-clause-sent c =
-    (deliver_kept c.args.code.now c.args.self.now c.begin.new.self c.take.new.self c.args.from c.args.message
-    c.in-Ok.sent
+    (deliver_kept c.args.code.now c.args.self.now c.begin.new.self c.take.new.self c.args.from c.args.message.now
+    c.take.new.sent
     c.code_laws.ensures c.requires.fits c.requires.from c.requires.tokens c.begin.ensures.same c.begin.ensures.checks
     c.in-Ok.ensures.same c.in-Ok.ensures.ok).1

@@ -6,12 +6,12 @@ use Rattle.host_core.specs.Host.{HostShape, HostModel, state_of, Outcome}
 use Rattle.host_core.specs.Turn.{IsTurn, IsTurnOf}
 use Rattle.host_core.specs.contracts.host.Host.{the_view}
 use Rattle.host_core.proofs.CallsKept.{turn_call_kept}
-use Rattle.host_core.proofs.host.Host.turn.Goals as goal
+use Rattle.host_core.proofs.host.Host.turn_into.Goals as goal
 
 pub returns-in-Ok-clause-ok : goal.returns-in-Ok-clause-ok
 returns-in-Ok-clause-ok c =
     let code = c.args.code.now in
-    let outcome : Outcome = record { state = state_of c.run.new.self; sent = c.in-Ok.sent } in
+    let outcome : Outcome = record { state = state_of c.run.new.self; sent = c.run.new.sent } in
     let host = state_of (the_view c.self.inside) in
     let taken =
     subst (λ (r : Option ThreadShape). IsTurnOf code host r outcome) c.in-Some.ensures.value c.in-Ok.ensures.ok in
@@ -20,7 +20,7 @@ returns-in-Ok-clause-ok c =
 
 pub returns-in-Ok-clause-fits : goal.returns-in-Ok-clause-fits
 returns-in-Ok-clause-fits c =
-    (turn_call_kept c.args.code.now c.args.self.now (the_view c.self.inside) c.run.new.self c.in-Ok.sent
+    (turn_call_kept c.args.code.now c.args.self.now (the_view c.self.inside) c.run.new.self c.run.new.sent
     c.code_laws.ensures
     c.requires.fits (ap state_of c.self.view_is ∙ c.begin.ensures.same)
     (ap (λ (h : HostModel). h.checks) c.self.view_is ∙ c.begin.ensures.checks)
@@ -34,7 +34,7 @@ returns-in-Ok-clause-fits c =
 
 pub returns-in-Ok-clause-sent : goal.returns-in-Ok-clause-sent
 returns-in-Ok-clause-sent c =
-    (turn_call_kept c.args.code.now c.args.self.now (the_view c.self.inside) c.run.new.self c.in-Ok.sent
+    (turn_call_kept c.args.code.now c.args.self.now (the_view c.self.inside) c.run.new.self c.run.new.sent
     c.code_laws.ensures
     c.requires.fits (ap state_of c.self.view_is ∙ c.begin.ensures.same)
     (ap (λ (h : HostModel). h.checks) c.self.view_is ∙ c.begin.ensures.checks)
