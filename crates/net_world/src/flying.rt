@@ -57,10 +57,10 @@ impl Queue {
 
     /// The message at a place with its label.
     #[tactic(auto, using(crate::proofs::Flights::flights))]
-    fn flight(&self, place: usize) -> Option<(Message, u32)>
+    fn flight(&self, place: usize) -> Option<(&Message, u32)>
         ensures { MatchOption result (slice_get self.now.flights place ≡ None)
             (λ found. slice_get self.now.flights place
-            ≡ Some (record { message = found.0; label = found.1 })) }
+            ≡ Some (record { message = found.0.now; label = found.1 })) }
     {
         match (
             message_at(&self.messages, place),
@@ -85,11 +85,11 @@ impl Queue {
 
     /// Adds a message, for which there is room.
     #[tactic(auto, using(crate::proofs::Flights::flights))]
-    fn push(&mut self, message: Message, label: u32)
+    fn push(&mut self, message: &Message, label: u32)
         requires { QueueHasRoom self.old }
-        ensures { self.new.flights ≡ self.old.flights ++ record { message = message; label = label } ∷ [] }
+        ensures { self.new.flights ≡ self.old.flights ++ record { message = message.now; label = label } ∷ [] }
     {
-        let pushed = self.messages.push(message);
+        let pushed = self.messages.push(*message);
         prove!(pushed.is_ok());
         let labelled = self.labels.push(label);
         prove!(labelled.is_ok());
@@ -107,10 +107,11 @@ impl Queue {
     }
 }
 
-fn message_at(messages: &[Message], place: usize) -> Option<Message>
-    ensures { result ≡ slice_get messages.now place }
+fn message_at(messages: &[Message], place: usize) -> Option<&Message>
+    ensures { MatchOption result (slice_get messages.now place ≡ None)
+        (λ message. slice_get messages.now place ≡ Some message.now) }
 {
-    messages.get(place).copied()
+    messages.get(place)
 }
 
 fn label_at(labels: &[u32], place: usize) -> Option<u32>
@@ -176,13 +177,13 @@ impl Flying {
 
     /// The message in flight from a host to a host at a place, from the oldest, with its label.
     #[tactic(auto, using(crate::proofs::Queues::flights_at_queue))]
-    pub fn flight(&self, from: HostId, to: HostId, place: usize) -> Option<(Message, u32)>
+    pub fn flight(&self, from: HostId, to: HostId, place: usize) -> Option<(&Message, u32)>
         requires from { from.0 < HOSTS }
         requires to { to.0 < HOSTS }
         ensures flight { MatchOption result
             (slice_get (flights_at (flights_of self.now) (pair_place from to)) place ≡ None)
             (λ found. slice_get (flights_at (flights_of self.now) (pair_place from to)) place
-            ≡ Some (record { message = found.0; label = found.1 })) }
+            ≡ Some (record { message = found.0.now; label = found.1 })) }
     {
         let pair = place_of(from, to);
         self.queues[pair].flight(place)
@@ -201,13 +202,15 @@ impl Flying {
         self.queues[place].reserve()
     }
 
-    /// Makes room for one more message from a host to each other, and changes nothing else, also after an error.
-    pub fn reserve_from(&mut self, from: HostId) -> Result<(), OutOfMemory>
-        requires { from.0 < HOSTS }
-        ensures room { OnOk result ((to : HostId) → to.0 < HOSTS → HasRoom self.new (pair_place from to)) }
+    /// Makes room for one more message from a host to each of the first so many, and changes nothing else, also after
+    /// an error.
+    pub fn reserve_from(&mut self, from: HostId, hosts: usize) -> Result<(), OutOfMemory>
+        requires from { from.0 < HOSTS }
+        requires hosts { hosts ≤ HOSTS }
+        ensures room { OnOk result ((to : HostId) → to.0 < hosts → HasRoom self.new (pair_place from to)) }
         ensures flights { flights_of self.new ≡ flights_of self.old }
     {
-        for to in 0..HOSTS as u8 {
+        for to in 0..hosts as u8 {
             self.reserve(from, HostId(to))?;
         }
         Ok(())
@@ -215,13 +218,13 @@ impl Flying {
 
     /// Adds a message with its label, for which there is room.
     #[tactic(auto, using(crate::proofs::Queues::pushing))]
-    pub fn push(&mut self, from: HostId, to: HostId, message: Message, label: u32)
+    pub fn push(&mut self, from: HostId, to: HostId, message: &Message, label: u32)
         requires from { from.0 < HOSTS }
         requires to { to.0 < HOSTS }
         requires room { HasRoom self.old (pair_place from to) }
         ensures flights { flights_of self.new ≡ slice_set (flights_of self.old) (pair_place from to)
             (flights_at (flights_of self.old) (pair_place from to)
-            ++ record { message = message; label = label } ∷ []) }
+            ++ record { message = message.now; label = label } ∷ []) }
         ensures count { length self.old ≡ PAIRS }
     {
         let place = place_of(from, to);

@@ -1,6 +1,6 @@
 //! What becomes of the messages of an event.
 
-ghost use Rattle.std.specs.Prelude.{◌≡◌, ◌<◌, ◌+◌, ℕ, length, OnOk, OnErr, IfOk, IfSome, IsSomeAnd};
+ghost use Rattle.std.specs.Prelude.{◌≡◌, ◌<◌, ◌+◌, ℕ, length, OnOk, OnErr, IfSome, IsSomeAnd};
 ghost use Rattle.std.specs.Prelude.{slice_get, IsSome};
 ghost use Rattle.js_base.specs.declared.ids.HostId.{HostId};
 ghost use Rattle.host_code.specs.Sound.{IsOther};
@@ -57,9 +57,9 @@ impl World {
         ensures root { self.new.root ≡ self.old.root }
     {
         // Only a look at a field tells the check what every world keeps, here that its hosts are few.
-        let _hosts = &self.hosts;
+        let hosts = self.hosts.len();
         self.told.reserve()?;
-        self.flying.reserve_from(from)
+        self.flying.reserve_from(from, hosts)
     }
 
     /// A host that is ready takes a message. After want of memory it answers no more.
@@ -68,42 +68,49 @@ impl World {
         code: &Code,
         to: HostId,
         from: HostId,
-        message: Message,
-    ) -> Result<Sent, OutOfMemory>
+        message: &Message,
+        sent: &mut Sent,
+    ) -> Result<(), OutOfMemory>
         requires ready { IsSomeAnd (host_at self.old to) IsReady }
         requires fits { HostsFit code.now self.old.hosts }
         requires from { IsOther code.now to from }
-        requires tokens { TokensFit code.now message }
-        ensures ok { IfOk result (λ sent. HasStepped (λ state outcome. IsTaking code.now state from message outcome)
-            (world_of self.old) to sent (world_of self.new)) }
+        requires tokens { TokensFit code.now message.now }
+        ensures ok { OnOk result
+            (HasStepped (λ state outcome. IsTaking code.now state from message.now outcome)
+            (world_of self.old) to sent.new (world_of self.new)) }
         ensures err { OnErr result (world_of self.new ≡ world_of self.old) }
         ensures stopped { OnErr result (HasStopped self.new to) }
         ensures made { OnOk result ((n : ℕ) → HaveMade n self.old.hosts → HaveMade (n + 1) self.new.hosts) }
         ensures others { ChangesOnly to self.old.hosts self.new.hosts }
         ensures fits { HostsFit code.now self.new.hosts }
-        ensures sent { IfOk result (SentFits code.now to) }
+        ensures sent { OnOk result (SentFits code.now to sent.new) }
         ensures mail { (self.new.queues ≡ self.old.queues) × (self.new.told ≡ self.old.told) }
         ensures root { self.new.root ≡ self.old.root }
     {
-        deliver_at(&mut self.hosts, code, to, from, message)
+        deliver_at(&mut self.hosts, code, to, from, message, sent)
     }
 
     /// A host whose thread runs makes a turn. After want of memory it answers no more.
-    pub(crate) fn run(&mut self, code: &Code, host: HostId) -> Result<Sent, OutOfMemory>
+    pub(crate) fn run(
+        &mut self,
+        code: &Code,
+        host: HostId,
+        sent: &mut Sent,
+    ) -> Result<(), OutOfMemory>
         requires active { IsSomeAnd (host_at self.old host) IsActive }
         requires fits { HostsFit code.now self.old.hosts }
-        ensures ok { IfOk result (λ sent. HasStepped (λ state outcome. IsTurn code.now state outcome)
-            (world_of self.old) host sent (world_of self.new)) }
+        ensures ok { OnOk result (HasStepped (λ state outcome. IsTurn code.now state outcome)
+            (world_of self.old) host sent.new (world_of self.new)) }
         ensures err { OnErr result (world_of self.new ≡ world_of self.old) }
         ensures stopped { OnErr result (HasStopped self.new host) }
         ensures made { OnOk result ((n : ℕ) → HaveMade n self.old.hosts → HaveMade (n + 1) self.new.hosts) }
         ensures others { ChangesOnly host self.old.hosts self.new.hosts }
         ensures fits { HostsFit code.now self.new.hosts }
-        ensures sent { IfOk result (SentFits code.now host) }
+        ensures sent { OnOk result (SentFits code.now host sent.new) }
         ensures mail { (self.new.queues ≡ self.old.queues) × (self.new.told ≡ self.old.told) }
         ensures root { self.new.root ≡ self.old.root }
     {
-        turn_at(&mut self.hosts, code, host)
+        turn_at(&mut self.hosts, code, host, sent)
     }
 
     /// A message in flight is taken out.
@@ -123,12 +130,12 @@ impl World {
 
     /// What a host sends is told to a misbehaving host, or is in flight with its label to another. There is room for
     /// it.
-    pub(crate) fn post(&mut self, from: HostId, label: Option<u32>, sent: Sent)
+    pub(crate) fn post(&mut self, from: HostId, label: Option<u32>, sent: &Sent)
         requires from { from.0 < length self.old.hosts }
-        requires room { IfSome sent (λ letter.
+        requires room { IfSome sent.now (λ letter.
             (letter.0.0 < length self.old.hosts) × HasRoom self.old.queues (pair_place from letter.0)) }
         requires told { ToldHasRoom self.old.told }
-        ensures world { world_of self.new ≡ after_sending (world_of self.old) from (letter_of label sent) }
+        ensures world { world_of self.new ≡ after_sending (world_of self.old) from (letter_of label sent.now) }
         ensures same { (self.new.hosts ≡ self.old.hosts) × (self.new.root ≡ self.old.root) }
     {
         // Only a look at a field tells the check what every world keeps, here that its hosts are few.
@@ -136,21 +143,21 @@ impl World {
         let (Some(label), Some((to, message))) = (label, sent) else {
             return;
         };
-        if self.is_bad(to) {
-            self.told.push(from, to, message);
+        if self.is_bad(*to) {
+            self.told.push(from, *to, message);
         } else {
-            self.flying.push(from, to, message, label);
+            self.flying.push(from, *to, message, label);
         }
     }
 
     /// What a host answers is told to a misbehaving host. There is room for it.
-    pub(crate) fn tell(&mut self, from: HostId, sent: Sent)
+    pub(crate) fn tell(&mut self, from: HostId, sent: &Sent)
         requires { ToldHasRoom self.old.told }
-        ensures world { world_of self.new ≡ after_telling (world_of self.old) from sent }
+        ensures world { world_of self.new ≡ after_telling (world_of self.old) from sent.now }
         ensures same { (self.new.hosts ≡ self.old.hosts) × (self.new.root ≡ self.old.root) }
     {
         if let Some((to, message)) = sent {
-            self.told.push(from, to, message);
+            self.told.push(from, *to, message);
         }
     }
 }

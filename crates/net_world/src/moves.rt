@@ -1,6 +1,6 @@
 //! The step of one host among all.
 
-ghost use Rattle.std.specs.Prelude.{◌≡◌, ◌+◌, ℕ, None, OnOk, OnErr, IfOk, IfSome, IsSome, IsSomeAnd};
+ghost use Rattle.std.specs.Prelude.{◌≡◌, ◌+◌, ℕ, None, OnOk, OnErr, IfSome, IsSome, IsSomeAnd};
 ghost use Rattle.std.specs.Prelude.{slice_set, Some};
 ghost use Rattle.host_code.specs.Sound.{IsOther, IsLabel};
 ghost use Rattle.host_core.specs.Fits.{SentFits, TokensFit};
@@ -33,41 +33,42 @@ fn deliver_to(
     code: &Code,
     me: HostId,
     from: HostId,
-    message: Message,
-) -> Result<Sent, OutOfMemory>
+    message: &Message,
+    sent: &mut Sent,
+) -> Result<(), OutOfMemory>
     requires ready { IsReady host.old }
     requires fits { PresentFits code.now me host.old }
     requires from { IsOther code.now me from }
-    requires tokens { TokensFit code.now message }
-    ensures ok { IfOk result (λ sent.
-        IsTaking code.now (state_of host.old) from message (record { state = state_of host.new; sent = sent })) }
+    requires tokens { TokensFit code.now message.now }
+    ensures ok { OnOk result (IsTaking code.now (state_of host.old) from message.now
+        (record { state = state_of host.new; sent = sent.new })) }
     ensures err { OnErr result (state_of host.new ≡ state_of host.old) }
     ensures stopped { OnErr result (IsStopped host.new) }
     ensures made { OnOk result ((n : ℕ) → HasMade n host.old → HasMade (n + 1) host.new) }
     ensures fits { PresentFits code.now me host.new }
-    ensures sent { IfOk result (SentFits code.now me) }
+    ensures sent { OnOk result (SentFits code.now me sent.new) }
 {
-    match host.deliver(code, from, message) {
-        Ok(sent) => Ok(sent),
+    match host.deliver_into(code, from, message, sent) {
+        Ok(()) => Ok(()),
         Err(HostError::OutOfMemory) => Err(OutOfMemory),
         Err(HostError::Stopped) => unreachable!(),
     }
 }
 
 /// A host whose thread runs makes a turn. After want of memory it answers no more.
-fn turn_of(host: &mut Host, code: &Code, me: HostId) -> Result<Sent, OutOfMemory>
+fn turn_of(host: &mut Host, code: &Code, me: HostId, sent: &mut Sent) -> Result<(), OutOfMemory>
     requires active { IsActive host.old }
     requires fits { PresentFits code.now me host.old }
-    ensures ok { IfOk result (λ sent.
-        IsTurn code.now (state_of host.old) (record { state = state_of host.new; sent = sent })) }
+    ensures ok { OnOk result (IsTurn code.now (state_of host.old)
+        (record { state = state_of host.new; sent = sent.new })) }
     ensures err { OnErr result (state_of host.new ≡ state_of host.old) }
     ensures stopped { OnErr result (IsStopped host.new) }
     ensures made { OnOk result ((n : ℕ) → HasMade n host.old → HasMade (n + 1) host.new) }
     ensures fits { PresentFits code.now me host.new }
-    ensures sent { IfOk result (SentFits code.now me) }
+    ensures sent { OnOk result (SentFits code.now me sent.new) }
 {
-    match host.turn(code) {
-        Ok(sent) => Ok(sent),
+    match host.turn_into(code, sent) {
+        Ok(()) => Ok(()),
         Err(HostError::OutOfMemory) => Err(OutOfMemory),
         Err(HostError::Stopped) => unreachable!(),
     }
@@ -79,42 +80,48 @@ pub fn deliver_at(
     code: &Code,
     to: HostId,
     from: HostId,
-    message: Message,
-) -> Result<Sent, OutOfMemory>
+    message: &Message,
+    sent: &mut Sent,
+) -> Result<(), OutOfMemory>
     requires ready { IsSomeAnd (present hosts.old.items to) IsReady }
     requires fits { HostsFit code.now hosts.old.items }
     requires from { IsOther code.now to from }
-    requires tokens { TokensFit code.now message }
-    ensures ok { IfOk result (λ sent. HasMoved (λ state outcome. IsTaking code.now state from message outcome)
-        hosts.old.items hosts.new.items to sent) }
+    requires tokens { TokensFit code.now message.now }
+    ensures ok { OnOk result (HasMoved (λ state outcome. IsTaking code.now state from message.now outcome)
+        hosts.old.items hosts.new.items to sent.new) }
     ensures err { OnErr result (states_of hosts.new.items ≡ states_of hosts.old.items) }
     ensures stopped { OnErr result (IsSomeAnd (present hosts.new.items to) IsStopped) }
     ensures made { OnOk result ((n : ℕ) → HaveMade n hosts.old.items → HaveMade (n + 1) hosts.new.items) }
     ensures others { ChangesOnly to hosts.old.items hosts.new.items }
     ensures fits { HostsFit code.now hosts.new.items }
-    ensures sent { IfOk result (SentFits code.now to) }
+    ensures sent { OnOk result (SentFits code.now to sent.new) }
 {
     match &mut hosts[to.0 as usize] {
-        Some(host) => deliver_to(host, code, to, from, message),
+        Some(host) => deliver_to(host, code, to, from, message, sent),
         None => unreachable!(),
     }
 }
 
 /// The host of a number makes a turn.
-pub fn turn_at(hosts: &mut Vec<Option<Host>>, code: &Code, me: HostId) -> Result<Sent, OutOfMemory>
+pub fn turn_at(
+    hosts: &mut Vec<Option<Host>>,
+    code: &Code,
+    me: HostId,
+    sent: &mut Sent,
+) -> Result<(), OutOfMemory>
     requires active { IsSomeAnd (present hosts.old.items me) IsActive }
     requires fits { HostsFit code.now hosts.old.items }
-    ensures ok { IfOk result (λ sent. HasMoved (λ state outcome. IsTurn code.now state outcome)
-        hosts.old.items hosts.new.items me sent) }
+    ensures ok { OnOk result (HasMoved (λ state outcome. IsTurn code.now state outcome)
+        hosts.old.items hosts.new.items me sent.new) }
     ensures err { OnErr result (states_of hosts.new.items ≡ states_of hosts.old.items) }
     ensures stopped { OnErr result (IsSomeAnd (present hosts.new.items me) IsStopped) }
     ensures made { OnOk result ((n : ℕ) → HaveMade n hosts.old.items → HaveMade (n + 1) hosts.new.items) }
     ensures others { ChangesOnly me hosts.old.items hosts.new.items }
     ensures fits { HostsFit code.now hosts.new.items }
-    ensures sent { IfOk result (SentFits code.now me) }
+    ensures sent { OnOk result (SentFits code.now me sent.new) }
 {
     match &mut hosts[me.0 as usize] {
-        Some(host) => turn_of(host, code, me),
+        Some(host) => turn_of(host, code, me, sent),
         None => unreachable!(),
     }
 }

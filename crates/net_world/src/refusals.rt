@@ -22,8 +22,8 @@ impl World {
         from: HostId,
         to: HostId,
         place: u64,
-    ) -> Result<(Message, u32), EventError>
-        ensures ok { IfOk result (IsTakeable self.now from to place) }
+    ) -> Result<(&Message, u32), EventError>
+        ensures ok { IfOk result (λ found. IsTakeable self.now from to place (found.0.now, found.1)) }
         ensures err { IfErr result (IsRefused self.now (Event.Take from to place)) }
     {
         let Some(found) = self.flight(from, to, place) else {
@@ -93,10 +93,10 @@ impl World {
     }
 
     /// The message in flight at a place with its label.
-    fn flight(&self, from: HostId, to: HostId, place: u64) -> Option<(Message, u32)>
+    fn flight(&self, from: HostId, to: HostId, place: u64) -> Option<(&Message, u32)>
         ensures { MatchOption result (slice_get ((world_of self.now).flying from to) place ≡ None)
             (λ found. slice_get ((world_of self.now).flying from to) place
-            ≡ Some (record { message = found.0; label = found.1 })) }
+            ≡ Some (record { message = found.0.now; label = found.1 })) }
     {
         if self.is_host(from) && self.is_host(to) {
             self.flying.flight(from, to, place as usize)

@@ -72,15 +72,17 @@ impl World {
         ensures others { ChangesOnly to self.old.hosts self.new.hosts }
         ensures fits { WorldFits code.now self.new }
     {
-        let (message, label) = self.takeable(from, to, place)?;
+        let (found, label) = self.takeable(from, to, place)?;
+        let message = *found;
         if self.reserve_to(to, from).is_err() {
             return Err(EventError::OutOfMemory);
         }
-        let Ok(sent) = self.deliver(code, to, from, message) else {
+        let mut sent = None;
+        let Ok(()) = self.deliver(code, to, from, &message, &mut sent) else {
             return Err(EventError::OutOfMemory);
         };
         self.take_out(from, to, place);
-        self.post(to, Some(label), sent);
+        self.post(to, Some(label), &sent);
         Ok(())
     }
 
@@ -96,10 +98,11 @@ impl World {
         if self.reserve_from(host).is_err() {
             return Err(EventError::OutOfMemory);
         }
-        let Ok(sent) = self.run(code, host) else {
+        let mut sent = None;
+        let Ok(()) = self.run(code, host, &mut sent) else {
             return Err(EventError::OutOfMemory);
         };
-        self.post(host, label, sent);
+        self.post(host, label, &sent);
         Ok(())
     }
 
@@ -122,10 +125,11 @@ impl World {
         if self.reserve_told().is_err() {
             return Err(EventError::OutOfMemory);
         }
-        let Ok(sent) = self.deliver(code, to, from, message) else {
+        let mut sent = None;
+        let Ok(()) = self.deliver(code, to, from, &message, &mut sent) else {
             return Err(EventError::OutOfMemory);
         };
-        self.tell(to, sent);
+        self.tell(to, &sent);
         Ok(())
     }
 }

@@ -72,12 +72,12 @@ impl Told {
 
     /// Adds a message, for which there is room.
     #[tactic(auto, using(crate::proofs::ToldTokens::tokens_more))]
-    pub fn push(&mut self, from: HostId, to: HostId, message: Message)
+    pub fn push(&mut self, from: HostId, to: HostId, message: &Message)
         requires { ToldHasRoom self.old }
-        ensures { self.new.sent ≡ self.old.sent ++ (from, to, message) ∷ [] }
+        ensures { self.new.sent ≡ self.old.sent ++ (from, to, message.now) ∷ [] }
     {
-        keep_token(&mut self.tokens, &message);
-        let pushed = self.messages.push((from, to, message));
+        keep_token(&mut self.tokens, message);
+        let pushed = self.messages.push((from, to, *message));
         prove!(pushed.is_ok());
     }
 

@@ -30,7 +30,7 @@ returns-clause-answer c =
     let actable = c.in_ok-message.ensures.ok in (
       act_due a.self.now a.from a.to a.made c.in_ok-message.message actable,
       acted a.code.now (world_of a.self.now) (world_of c.reserve_told.new.self) (world_of c.deliver.new.self)
-          (world_of c.tell.new.self) a.from a.to a.made c.in_ok-message.message c.in-Ok.sent actable.bad actable.makes
+          (world_of c.tell.new.self) a.from a.to a.made c.in_ok-message.message c.deliver.new.sent actable.bad actable.makes
           (state_rests a.self.now a.to actable.host) c.reserve_told.ensures.world c.in-Ok.ensures.ok
           c.tell.ensures.world,
     )
@@ -47,11 +47,11 @@ returns-clause-fits c =
     let reserved : MailFits code (world_of c.reserve_told.new.self) =
     subst (MailFits code) (sym c.reserve_told.ensures.world) c.requires.fits.mail in
     let moved =
-    mail_stepped code kind (world_of c.reserve_told.new.self) a.to c.in-Ok.sent (world_of c.deliver.new.self)
+    mail_stepped code kind (world_of c.reserve_told.new.self) a.to c.deliver.new.sent (world_of c.deliver.new.self)
     c.in-Ok.ensures.ok reserved in
     let mail : MailFits code (world_of c.tell.new.self) =
     subst (MailFits code) (sym c.tell.ensures.world)
-    (mail_telling code (world_of c.deliver.new.self) a.to c.in-Ok.sent moved is_host c.in-Ok.ensures.sent) in
+    (mail_telling code (world_of c.deliver.new.self) a.to c.deliver.new.sent moved is_host c.in-Ok.ensures.sent) in
     world_fits code a.self.now c.tell.new.self c.deliver.new.self.hosts c.requires.fits
     (c.tell.ensures.same.1 ∙ c.in-Ok.ensures.root ∙ c.reserve_told.ensures.root) c.tell.ensures.same.0
     (c.in-Ok.ensures.others.count ∙ ap length c.reserve_told.ensures.hosts) c.in-Ok.ensures.fits mail

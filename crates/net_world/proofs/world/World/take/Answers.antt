@@ -11,19 +11,19 @@ pub take_out-requires-clause-there : goal.take_out-requires-clause-there
 take_out-requires-clause-there c =
     let a = c.args in
     let kind : HostShape → Outcome → Type 0 =
-    λ state outcome. IsTaking a.code.now state a.from c.in_ok-message.message outcome in
+    λ state outcome. IsTaking a.code.now state a.from c.in_ok-found.found.now outcome in
     still_there kind (world_of a.self.now) (world_of c.reserve_to.new.self) (world_of c.deliver.new.self) a.to
-    c.in-Ok.sent a.from a.to a.place (record { message = c.in_ok-message.message; label = c.in_ok-message.label })
-    c.reserve_to.ensures.world c.in-Ok.ensures.ok c.in_ok-message.ensures.ok.there
+    c.deliver.new.sent a.from a.to a.place (record { message = c.in_ok-found.found.now; label = c.in_ok-found.label })
+    c.reserve_to.ensures.world c.in-Ok.ensures.ok c.in_ok-found.ensures.ok.there
 
 pub returns-clause-answer : goal.returns-clause-answer
 returns-clause-answer c =
     let a = c.args in
-    let takeable = c.in_ok-message.ensures.ok in (
-      take_due a.self.now a.from a.to a.place (c.in_ok-message.message, c.in_ok-message.label) takeable,
+    let takeable = c.in_ok-found.ensures.ok in (
+      take_due a.self.now a.from a.to a.place (c.in_ok-found.found.now, c.in_ok-found.label) takeable,
       taken a.code.now (world_of a.self.now) (world_of c.reserve_to.new.self) (world_of c.deliver.new.self)
-          (world_of c.take_out.new.self) (world_of c.post.new.self) a.from a.to a.place c.in_ok-message.message
-          c.in_ok-message.label c.in-Ok.sent takeable.there (state_rests a.self.now a.to takeable.host)
+          (world_of c.take_out.new.self) (world_of c.post.new.self) a.from a.to a.place c.in_ok-found.found.now
+          c.in_ok-found.label c.deliver.new.sent takeable.there (state_rests a.self.now a.to takeable.host)
           c.reserve_to.ensures.world c.in-Ok.ensures.ok c.take_out.ensures.world c.post.ensures.world,
     )
 
@@ -32,22 +32,22 @@ returns-clause-fits c =
     let a = c.args in
     let code = a.code.now in
     let kind : HostShape → Outcome → Type 0 =
-    λ state outcome. IsTaking code state a.from c.in_ok-message.message outcome in
+    λ state outcome. IsTaking code state a.from c.in_ok-found.found.now outcome in
     let flight =
     flight_fits code (world_of a.self.now) a.from a.to a.place
-    (record { message = c.in_ok-message.message; label = c.in_ok-message.label }) c.requires.fits.mail
-    c.in_ok-message.ensures.ok.there in
+    (record { message = c.in_ok-found.found.now; label = c.in_ok-found.label }) c.requires.fits.mail
+    c.in_ok-found.ensures.ok.there in
     let reserved : MailFits code (world_of c.reserve_to.new.self) =
     subst (MailFits code) (sym c.reserve_to.ensures.world) c.requires.fits.mail in
     let moved =
-    mail_stepped code kind (world_of c.reserve_to.new.self) a.to c.in-Ok.sent (world_of c.deliver.new.self)
+    mail_stepped code kind (world_of c.reserve_to.new.self) a.to c.deliver.new.sent (world_of c.deliver.new.self)
     c.in-Ok.ensures.ok reserved in
     let without : MailFits code (world_of c.take_out.new.self) =
     subst (MailFits code) (sym c.take_out.ensures.world)
     (mail_without code (world_of c.deliver.new.self) a.from a.to a.place moved) in
     let mail : MailFits code (world_of c.post.new.self) =
     subst (MailFits code) (sym c.post.ensures.world)
-    (mail_sending code (world_of c.take_out.new.self) a.to (Some c.in_ok-message.label) c.in-Ok.sent without
+    (mail_sending code (world_of c.take_out.new.self) a.to (Some c.in_ok-found.label) c.deliver.new.sent without
     flight.target.0 c.in-Ok.ensures.sent flight.label) in
     world_fits code a.self.now c.post.new.self c.deliver.new.self.hosts c.requires.fits
     (c.post.ensures.same.1 ∙ c.take_out.ensures.same.2 ∙ c.in-Ok.ensures.root ∙ c.reserve_to.ensures.root)

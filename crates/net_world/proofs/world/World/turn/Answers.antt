@@ -21,11 +21,11 @@ returns-clause-fits c =
     let reserved : MailFits code (world_of c.reserve_from.new.self) =
     subst (MailFits code) (sym c.reserve_from.ensures.world) c.requires.fits.mail in
     let moved =
-    mail_stepped code kind (world_of c.reserve_from.new.self) a.host c.in-Ok.sent (world_of c.run.new.self)
+    mail_stepped code kind (world_of c.reserve_from.new.self) a.host c.run.new.sent (world_of c.run.new.self)
     c.in-Ok.ensures.ok reserved in
     let mail : MailFits code (world_of c.post.new.self) =
     subst (MailFits code) (sym c.post.ensures.world)
-    (mail_sending code (world_of c.run.new.self) a.host c.in_ok-label.label c.in-Ok.sent moved is_host
+    (mail_sending code (world_of c.run.new.self) a.host c.in_ok-label.label c.run.new.sent moved is_host
     c.in-Ok.ensures.sent c.in_ok-label.ensures.ok.1) in
     world_fits code a.self.now c.post.new.self c.run.new.self.hosts c.requires.fits
     (c.post.ensures.same.1 ∙ c.in-Ok.ensures.root ∙ c.reserve_from.ensures.root) c.post.ensures.same.0
