@@ -2,4 +2,8 @@ pub mod Emissions
 pub mod Expressions
 pub mod Walk
 pub mod SplitCode
+pub mod Flow
+pub mod WalkStart
+pub mod Splittable
+pub mod Settled
 pub mod Worked

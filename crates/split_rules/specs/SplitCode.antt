@@ -1,5 +1,5 @@
 -- The code of a split program, read off what the walk gives.
-use Rattle.std.specs.Prelude.{ℕ, ◌+◌, suc, Bool, true, false, ◌&&◌, nat_eq, if◌then◌else◌}
+use Rattle.std.specs.Prelude.{ℕ, suc, Bool, true, false, ◌&&◌, nat_eq, if◌then◌else◌}
 use Rattle.std.specs.Prelude.{List, [], ◌∷◌, ◌++◌, map, length, unwrap_or, codes}
 use Rattle.std.specs.List.{flat_map, list_any, range_with_len, zip}
 use Rattle.std.specs.Option.{option_map}
@@ -74,7 +74,7 @@ label_place number label (other ∷ others) =
 
 abbrev pub label_of_emission : Emission → List Label
 label_of_emission (instruction one) = one.label ∷ []
-label_of_emission (entry named) = []
+label_of_emission (entry named) = named.label ∷ []
 label_of_emission (stands on number) = []
 label_of_emission (lands on number) = []
 
@@ -83,11 +83,12 @@ entries_in [] = []
 entries_in (entry named ∷ others) = named ∷ entries_in others
 entries_in (emission ∷ others) = entries_in others
 
--- the labels of a code: those of the fields, of the variables, of the entries, and of the instructions
+-- The labels of a code: those of the fields, of the variables, and of the entries and instructions. The label of an
+-- instruction is that of the last entry of its block, so instructions bring no label that the entries have not.
 abbrev pub code_labels : Labelled → List Emission → List Label
 code_labels labelled emissions =
     with_labels [] (map (λ field. field.label) labelled.program.fields ++ labelled.var_labels
-    ++ map (λ named. named.label) (entries_in emissions) ++ flat_map label_of_emission emissions)
+    ++ flat_map label_of_emission emissions)
 
 abbrev pub landed : HostId → List Emission → Op → Op
 landed host emissions (op.Branch guard number) =

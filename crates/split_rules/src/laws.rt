@@ -1,6 +1,17 @@
 //! Laws of the splitting. The calls do nothing.
 
-ghost use Rattle.std.specs.Prelude.{◌≡◌, ◌∷◌, [], pos};
+ghost use Rattle.host_decl.specs.Hosts.{HostsShape};
+ghost use Rattle.need_labels.specs.Labelled.{Labelled};
+ghost use Rattle.need_labels.specs.Needs.{NeedsShape};
+ghost use Rattle.need_labels.specs.Plan.{PlanShape};
+ghost use Rattle.msg_cost.specs.Moves.{planned_of};
+ghost use Rattle.host_code.specs.Sound.{IsSoundCode};
+ghost use Rattle.split_rules.specs.SplitCode.{split_code};
+ghost use Rattle.split_rules.specs.Splittable.{IsSplittable, HasFew};
+ghost use Rattle.split_rules.specs.Emissions.{counts_after};
+ghost use Rattle.split_rules.specs.Settled.{AreSettled};
+ghost use Rattle.split_rules.specs.Walk.{program_emissions};
+ghost use Rattle.std.specs.Prelude.{◌≡◌, ◌∷◌, [], length, pos};
 ghost use Rattle.js_base.specs.declared.binary_operator.BinOp.TheVariants as operator;
 ghost use Rattle.host_code.specs.declared.instruction.Op.TheVariants as op;
 ghost use Rattle.host_code.specs.declared.code_expr.Node.TheVariants as node;
@@ -8,6 +19,21 @@ ghost use Rattle.split_rules.specs.Expressions.{first_element};
 ghost use Rattle.split_rules.specs.Walk.{entry_id};
 ghost use Rattle.split_rules.specs.Worked.{sent_local, lent_past, lent_back, looped, operations_on, entry_hosts};
 ghost use Rattle.split_rules.specs.Worked.{field_id, var_id, host_id};
+
+/// Whatever the plan, the code of a split program is sound, and its entries stand and its branches lead where they
+/// should, on their own hosts.
+pub fn split_laws()
+    ensures sound { (labelled : Labelled) (needs : NeedsShape) (hosts : HostsShape) (plan : PlanShape) →
+        IsSplittable labelled hosts plan →
+        HasFew (split_code labelled needs hosts plan)
+        (program_emissions hosts.principals labelled (planned_of labelled needs hosts plan)) →
+        IsSoundCode (split_code labelled needs hosts plan) }
+    ensures settled { (labelled : Labelled) (needs : NeedsShape) (hosts : HostsShape) (plan : PlanShape) →
+        IsSplittable labelled hosts plan →
+        let emissions = program_emissions hosts.principals labelled (planned_of labelled needs hosts plan) in
+        AreSettled (length hosts.hosts) (counts_after (record { entries = 0; branches = 0 }) emissions).branches
+        emissions }
+{}
 
 /// The instructions of some small programs on each of their hosts, and the hosts of their entries.
 pub fn worked_laws()

@@ -1,0 +1,6 @@
+use Rattle.split_rules.proofs.SoundSplit.{split_is_sound}
+use Rattle.split_rules.proofs.Settling.{program_settled}
+use Rattle.split_rules.proofs.laws.split_laws.Goals as goal
+
+pub returns : goal.returns
+returns c = record { sound = split_is_sound; settled = program_settled }

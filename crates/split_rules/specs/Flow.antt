@@ -1,0 +1,183 @@
+-- What may follow what in the emissions of a walk, as a typed assembly language says it of instructions (Morrisett,
+-- Walker, Crary and Glew). It speaks of one emission and of what came before it alone.
+use Rattle.std.specs.Prelude.{◌≡◌, ◌≢◌, ℕ, ◌<◌, suc, List, [], ◌∷◌, ◌++◌, All, length, drop, Some}
+use Rattle.std.specs.Prelude.{slice_get, ⊤}
+use Rattle.js_base.specs.declared.ids.HostId.{HostId}
+use Rattle.js_base.specs.declared.ids.FieldId.{FieldId}
+use Rattle.js_base.specs.declared.ids.VarId.{VarId}
+use Rattle.js_base.specs.declared.ids.EntryId.{EntryId}
+use Rattle.host_code.specs.declared.code_expr.Node.{Node}
+use Rattle.host_code.specs.declared.code_expr.Node.TheVariants as node
+use Rattle.host_code.specs.declared.instruction.Op.{Op}
+use Rattle.host_code.specs.declared.instruction.Op.TheVariants as op
+use Rattle.host_code.specs.Code.{halt, host_of_site}
+use Rattle.host_code.specs.Sound.{temporaries_after}
+use Rattle.split_rules.specs.Emissions.{Emission, instruction, entry, stands, lands, Emitted, Counts}
+
+-- how many hosts, fields and variables there are, and the hosts of the call sites, from site 1 on
+pub record Scope : Type 0 where
+  pub hosts : ℕ
+  pub fields : ℕ
+  pub variables : ℕ
+  pub sites : List HostId
+
+pub data Flow : Type 0 where
+  -- nothing goes on until an entry stands or a branch leads somewhere
+  stopped : Flow
+  -- the next instruction is one of this host, and so many temporaries are there at the least
+  at : HostId → ℕ → Flow
+  -- an entry on this host is to stand next: the one behind a call
+  awaited : HostId → Flow
+
+-- a number of an entry or a branch, with the host where it is to stand
+pub record Pending : Type 0 where
+  pub host : HostId
+  pub number : ℕ
+
+-- what is known at a place of a walk
+pub record State : Type 0 where
+  pub flow : Flow
+  -- the hosts of the entries so far, by their numbers
+  pub named : List HostId
+  pub branches : ℕ
+  -- the entries that do not stand yet, and the branches of which it is not known where they lead, the last first
+  pub owed : List Pending
+  pub opened : List Pending
+
+abbrev pub counts_of : State → Counts
+counts_of state = record { entries = length state.named; branches = state.branches }
+
+-- ---- what an instruction names is there
+
+abbrev pub NodeFits : Scope → ℕ → Node → Type 0
+NodeFits scope count (node.Var variable) = variable.0 < scope.variables
+NodeFits scope count (node.Temp temporary) = temporary < count
+NodeFits scope count other = ⊤
+
+abbrev pub ExpressionFits : Scope → ℕ → List Node → Type 0
+ExpressionFits scope count nodes = All (NodeFits scope count) nodes
+
+abbrev pub IsField : Scope → FieldId → Type 0
+IsField scope field = field.0 < scope.fields
+
+abbrev pub IsVariable : Scope → VarId → Type 0
+IsVariable scope variable = variable.0 < scope.variables
+
+-- another host than an instruction's own
+abbrev pub IsOther : Scope → HostId → HostId → Type 0
+IsOther scope me host = (host.0 < scope.hosts) × (host ≢ me)
+
+-- one of the entries so far, on this host, and not the one that ends the program
+abbrev pub IsEntryOn : List HostId → HostId → EntryId → Type 0
+IsEntryOn named host there = (there ≢ halt) × (slice_get named there.0 ≡ Some host)
+
+-- An instruction of a host, behind so many entries and branches. A branch has the next number.
+abbrev pub OperationFits : Scope → State → HostId → ℕ → Op → Type 0
+OperationFits scope state me count (op.Read field index) = IsField scope field × ExpressionFits scope count index
+OperationFits scope state me count (op.Let variable value) =
+    IsVariable scope variable × ExpressionFits scope count value
+OperationFits scope state me count (op.Put field index value) =
+    IsField scope field × ExpressionFits scope count index × ExpressionFits scope count value
+OperationFits scope state me count (op.Send variable to) = IsVariable scope variable × IsOther scope me to
+OperationFits scope state me count (op.Frame site) = host_of_site scope.sites site.0 ≡ Some me
+OperationFits scope state me count (op.Arg variable value) =
+    IsVariable scope variable × ExpressionFits scope count value
+OperationFits scope state me count (op.Pass variable to) = IsVariable scope variable × IsOther scope me to
+OperationFits scope state me count (op.Push there) = IsEntryOn state.named me there
+OperationFits scope state me count (op.Ask there on) = IsEntryOn state.named on there × IsOther scope me on
+OperationFits scope state me count (op.Go there on) = IsEntryOn state.named on there × IsOther scope me on
+OperationFits scope state me count (op.Call there on) = IsEntryOn state.named on there × (on.0 < scope.hosts)
+OperationFits scope state me count (op.Ret variable value) =
+    IsVariable scope variable × ExpressionFits scope count value
+OperationFits scope state me count op.Back = ⊤
+OperationFits scope state me count (op.Branch guard number) =
+    ExpressionFits scope count guard × (number ≡ state.branches)
+
+-- ---- one emission
+
+-- where it goes on behind an instruction of a host
+abbrev pub flow_behind : HostId → ℕ → Op → Flow
+flow_behind me count op.Back = stopped
+flow_behind me count (op.Go there on) = stopped
+flow_behind me count (op.Call there on) = awaited me
+flow_behind me count other = at me (temporaries_after other count)
+
+abbrev pub flow_after : Flow → Emitted → Flow
+flow_after stopped one = stopped
+flow_after (awaited host) one = awaited host
+flow_after (at host count) one = flow_behind one.host count one.op
+
+-- a branch is open from its instruction on
+abbrev pub branched : State → HostId → Op → State
+branched state me (op.Branch guard number) = record {
+  flow = state.flow;
+  named = state.named;
+  branches = suc state.branches;
+  owed = state.owed;
+  opened = record { host = me; number = state.branches } ∷ state.opened;
+}
+branched state me other = state
+
+abbrev pub with_flow : State → Flow → State
+with_flow state flow = record {
+  flow = flow;
+  named = state.named;
+  branches = state.branches;
+  owed = state.owed;
+  opened = state.opened;
+}
+
+-- what is known behind an emission
+abbrev pub after : State → Emission → State
+after state (instruction one) = with_flow (branched state one.host one.op) (flow_after state.flow one)
+after state (entry named) = record {
+  flow = state.flow;
+  named = state.named ++ named.host ∷ [];
+  branches = state.branches;
+  owed = record { host = named.host; number = length state.named } ∷ state.owed;
+  opened = state.opened;
+}
+after state (stands host number) = record {
+  flow = at host 0;
+  named = state.named;
+  branches = state.branches;
+  owed = drop 1 state.owed;
+  opened = state.opened;
+}
+after state (lands host number) = record {
+  flow = at host 0;
+  named = state.named;
+  branches = state.branches;
+  owed = state.owed;
+  opened = drop 1 state.opened;
+}
+
+-- an instruction is one of the host that goes on
+abbrev pub InstructionFits : Scope → State → Emitted → Flow → Type 0
+InstructionFits scope state one stopped = ⊥
+InstructionFits scope state one (awaited host) = ⊥
+InstructionFits scope state one (at host count) = (host ≡ one.host) × OperationFits scope state host count one.op
+
+-- what was owed last comes first
+abbrev pub IsFirst : HostId → ℕ → List Pending → Type 0
+IsFirst host number [] = ⊥
+IsFirst host number (pending ∷ others) = pending ≡ record { host = host; number = number }
+
+-- an entry stands where nothing goes on, or where the same host goes on or awaits it
+abbrev pub MayStand : HostId → Flow → Type 0
+MayStand host stopped = ⊤
+MayStand host (at other count) = other ≡ host
+MayStand host (awaited other) = other ≡ host
+
+abbrev pub Fits : Scope → State → Emission → Type 0
+Fits scope state (instruction one) = InstructionFits scope state one state.flow
+Fits scope state (entry named) = named.host.0 < scope.hosts
+Fits scope state (stands host number) = IsFirst host number state.owed × MayStand host state.flow
+Fits scope state (lands host number) = IsFirst host number state.opened × (state.flow ≡ stopped)
+
+-- ---- all emissions
+
+-- from one state to another
+abbrev pub Goes : Scope → State → List Emission → State → Type 0
+Goes scope first [] last = first ≡ last
+Goes scope first (emission ∷ others) last = Fits scope first emission × Goes scope (after first emission) others last

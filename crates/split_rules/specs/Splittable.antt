@@ -1,0 +1,56 @@
+-- What is asked of a program, its hosts and a plan so that their code is sound. All of it is kept by a program that was
+-- read, resolved and checked, by the hosts of a host file, and by a plan of allowed places.
+use Rattle.std.specs.Prelude.{◌≡◌, ℕ, ◌<◌, ◌≤◌, ◌⊎◌, false, List, All, length, codes, sum_by}
+use Rattle.js_base.specs.Name.{IsName}
+use Rattle.js_base.specs.declared.limits.TheConstants.{ARRAY_SIZE, ELEMENTS}
+use Rattle.host_decl.specs.Hosts.{HostsShape, AreHosts}
+use Rattle.jif_tree.specs.Trees.{FieldTree, VarTree, ProgramTree}
+use Rattle.jif_tree.specs.Numbering.{CountsFrom, site_numbers}
+use Rattle.jif_tree.specs.WellNumbered.{IsWellNumbered}
+use Rattle.host_code.specs.declared.code.TheConstants.{MOST_ITEMS}
+use Rattle.host_code.specs.Code.{CodeShape}
+use Rattle.need_labels.specs.Labelled.{Labelled}
+use Rattle.need_labels.specs.Plan.{PlanShape}
+use Rattle.split_rules.specs.Emissions.{Emission}
+
+-- a plain field has one element
+pub record IsSizedField (field : FieldTree) : Type 0 where
+  pub name : IsName field.name
+  pub some : 0 < field.size
+  pub few : field.size ≤ ARRAY_SIZE
+  pub plain : (field.array ≡ false) → field.size ≡ 1
+
+-- a variable of a method
+pub record IsNamedVariable (program : ProgramTree) (variable : VarTree) : Type 0 where
+  pub name : IsName variable.name ⊎ (variable.name ≡ codes "return")
+  pub method : variable.method.0 < length program.methods
+
+pub record AreNamed (program : ProgramTree) : Type 0 where
+  pub fields : All IsSizedField program.fields
+  pub elements : sum_by (λ field. field.size) program.fields ≤ ELEMENTS
+  pub variables : All (IsNamedVariable program) program.vars
+  pub methods : All (λ method. IsName method.name) program.methods
+
+-- each place is one of so many hosts
+pub record StandsAmong (count : ℕ) (plan : PlanShape) : Type 0 where
+  pub fields : All (λ host. host.0 < count) plan.fields
+  pub statements : All (λ host. host.0 < count) plan.statements
+
+pub record IsSplittable (labelled : Labelled) (hosts : HostsShape) (plan : PlanShape) : Type 0 where
+  pub are_hosts : AreHosts hosts
+  pub numbered : IsWellNumbered labelled.program
+  pub sites : CountsFrom 1 (site_numbers labelled.program)
+  pub named : AreNamed labelled.program
+  pub var_labels : length labelled.var_labels ≡ length labelled.program.vars
+  pub stands : StandsAmong (length hosts.hosts) plan
+
+-- No list of a code is so long that its items have no number of 32 bits. Whoever makes the code counts them.
+pub record HasFew (code : CodeShape) (emissions : List Emission) : Type 0 where
+  pub few_emissions : length emissions ≤ MOST_ITEMS
+  pub host_names : All (λ host. length host.name ≤ MOST_ITEMS) code.hosts
+  pub labels : length code.labels ≤ MOST_ITEMS
+  pub fields : length code.fields ≤ MOST_ITEMS
+  pub field_names : All (λ field. length field.name ≤ MOST_ITEMS) code.fields
+  pub variables : length code.variables ≤ MOST_ITEMS
+  pub variable_names : All (λ variable. length variable.name ≤ MOST_ITEMS) code.variables
+  pub sites : length code.sites ≤ MOST_ITEMS
