@@ -1,11 +1,25 @@
--- How many statements a block has, with those in the blocks inside it: the measure of the check.
+-- How many statements a block has, with those in the blocks inside it, and how many nodes an expression:
+-- the measures of the check.
 use Rattle.std.proofs.Common.{◌≡◌, ℕ, zero, suc, ◌+◌, ◌<◌, ◌≤◌, ap, subst, sym, List, [], ◌∷◌, length, get_or, arith}
 use Rattle.jif_tree.specs.declared.program.Stmt.{Stmt}
 use Rattle.jif_tree.specs.declared.program.StmtKind.{StmtKind}
 use Rattle.jif_tree.specs.declared.program.StmtKind as kind
+use Rattle.jif_tree.specs.Trees.{ExprTree, number, local, scalar, element, inverted, negated, binary, declassified}
+use Rattle.jif_tree.specs.Trees.{endorsed}
 use Rattle.jif_tree.specs.Trees.{Heading, BlockTree, done, set_local, set_field, set_element, branch, loop, call}
 use Rattle.jif_tree.specs.Trees.{give_back, statement_tree, block_tree}
 use Rattle.label_check.specs.Places.{tree_before}
+
+abbrev pub nodes_in : ExprTree → ℕ
+nodes_in (number value) = 1
+nodes_in (local x) = 1
+nodes_in (scalar field) = 1
+nodes_in (element field index) = 1 + nodes_in index
+nodes_in (inverted operand) = 1 + nodes_in operand
+nodes_in (negated operand) = 1 + nodes_in operand
+nodes_in (binary operator left right) = 1 + (nodes_in left + nodes_in right)
+nodes_in (declassified operand label) = 1 + nodes_in operand
+nodes_in (endorsed operand label) = 1 + nodes_in operand
 
 abbrev pub count_in : BlockTree → ℕ
 count_in done = 0

@@ -32,8 +32,8 @@ pub fn needs_of(
     ensures { IfOk result (λ needs. AreNeedsOf principals.now (labelled_of checked.now) needs) }
 {
     let mut found = Found {
-        used: Vec::new(alloc),
-        need: Vec::new(alloc),
+        used: Vec::with_capacity(alloc, checked.pc.len())?,
+        need: Vec::with_capacity(alloc, checked.pc.len())?,
         reads: no_reads(alloc, &checked.program, principals)?,
     };
     for method in &checked.program.methods {

@@ -11,7 +11,8 @@ use Rattle.need_labels.proofs.finding.needs_of.Goals as goal
 
 pub loop-method-init : goal.loop-method-init
 loop-method-init c =
-    nothing_found _ _ _ c.new.ensures.items c.new-2.ensures.items (c.in_ok-no_reads.ensures (labelled_of c.args.checked.now) refl)
+    nothing_found _ _ _ c.in_ok-with_capacity.ensures.items c.in_ok-with_capacity-2.ensures.items
+    (c.in_ok-no_reads.ensures (labelled_of c.args.checked.now) refl)
 
 pub add_method-requires : goal.add_method-requires
 add_method-requires c =
@@ -23,9 +24,9 @@ pub returns : goal.returns
 returns c =
     let labelled = labelled_of c.args.checked.now in
     let methods = c.args.checked.now.program.methods.items in
-    needs_found c.args.principals.now labelled c.loop-method.found c.new-3.result
-    (ap (λ (needs : NeedsShape). needs.used) c.new-3.ensures) (ap (λ (needs : NeedsShape). needs.need) c.new-3.ensures)
-    (ap (λ (needs : NeedsShape). needs.loc) c.new-3.ensures) (ap (λ (needs : NeedsShape). needs.readers) c.new-3.ensures)
+    needs_found c.args.principals.now labelled c.loop-method.found c.new.result
+    (ap (λ (needs : NeedsShape). needs.used) c.new.ensures) (ap (λ (needs : NeedsShape). needs.need) c.new.ensures)
+    (ap (λ (needs : NeedsShape). needs.loc) c.new.ensures) (ap (λ (needs : NeedsShape). needs.readers) c.new.ensures)
     (subst (λ (some : List Method).
     AreFound c.args.principals.now labelled
     (flat_map (method_uses c.args.principals.now labelled) (map method_tree some)) c.loop-method.found)
