@@ -5,12 +5,18 @@ use Rattle.std.proofs.Common.{◌/◌, ◌^◌, sym, ◌∙◌, subst, ◌+◌, 
 use Rattle.std.proofs.Math.Nat.{zero-div}
 use Rattle.std.specs.Int.{bit_at}
 use Rattle.std.specs.List.{list_any}
+use Rattle.std.proofs.Common.{set}
+use Rattle.std.proofs.lemmas.Bool.{cases_eq}
 use Rattle.std.proofs.lemmas.Bool.Decides.{eqb_tells}
+use Rattle.std.proofs.lemmas.Grind.{get_or-set_at}
+use Rattle.std.proofs.lemmas.List.{get_or-set_other}
 use Rattle.std.proofs.lemmas.List.Folds.{list_any_more}
 use Rattle.std.proofs.Math.Bool.{or-true, or-false}
 use Rattle.js_base.specs.declared.bits.TheConstants.{WORD_BITS}
 use Rattle.js_base.specs.declared.ids.StmtId.{StmtId}
 use Rattle.need_labels.specs.Plan.{PlanShape, statement_host}
+use Rattle.msg_cost.specs.Kept.{IsReadingWord, AreReadingWords}
+use Rattle.msg_cost.specs.Moves.{PlannedShape}
 
 abbrev stands_on : PlanShape → ℕ → StmtId → Bool
 stands_on plan host statement = nat_eq (statement_host plan statement).0 host
@@ -82,3 +88,17 @@ one_past plan statements at statement word within is large so = record {
       subst P (sym (list_any_more (stands_on plan host) statements at statement within))
       (subst Q is (subst P (sym (or_only _ (stands_on plan host statement) other)) (so.bits host small)));
 }
+
+-- the word of one more variable
+pub words_more : (planned : PlannedShape) (words : List ℕ) (count word : ℕ) → count < length words →
+    IsReadingWord planned (record { 0 = count }) word → AreReadingWords planned count words →
+    AreReadingWords planned (count + 1) (set words count word)
+words_more planned words count word within is so x below = elim (cases_eq x.0 count) [
+  | inl same ↦
+      let P : ℕ → Type 0 = λ number. IsReadingWord planned (record { 0 = number }) word in
+      let Q : ℕ → Type 0 = λ one. IsReadingWord planned x one in
+      subst Q (sym (get_or-set_at words count x.0 word 0 same within)) (subst P (sym same) is)
+  | inr other ↦
+      let Q : ℕ → Type 0 = λ one. IsReadingWord planned x one in
+      subst Q (sym (get_or-set_other words count x.0 word 0 other)) (so x (omega (arith, other, below)))
+]

@@ -1,15 +1,32 @@
 -- What the count keeps so that it goes over no statement again and again.
-use Rattle.std.specs.Prelude.{◌≡◌, ◌≤◌, ℕ, Bool, List, drop, slice_index, slice_get, unwrap_or}
+use Rattle.std.specs.Prelude.{◌≡◌, ◌<◌, ◌≤◌, ◌↔◌, ℕ, Bool, IsTrue, List, drop, slice_index, slice_get, unwrap_or}
+use Rattle.std.specs.Int.{bit_at}
+use Rattle.js_base.specs.declared.bits.TheConstants.{WORD_BITS}
 use Rattle.js_base.specs.declared.ids.HostId.{HostId}
+use Rattle.js_base.specs.declared.ids.VarId.{VarId}
 use Rattle.jif_tree.specs.declared.program.Stmt.{Stmt}
 use Rattle.need_labels.specs.Plan.{first_host}
+use Rattle.msg_cost.specs.declared.kept.Kept.{Kept}
 use Rattle.msg_cost.specs.Moves.{PlannedShape, called_end, is_trusted_for_all}
+use Rattle.msg_cost.specs.Terms.{reads_on}
 use Rattle.msg_cost.specs.Views.{ids_of}
 
 -- the hosts that hold the token behind the bodies of the methods, by the methods' numbers
 abbrev pub AreEnds : PlannedShape → List HostId → Type 0
 AreEnds planned ends = (number : ℕ) →
     unwrap_or (slice_get ends number) first_host ≡ called_end planned (slice_get planned.program.methods number)
+
+-- the word has a bit for each host on which a statement reads the variable
+abbrev pub IsReadingWord : PlannedShape → VarId → ℕ → Type 0
+IsReadingWord planned x word = (host : ℕ) → host < WORD_BITS → (bit_at word host ≡ 1) ↔ IsTrue (reads_on planned x host)
+
+-- for the first variables, so many, these are the words
+abbrev pub AreReadingWords : PlannedShape → ℕ → List ℕ → Type 0
+AreReadingWords planned count words = (x : VarId) → x.0 < count → IsReadingWord planned x (slice_index words x.0)
+
+pub record IsKept (planned : PlannedShape) (kept : Kept) : Type 0 where
+  pub ends : AreEnds planned kept.ends.now
+  pub reading : AreReadingWords planned kept.found kept.reading.now
 
 -- whether the host is trusted for all statements of a block from a place on
 abbrev pub is_trusted_from : PlannedShape → HostId → List Stmt → ℕ → Bool

@@ -4,12 +4,13 @@ ghost use Rattle.std.specs.Prelude.{◌≡◌, ◌++◌, [], ◌∷◌};
 ghost use Rattle.jif_tree.specs.Trees.{done, block_tree};
 ghost use Rattle.need_labels.specs.Plan.{statement_host};
 ghost use Rattle.msg_cost.specs.Cost.{cost_of};
-ghost use Rattle.msg_cost.specs.Kept.{AreEnds};
+ghost use Rattle.msg_cost.specs.Kept.{IsKept};
 ghost use Rattle.msg_cost.specs.Moves.{on, block_end};
 ghost use Rattle.msg_cost.specs.Terms.{message, block_terms};
 ghost use Rattle.msg_cost.specs.Views.{shape_of, tree_before, capped};
 
 use crate::calls::call_cost;
+use crate::kept::Kept;
 use crate::messages::{leave, message, move_on};
 use crate::planned::Planned;
 use crate::spot::Spot;
@@ -24,12 +25,12 @@ use js_base::limits::HOSTS;
 #[cycle(blocks)]
 pub fn block_cost(
     planned: &Planned<'_>,
-    ends: &[HostId],
+    kept: &Kept<'_>,
     weight: u64,
     home: HostId,
     block: &[Stmt],
 ) -> u64
-    requires { AreEnds (shape_of planned.now) ends.now }
+    requires { IsKept (shape_of planned.now) kept.now }
     ensures { result ≡ capped (cost_of planned.now.hosts.now
         (block_terms (shape_of planned.now) weight (on home) (block_tree block.now))) }
 {
@@ -40,7 +41,7 @@ pub fn block_cost(
         let next = next_spot(planned, spot, block, place, &mut noted);
         total = total
             .saturating_add(move_on(planned.hosts, weight, spot, next))
-            .saturating_add(statement_cost(planned, ends, weight, statement));
+            .saturating_add(statement_cost(planned, kept, weight, statement));
         spot = next;
     }
     total.saturating_add(leave(planned.hosts, weight, spot))
@@ -50,25 +51,25 @@ pub fn block_cost(
 #[cycle(blocks)]
 fn nested_cost(
     planned: &Planned<'_>,
-    ends: &[HostId],
+    kept: &Kept<'_>,
     weight: u64,
     host: HostId,
     block: &[Stmt],
 ) -> u64
-    requires { AreEnds (shape_of planned.now) ends.now }
+    requires { IsKept (shape_of planned.now) kept.now }
     ensures { result ≡ capped (cost_of planned.now.hosts.now
         (block_terms (shape_of planned.now) weight (on host) (block_tree block.now)
         ++ message weight (block_end (shape_of planned.now) host (block_tree block.now)) host ∷ [])) }
 {
     let end = block_end(planned, host, block);
     let back = message(planned.hosts, weight, end, host);
-    block_cost(planned, ends, weight, host, block).saturating_add(back)
+    block_cost(planned, kept, weight, host, block).saturating_add(back)
 }
 
 /// The cost of a statement on its host, where the token is there already: that of a block that has it alone.
 #[cycle(blocks)]
-fn statement_cost(planned: &Planned<'_>, ends: &[HostId], weight: u64, statement: &Stmt) -> u64
-    requires { AreEnds (shape_of planned.now) ends.now }
+fn statement_cost(planned: &Planned<'_>, kept: &Kept<'_>, weight: u64, statement: &Stmt) -> u64
+    requires { IsKept (shape_of planned.now) kept.now }
     ensures { result ≡ capped (cost_of planned.now.hosts.now
         (block_terms (shape_of planned.now) weight (on (statement_host planned.now.plan.now statement.now.id))
         (tree_before statement.now done))) }
@@ -78,7 +79,7 @@ fn statement_cost(planned: &Planned<'_>, ends: &[HostId], weight: u64, statement
     match &statement.kind {
         StmtKind::Let { var, value } => {
             let read = expr_cost(planned, weight, host, value);
-            read.saturating_add(forwards(planned, weight, host, *var))
+            read.saturating_add(forwards(planned, kept, weight, host, *var))
         }
         StmtKind::SetField { field, value } => {
             let read = expr_cost(planned, weight, host, value);
@@ -92,19 +93,19 @@ fn statement_cost(planned: &Planned<'_>, ends: &[HostId], weight: u64, statement
             .saturating_add(expr_cost(planned, weight, host, value))
             .saturating_add(field_cost(planned, weight, host, *field)),
         StmtKind::If { guard, yes, no } => expr_cost(planned, weight, host, guard)
-            .saturating_add(nested_cost(planned, ends, weight, host, yes))
-            .saturating_add(nested_cost(planned, ends, weight, host, no)),
+            .saturating_add(nested_cost(planned, kept, weight, host, yes))
+            .saturating_add(nested_cost(planned, kept, weight, host, no)),
         StmtKind::While { guard, body } => {
             let deeper = inside(weight);
             let read = expr_cost(planned, deeper, host, guard);
-            read.saturating_add(nested_cost(planned, ends, deeper, host, body))
+            read.saturating_add(nested_cost(planned, kept, deeper, host, body))
         }
         StmtKind::Call {
             method,
             args,
             into,
             ..
-        } => call_cost(planned, ends, weight, host, *method, args, *into),
+        } => call_cost(planned, kept, weight, host, *method, args, *into),
         StmtKind::Return { value } => expr_cost(planned, weight, host, value),
     }
 }

@@ -4,11 +4,12 @@ ghost use Rattle.std.specs.Prelude.{◌≡◌, map};
 ghost use Rattle.jif_tree.specs.Trees.{expr_tree, program_tree};
 ghost use Rattle.jif_tree.specs.LabelRules.{method_at, params_of};
 ghost use Rattle.msg_cost.specs.Cost.{cost_of};
-ghost use Rattle.msg_cost.specs.Kept.{AreEnds};
+ghost use Rattle.msg_cost.specs.Kept.{IsKept};
 ghost use Rattle.msg_cost.specs.Terms.{argument_terms, result_terms, call_terms};
 ghost use Rattle.msg_cost.specs.Views.{shape_of, capped};
 
 use crate::ends::called_end;
+use crate::kept::Kept;
 use crate::messages::{exchange, message};
 use crate::planned::Planned;
 use crate::tokens::called_home;
@@ -29,11 +30,13 @@ fn params_of(program: &Program, method: MethodId) -> &[VarId]
 /// The cost of the arguments of a call, each with the parameter that gets it.
 fn argument_cost(
     planned: &Planned<'_>,
+    kept: &Kept<'_>,
     weight: u64,
     host: HostId,
     params: &[VarId],
     args: &[Expr],
 ) -> u64
+    requires { IsKept (shape_of planned.now) kept.now }
     ensures { result ≡ capped (cost_of planned.now.hosts.now
         (argument_terms (shape_of planned.now) weight host params.now (map expr_tree args.now))) }
 {
@@ -42,7 +45,7 @@ fn argument_cost(
     for arg in args {
         total = total.saturating_add(expr_cost(planned, weight, host, arg));
         if let [param, more @ ..] = left {
-            total = total.saturating_add(forwards(planned, weight, host, *param));
+            total = total.saturating_add(forwards(planned, kept, weight, host, *param));
             left = more;
         }
     }
@@ -52,18 +55,20 @@ fn argument_cost(
 /// The cost of a result that is kept, from the host on which the method ended.
 fn result_cost(
     planned: &Planned<'_>,
+    kept: &Kept<'_>,
     weight: u64,
     host: HostId,
     end: HostId,
     into: Option<VarId>,
 ) -> u64
+    requires { IsKept (shape_of planned.now) kept.now }
     ensures { result ≡ capped (cost_of planned.now.hosts.now
         (result_terms (shape_of planned.now) weight host end into)) }
 {
     match into {
         Some(x) => {
             let given = exchange(planned.hosts, weight, end, host);
-            given.saturating_add(forwards(planned, weight, host, x))
+            given.saturating_add(forwards(planned, kept, weight, host, x))
         }
         None => 0,
     }
@@ -72,21 +77,22 @@ fn result_cost(
 /// The cost of a call.
 pub fn call_cost(
     planned: &Planned<'_>,
-    ends: &[HostId],
+    kept: &Kept<'_>,
     weight: u64,
     host: HostId,
     method: MethodId,
     args: &[Expr],
     into: Option<VarId>,
 ) -> u64
-    requires { AreEnds (shape_of planned.now) ends.now }
+    requires { IsKept (shape_of planned.now) kept.now }
     ensures { result ≡ capped (cost_of planned.now.hosts.now (call_terms (shape_of planned.now) weight host
         (method_at (program_tree planned.now.program.now) method) (map expr_tree args.now) into)) }
 {
     let home = called_home(planned, method);
-    let end = called_end(planned, ends, method);
+    let end = called_end(planned, kept.ends, method);
     let given = argument_cost(
         planned,
+        kept,
         weight,
         host,
         params_of(planned.program, method),
@@ -95,5 +101,5 @@ pub fn call_cost(
     given
         .saturating_add(message(planned.hosts, weight, host, home))
         .saturating_add(message(planned.hosts, weight, end, host))
-        .saturating_add(result_cost(planned, weight, host, end, into))
+        .saturating_add(result_cost(planned, kept, weight, host, end, into))
 }

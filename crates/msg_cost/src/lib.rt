@@ -4,6 +4,7 @@
 mod blocks;
 mod calls;
 mod ends;
+mod kept;
 mod laws;
 mod messages;
 mod planned;

@@ -6,31 +6,32 @@ ghost use Rattle.jif_tree.specs.Trees.{program_tree};
 ghost use Rattle.need_labels.specs.Labelled.{labelled_of};
 ghost use Rattle.msg_cost.specs.Cost.{cost_of, plan_cost};
 ghost use Rattle.js_base.specs.declared.limits.TheConstants.{METHODS};
-ghost use Rattle.msg_cost.specs.Kept.{AreEnds};
+ghost use Rattle.msg_cost.specs.Kept.{IsKept};
 ghost use Rattle.msg_cost.specs.Limits.{IsSized};
 ghost use Rattle.msg_cost.specs.Terms.{method_terms, program_terms};
 ghost use Rattle.msg_cost.specs.Views.{shape_of, capped};
 
 use crate::blocks::block_cost;
 use crate::ends::{called_end, method_ends};
+use crate::kept::{KEPT_VARIABLES, Kept};
 use crate::messages::message;
 use crate::planned::Planned;
 use crate::tokens::called_home;
+use crate::values::note_reading;
 use host_decl::Hosts;
 use jif_tree::Checked;
-use js_base::HostId;
 use need_labels::{Needs, Plan};
 
 /// The cost of the bodies of all methods.
-fn bodies_cost(planned: &Planned<'_>, ends: &[HostId]) -> u64
-    requires { AreEnds (shape_of planned.now) ends.now }
+fn bodies_cost(planned: &Planned<'_>, kept: &Kept<'_>) -> u64
+    requires { IsKept (shape_of planned.now) kept.now }
     ensures { result ≡ capped (cost_of planned.now.hosts.now
         (flat_map (method_terms (shape_of planned.now)) (program_tree planned.now.program.now).methods)) }
 {
     let mut total: u64 = 0;
     for method in &planned.program.methods {
         let home = planned.plan.host_of(method.head);
-        total = total.saturating_add(block_cost(planned, ends, 1, home, &method.body));
+        total = total.saturating_add(block_cost(planned, kept, 1, home, &method.body));
     }
     total
 }
@@ -44,7 +45,14 @@ fn program_cost(planned: &Planned<'_>) -> u64
     let home = called_home(planned, main);
     let ends = method_ends(planned);
     let end = called_end(planned, &ends, main);
-    bodies_cost(planned, &ends).saturating_add(message(planned.hosts, 1, end, home))
+    let mut reading = [0; KEPT_VARIABLES];
+    let found = note_reading(planned, &mut reading);
+    let kept = Kept {
+        ends: &ends,
+        reading: &reading,
+        found,
+    };
+    bodies_cost(planned, &kept).saturating_add(message(planned.hosts, 1, end, home))
 }
 
 /// The cost of the messages that a program sends under a plan: the sum of the costs of their links, each times eight to

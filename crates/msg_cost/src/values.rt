@@ -1,13 +1,14 @@
 //! What it costs to read values of other hosts, and to send them values.
 
-ghost use Rattle.std.specs.Prelude.{◌≡◌, ℕ, ◌<◌, ◌↔◌, [], ◌∷◌, IsTrue};
-ghost use Rattle.std.specs.Int.{bit_at};
+ghost use Rattle.std.specs.Prelude.{◌≡◌, [], ◌∷◌};
 ghost use Rattle.jif_tree.specs.Trees.{expr_tree};
 ghost use Rattle.msg_cost.specs.Cost.{cost_of};
-ghost use Rattle.msg_cost.specs.Terms.{exchange, expr_terms, reads_on, forwards};
+ghost use Rattle.msg_cost.specs.Kept.{IsReadingWord, AreReadingWords, IsKept};
+ghost use Rattle.msg_cost.specs.Terms.{exchange, expr_terms, forwards};
 ghost use Rattle.need_labels.specs.Plan.{field_host};
 ghost use Rattle.msg_cost.specs.Views.{shape_of, capped};
 
+use crate::kept::{KEPT_VARIABLES, Kept};
 use crate::messages::exchange;
 use crate::planned::Planned;
 use jif_tree::Expr;
@@ -53,8 +54,7 @@ pub fn expr_cost(planned: &Planned<'_>, weight: u64, host: HostId, expr: &Expr) 
 
 /// A word with a bit for each host on which a statement reads the variable.
 fn reading_hosts(planned: &Planned<'_>, x: VarId) -> u64
-    ensures { (host : ℕ) → host < WORD_BITS →
-        (bit_at result host ≡ 1) ↔ IsTrue (reads_on (shape_of planned.now) x host) }
+    ensures { IsReadingWord (shape_of planned.now) x result }
 {
     let mut word = 0;
     for statement in planned.needs.readers(x) {
@@ -66,11 +66,40 @@ fn reading_hosts(planned: &Planned<'_>, x: VarId) -> u64
     word
 }
 
+/// Notes the words of the first variables of a program, and answers of how many.
+pub fn note_reading(planned: &Planned<'_>, words: &mut [u64]) -> usize
+    ensures { AreReadingWords (shape_of planned.now) result words.new }
+{
+    let count = planned
+        .program
+        .vars
+        .len()
+        .min(words.len())
+        .min(KEPT_VARIABLES);
+    for number in 0..count {
+        words[number] = reading_hosts(planned, VarId(number as u32));
+    }
+    count
+}
+
+/// The word of a variable, which is looked up where it was noted.
+fn kept_reading(planned: &Planned<'_>, kept: &Kept<'_>, x: VarId) -> u64
+    requires { IsKept (shape_of planned.now) kept.now }
+    ensures { IsReadingWord (shape_of planned.now) x result }
+{
+    if (x.0 as usize) < kept.found {
+        kept.reading.get(x.0 as usize).copied().unwrap_or(0)
+    } else {
+        reading_hosts(planned, x)
+    }
+}
+
 /// The cost of sending a variable's value to each other host that reads it.
-pub fn forwards(planned: &Planned<'_>, weight: u64, host: HostId, x: VarId) -> u64
+pub fn forwards(planned: &Planned<'_>, kept: &Kept<'_>, weight: u64, host: HostId, x: VarId) -> u64
+    requires { IsKept (shape_of planned.now) kept.now }
     ensures { result ≡ capped (cost_of planned.now.hosts.now (forwards (shape_of planned.now) weight host x)) }
 {
-    let reading = reading_hosts(planned, x);
+    let reading = kept_reading(planned, kept, x);
     let count = planned.hosts.hosts().len() as u8;
     let mut total: u64 = 0;
     for other in 0..count {

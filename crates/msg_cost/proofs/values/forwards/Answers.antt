@@ -24,7 +24,7 @@ loop-other-preserved c =
           subst P (sym (w.total-is ∙ w.saturating_add-total.ensures))
           (one_gets planned c.args.weight c.args.host c.args.x c.loop-other.other c.loop-other.total w.exchange.result
           w.if-other-host.true
-          ((c.reading_hosts-reading.ensures c.loop-other.other small).0 (w.has_bit.ensures.0 w.if-has_bit.true))
+          ((c.kept_reading-reading.ensures c.loop-other.other small).0 (w.has_bit.ensures.0 w.if-has_bit.true))
           w.exchange.ensures c.loop-other.invariant)
       | else-other-host w ↦ subst P (sym w.total-is)
           (one_gets_not planned c.args.weight c.args.host c.args.x c.loop-other.other c.loop-other.total
@@ -32,7 +32,7 @@ loop-other-preserved c =
             | else-other-host-via-then-other-host+else-has_bit w' ↦
                 not_reading planned c.args.host c.args.x c.loop-other.other (λ reads.
                 true_not_false (sym (w'.has_bit.ensures.1
-                ((c.reading_hosts-reading.ensures c.loop-other.other small).1 reads)) ∙ w'.if-has_bit.false))
+                ((c.kept_reading-reading.ensures c.loop-other.other small).1 reads)) ∙ w'.if-has_bit.false))
             | else-other-host-via-else-other-host w' ↦
                 the_sender planned c.args.host c.args.x c.loop-other.other w'.if-other-host.false
           ]) c.loop-other.invariant)

@@ -1,0 +1,19 @@
+//! What is kept of a plan while its cost is counted.
+
+use js_base::HostId;
+use js_base::limits::{METHODS, VARIABLES};
+
+/// For how many variables it is kept on which hosts they are read: all parameters and locals, and a result for each
+/// method.
+pub const KEPT_VARIABLES: usize = METHODS * (VARIABLES + 1);
+
+/// What is kept of a plan while its cost is counted, so that no statement is gone over again and again.
+#[derive(Clone, Copy)]
+pub struct Kept<'a> {
+    /// The hosts on which methods end, by the methods' numbers.
+    pub ends: &'a [HostId],
+    /// For each variable a word with a bit for each host on which a statement reads it.
+    pub reading: &'a [u64],
+    /// For how many variables these words are found.
+    pub found: usize,
+}
