@@ -6,8 +6,5 @@ use Rattle.jif_resolve.specs.Counts.{nodes_in}
 pub inner_falls : (operand : ExprShape) → nodes_in operand < 1 + nodes_in operand
 inner_falls operand = omega arith
 
-pub left_falls : (left right : ExprShape) → nodes_in left < 1 + nodes_in left + nodes_in right
-left_falls left right = omega arith
-
-pub right_falls : (left right : ExprShape) → nodes_in right < 1 + nodes_in left + nodes_in right
-right_falls left right = omega arith
+pub both_fall : (left right : ExprShape) → nodes_in left + nodes_in right < 1 + nodes_in left + nodes_in right
+both_fall left right = omega arith

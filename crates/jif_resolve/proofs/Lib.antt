@@ -16,6 +16,7 @@ mod Methods
 mod Numbers
 mod OneProgram
 mod Parts
+mod PrincipalNames
 mod Ranges
 mod Rows
 mod Sized

@@ -3,7 +3,8 @@
 ghost use Rattle.std.specs.Prelude.{◌≡◌, ℕ, [], IfOk, Some, map};
 ghost use Rattle.std.specs.List.{AllZip, flat_map};
 ghost use Rattle.jif_tree.specs.Trees.{expr_tree};
-ghost use Rattle.jif_grammar.specs.DraftShapes.{name_shape, expr_shape};
+ghost use Rattle.jif_grammar.specs.DraftShapes.{name_shape, expr_shape, label_shape, element_shape, complement_shape};
+ghost use Rattle.jif_grammar.specs.DraftShapes.{negation_shape, binary_shape, release_shape, endorsement_shape};
 ghost use Rattle.jif_resolve.specs.Places.{meaning_at};
 ghost use Rattle.jif_resolve.specs.Faults.{variable_faults, array_faults, expr_faults};
 ghost use Rattle.jif_resolve.specs.Resolved.{variable_tree, array_of, IsExprFor};
@@ -13,8 +14,8 @@ use crate::context::Context;
 use crate::label_of::label_of;
 use crate::meaning::Meaning;
 use crate::scope::Scope;
-use jif_tree::{Expr, ExprDraft, NameDraft};
-use js_base::{FieldId, OutOfMemory};
+use jif_tree::{Expr, ExprDraft, LabelDraft, NameDraft};
+use js_base::{BinOp, FieldId, OutOfMemory};
 use std::alloc::Global;
 
 /// The value of a name.
@@ -40,7 +41,136 @@ pub fn array_of(meaning: Option<Meaning>) -> FieldId
     }
 }
 
-/// What an expression at a place becomes.
+/// What an expression at a place becomes, in a box.
+#[cycle(expressions)]
+fn boxed_of(
+    alloc: Global,
+    draft: &ExprDraft,
+    scope: &Scope,
+    context: &Context,
+) -> Result<Box<Expr>, OutOfMemory>
+    requires { expr_faults (setting_in context.now) scope.now (expr_shape draft.now) ≡ [] }
+    ensures { IfOk result (λ boxed.
+        IsExprFor (setting_in context.now) scope.now (expr_shape draft.now) (expr_tree boxed.value)) }
+{
+    let expr = expr_of(alloc, draft, scope, context)?;
+    Ok(Box::new(alloc, expr)?)
+}
+
+/// What an element becomes.
+#[cycle(expressions)]
+fn element_of(
+    alloc: Global,
+    name: &NameDraft,
+    index: &ExprDraft,
+    scope: &Scope,
+    context: &Context,
+) -> Result<Expr, OutOfMemory>
+    requires { expr_faults (setting_in context.now) scope.now
+        (element_shape (name_shape name.now) (expr_shape index.now)) ≡ [] }
+    ensures { IfOk result (λ expr. IsExprFor (setting_in context.now) scope.now
+        (element_shape (name_shape name.now) (expr_shape index.now)) (expr_tree expr)) }
+{
+    let field = array_of(scope.meaning(context.globals, name.text.as_str()));
+    let index = boxed_of(alloc, index, scope, context)?;
+    Ok(Expr::Element(field, index))
+}
+
+/// What `!` before an expression becomes.
+#[cycle(expressions)]
+fn complement_of(
+    alloc: Global,
+    operand: &ExprDraft,
+    scope: &Scope,
+    context: &Context,
+) -> Result<Expr, OutOfMemory>
+    requires { expr_faults (setting_in context.now) scope.now
+        (complement_shape (expr_shape operand.now)) ≡ [] }
+    ensures { IfOk result (λ expr. IsExprFor (setting_in context.now) scope.now
+        (complement_shape (expr_shape operand.now)) (expr_tree expr)) }
+{
+    let operand = boxed_of(alloc, operand, scope, context)?;
+    Ok(Expr::Not(operand))
+}
+
+/// What `-` before an expression becomes.
+#[cycle(expressions)]
+fn negation_of(
+    alloc: Global,
+    operand: &ExprDraft,
+    scope: &Scope,
+    context: &Context,
+) -> Result<Expr, OutOfMemory>
+    requires { expr_faults (setting_in context.now) scope.now
+        (negation_shape (expr_shape operand.now)) ≡ [] }
+    ensures { IfOk result (λ expr. IsExprFor (setting_in context.now) scope.now
+        (negation_shape (expr_shape operand.now)) (expr_tree expr)) }
+{
+    let operand = boxed_of(alloc, operand, scope, context)?;
+    Ok(Expr::Negate(operand))
+}
+
+/// What an operator between expressions becomes.
+#[cycle(expressions)]
+fn binary_of(
+    alloc: Global,
+    operator: BinOp,
+    left: &ExprDraft,
+    right: &ExprDraft,
+    scope: &Scope,
+    context: &Context,
+) -> Result<Expr, OutOfMemory>
+    requires { expr_faults (setting_in context.now) scope.now
+        (binary_shape operator (expr_shape left.now) (expr_shape right.now)) ≡ [] }
+    ensures { IfOk result (λ expr. IsExprFor (setting_in context.now) scope.now
+        (binary_shape operator (expr_shape left.now) (expr_shape right.now)) (expr_tree expr)) }
+{
+    let left = boxed_of(alloc, left, scope, context)?;
+    let right = boxed_of(alloc, right, scope, context)?;
+    Ok(Expr::Binary(operator, left, right))
+}
+
+/// What a release becomes.
+#[cycle(expressions)]
+fn release_of(
+    alloc: Global,
+    operand: &ExprDraft,
+    written: &LabelDraft,
+    scope: &Scope,
+    context: &Context,
+) -> Result<Expr, OutOfMemory>
+    requires { expr_faults (setting_in context.now) scope.now
+        (release_shape (expr_shape operand.now) (label_shape written.now)) ≡ [] }
+    ensures { IfOk result (λ expr. IsExprFor (setting_in context.now) scope.now
+        (release_shape (expr_shape operand.now) (label_shape written.now)) (expr_tree expr)) }
+{
+    let operand = boxed_of(alloc, operand, scope, context)?;
+    let label = label_of(alloc, written, context.principals)?;
+    Ok(Expr::Declassify(operand, label))
+}
+
+/// What an endorsement becomes.
+#[cycle(expressions)]
+fn endorsement_of(
+    alloc: Global,
+    operand: &ExprDraft,
+    written: &LabelDraft,
+    scope: &Scope,
+    context: &Context,
+) -> Result<Expr, OutOfMemory>
+    requires { expr_faults (setting_in context.now) scope.now
+        (endorsement_shape (expr_shape operand.now) (label_shape written.now)) ≡ [] }
+    ensures { IfOk result (λ expr. IsExprFor (setting_in context.now) scope.now
+        (endorsement_shape (expr_shape operand.now) (label_shape written.now)) (expr_tree expr)) }
+{
+    let operand = boxed_of(alloc, operand, scope, context)?;
+    let label = label_of(alloc, written, context.principals)?;
+    Ok(Expr::Endorse(operand, label))
+}
+
+/// What an expression at a place becomes. Each kind with parts stands in a function of its own: expressions are large,
+/// and a function clears the places of all its expressions when it begins.
+#[cycle(expressions)]
 pub fn expr_of(
     alloc: Global,
     draft: &ExprDraft,
@@ -57,33 +187,17 @@ pub fn expr_of(
             let meaning = scope.meaning(context.globals, name.text.as_str());
             Ok(value_of(meaning))
         }
-        ExprDraft::Element(name, index) => {
-            let field = array_of(scope.meaning(context.globals, name.text.as_str()));
-            let index = expr_of(alloc, index, scope, context)?;
-            Ok(Expr::Element(field, Box::new(alloc, index)?))
-        }
-        ExprDraft::Not(operand) => {
-            let operand = expr_of(alloc, operand, scope, context)?;
-            Ok(Expr::Not(Box::new(alloc, operand)?))
-        }
-        ExprDraft::Negate(operand) => {
-            let operand = expr_of(alloc, operand, scope, context)?;
-            Ok(Expr::Negate(Box::new(alloc, operand)?))
-        }
+        ExprDraft::Element(name, index) => element_of(alloc, name, index, scope, context),
+        ExprDraft::Not(operand) => complement_of(alloc, operand, scope, context),
+        ExprDraft::Negate(operand) => negation_of(alloc, operand, scope, context),
         ExprDraft::Binary(operator, left, right) => {
-            let left = expr_of(alloc, left, scope, context)?;
-            let right = expr_of(alloc, right, scope, context)?;
-            Ok(Expr::Binary(*operator, Box::new(alloc, left)?, Box::new(alloc, right)?))
+            binary_of(alloc, *operator, left, right, scope, context)
         }
         ExprDraft::Declassify(operand, written) => {
-            let operand = expr_of(alloc, operand, scope, context)?;
-            let label = label_of(alloc, written, context.principals)?;
-            Ok(Expr::Declassify(Box::new(alloc, operand)?, label))
+            release_of(alloc, operand, written, scope, context)
         }
         ExprDraft::Endorse(operand, written) => {
-            let operand = expr_of(alloc, operand, scope, context)?;
-            let label = label_of(alloc, written, context.principals)?;
-            Ok(Expr::Endorse(Box::new(alloc, operand)?, label))
+            endorsement_of(alloc, operand, written, scope, context)
         }
     }
 }

@@ -9,6 +9,7 @@ ghost use Rattle.jif_resolve.specs.Faults.{principal_faults, principals_faults, 
 ghost use Rattle.jif_resolve.specs.Faults.{label_faults, optional_label_faults};
 
 use crate::fault::{Fault, FaultKind, sooner};
+use crate::names::principal_of;
 use jif_tree::{LabelDraft, NameDraft, PolicyDraft};
 use principals::Principals;
 
@@ -16,7 +17,7 @@ use principals::Principals;
 fn with_principal(first: Option<Fault>, name: &NameDraft, principals: &Principals) -> Option<Fault>
     ensures { result ≡ with_faults first (principal_faults principals.now (name_shape name.now)) }
 {
-    match principals.find(name.text.as_str()) {
+    match principal_of(principals, name.text.as_str()) {
         Some(_) => first,
         None => sooner(
             first,
