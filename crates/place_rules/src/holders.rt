@@ -44,7 +44,7 @@ pub fn holders_of_statement(hosts: &[HostRow], used: &Label, need: u64) -> u16
 fn may_hold_field(host: &Label, field: &Label, told: &Label) -> bool
     ensures { IsTrue result ↔ (ConfFlows (join_of field.now told.now) host.now × IntegFlows host.now field.now) }
 {
-    field.join(*told).conf_flows(host) && host.integ_flows(field)
+    host.integ_flows(field) && field.join(*told).conf_flows(host)
 }
 
 /// Whether a host of the first label may hold a statement whose execution tells the second, and whose host these have
@@ -52,7 +52,7 @@ fn may_hold_field(host: &Label, field: &Label, told: &Label) -> bool
 fn may_hold_statement(host: &Label, used: &Label, need: u64) -> bool
     ensures { IsTrue result ↔ (ConfFlows used.now host.now × IsTrustedBy host.now need) }
 {
-    used.conf_flows(host) && host.is_trusted_by(need)
+    host.is_trusted_by(need) && used.conf_flows(host)
 }
 
 /// The word with one more host.
