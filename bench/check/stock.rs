@@ -6,7 +6,7 @@
 #[path = "../parse/parser.rs"]
 mod parser;
 
-use parser::{Draft, ExprDraft, LabelDraft, MethodDraft, NameDraft, StmtDraft, StmtKindDraft};
+use parser::{BinOp, Draft, ExprDraft, LabelDraft, MethodDraft, NameDraft, StmtDraft, StmtKindDraft};
 use parser::{LexError, ParseError, What, lex, parse, parse_label};
 use std::collections::HashMap;
 use std::fmt::Write as _;
@@ -338,8 +338,7 @@ fn read_hosts(bytes: &[u8]) -> Result<(Principals, Hosts), Stop> {
 
 struct Program {
     fields: Vec<Field>,
-    /// The label of each variable; none for a local that is declared without one.
-    vars: Vec<Option<Label>>,
+    vars: Vec<Var>,
     methods: Vec<Method>,
     main: usize,
     /// The lines of the statements.
@@ -349,6 +348,15 @@ struct Program {
 struct Field {
     name: String,
     label: Label,
+    #[allow(dead_code)]
+    array: bool,
+}
+
+/// A parameter, a local or a result with its name; without a label where a local is declared so.
+struct Var {
+    #[allow(dead_code)]
+    name: String,
+    label: Option<Label>,
 }
 
 struct Method {
@@ -375,14 +383,15 @@ enum StmtKind {
     Return { value: Expr },
 }
 
-/// Operators are not kept, since neither labels nor costs ask for them.
+#[allow(dead_code)]
 enum Expr {
-    Number,
+    Number(i64),
     Local(usize),
     Scalar(usize),
     Element(usize, Box<Expr>),
-    Unary(Box<Expr>),
-    Binary(Box<Expr>, Box<Expr>),
+    Not(Box<Expr>),
+    Negate(Box<Expr>),
+    Binary(BinOp, Box<Expr>, Box<Expr>),
     Declassify(Box<Expr>, Box<Label>),
     Endorse(Box<Expr>, Box<Label>),
 }
@@ -412,7 +421,7 @@ struct Resolver<'a> {
     /// Where a name is first declared, and what it then stands for.
     globals: HashMap<&'a str, (u32, Meaning)>,
     fault: Option<(u32, FaultKind)>,
-    vars: Vec<Option<Label>>,
+    vars: Vec<Var>,
     lines: Vec<u32>,
     /// The names of the parameters and locals of the method so far.
     taken: Vec<&'a str>,
@@ -510,7 +519,7 @@ impl<'a> Resolver<'a> {
 
     fn declare(&mut self, name: &'a NameDraft, label: Option<Label>) -> usize {
         let var = self.vars.len();
-        self.vars.push(label);
+        self.vars.push(Var { name: name.text.clone(), label });
         self.taken.push(&name.text);
         self.known.push((&name.text, var));
         var
@@ -523,23 +532,24 @@ impl<'a> Resolver<'a> {
 
     fn expr(&mut self, draft: &ExprDraft) -> Expr {
         match draft {
-            ExprDraft::Number(_) => Expr::Number,
+            ExprDraft::Number(value) => Expr::Number(*value),
             ExprDraft::Name(name) => match self.meaning(&name.text) {
                 Some(Meaning::Variable(var)) => Expr::Local(var),
                 Some(Meaning::Plain(field)) => Expr::Scalar(field),
                 other => {
                     self.wrong(name, other);
-                    Expr::Number
+                    Expr::Number(0)
                 }
             },
             ExprDraft::Element(name, index) => {
                 let field = self.array(name);
                 Expr::Element(field, self.boxed(index))
             }
-            ExprDraft::Not(operand) | ExprDraft::Negate(operand) => Expr::Unary(self.boxed(operand)),
-            ExprDraft::Binary(_, left, right) => {
+            ExprDraft::Not(operand) => Expr::Not(self.boxed(operand)),
+            ExprDraft::Negate(operand) => Expr::Negate(self.boxed(operand)),
+            ExprDraft::Binary(operator, left, right) => {
                 let left = self.boxed(left);
-                Expr::Binary(left, self.boxed(right))
+                Expr::Binary(*operator, left, self.boxed(right))
             }
             ExprDraft::Declassify(operand, label) => {
                 let operand = self.boxed(operand);
@@ -652,7 +662,7 @@ impl<'a> Resolver<'a> {
         let head = self.next_statement(draft.line);
         let body = self.block(&draft.body, given.is_some());
         let result = given.map(|label| {
-            self.vars.push(Some(label));
+            self.vars.push(Var { name: "return".to_owned(), label: Some(label) });
             self.vars.len() - 1
         });
         Method { begin, params, result, authority, head, body }
@@ -668,7 +678,11 @@ fn resolve(draft: &Draft, principals: &Principals) -> Result<Program, Stop> {
     }
     let mut fields = Vec::new();
     for field in &draft.fields {
-        fields.push(Field { name: field.name.text.clone(), label: resolver.label(&field.label) });
+        fields.push(Field {
+            name: field.name.text.clone(),
+            label: resolver.label(&field.label),
+            array: field.array,
+        });
     }
     let methods = draft.methods.iter().map(|method| resolver.method(method)).collect();
     if let Some((at, kind)) = resolver.fault {
@@ -745,12 +759,12 @@ impl Exprs<'_> {
     /// The label of an expression, where all is met that its parts ask for.
     fn checked(&self, labels: &[Option<Label>], pc: &Label, expr: &Expr) -> Asked<Label> {
         Ok(match expr {
-            Expr::Number => Label::bottom(self.principals),
+            Expr::Number(_) => Label::bottom(self.principals),
             Expr::Local(var) => labels[*var].unwrap_or(Label::EMPTY),
             Expr::Scalar(field) => self.fields[*field].label,
             Expr::Element(field, index) => self.checked(labels, pc, index)?.join(&self.fields[*field].label),
-            Expr::Unary(operand) => self.checked(labels, pc, operand)?,
-            Expr::Binary(left, right) => {
+            Expr::Not(operand) | Expr::Negate(operand) => self.checked(labels, pc, operand)?,
+            Expr::Binary(_, left, right) => {
                 let left = self.checked(labels, pc, left)?;
                 left.join(&self.checked(labels, pc, right)?)
             }
@@ -860,7 +874,7 @@ struct Found {
 
 fn check(program: &mut Program, principals: &Principals) -> Result<Found, Stop> {
     let exprs = Exprs { principals, fields: &program.fields, authority: &[] };
-    let labels = std::mem::take(&mut program.vars);
+    let labels = program.vars.iter().map(|var| var.label).collect();
     let mut checker = Checker { exprs, methods: &program.methods, result: None, labels, pcs: Vec::new() };
     for method in &program.methods {
         checker.exprs.authority = &method.authority;
@@ -893,6 +907,8 @@ struct Needs {
     used: Vec<Label>,
     /// By statement, a word with a bit for each principal that has to trust its host.
     need: Vec<u64>,
+    /// By statement, the same word of it and of those behind it in its block.
+    rest: Vec<u64>,
     /// By field, what its reads tell.
     told: Vec<Label>,
     /// By variable, the statements whose own expressions read it.
@@ -922,7 +938,7 @@ impl NeedsWalk<'_> {
     /// The label of an expression of a statement. Adds what it tells, and who has to be trusted where it releases.
     fn expr(&mut self, id: usize, pc: &Label, expr: &Expr) -> Label {
         let label = match expr {
-            Expr::Number => Label::bottom(self.principals),
+            Expr::Number(_) => Label::bottom(self.principals),
             Expr::Local(var) => {
                 let readers = &mut self.needs.readers[*var];
                 if readers.last() != Some(&id) {
@@ -941,8 +957,8 @@ impl NeedsWalk<'_> {
                 told.add(&at);
                 at.join(&self.program.fields[*field].label)
             }
-            Expr::Unary(operand) => self.expr(id, pc, operand),
-            Expr::Binary(left, right) => {
+            Expr::Not(operand) | Expr::Negate(operand) => self.expr(id, pc, operand),
+            Expr::Binary(_, left, right) => {
                 let left = self.expr(id, pc, left);
                 left.join(&self.expr(id, pc, right))
             }
@@ -962,7 +978,13 @@ impl NeedsWalk<'_> {
 
     /// Adds the needs of the statements of a block, and gives who has to be trusted for any of them.
     fn block(&mut self, block: &[Stmt]) -> u64 {
-        block.iter().fold(0, |word, statement| word | self.statement(statement))
+        let word = block.iter().fold(0, |word, statement| word | self.statement(statement));
+        let mut rest = 0;
+        for statement in block.iter().rev() {
+            rest |= self.needs.need[statement.id];
+            self.needs.rest[statement.id] = rest;
+        }
+        word
     }
 
     fn statement(&mut self, statement: &Stmt) -> u64 {
@@ -970,6 +992,7 @@ impl NeedsWalk<'_> {
         let pc = &found.pcs[id];
         self.needs.used.push(*pc);
         self.needs.need.push(0);
+        self.needs.rest.push(0);
         let changed = match &statement.kind {
             StmtKind::Let { var, value } => {
                 self.expr(id, pc, value);
@@ -1019,6 +1042,7 @@ fn needs_of(principals: &Principals, program: &Program, found: &Found) -> Needs 
     let needs = Needs {
         used: Vec::new(),
         need: Vec::new(),
+        rest: Vec::new(),
         told: vec![Label::bottom(principals); program.fields.len()],
         readers: vec![Vec::new(); found.labels.len()],
     };
@@ -1028,6 +1052,7 @@ fn needs_of(principals: &Principals, program: &Program, found: &Found) -> Needs 
         walk.result = method.result;
         walk.needs.used.push(method.begin);
         walk.needs.need.push(method.begin.trust);
+        walk.needs.rest.push(method.begin.trust);
         walk.block(&method.body);
     }
     walk.needs
@@ -1044,7 +1069,7 @@ struct Allowed {
 fn holders(hosts: &Hosts, told: &Label, need: u64) -> u16 {
     let mut word = 0;
     for (place, host) in hosts.hosts.iter().enumerate() {
-        if told.conf_flows(&host.label) && is_within(need, host.label.trust) {
+        if is_within(need, host.label.trust) && told.conf_flows(&host.label) {
             word |= 1 << place;
         }
     }
@@ -1106,9 +1131,22 @@ struct Costs<'a> {
     needs: &'a Needs,
     hosts: &'a Hosts,
     plan: &'a Plan,
+    /// By variable, a word of the hosts on which a statement reads it.
+    reading: Vec<u16>,
+    /// By method, the host that holds the right to go on behind its body.
+    ends: Vec<usize>,
 }
 
-impl Costs<'_> {
+impl<'a> Costs<'a> {
+    fn new(program: &'a Program, needs: &'a Needs, hosts: &'a Hosts, plan: &'a Plan) -> Costs<'a> {
+        let word = |readers: &Vec<usize>| readers.iter().fold(0, |word, reader| word | 1 << plan.statements[*reader]);
+        let reading = needs.readers.iter().map(word).collect();
+        let mut costs = Costs { program, needs, hosts, plan, reading, ends: Vec::new() };
+        let ends = program.methods.iter().map(|method| costs.block_end(plan.statements[method.head], &method.body));
+        costs.ends = ends.collect();
+        costs
+    }
+
     fn message(&self, weight: u64, from: usize, to: usize) -> u64 {
         weight * self.hosts.costs[from][to]
     }
@@ -1118,8 +1156,7 @@ impl Costs<'_> {
     }
 
     fn is_trusted_for_all(&self, host: usize, statements: &[Stmt]) -> bool {
-        let trust = self.hosts.hosts[host].label.trust;
-        statements.iter().all(|statement| is_within(self.needs.need[statement.id], trust))
+        is_within(self.needs.rest[statements[0].id], self.hosts.hosts[host].label.trust)
     }
 
     fn return_host(&self, from: usize, host: usize, statements: &[Stmt]) -> usize {
@@ -1177,30 +1214,24 @@ impl Costs<'_> {
 
     fn expr(&self, weight: u64, host: usize, expr: &Expr) -> u64 {
         match expr {
-            Expr::Number | Expr::Local(_) => 0,
+            Expr::Number(_) | Expr::Local(_) => 0,
             Expr::Scalar(field) => self.field(weight, host, *field),
             Expr::Element(field, index) => self.expr(weight, host, index) + self.field(weight, host, *field),
-            Expr::Binary(left, right) => self.expr(weight, host, left) + self.expr(weight, host, right),
-            Expr::Unary(operand) | Expr::Declassify(operand, _) | Expr::Endorse(operand, _) => {
-                self.expr(weight, host, operand)
-            }
+            Expr::Binary(_, left, right) => self.expr(weight, host, left) + self.expr(weight, host, right),
+            Expr::Not(operand) | Expr::Negate(operand) => self.expr(weight, host, operand),
+            Expr::Declassify(operand, _) | Expr::Endorse(operand, _) => self.expr(weight, host, operand),
         }
     }
 
     /// The cost of sending a variable's value to each other host that reads it.
     fn forwards(&self, weight: u64, host: usize, var: usize) -> u64 {
-        let readers = self.needs.readers[var].iter();
-        let reading = readers.fold(0u16, |word, reader| word | 1 << self.plan.statements[*reader]);
+        let reading = self.reading[var];
         let others = (0..self.hosts.hosts.len()).filter(|other| *other != host && reading >> other & 1 == 1);
         others.map(|other| self.exchange(weight, host, other)).sum()
     }
 
     fn home(&self, method: usize) -> usize {
         self.plan.statements[self.program.methods[method].head]
-    }
-
-    fn end(&self, method: usize) -> usize {
-        self.block_end(self.home(method), &self.program.methods[method].body)
     }
 
     fn block(&self, weight: u64, home: usize, block: &[Stmt]) -> u64 {
@@ -1246,7 +1277,7 @@ impl Costs<'_> {
         let given = args.iter().zip(params).map(|(arg, param)| {
             self.expr(weight, host, arg) + self.forwards(weight, host, *param)
         });
-        let end = self.end(method);
+        let end = self.ends[method];
         let kept = into.map_or(0, |into| self.exchange(weight, end, host) + self.forwards(weight, host, into));
         given.sum::<u64>() + self.message(weight, host, self.home(method)) + self.message(weight, end, host) + kept
     }
@@ -1255,7 +1286,7 @@ impl Costs<'_> {
         let methods = 0..self.program.methods.len();
         let bodies = methods.map(|method| self.block(1, self.home(method), &self.program.methods[method].body));
         let main = self.program.main;
-        bodies.sum::<u64>() + self.message(1, self.end(main), self.home(main))
+        bodies.sum::<u64>() + self.message(1, self.ends[main], self.home(main))
     }
 }
 
@@ -1263,7 +1294,7 @@ impl Costs<'_> {
 fn cheapest_plan(program: &Program, needs: &Needs, hosts: &Hosts, allowed: &Allowed) -> (Plan, u64) {
     let plans = (0..hosts.hosts.len()).map(|host| {
         let plan = starting_plan(allowed, host);
-        let cost = Costs { program, needs, hosts, plan: &plan }.program();
+        let cost = Costs::new(program, needs, hosts, &plan).program();
         (plan, cost)
     });
     plans.min_by_key(|(_, cost)| *cost).expect("a host")
