@@ -1,11 +1,11 @@
 //! What is kept of a plan while its cost is counted.
 
 use js_base::HostId;
-use js_base::limits::{METHODS, VARIABLES};
+use js_base::limits::{METHODS, PARAMETERS, STATEMENTS};
 
-/// For how many variables it is kept on which hosts they are read: all parameters and locals, and a result for each
-/// method.
-pub const KEPT_VARIABLES: usize = METHODS * (VARIABLES + 1);
+/// For how many variables it is kept on which hosts they are read. A program has no more: each local has a statement
+/// that declares it, and each method has its parameters and one result.
+pub const KEPT_VARIABLES: usize = STATEMENTS + METHODS * (PARAMETERS + 1);
 
 /// What is kept of a plan while its cost is counted, so that no statement is gone over again and again.
 #[derive(Clone, Copy)]
