@@ -16,4 +16,8 @@ mod values;
 mod weight;
 
 pub use laws::{cost_examples, cost_laws};
+pub use planned::Planned;
 pub use program_cost::cost;
+pub use spot::Spot;
+pub use tokens::{called_home, next_spot};
+pub use values::reading_hosts;

@@ -53,7 +53,7 @@ pub fn expr_cost(planned: &Planned<'_>, weight: u64, host: HostId, expr: &Expr) 
 }
 
 /// A word with a bit for each host on which a statement reads the variable.
-fn reading_hosts(planned: &Planned<'_>, x: VarId) -> u64
+pub fn reading_hosts(planned: &Planned<'_>, x: VarId) -> u64
     ensures { IsReadingWord (shape_of planned.now) x result }
 {
     let mut word = 0;

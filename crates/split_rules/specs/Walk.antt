@@ -3,7 +3,7 @@
 -- in the manner of the secure program partitioning of Zdancewic, Zheng, Nystrom and Myers.
 use Rattle.std.specs.Prelude.{ℕ, ◌+◌, suc, ◌&&◌, not, nat_eq, bit_or, if◌then◌else◌}
 use Rattle.std.specs.Prelude.{List, [], ◌∷◌, ◌++◌, map, filter, length, Option, Some, None, slice_index}
-use Rattle.std.specs.List.{fold, range_with_len}
+use Rattle.std.specs.List.{range_with_len}
 use Rattle.js_base.specs.declared.ids.HostId.{HostId}
 use Rattle.js_base.specs.declared.ids.VarId.{VarId}
 use Rattle.js_base.specs.declared.ids.StmtId.{StmtId}
@@ -54,7 +54,8 @@ entry_id number = record { 0 = number }
 
 -- those who have to trust the host of one of these statements
 abbrev pub need_of : PlannedShape → List StmtId → ℕ
-need_of planned statements = fold bit_or 0 (map (λ statement. slice_index planned.needs.need statement.0) statements)
+need_of planned [] = 0
+need_of planned (statement ∷ others) = bit_or (slice_index planned.needs.need statement.0) (need_of planned others)
 
 -- the statements in a row on a host with which these begin
 abbrev pub row_on : PlannedShape → HostId → List StmtId → List StmtId
