@@ -1,0 +1,46 @@
+use Rattle.std.proofs.Common.{◌≡◌, ◌<◌, Vec, Global, ◌∙◌, List, length, sym, ap, subst, arith}
+use Rattle.std.proofs.lemmas.List.{length-map}
+use Rattle.js_base.specs.declared.ids.HostId.{HostId}
+use Rattle.host_decl.specs.Hosts.{HostShape}
+use Rattle.js_base.specs.declared.bits.TheConstants.{WORD_BITS}
+use Rattle.msg_cost.specs.Kept.{IsReadingWord}
+use Rattle.msg_cost.specs.Moves.{PlannedShape}
+use Rattle.msg_cost.proofs.Forwards.{not_reading, the_sender, true_not_false}
+use Rattle.control_split.specs.Views.{planned_in}
+use Rattle.control_split.proofs.Receivers.{one_gets, one_gets_not}
+use Rattle.control_split.proofs.values.other_readers.Goals as goal
+use Rattle.control_split.proofs.values.other_readers.Goals.{then-other-host+then-has_bit+in_ok-push, else-other-host}
+use Rattle.control_split.proofs.values.other_readers.Goals.{else-other-host-via-then-other-host+else-has_bit}
+use Rattle.control_split.proofs.values.other_readers.Goals.{else-other-host-via-else-other-host}
+
+pub loop-other-preserved : goal.loop-other-preserved
+loop-other-preserved c =
+    let split = c.args.split.now in
+    let planned = planned_in split in
+    let reading : IsReadingWord planned c.args.x c.reading_hosts-reading.result =
+    subst (λ (shape : PlannedShape). IsReadingWord shape c.args.x c.reading_hosts-reading.result)
+    c.planned.ensures c.reading_hosts-reading.ensures in
+    let long = length-map split.hosts.now.hosts (λ (host : HostShape). host.name) in
+    let few = c.hosts.ensures.sound.names.few in
+    let same = ap (λ (hosts : List HostShape). length hosts) c.hosts.ensures.hosts in
+    let small : c.loop-other.other < WORD_BITS = omega arith in
+    let items : (one other : Vec HostId Global) → one ≡ other → one.items ≡ other.items =
+    λ one other same. ap (λ (hosts : Vec HostId Global). hosts.items) same in
+    elim c.if-other-host.branch [
+      | then-other-host+then-has_bit+in_ok-push w ↦
+          one_gets planned c.args.host c.args.x c.loop-other.other c.loop-other.readers.items
+          c.if-other-host.readers.items w.if-other-host.true
+          ((reading c.loop-other.other small).0 (w.has_bit.ensures.0 w.if-has_bit.true))
+          (items _ _ w.readers-is ∙ w.in_ok-push.ensures.items) c.loop-other.invariant
+      | else-other-host w ↦
+          one_gets_not planned c.args.host c.args.x c.loop-other.other c.loop-other.readers.items
+          c.if-other-host.readers.items
+          (elim w.else-other-host.branch [
+            | else-other-host-via-then-other-host+else-has_bit w' ↦
+                not_reading planned c.args.host c.args.x c.loop-other.other (λ reads.
+                true_not_false (sym (w'.has_bit.ensures.1 ((reading c.loop-other.other small).1 reads))
+                ∙ w'.if-has_bit.false))
+            | else-other-host-via-else-other-host w' ↦
+                the_sender planned c.args.host c.args.x c.loop-other.other w'.if-other-host.false
+          ]) (items _ _ w.readers-is) c.loop-other.invariant
+    ]
