@@ -68,7 +68,7 @@ fn code_parts(split: &Split<'_>) -> Result<CodeParts, OutOfMemory>
 /// walked.
 ///
 /// # Errors
-/// Memory ran out.
+/// Memory ran out, or a list or a name of the code would have more than 4,294,967,295 items.
 pub fn emit(
     alloc: Global,
     checked: &Checked,

@@ -146,7 +146,7 @@ fn release_of(
 {
     let operand = boxed_of(alloc, operand, scope, context)?;
     let label = label_of(alloc, written, context.principals)?;
-    Ok(Expr::Declassify(operand, label))
+    Ok(Expr::Declassify(operand, Box::new(alloc, label)?))
 }
 
 /// What an endorsement becomes.
@@ -165,11 +165,11 @@ fn endorsement_of(
 {
     let operand = boxed_of(alloc, operand, scope, context)?;
     let label = label_of(alloc, written, context.principals)?;
-    Ok(Expr::Endorse(operand, label))
+    Ok(Expr::Endorse(operand, Box::new(alloc, label)?))
 }
 
-/// What an expression at a place becomes. Each kind with parts stands in a function of its own: expressions are large,
-/// and a function clears the places of all its expressions when it begins.
+/// What an expression at a place becomes. Each kind with parts stands in a function of its own: labels are large, and a
+/// function clears the places of all its labels when it begins.
 #[cycle(expressions)]
 pub fn expr_of(
     alloc: Global,

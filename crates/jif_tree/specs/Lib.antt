@@ -5,6 +5,7 @@ pub mod Assignments
 pub mod Trees
 pub mod Numbering
 pub mod WellNumbered
+pub mod Named
 pub mod LabelRules
 pub mod WrittenLabels
 pub mod Limits

@@ -85,8 +85,8 @@ expr_tree (expr.Element' field p index) = element field (expr_tree index)
 expr_tree (expr.Not' p operand) = inverted (expr_tree operand)
 expr_tree (expr.Negate' p operand) = negated (expr_tree operand)
 expr_tree (expr.Binary' operator p left q right) = binary operator (expr_tree left) (expr_tree right)
-expr_tree (expr.Declassify' p inner label) = declassified (expr_tree inner) label
-expr_tree (expr.Endorse' p inner label) = endorsed (expr_tree inner) label
+expr_tree (expr.Declassify' p inner label) = declassified (expr_tree inner) label.value
+expr_tree (expr.Endorse' p inner label) = endorsed (expr_tree inner) label.value
 
 -- a statement and those after it; `row_tree` has the same of a nested block
 abbrev mutual

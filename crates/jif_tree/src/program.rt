@@ -103,7 +103,7 @@ pub enum StmtKind {
     },
 }
 
-/// An expression over 64-bit numbers.
+/// An expression over 64-bit numbers. Labels stand behind pointers, since they are much larger than all else.
 #[derive(Drop)]
 pub enum Expr {
     Number(i64),
@@ -116,8 +116,8 @@ pub enum Expr {
     Not(Box<Expr>),
     Negate(Box<Expr>),
     Binary(BinOp, Box<Expr>, Box<Expr>),
-    Declassify(Box<Expr>, Label),
-    Endorse(Box<Expr>, Label),
+    Declassify(Box<Expr>, Box<Label>),
+    Endorse(Box<Expr>, Box<Label>),
 }
 
 /// A program whose labels were checked.

@@ -92,7 +92,8 @@ fn entered(
     }
 }
 
-/// Where the statement at a place of a block runs. The hosts' places up to which they are known to be trusted are noted.
+/// Where the statement at a place of a block runs. The hosts' places up to which they are known to be trusted are
+/// noted.
 pub fn next_spot(
     planned: &Planned<'_>,
     spot: Spot,

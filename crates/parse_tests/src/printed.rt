@@ -38,17 +38,20 @@ fn programs_are_printed(rt: HostRuntime) -> Result<(), Fail> {
         (
             "void main{}() where authority(Bob,Alice){int x=0;int{?:Alice}y=x;x=y;if(x){int z=1;z=2;}else{int w=x;w=w;}\
             if(x){}while(y<1){if(1){}else{x=m(1,-y);}}n();}\
-            int{} m{}(int{}p,int{Alice:}q){p=q;q=declassify(p,{})+endorse(1,{?:Bob});return p;} void n{?:Alice}(){n();}",
+            int{} m{}(int{}p,int{Alice:}q){p=q;q=declassify(p,{})+endorse(1,{?:Bob});return p;} \
+            void n{?:Alice}(){n();}",
             "void main{}() where authority(Bob, Alice) {\nint x = 0;\nint{?: Alice} y = x;\nx = y;\n\
             if (x) {\nint z = 1;\nz = 2;\n} else {\nint w = x;\nw = w;\n}\nif (x) {\n}\n\
             while (y < 1) {\nif (1) {\n} else {\nx = m(1, -y);\n}\n}\nn();\n}\n\
-            int{} m{}(int{} p, int{Alice: Alice} q) {\np = q;\nq = declassify(p, {}) + endorse(1, {?: Bob});\nreturn p;\n}\n\
+            int{} m{}(int{} p, int{Alice: Alice} q) {\np = q;\nq = declassify(p, {}) + endorse(1, {?: Bob});\n\
+            return p;\n}\n\
             void n{?: Alice}() {\nn();\n}\n",
         ),
         (
             "int{}a;void main{}(){a=(a-1)-(a-2);a=((a-1)-a)-2;a=- -1;a=- 1;a=-(a);a=-(a+1);a=!(!a)*(a);a=!a==(a<1)==1;\
             a=(a==1)<1;a=a||(a||a)||a&&(a||1);a=a*(a/2)%3-(4*5);a=((((1))));a=a- -1;a=9223372036854775807;}",
-            "int{} a;\nvoid main{}() {\na = a - 1 - (a - 2);\na = a - 1 - a - 2;\na = --1;\na = -1;\na = -a;\na = -(a + 1);\n\
+            "int{} a;\nvoid main{}() {\na = a - 1 - (a - 2);\na = a - 1 - a - 2;\na = --1;\na = -1;\na = -a;\n\
+            a = -(a + 1);\n\
             a = !!a * a;\na = !a == a < 1 == 1;\na = (a == 1) < 1;\na = a || (a || a) || a && (a || 1);\n\
             a = a * (a / 2) % 3 - 4 * 5;\na = 1;\na = a - -1;\na = 9223372036854775807;\n}\n",
         ),

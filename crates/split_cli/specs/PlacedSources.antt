@@ -43,7 +43,8 @@ pub record HasNoPlace (source : Source) (why : PlaceError) : Type 0 where
 -- a program gets places on its hosts
 abbrev pub OnHosts : Source → Outcome PlacedSource → Type 0
 OnHosts source (given placed) = AreChosen source placed
-OnHosts source (stopped verdict) = (why : PlaceError) × HasNoPlace source why × (verdict ≡ places_refused source.tree why)
+OnHosts source (stopped verdict) =
+    (why : PlaceError) × HasNoPlace source why × (verdict ≡ places_refused source.tree why)
 
 -- a program and a host file, up to the places
 abbrev pub PlacedSources : List ℕ → List ℕ → Outcome PlacedSource → Type 0

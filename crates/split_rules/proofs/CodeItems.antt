@@ -18,7 +18,8 @@ use Rattle.need_labels.specs.Plan.{PlanShape, first_host, statement_host, field_
 use Rattle.split_rules.specs.Emissions.{Emission, Named}
 use Rattle.split_rules.specs.SplitCode.{placed_entries, placed_code_fields, site_hosts, method_name}
 use Rattle.split_rules.specs.SplitCode.{label_place, emitted_on, before_entry}
-use Rattle.split_rules.specs.Splittable.{StandsAmong, IsNamedVariable}
+use Rattle.split_rules.specs.Splittable.{StandsAmong}
+use Rattle.jif_tree.specs.Named.{IsNamedVariable}
 use Rattle.split_rules.proofs.NumberedLists.{numbered, at_all}
 
 -- ---- hosts

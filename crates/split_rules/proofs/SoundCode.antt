@@ -23,7 +23,8 @@ use Rattle.split_rules.specs.SplitCode.{entries_in, code_labels}
 use Rattle.split_rules.specs.SplitCode.{label_of_emission, placed_entries, code_variable}
 use Rattle.split_rules.specs.SplitCode.{code_of_emissions, part_on}
 use Rattle.split_rules.specs.Flow.{State, Goes}
-use Rattle.split_rules.specs.Splittable.{IsSplittable, HasFew, IsSizedField, IsNamedVariable}
+use Rattle.split_rules.specs.Splittable.{IsSplittable, HasFew}
+use Rattle.jif_tree.specs.Named.{IsSizedField, IsNamedVariable}
 use Rattle.split_rules.specs.WalkStart.{scope_of, front_emissions, walk_start, IsEnd}
 use Rattle.split_rules.proofs.Places.{entries_append, entries_few, found_entry}
 use Rattle.split_rules.proofs.Standing.{placed_below}

@@ -1,6 +1,6 @@
--- What a walk over a program gives, in its order: instructions of hosts, entries, and where these stand. Code is read off
--- such a list, and nothing of it changes once it is given. Entries and branches are numbered in the order in which they
--- are given.
+-- What a walk over a program gives, in its order: instructions of hosts, entries, and where these stand. Code is read
+-- off such a list, and nothing of it changes once it is given. Entries and branches are numbered in the order in which
+-- they are given.
 use Rattle.std.specs.Prelude.{ℕ, suc, List, [], ◌∷◌}
 use Rattle.js_base.specs.declared.ids.HostId.{HostId}
 use Rattle.js_base.specs.declared.ids.StmtId.{StmtId}

@@ -1,5 +1,5 @@
--- What an expression becomes in instructions: the reads of its fields, each of which leaves a temporary, and its nodes over
--- these. Temporaries are numbered in the order of reading, from the left and inner before outer.
+-- What an expression becomes in instructions: the reads of its fields, each of which leaves a temporary, and its nodes
+-- over these. Temporaries are numbered in the order of reading, from the left and inner before outer.
 use Rattle.std.specs.Prelude.{ℕ, ◌+◌, List, [], ◌∷◌, ◌++◌, pos}
 use Rattle.js_base.specs.declared.ids.FieldId.{FieldId}
 use Rattle.jif_tree.specs.Trees.{ExprTree, number, local, scalar, element, inverted, negated, binary, declassified}

@@ -1,35 +1,15 @@
--- What is asked of a program, its hosts and a plan so that their code is sound. All of it is kept by a program that was
--- read, resolved and checked, by the hosts of a host file, and by a plan of allowed places.
-use Rattle.std.specs.Prelude.{◌≡◌, ℕ, ◌<◌, ◌≤◌, ◌⊎◌, false, List, All, length, codes, sum_by}
-use Rattle.js_base.specs.Name.{IsName}
-use Rattle.js_base.specs.declared.limits.TheConstants.{ARRAY_SIZE, ELEMENTS}
+-- What is asked of a program, its hosts and a plan so that their code is sound. A program that was read, resolved and
+-- checked, the hosts of a host file, and a plan of allowed places are to keep all of it; that they do is not proved here.
+use Rattle.std.specs.Prelude.{◌≡◌, ℕ, ◌<◌, ◌≤◌, List, All, length}
 use Rattle.host_decl.specs.Hosts.{HostsShape, AreHosts}
-use Rattle.jif_tree.specs.Trees.{FieldTree, VarTree, ProgramTree}
 use Rattle.jif_tree.specs.Numbering.{CountsFrom, site_numbers}
+use Rattle.jif_tree.specs.Named.{AreNamed}
 use Rattle.jif_tree.specs.WellNumbered.{IsWellNumbered}
 use Rattle.host_code.specs.declared.code.TheConstants.{MOST_ITEMS}
 use Rattle.host_code.specs.Code.{CodeShape}
 use Rattle.need_labels.specs.Labelled.{Labelled}
 use Rattle.need_labels.specs.Plan.{PlanShape}
 use Rattle.split_rules.specs.Emissions.{Emission}
-
--- a plain field has one element
-pub record IsSizedField (field : FieldTree) : Type 0 where
-  pub name : IsName field.name
-  pub some : 0 < field.size
-  pub few : field.size ≤ ARRAY_SIZE
-  pub plain : (field.array ≡ false) → field.size ≡ 1
-
--- a variable of a method
-pub record IsNamedVariable (program : ProgramTree) (variable : VarTree) : Type 0 where
-  pub name : IsName variable.name ⊎ (variable.name ≡ codes "return")
-  pub method : variable.method.0 < length program.methods
-
-pub record AreNamed (program : ProgramTree) : Type 0 where
-  pub fields : All IsSizedField program.fields
-  pub elements : sum_by (λ field. field.size) program.fields ≤ ELEMENTS
-  pub variables : All (IsNamedVariable program) program.vars
-  pub methods : All (λ method. IsName method.name) program.methods
 
 -- each place is one of so many hosts
 pub record StandsAmong (count : ℕ) (plan : PlanShape) : Type 0 where

@@ -1,6 +1,6 @@
--- The walk that splits a program: which instruction stands where, and which entries there are, in the order of the text.
--- Where the right to go on moves is defined with the cost of a plan (msg_cost, Moves). The rules are this project's own,
--- in the manner of the secure program partitioning of Zdancewic, Zheng, Nystrom and Myers.
+-- The walk that splits a program: which instruction stands where, and which entries there are, in the order of the
+-- text. Where the right to go on moves is defined with the cost of a plan (msg_cost, Moves). The rules are this
+-- project's own, in the manner of the secure program partitioning of Zdancewic, Zheng, Nystrom and Myers.
 use Rattle.std.specs.Prelude.{ℕ, ◌+◌, suc, ◌&&◌, not, nat_eq, bit_or, if◌then◌else◌}
 use Rattle.std.specs.Prelude.{List, [], ◌∷◌, ◌++◌, map, filter, length, Option, Some, None, slice_index}
 use Rattle.std.specs.List.{range_with_len}
@@ -34,7 +34,8 @@ pub record Walked : Type 0 where
   pub planned : PlannedShape
   pub setting : MethodSetting
 
--- The block that is walked: its owner, which is the method's head or the branch or loop around it, and its program label.
+-- The block that is walked: its owner, which is the method's head or the branch or loop around it, and its program
+-- label.
 pub record Around : Type 0 where
   pub owner : StmtId
   pub pc : Label
@@ -186,8 +187,8 @@ kept_emissions walked host label statement (Some result) (Some into) =
     ∷ send_emissions walked.planned host label statement into
 kept_emissions walked host label statement result into = []
 
--- The entry behind a call is named before its frame is made. It needs what the call and all that is left under the token
--- need.
+-- The entry behind a call is named before its frame is made. It needs what the call and all that is left under the
+-- token need.
 abbrev pub call_emissions : Walked → Counts → HostId → Label → StmtId → SiteId → MethodId → List ExprTree →
     Option VarId → List StmtId → List Emission
 call_emissions walked counts host label statement site method arguments into left =

@@ -9,7 +9,8 @@ use Rattle.principals.specs.ActsFor.{Declared}
 use Rattle.label_lattice.specs.declared.label.Label.{Label}
 use Rattle.label_lattice.specs.Lattice.{free_rows, empty_label}
 use Rattle.host_decl.specs.Hosts.{HostShape}
-use Rattle.jif_tree.specs.Trees.{ExprTree, number, local, scalar, binary, Heading, BlockTree, done, set_local, set_field}
+use Rattle.jif_tree.specs.Trees.{ExprTree, number, local, scalar, binary, Heading, BlockTree, done, set_local}
+use Rattle.jif_tree.specs.Trees.{set_field}
 use Rattle.jif_tree.specs.Trees.{loop, FieldTree, VarTree, MethodTree, ProgramTree}
 use Rattle.host_code.specs.declared.instruction.Op.{Op}
 use Rattle.msg_cost.specs.Moves.{PlannedShape}

@@ -45,7 +45,8 @@ pub fn worked_laws()
         ∷ op.Back ∷ [] }
     ensures sent_entries { entry_hosts sent_local ≡ 0 ∷ 0 ∷ 1 ∷ [] }
     // Where the way back is long, the host of what follows is asked to take it back.
-    ensures past { operations_on lent_past 0 ≡ op.Ask (entry_id 2) (host_id 2) ∷ op.Go (entry_id 3) (host_id 1) ∷ [] }
+    ensures past { operations_on lent_past 0
+        ≡ op.Ask (entry_id 2) (host_id 2) ∷ op.Go (entry_id 3) (host_id 1) ∷ [] }
     ensures past_entries { entry_hosts lent_past ≡ 0 ∷ 0 ∷ 2 ∷ 1 ∷ [] }
     // Otherwise the host that held it takes it back, and hands it on.
     ensures back { operations_on lent_back 0

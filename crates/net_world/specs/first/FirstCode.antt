@@ -1,5 +1,5 @@
--- The code of a program whose `main` assigns numbers to fields: all statements are on one host, the root, and each field
--- is on a host of its own.
+-- The code of a program whose `main` assigns numbers to fields: all statements are on one host, the root, and each
+-- field is on a host of its own.
 use Rattle.std.specs.Prelude.{◌≡◌, ℕ, ◌-◌, ◌<◌, ℤ, List}
 use Rattle.std.specs.Prelude.{[], ◌∷◌, ◌++◌, length, map, All}
 use Rattle.std.specs.Prelude.{replicate, Option, Some}
