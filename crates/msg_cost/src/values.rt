@@ -1,9 +1,10 @@
 //! What it costs to read values of other hosts, and to send them values.
 
-ghost use Rattle.std.specs.Prelude.{◌≡◌, [], ◌∷◌};
+ghost use Rattle.std.specs.Prelude.{◌≡◌, [], ◌∷◌, length, min};
 ghost use Rattle.jif_tree.specs.Trees.{expr_tree};
 ghost use Rattle.msg_cost.specs.Cost.{cost_of};
 ghost use Rattle.msg_cost.specs.Kept.{IsReadingWord, AreReadingWords, IsKept};
+ghost use Rattle.msg_cost.specs.declared.kept.TheConstants.{KEPT_VARIABLES};
 ghost use Rattle.msg_cost.specs.Terms.{exchange, expr_terms, forwards};
 ghost use Rattle.need_labels.specs.Plan.{field_host};
 ghost use Rattle.msg_cost.specs.Views.{shape_of, capped};
@@ -66,9 +67,10 @@ pub fn reading_hosts(planned: &Planned<'_>, x: VarId) -> u64
     word
 }
 
-/// Notes the words of the first variables of a program, and answers of how many.
+/// Notes the words of the first variables of a program, as many as there is room for, and answers of how many.
 pub fn note_reading(planned: &Planned<'_>, words: &mut [u64]) -> usize
-    ensures { AreReadingWords (shape_of planned.now) result words.new }
+    ensures words { AreReadingWords (shape_of planned.now) result words.new }
+    ensures count { result ≡ min (min (length (shape_of planned.now).program.vars) (length words.old)) KEPT_VARIABLES }
 {
     let count = planned
         .program

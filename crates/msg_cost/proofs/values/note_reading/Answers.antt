@@ -17,5 +17,5 @@ loop-number-preserved c =
           within c.reading_hosts.ensures c.loop-number.invariant.found;
     }
 
-pub returns : goal.returns
-returns c = λ x below. c.loop-number.invariant.found x (omega (arith, below))
+pub returns-clause-words : goal.returns-clause-words
+returns-clause-words c = λ x below. c.loop-number.invariant.found x (omega (arith, below))
