@@ -1,0 +1,11 @@
+use Rattle.jif_grammar.specs.DraftShapes.{draft_shape}
+use Rattle.split_cli.proofs.FewNodes.{few_nodes}
+use Rattle.place_tests.proofs.told.resolved.Goals as goal
+
+pub returns-clause-sized : goal.returns-clause-sized
+returns-clause-sized c =
+    few_nodes _ (draft_shape c.in_ok-draft.draft) _ c.in_ok-resolve.ensures.found c.in_ok-draft.ensures.limited
+    c.in_ok-resolve.ensures.limits
+
+pub returns-clause-authorities : goal.returns-clause-authorities
+returns-clause-authorities c = c.program_laws.ensures.authorities _ _ _ c.in_ok-resolve.ensures.found
