@@ -181,7 +181,10 @@ fn assert_placed(rt: &impl Abort, alloc: Global, row: &Placed) -> Result<(), Fai
     let hosts = hosts_of(alloc, hosts)?;
     let checked = checked(alloc, program, &hosts)?;
     let needs = needs_of(alloc, &checked, hosts.principals())?;
-    let (allowed, plan) = place(alloc, &checked, &needs, &hosts)?;
+    let allowed = allowed_on(alloc, &checked, &needs, &hosts)?;
+    let (same, plan) = place(alloc, &checked, &needs, &hosts)?;
+    assert_eq!(rt; same.fields(), allowed.fields(), "in {program:?}");
+    assert_eq!(rt; same.statements(), allowed.statements(), "in {program:?}");
     let found = places_text(alloc, &hosts, &allowed, &plan)?;
     assert_eq!(rt; found.as_str(), places, "in {program:?}");
     assert_eq!(rt;
