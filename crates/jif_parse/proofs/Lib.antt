@@ -37,6 +37,7 @@ pub mod PrintedBackMethods
 pub mod PrintedBackGlobals
 pub mod PrintedBackProgram
 pub mod PrintedNamesOf
+pub mod NamedPrograms
 pub mod PrintedLimits
 pub mod PrintedReadsBack
 pub mod PrintedKnown

@@ -1,6 +1,6 @@
 -- The names and numbers of a draft are those of its tokens.
 use Rattle.std.proofs.Common.{ℕ, zero, suc, ◌+◌, true, false, List, []}
-use Rattle.std.proofs.Common.{◌∷◌, length, Option, Some, None, arith}
+use Rattle.std.proofs.Common.{◌∷◌, length, Option, Some, None, ◌∙◌, subst, arith}
 use Rattle.std.specs.Prelude.{⊤, All}
 use Rattle.std.specs.List.{AllByRecursion}
 use Rattle.std.proofs.lemmas.Int.{ints}
@@ -10,7 +10,7 @@ use Rattle.jif_lex.specs.declared.token.TokenKind.{TokenKind}
 use Rattle.jif_lex.specs.declared.token.TokenKind.TheVariants.{Name, Number, Word, Symbol}
 use Rattle.jif_lex.specs.declared.token.Symbol.TheVariants.{Semicolon, Comma, RightBrace}
 use Rattle.jif_lex.specs.Spelled.{IsSpellable}
-use Rattle.jif_lex.specs.TokenLists.{FitsText}
+use Rattle.jif_lex.specs.TokenLists.{FitsText, AreTokens}
 use Rattle.label_lattice.specs.Written.{Part, policy, trust, symbol, kinds}
 use Rattle.jif_grammar.specs.Phrases as phrase
 use Rattle.jif_grammar.specs.Phrases.{LabelPhrase, ExprPhrase, BlockPhrase, FieldEnd, ParamPhrase, MethodPhrase}
@@ -25,13 +25,15 @@ use Rattle.jif_grammar.specs.DraftShapes.{end_shape}
 use Rattle.jif_grammar.specs.Drafts.{names_at, expr_at, expr_width, args_at, block_at, result_at}
 use Rattle.jif_grammar.specs.Drafts.{params_at}
 use Rattle.jif_grammar.specs.Drafts.{method_at, methods_at, fields_at, first_value, after_item}
+use Rattle.jif_grammar.specs.Programs.{Spells}
+use Rattle.jif_grammar.proofs.Continued.{program_unmarked}
 use Rattle.jif_parse.proofs.PrintedApart.{IsSmall}
 use Rattle.jif_parse.proofs.PrintedBackExprs.{IsNamedShape}
 use Rattle.jif_parse.proofs.PrintedAlike.{IsNamedBlockShape}
 use Rattle.jif_parse.proofs.PrintedBackMethods.{AreNamedParams, AreNamedShapes, IsNamedMethod}
 use Rattle.jif_parse.proofs.PrintedBackProgram.{IsSmallFirst}
 
-abbrev pub AllSpelled : List TokenKind → Type 0
+abbrev AllSpelled : List TokenKind → Type 0
 AllSpelled kinds = AllByRecursion IsSpellable kinds
 
 -- what holds of the phrase by its tokens, and of the tokens behind it
@@ -223,7 +225,7 @@ end_found (phrase.set true (suc n)) rest all = (all.1.1.0.1, all.1.1.1.1)
 abbrev pub StartsSmall : FieldShape → Type 0
 StartsSmall field = IsName field.name.text × IsSmallFirst field.first
 
-pub items_found : (program : ProgramPhrase) → AllSpelled (program_then program []) → (lines : ℕ → ℕ) (at : ℕ) →
+items_found : (program : ProgramPhrase) → AllSpelled (program_then program []) → (lines : ℕ → ℕ) (at : ℕ) →
     AllByRecursion StartsSmall (fields_at at program) × AllByRecursion IsNamedMethod (methods_at lines at program)
 items_found [] all lines at = (tt, tt)
 items_found (phrase.field field ∷ items) all lines at =
@@ -243,7 +245,15 @@ spellable (Number value) fits = fits
 spellable (Word word) fits = tt
 spellable (Symbol written) fits = tt
 
-pub all_spelled : (list : List Token) → All (λ token. FitsText token.kind) list → AllSpelled (kinds list)
+all_spelled : (list : List Token) → All (λ token. FitsText token.kind) list → AllSpelled (kinds list)
 all_spelled [] all = tt
 all_spelled (token ∷ list) all =
     (spellable token.kind (all 0 token (omega arith)), all_spelled list (λ k d within. all (suc k) d (omega (arith, within))))
+
+-- the names and numbers of a program whose tokens are those of a text
+pub phrases_found : (list : List Token) (program : ProgramPhrase) → AreTokens list → Spells list program →
+    (lines : ℕ → ℕ) →
+    AllByRecursion StartsSmall (fields_at 0 program) × AllByRecursion IsNamedMethod (methods_at lines 0 program)
+phrases_found list program fits spells lines =
+    items_found program
+    (subst AllSpelled (spells.written ∙ program_unmarked program) (all_spelled list fits.1)) lines 0

@@ -20,7 +20,6 @@ use Rattle.jif_grammar.specs.DraftShapes.{FieldShape, MethodShape, DraftShape}
 use Rattle.jif_grammar.specs.Drafts.{is_array, first_value, fields_at, after_item, draft_of}
 use Rattle.jif_grammar.specs.Programs as grammar
 use Rattle.jif_grammar.specs.Programs.{Spells, line_at}
-use Rattle.jif_grammar.proofs.Continued.{program_unmarked}
 use Rattle.jif_resolve.specs.Sizes.{IsSizedField, IsLimitedMethod, IsLimited, ReturnsLast}
 use Rattle.jif_resolve.specs.Verdicts.{IsProgramOf}
 use Rattle.jif_parse.specs.PrintedNames.{Naming}
@@ -33,7 +32,7 @@ use Rattle.jif_parse.proofs.PrintedSpelled.{program_spelled}
 use Rattle.jif_parse.proofs.PrintedLabels.{Laws}
 use Rattle.jif_parse.proofs.PrintedBackGlobals.{ArePlainFields, globals_apart}
 use Rattle.jif_parse.proofs.PrintedBackProgram.{IsNamedField, program_back}
-use Rattle.jif_parse.proofs.PrintedNamesOf.{AllSpelled, StartsSmall, items_found, all_spelled}
+use Rattle.jif_parse.proofs.PrintedNamesOf.{StartsSmall, phrases_found}
 use Rattle.jif_parse.proofs.PrintedLimits.{printed_within}
 
 -- ---- what the parser keeps of a draft
@@ -103,9 +102,7 @@ reads_back laws spelled_programs limited_drafts principals list draft tree decla
     subst IsLimited is_program.draft_is (limited_drafts list draft is_program) in
     let own_resolved : IsProgramOf principals own tree =
     subst (λ d. IsProgramOf principals d tree) is_program.draft_is resolved in
-    let spelled : AllSpelled (program_then q []) =
-    subst AllSpelled (is_program.text.spells.written ∙ program_unmarked q) (all_spelled list fits.1) in
-    let found = items_found q spelled lines 0 in
+    let found = phrases_found list q fits is_program.text.spells lines in
     let sized = by_recursion IsSizedField own.fields limited.sizes in
     let made = program_back laws principals declared own tree (record {
       apart = globals_apart lines q;
