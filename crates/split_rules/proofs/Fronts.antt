@@ -195,7 +195,7 @@ names_after scope state (stands host number ∷ others) last goes =
 names_after scope state (lands host number ∷ others) last goes =
     names_after scope (after state (lands host number)) others last goes.1
 
-get_append : {X : Type 0} (xs ys : List X) (place : ℕ) (x : X) → slice_get (xs ++ ys) place ≡ Some x →
+pub get_append : {X : Type 0} (xs ys : List X) (place : ℕ) (x : X) → slice_get (xs ++ ys) place ≡ Some x →
     (slice_get xs place ≡ Some x) ⊎ ((more : ℕ) × (place ≡ length xs + more) × (slice_get ys more ≡ Some x))
 get_append [] ys place x there = inr (place, omega arith, there)
 get_append (first ∷ xs) ys zero x there = inl there
@@ -253,6 +253,35 @@ of_later labelled hosts planned main emissions last walk more named there =
           (λ others. refl),
     )
 
+-- every entry but the one that ends the program stands in the bodies
+pub others_stand : (labelled : Labelled) (hosts : HostsShape) (planned : PlannedShape) (main : MethodTree)
+    (emissions : List Emission) (last : State) → IsWalk labelled hosts planned main emissions last →
+    (number : ℕ) (named : Named) →
+    slice_get (entries_in (front_of planned main labelled.program.methods ++ emissions)) (suc number) ≡ Some named →
+    (named.host.0 < length hosts.hosts) × Placed of_entries named.host (suc number) emissions
+others_stand labelled hosts planned main emissions last walk number named there =
+    let methods = labelled.program.methods in
+    let fronts = entries_in (map (method_entry planned) methods) in
+    let either = get_append fronts (entries_in emissions) number named
+    (ap (λ list. slice_get list number) (sym (entries_append (map (method_entry planned) methods) emissions))
+    ∙ there) in
+    elim either [
+      | inl before ↦
+          let found = method_there planned methods number named before in
+          let P : HostId → Type 0 = λ host. (host.0 < length hosts.hosts)
+          × Placed of_entries host (suc number) emissions in
+          subst P (sym found.2) (
+            statement_known (length hosts.hosts) planned.plan walk.among walk.some found.0.head,
+            of_method labelled hosts planned main emissions last walk number found.0 found.1,
+          )
+      | inr behind ↦
+          let so = of_later labelled hosts planned main emissions last walk behind.0 named behind.2 in
+          let long = methods_long planned methods in
+          let sum : length methods + behind.0 ≡ number = let is = behind.1 in omega arith in
+          let P : ℕ → Type 0 = λ at. Placed of_entries named.host (suc at) emissions in
+          (so.0, subst P sum so.1)
+    ]
+
 pub all_stand : (labelled : Labelled) (hosts : HostsShape) (planned : PlannedShape) (main : MethodTree)
     (emissions : List Emission) (last : State) → IsWalk labelled hosts planned main emissions last →
     (number : ℕ) (named : Named) →
@@ -277,31 +306,9 @@ all_stand labelled hosts planned main emissions last walk zero named there =
     })
 all_stand labelled hosts planned main emissions last walk (suc number) named there =
     let methods = labelled.program.methods in
-    let fronts = entries_in (map (method_entry planned) methods) in
-    let either = get_append fronts (entries_in emissions) number named
-    (ap (λ list. slice_get list number) (sym (entries_append (map (method_entry planned) methods) emissions))
-    ∙ there) in
-    elim either [
-      | inl before ↦
-          let found = method_there planned methods number named before in
-          let so = of_method labelled hosts planned main emissions last walk number found.0 found.1 in
-          let P : HostId → Type 0 = λ host. (host.0 < length hosts.hosts)
-          × Placed of_entries host (suc number) (front_of planned main methods ++ emissions) in
-          let both = subst P (sym found.2) (
-            statement_known (length hosts.hosts) planned.plan walk.among walk.some found.0.head,
-            entry_behind_front planned (home_of planned found.0) number main methods emissions
-                (placed_behind_methods of_entries planned (home_of planned found.0) (suc number) methods emissions so),
-          ) in
-          record { host = both.0; placed = both.1 }
-      | inr behind ↦
-          let so = of_later labelled hosts planned main emissions last walk behind.0 named behind.2 in
-          let long = methods_long planned methods in
-          let sum : length methods + behind.0 ≡ number = let is = behind.1 in omega arith in
-          let P : ℕ → Type 0 = λ at. Placed of_entries named.host (suc at) emissions in
-          record {
-            host = so.0;
-            placed = entry_behind_front planned named.host number main methods emissions
-                (placed_behind_methods of_entries planned named.host (suc number) methods emissions
-                (subst P sum so.1));
-          }
-    ]
+    let so = others_stand labelled hosts planned main emissions last walk number named there in
+    record {
+      host = so.0;
+      placed = entry_behind_front planned named.host number main methods emissions
+          (placed_behind_methods of_entries planned named.host (suc number) methods emissions so.1);
+    }

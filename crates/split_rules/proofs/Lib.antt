@@ -19,3 +19,14 @@ pub mod WalkedSites
 pub mod WalkedPrograms
 pub mod SoundSplit
 pub mod Settling
+pub mod TypedStates
+pub mod TypedValues
+pub mod TypedStatements
+pub mod TypedMoves
+pub mod TypedCalls
+pub mod TypedBranches
+pub mod TypedBlocks
+pub mod TypedPrograms
+pub mod TypedPlaces
+pub mod TypedSplit
+pub mod OneNext

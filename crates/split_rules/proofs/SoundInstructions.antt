@@ -106,6 +106,22 @@ opened_by state one guard number me is own same =
     (inl (ap (λ host. record { host = host; number = state.branches }) own
     ∙ ap (λ at. record { host = me; number = at }) (sym same)))
 
+-- a branch leads to an instruction of its own host in the bodies
+pub branch_leads : (labelled : Labelled) (hosts : HostsShape) (planned : PlannedShape) (main : MethodTree)
+    (emissions : List Emission) (last : State) → IsWalk labelled hosts planned main emissions last →
+    (before : List Emission) (one : Emitted) (behind : List Emission) →
+    emissions ≡ before ++ instruction one ∷ behind → (me : HostId) → one.host ≡ me →
+    (guard : _) (number : ℕ) → one.op ≡ op.Branch guard number → Placed of_branches me number emissions
+branch_leads labelled hosts planned main emissions last walk before one behind is me own guard number what_is =
+    let methods = labelled.program.methods in
+    let scope = scope_of labelled hosts planned.plan in
+    placed_from of_branches me number scope (start_of planned main methods) before (instruction one) behind
+    last emissions is walk.goes (ordered_start of_branches planned main methods) walk.end.opened walk.end.stopped
+    (λ middle to fits.
+    let number_is = branch_number scope middle one middle.flow guard number what_is fits in
+    ((let also = number_is in omega arith), opened_by middle one guard number me what_is own number_is))
+    (λ others. refl)
+
 pub branch_placed : (labelled : Labelled) (hosts : HostsShape) (planned : PlannedShape) (main : MethodTree)
     (emissions : List Emission) (last : State) → IsWalk labelled hosts planned main emissions last →
     (before : List Emission) (one : Emitted) (behind : List Emission) →
@@ -113,15 +129,8 @@ pub branch_placed : (labelled : Labelled) (hosts : HostsShape) (planned : Planne
     (guard : _) (number : ℕ) → one.op ≡ op.Branch guard number →
     Placed of_branches me number (given labelled planned main emissions)
 branch_placed labelled hosts planned main emissions last walk before one behind is me own guard number what_is =
-    let methods = labelled.program.methods in
-    let scope = scope_of labelled hosts planned.plan in
-    landing_behind_front planned me number main methods emissions
-    (placed_from of_branches me number scope (start_of planned main methods) before (instruction one) behind
-    last emissions is walk.goes (ordered_start of_branches planned main methods) walk.end.opened walk.end.stopped
-    (λ middle to fits.
-    let number_is = branch_number scope middle one middle.flow guard number what_is fits in
-    ((let also = number_is in omega arith), opened_by middle one guard number me what_is own number_is))
-    (λ others. refl))
+    landing_behind_front planned me number main labelled.program.methods emissions
+    (branch_leads labelled hosts planned main emissions last walk before one behind is me own guard number what_is)
 
 leads_there : (labelled : Labelled) (hosts : HostsShape) (planned : PlannedShape) (main : MethodTree)
     (emissions : List Emission) (last : State) → IsWalk labelled hosts planned main emissions last →

@@ -152,14 +152,14 @@ WalksOn scope walked host owed opened block =
     (named : List HostId) (branches : ℕ) → AreNamed walked.labelled.program walked.planned named →
     Reaches scope (state_of (at host 0) named branches owed opened) (block (counts_at named branches)) stopped owed opened
 
-abbrev inside_of : Walked → Around → Heading → ExprTree → Around
+abbrev pub inside_of : Walked → Around → Heading → ExprTree → Around
 inside_of walked around heading guard = record {
   owner = heading.id;
   pc = guarded walked.setting around.pc (all_labels walked.labelled) guard;
 }
 
 -- what a branch has before its first block, and all of it
-abbrev branch_front : Walked → Around → Counts → Heading → ExprTree → Spot → List StmtId → List Emission
+abbrev pub branch_front : Walked → Around → Counts → Heading → ExprTree → Spot → List StmtId → List Emission
 branch_front walked around here heading guard next others =
     entry (record {
       host = next.host;
@@ -170,7 +170,7 @@ branch_front walked around here heading guard next others =
     ∷ expr_emissions next.host around.pc heading.id 0 guard
     ++ emitted next.host around.pc heading.id (op.Branch (nodes_of 0 guard) here.branches) ∷ []
 
-abbrev branch_own : List Emission → Counts → HostId → (Counts → List Emission) → (Counts → List Emission) →
+abbrev pub branch_own : List Emission → Counts → HostId → (Counts → List Emission) → (Counts → List Emission) →
     List Emission
 branch_own front here host first second =
     let one = first (counts_after here front) in
@@ -264,7 +264,7 @@ branch_goes scope walked walkable method around heading guard there next within 
     }
 
 -- what a loop has before its body, and all of it
-abbrev loop_front : Walked → Around → Counts → Heading → ExprTree → Spot → List StmtId → List Emission
+abbrev pub loop_front : Walked → Around → Counts → Heading → ExprTree → Spot → List StmtId → List Emission
 loop_front walked around here heading guard next others =
     entry (record {
       host = next.host;
@@ -277,7 +277,7 @@ loop_front walked around here heading guard next others =
     (op.Branch (nodes_of 0 guard) here.branches)
     ∷ emitted next.host (inside_of walked around heading guard).pc heading.id (op.Push (entry_id here.entries)) ∷ []
 
-abbrev loop_own : List Emission → Counts → HostId → (Counts → List Emission) → List Emission
+abbrev pub loop_own : List Emission → Counts → HostId → (Counts → List Emission) → List Emission
 loop_own front here host body = front ++ body (counts_after here front) ++ lands host here.branches ∷ []
 
 loop_goes : (scope : Scope) (walked : Walked) → IsWalkable scope walked.labelled.program walked.planned →

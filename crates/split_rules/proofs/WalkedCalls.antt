@@ -46,7 +46,7 @@ pub record AreNamed (program : ProgramTree) (planned : PlannedShape) (named : Li
 pub nothing_there : {X : Type 0} (place : ℕ) (x : X) → slice_get [] place ≡ Some x → ⊥
 nothing_there place x is = let within = slice_get_within [] place x is in omega arith
 
-still_there : {X : Type 0} (xs ys : List X) (place : ℕ) (x : X) → slice_get xs place ≡ Some x →
+pub still_there : {X : Type 0} (xs ys : List X) (place : ℕ) (x : X) → slice_get xs place ≡ Some x →
     slice_get (xs ++ ys) place ≡ Some x
 still_there [] ys place x is = absurd (nothing_there place x is)
 still_there (first ∷ xs) ys zero x is = is

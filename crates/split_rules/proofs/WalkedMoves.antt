@@ -116,7 +116,7 @@ handed scope walked around statements named branches owed opened from host some 
       );
     })
 
-abbrev lent_spot : HostId → HostId → Spot
+abbrev pub lent_spot : HostId → HostId → Spot
 lent_spot host back = record { host = host; back = Some back }
 
 lent : (scope : Scope) (walked : Walked) (around : Around) (statements : List StmtId) (named : List HostId)
@@ -194,7 +194,7 @@ lent scope walked around statements named branches owed opened from host back so
 
 -- ---- where a segment begins
 
-entered_here : (planned : PlannedShape) (from host : HostId) (statements : List StmtId) → from.0 ≡ host.0 →
+pub entered_here : (planned : PlannedShape) (from host : HostId) (statements : List StmtId) → from.0 ≡ host.0 →
     entered planned from host statements ≡ on host
 entered_here planned from host statements same = rw (eq-eqb from.0 host.0 same) refl
 
@@ -279,12 +279,12 @@ moved scope walked around lane statements named branches owed opened next apart 
   next_host = refl;
 }
 
-next_here : (planned : PlannedShape) (spot : Spot) (statement : StmtId) (others : List StmtId) →
+pub next_here : (planned : PlannedShape) (spot : Spot) (statement : StmtId) (others : List StmtId) →
     spot.host.0 ≡ (statement_host planned.plan statement).0 → next_spot planned spot statement others ≡ spot
 next_here planned spot statement others same =
     rw (eq-eqb spot.host.0 (statement_host planned.plan statement).0 same) refl
 
-next_there : (planned : PlannedShape) (spot : Spot) (statement : StmtId) (others : List StmtId) →
+pub next_there : (planned : PlannedShape) (spot : Spot) (statement : StmtId) (others : List StmtId) →
     spot.host.0 ≢ (statement_host planned.plan statement).0 →
     next_spot planned spot statement others
     ≡ entered planned (end_of spot) (statement_host planned.plan statement) (statement ∷ others)

@@ -46,7 +46,7 @@ scope_there labelled needs hosts plan splittable = record {
     some : 0 < length hosts.hosts
     some = rw length-map at splittable.are_hosts.names.some
 
-method_there : (program : ProgramTree) (methods : List MethodTree) (first : ℕ) → AreMethodsIn program first methods →
+pub method_there : (program : ProgramTree) (methods : List MethodTree) (first : ℕ) → AreMethodsIn program first methods →
     (place number : ℕ) (tree : MethodTree) → number ≡ first + place → slice_get methods place ≡ Some tree →
     IsMethodIn program (record { 0 = number }) tree
 method_there program [] first are place number tree is there = absurd (nothing_there place tree there)
@@ -108,10 +108,10 @@ methods_go scope principals labelled planned walkable number (method ∷ methods
 
 -- ---- the front
 
-abbrev counts_of_entries : ℕ → Counts
+abbrev pub counts_of_entries : ℕ → Counts
 counts_of_entries number = record { entries = number; branches = 0 }
 
-entries_counted : (planned : PlannedShape) (methods : List MethodTree) (number : ℕ) →
+pub entries_counted : (planned : PlannedShape) (methods : List MethodTree) (number : ℕ) →
     counts_after (counts_of_entries number) (map (method_entry planned) methods)
     ≡ counts_of_entries (length (map (home_of planned) methods) + number)
 entries_counted planned [] number = ap counts_of_entries (omega arith)

@@ -1,6 +1,10 @@
 pub mod Emissions
 pub mod Expressions
 pub mod Walk
+pub mod Positions
+pub mod Typing
+pub mod Typable
+pub mod TypedCode
 pub mod SplitCode
 pub mod Flow
 pub mod WalkStart

@@ -10,8 +10,10 @@ use Rattle.need_labels.specs.Plan.{PlanShape}
 use Rattle.msg_cost.specs.Moves.{PlannedShape, home_of, called_home}
 use Rattle.split_rules.specs.Emissions.{Emission}
 use Rattle.split_rules.specs.Flow.{Scope, State, Pending, stopped}
+use Rattle.split_rules.specs.Positions.{all_due, body, calm, Entrance}
 use Rattle.split_rules.specs.SplitCode.{site_hosts}
-use Rattle.split_rules.specs.Walk.{halt_entries, method_entry}
+use Rattle.split_rules.specs.Typing.{need_of_method, nowhere, Known}
+use Rattle.split_rules.specs.Walk.{need_of, halt_entries, method_entry}
 
 -- what the code of a program has
 abbrev pub scope_of : Labelled → HostsShape → PlanShape → Scope
@@ -51,3 +53,23 @@ pub record IsEnd (state : State) : Type 0 where
   pub stopped : state.flow ≡ stopped
   pub owed : state.owed ≡ []
   pub opened : state.opened ≡ []
+
+-- the entries of methods of which the first has this number, where all of their bodies is due
+abbrev pub method_entrances : PlannedShape → ℕ → List MethodTree → List Entrance
+method_entrances planned number [] = []
+method_entrances planned number (method ∷ methods) =
+    record {
+      position = calm (body (record { 0 = number })) (all_due method.body);
+      need = need_of planned (method.head ∷ []);
+    } ∷ method_entrances planned (suc number) methods
+
+-- what is known of all entries before the bodies of the methods: nothing is due behind the program
+abbrev pub known_start : PlannedShape → Known
+known_start planned = record {
+  place = nowhere;
+  entries = record {
+    position = calm (body planned.program.main) [];
+    need = need_of_method planned (method_at planned.program planned.program.main);
+  } ∷ method_entrances planned 0 planned.program.methods;
+  branches = [];
+}

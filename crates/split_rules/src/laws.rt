@@ -4,16 +4,23 @@ ghost use Rattle.host_decl.specs.Hosts.{HostsShape};
 ghost use Rattle.need_labels.specs.Labelled.{Labelled};
 ghost use Rattle.need_labels.specs.Needs.{NeedsShape};
 ghost use Rattle.need_labels.specs.Plan.{PlanShape};
-ghost use Rattle.msg_cost.specs.Moves.{planned_of};
+ghost use Rattle.msg_cost.specs.Moves.{PlannedShape, planned_of};
 ghost use Rattle.host_code.specs.Sound.{IsSoundCode};
 ghost use Rattle.split_rules.specs.SplitCode.{split_code};
 ghost use Rattle.split_rules.specs.Splittable.{IsSplittable, HasFew};
+ghost use Rattle.split_rules.specs.Typable.{IsTypable};
+ghost use Rattle.split_rules.specs.TypedCode.{Table, IsTypedCode};
+ghost use Rattle.split_rules.specs.Typing.{Follows, Divides};
+ghost use Rattle.split_rules.specs.Positions.{Position, Entrance};
 ghost use Rattle.split_rules.specs.Emissions.{counts_after};
 ghost use Rattle.split_rules.specs.Settled.{AreSettled};
 ghost use Rattle.split_rules.specs.Walk.{program_emissions};
-ghost use Rattle.std.specs.Prelude.{◌≡◌, ◌∷◌, [], length, pos};
+ghost use Rattle.std.specs.Prelude.{◌≡◌, List, ◌∷◌, [], length, pos};
+ghost use Rattle.js_base.specs.declared.ids.HostId.{HostId};
 ghost use Rattle.js_base.specs.declared.binary_operator.BinOp.TheVariants as operator;
+ghost use Rattle.host_code.specs.declared.instruction.Op.{Op};
 ghost use Rattle.host_code.specs.declared.instruction.Op.TheVariants as op;
+ghost use Rattle.host_code.specs.declared.code_expr.Node.{Node};
 ghost use Rattle.host_code.specs.declared.code_expr.Node.TheVariants as node;
 ghost use Rattle.split_rules.specs.Expressions.{first_element};
 ghost use Rattle.split_rules.specs.Walk.{entry_id};
@@ -21,7 +28,9 @@ ghost use Rattle.split_rules.specs.Worked.{sent_local, lent_past, lent_back, loo
 ghost use Rattle.split_rules.specs.Worked.{field_id, var_id, host_id};
 
 /// Whatever the plan, the code of a split program is sound, and its entries stand and its branches lead where they
-/// should, on their own hosts.
+/// should, on their own hosts. Where each statement's host is trusted for it, the code is also typed: at each
+/// instruction it is known under whose token a thread runs there and what is still due, and the instruction does what is
+/// due next.
 pub fn split_laws()
     ensures sound { (labelled : Labelled) (needs : NeedsShape) (hosts : HostsShape) (plan : PlanShape) →
         IsSplittable labelled hosts plan →
@@ -33,6 +42,21 @@ pub fn split_laws()
         let emissions = program_emissions hosts.principals labelled (planned_of labelled needs hosts plan) in
         AreSettled (length hosts.hosts) (counts_after (record { entries = 0; branches = 0 }) emissions).branches
         emissions }
+    ensures typed { (labelled : Labelled) (needs : NeedsShape) (hosts : HostsShape) (plan : PlanShape) →
+        let planned = planned_of labelled needs hosts plan in
+        IsSplittable labelled hosts plan → IsTypable planned →
+        (table : Table) × IsTypedCode planned (split_code labelled needs hosts plan) table }
+{}
+
+/// The laws of positions leave one outcome: behind an instruction there is one position, and where a branch leads
+/// another.
+pub fn typing_laws()
+    ensures one_next { (planned : PlannedShape) (entries : List Entrance) (me : HostId) (here : Position) (what : Op)
+        (next other : Position) → Follows planned entries me here what next →
+        Follows planned entries me here what other → next ≡ other }
+    ensures one_division { (planned : PlannedShape) (me : HostId) (here : Position) (guard : List Node)
+        (next target other other_target : Position) → Divides planned me here guard next target →
+        Divides planned me here guard other other_target → (next ≡ other) × (target ≡ other_target) }
 {}
 
 /// The instructions of some small programs on each of their hosts, and the hosts of their entries.

@@ -1,0 +1,328 @@
+-- A call: parameters are set in order, the entry behind the call has due what is left, and what the called method does is
+-- due from then on.
+use Rattle.std.proofs.Common.{◌≡◌, ◌∙◌, ◌⊎◌, ℕ, suc, true, List, [], ◌∷◌, ◌++◌, length, refl, ap, sym, subst, inl, inr}
+use Rattle.std.proofs.Common.{append_assoc, append-nil}
+use Rattle.std.specs.Prelude.{Option, Some, None}
+use Rattle.js_base.specs.declared.ids.VarId.{VarId}
+use Rattle.js_base.specs.declared.ids.SiteId.{SiteId}
+use Rattle.js_base.specs.declared.ids.StmtId.{StmtId}
+use Rattle.js_base.specs.declared.ids.MethodId.{MethodId}
+use Rattle.jif_tree.specs.Trees.{ExprTree, Heading, BlockTree, done, call, MethodTree}
+use Rattle.jif_tree.specs.LabelRules.{method_at, result_of}
+use Rattle.host_code.specs.declared.instruction.Op.TheVariants as op
+use Rattle.msg_cost.specs.Moves.{PlannedShape}
+use Rattle.split_rules.specs.Expressions.{nodes_of}
+use Rattle.split_rules.specs.Walk.{Walked, emitted, expr_emissions, pass_emissions, argument_emissions, kept_emissions}
+use Rattle.split_rules.specs.Walk.{call_emissions, need_of}
+use Rattle.split_rules.specs.Positions.{is_on, Due, run, keep, all_due, kept_due, Level, body, field_reads, Argument}
+use Rattle.split_rules.specs.Positions.{arguments_of, arguing, entering, Position, calm, with_reads, with_forwards}
+use Rattle.split_rules.specs.Positions.{forwards_of, due_numbers, Entrance}
+use Rattle.split_rules.specs.Typing.{EntryIs, Frames, PushesCall, nowhere, here, AreTyped, AreDueOn, Covers, need_due}
+use Rattle.split_rules.specs.Typing.{need_of_method}
+use Rattle.split_rules.specs.TypedCode.{AreMethodEntries}
+use Rattle.split_rules.proofs.WalkedCalls.{still_there}
+use Rattle.split_rules.proofs.WalkedMoves.{at_last}
+use Rattle.split_rules.proofs.TypedStates.{known_at, counts_in, typed_on, Leads}
+use Rattle.split_rules.proofs.TypedMoves.{covers_due}
+use Rattle.split_rules.proofs.TypedValues.{IsDueOn, Site, expr_typed, send_typed, pass_typed}
+use Rattle.split_rules.proofs.TypedStatements.{calm_at}
+
+pub methods_still : (planned : PlannedShape) (entries more : List Entrance) → AreMethodEntries planned entries →
+    AreMethodEntries planned (entries ++ more)
+methods_still planned entries more there place tree is =
+    still_there entries more (suc place) _ (there place tree is)
+
+-- ---- arguments
+
+-- where some parameters of a call are set, and others are left
+abbrev arguing_at : Level → List Due → BlockTree → List Argument → List Argument → Position
+arguing_at level due statement set left = record {
+  level = level;
+  due = due;
+  reads = [];
+  calling = arguing statement set left;
+  forwards = [];
+}
+
+-- no parameter is left
+none_left : (planned : PlannedShape) (site : Site) (level : Level) (due : List Due) (statement : BlockTree)
+    (set : List Argument) (entries : List Entrance) (branches : List Position) →
+    AreTyped planned (known_at (here site.me (arguing_at level due statement set [])) entries branches) []
+    (known_at (here site.me (arguing_at level due statement (set ++ []) [])) entries branches)
+none_left planned site level due statement set entries branches =
+    ap (λ all. known_at (here site.me (arguing_at level due statement all [])) entries branches) (sym (append-nil set))
+
+arguments_typed : (walked : Walked) (site : Site) (level : Level) (due : List Due) (statement : BlockTree)
+    (set : List Argument) → IsDueOn walked.planned site.me (calm level due) →
+    is_on walked.planned site.me statement ≡ true → (entries : List Entrance) (branches : List Position) (params : List VarId)
+    (arguments : List ExprTree) →
+    let left = arguments_of params arguments in
+    AreTyped walked.planned (known_at (here site.me (arguing_at level due statement set left)) entries branches)
+    (argument_emissions walked site.me site.label site.id params arguments)
+    (known_at (here site.me (arguing_at level due statement (set ++ left) [])) entries branches)
+arguments_typed walked site level due statement set on_due own entries branches params [] =
+    none_left walked.planned site level due statement set entries branches
+arguments_typed walked site level due statement set on_due own entries branches [] (argument ∷ arguments) =
+    none_left walked.planned site level due statement set entries branches
+arguments_typed walked site level due statement set on_due own entries branches (param ∷ params)
+    (argument ∷ arguments) =
+    let planned = walked.planned in
+    let one : Argument = record { param = param; value = argument } in
+    let left = arguments_of params arguments in
+    let first = arguing_at level due statement set (one ∷ left) in
+    let second = arguing_at level due statement (set ++ one ∷ []) left in
+    let start = known_at (here site.me first) entries branches in
+    let middle = known_at (here site.me second) entries branches in
+    let reads = expr_emissions site.me site.label site.id 0 argument in
+    let passes = pass_emissions planned site.me site.label site.id param in
+    let handed = emitted site.me site.label site.id (op.Arg param (nodes_of 0 argument)) ∷ passes in
+    let sent = with_forwards second (forwards_of planned site.me param) in
+    let base_due : IsDueOn planned site.me first =
+    record {
+      trusted = on_due.trusted;
+      first = on_due.first;
+      others = on_due.others;
+      due = on_due.due;
+      on_host = on_due.on_host;
+    } in
+    let P : List Argument → Type 0 = λ all. AreTyped planned middle
+    (argument_emissions walked site.me site.label site.id params arguments)
+    (known_at (here site.me (arguing_at level due statement all [])) entries branches) in
+    typed_on planned start (reads ++ handed) (argument_emissions walked site.me site.label site.id params arguments)
+    middle _
+    (typed_on planned start reads handed
+    (known_at (here site.me (with_reads first (field_reads argument))) entries branches) middle
+    (expr_typed planned site first base_due entries branches [] argument [] (sym (append-nil (field_reads argument)))) (
+      known_at (here site.me sent) entries branches,
+      (
+        with_reads first (field_reads argument),
+        refl,
+        on_due.trusted,
+        (
+          sent,
+          record {
+            value = argument;
+            others = left;
+            is_next = refl;
+            is_value = record { reads = refl; are = refl };
+            forwards = refl;
+            on_host = own;
+            goes = refl;
+          },
+          refl,
+        ),
+      ),
+      pass_typed planned site second refl statement (set ++ one ∷ []) left refl on_due.trusted entries branches param,
+    ))
+    (subst P (append_assoc set (one ∷ []) left)
+    (arguments_typed walked site level due statement (set ++ one ∷ []) on_due own entries branches params arguments))
+
+-- ---- results
+
+kept_typed : (walked : Walked) (site : Site) (level : Level) (heading : Heading) (at : SiteId) (method : MethodId)
+    (arguments : List ExprTree) (into result : Option VarId) →
+    result_of (method_at walked.planned.program method) ≡ result → (others : List Due) →
+    is_on walked.planned site.me (call heading at method arguments into done) ≡ true →
+    AreDueOn walked.planned site.me (run (call heading at method arguments into done) ∷ others) →
+    (entries : List Entrance) (branches : List Position) →
+    AreTyped walked.planned
+    (calm_at site level (kept_due walked.planned (call heading at method arguments into done) ++ others) entries branches)
+    (kept_emissions walked site.me site.label site.id result into) (calm_at site level others entries branches)
+kept_typed walked site level heading at method arguments None None is others own trusted entries branches = rw is refl
+kept_typed walked site level heading at method arguments (Some x) None is others own trusted entries branches = rw is refl
+kept_typed walked site level heading at method arguments None (Some result) is others own trusted entries branches = rw is refl
+kept_typed walked site level heading at method arguments (Some x) (Some result) is others own trusted entries branches =
+    let planned = walked.planned in
+    let statement = call heading at method arguments (Some x) done in
+    let next = with_forwards (calm level others) (forwards_of planned site.me x) in
+    rw is (
+      known_at (here site.me next) entries branches,
+      (
+        calm level (keep statement ∷ others),
+        refl,
+        trusted,
+        (
+          next,
+          (
+            keep statement,
+            others,
+            record { due = refl; on_host = own; forwards = refl },
+            refl,
+            (result, is, refl, refl, refl),
+            refl,
+          ),
+          refl,
+        ),
+      ),
+      send_typed planned site (calm level others) refl refl trusted.1 entries branches x,
+    )
+
+-- what is due behind a call, with or without its result
+kept_either : (planned : PlannedShape) (heading : Heading) (at : SiteId) (method : MethodId) (arguments : List ExprTree)
+    (into : Option VarId) (others : List Due) →
+    let statement = call heading at method arguments into done in
+    (kept_due planned statement ++ others ≡ others) ⊎ (kept_due planned statement ++ others ≡ keep statement ∷ others)
+kept_either planned heading at method arguments into others =
+    by (result_of (method_at planned.program method)) refl into refl
+  where
+    statement : BlockTree
+    statement = call heading at method arguments into done
+
+    by : (result : Option VarId) → result_of (method_at planned.program method) ≡ result → (it : Option VarId) →
+        into ≡ it → (kept_due planned statement ++ others ≡ others)
+        ⊎ (kept_due planned statement ++ others ≡ keep statement ∷ others)
+    by None is None same = inl (rw is refl)
+    by None is (Some x) same = inl (rw is refl)
+    by (Some result) is None same = inl (rw (is, same) refl)
+    by (Some result) is (Some x) same = inr (rw (is, same) refl)
+
+-- ---- calls
+
+pub call_typed : (walked : Walked) (site : Site) (level : Level) (heading : Heading) (at : SiteId) (method : MethodId)
+    (arguments : List ExprTree) (into : Option VarId) (called : MethodTree) →
+    method_at walked.labelled.program method ≡ Some called → method_at walked.planned.program method ≡ Some called →
+    (others : List Due) → is_on walked.planned site.me (call heading at method arguments into done) ≡ true →
+    AreDueOn walked.planned site.me (run (call heading at method arguments into done) ∷ others) →
+    AreDueOn walked.planned site.me (all_due called.body) → site.id ≡ heading.id → (left : List StmtId) →
+    left ≡ due_numbers others → (entries : List Entrance) (branches : List Position) →
+    AreMethodEntries walked.planned entries →
+    Leads walked.planned
+    (calm_at site level (run (call heading at method arguments into done) ∷ others) entries branches)
+    (call_emissions walked (counts_in entries branches) site.me site.label site.id at method arguments into left)
+    (here site.me (calm level others))
+call_typed walked site level heading at method arguments into called is there others own trusted inside_due id_is left
+    left_is entries branches methods =
+    rw is (record {
+      more = behind ∷ [];
+      ahead = [];
+      typed = (
+        known_at (here site.me (calm level due)) more branches,
+        (behind.position, refl, behind_due, behind_covers, refl),
+        (
+          known_at (here site.me (arguing_at level due statement [] all)) more branches,
+          (
+            calm level due,
+            refl,
+            trusted,
+            (
+              arguing_at level due statement [] all,
+              (run statement, others, record { due = refl; on_host = own; forwards = refl }, refl, framed),
+              refl,
+            ),
+          ),
+          typed_on planned (known_at (here site.me (arguing_at level due statement [] all)) more branches)
+              (argument_emissions walked site.me site.label site.id called.params arguments) _
+              (known_at (here site.me (arguing_at level due statement all [])) more branches) _
+              (arguments_typed walked site level due statement [] on_due own more branches called.params arguments) (
+                known_at (here site.me inside) more branches,
+                (arguing_at level due statement all [], refl, trusted, (inside, pushes, refl)),
+                (
+                  known_at nowhere more branches,
+                  (inside, refl, inside_due, ((refl, refl, refl, refl, entered), refl)),
+                  (
+                    calm_at site level (kept_due planned statement ++ others) more branches,
+                    (behind.position, behind.need, at_last entries behind [], inl refl, refl),
+                    ends,
+                  ),
+                ),
+              ),
+        ),
+      );
+    })
+  where
+    planned : PlannedShape
+    planned = walked.planned
+
+    statement : BlockTree
+    statement = call heading at method arguments into done
+
+    due : List Due
+    due = run statement ∷ others
+
+    on_due : IsDueOn walked.planned site.me (calm level (run statement ∷ others))
+    on_due = record { trusted = trusted; first = run statement; others = others; due = refl; on_host = own }
+
+    behind : Entrance
+    behind = record {
+      position = calm level (kept_due walked.planned (call heading at method arguments into done) ++ others);
+      need = need_of walked.planned (site.id ∷ left);
+    }
+
+    need_is : need_due planned due ≡ need_of walked.planned (site.id ∷ left)
+    need_is = ap (λ numbers. need_of walked.planned (heading.id ∷ numbers)) (sym left_is)
+        ∙ ap (λ id. need_of walked.planned (id ∷ left)) (sym id_is)
+
+    covers : Covers planned (need_of walked.planned (site.id ∷ left)) due
+    covers =
+        let P : ℕ → Type 0 = λ need. Covers planned need due in
+        subst P need_is (covers_due planned due)
+
+    behind_due : AreDueOn planned site.me (kept_due planned statement ++ others)
+    behind_due =
+        let P : List Due → Type 0 = λ it. AreDueOn planned site.me it in
+        elim (kept_either planned heading at method arguments into others) [
+          | inl none ↦ subst P (sym none) trusted.1
+          | inr some ↦ subst P (sym some) trusted
+        ]
+
+    behind_covers : Covers planned behind.need (kept_due planned statement ++ others)
+    behind_covers =
+        let P : List Due → Type 0 = λ it. Covers planned behind.need it in
+        elim (kept_either planned heading at method arguments into others) [
+          | inl none ↦ subst P (sym none) covers.1
+          | inr some ↦ subst P (sym some) covers
+        ]
+
+    more : List Entrance
+    more = entries ++ behind ∷ []
+
+    all : List Argument
+    all = arguments_of called.params arguments
+
+    inside : Position
+    inside = record {
+      level = body method;
+      due = all_due called.body;
+      reads = [];
+      calling = entering statement;
+      forwards = [];
+    }
+
+    framed : Frames planned (calm level due) (run statement) at (arguing_at level due statement [] all)
+    framed = (refl, rw there refl)
+
+    pushes : PushesCall planned more (arguing_at level due statement all []) statement all method arguments
+        (length entries) inside
+    pushes =
+        let P : ℕ → Type 0 = λ need. EntryIs more (length entries) behind.position need in
+        record {
+          others = others;
+          due = refl;
+          reads = refl;
+          forwards = refl;
+          all_set = rw there refl;
+          pushed = subst P (sym need_is) (at_last entries behind []);
+          goes = rw there refl;
+        }
+
+    entered : EntryIs more (suc method.0) (calm (body method) (all_due called.body))
+        (need_of_method planned (method_at planned.program method))
+    entered =
+        let P : Option MethodTree → Type 0 = λ it. EntryIs more (suc method.0) (calm (body method) (all_due called.body))
+        (need_of_method planned it) in
+        subst P (sym there) (methods_still planned entries (behind ∷ []) methods method.0 called there)
+
+    kept : AreTyped planned (calm_at site level (kept_due planned statement ++ others) more branches)
+        (kept_emissions walked site.me site.label site.id called.result into) (calm_at site level others more branches)
+    kept = kept_typed walked site level heading at method arguments into called.result (rw there refl) others own trusted
+        more branches
+
+    ends : AreTyped planned (calm_at site level (kept_due planned statement ++ others) more branches)
+        (kept_emissions walked site.me site.label site.id called.result into)
+        (calm_at site level others more (branches ++ []))
+    ends =
+        let P : List Position → Type 0 = λ one. AreTyped planned
+        (calm_at site level (kept_due planned statement ++ others) more branches)
+        (kept_emissions walked site.me site.label site.id called.result into)
+        (calm_at site level others more one) in
+        subst P (sym (append-nil branches)) kept

@@ -1,0 +1,192 @@
+-- What is known at a place of split code, as a typed assembly language knows the types of its registers (Morrisett,
+-- Walker, Crary and Glew): whose token is held there, what is still due under it, and what was read and set on the way.
+use Rattle.std.specs.Prelude.{ℕ, Bool, pos, List, [], ◌∷◌, ◌++◌, map, Option, Some, if◌then◌else◌}
+use Rattle.js_base.specs.declared.ids.HostId.{HostId}
+use Rattle.js_base.specs.declared.ids.FieldId.{FieldId}
+use Rattle.js_base.specs.declared.ids.VarId.{VarId}
+use Rattle.js_base.specs.declared.ids.StmtId.{StmtId}
+use Rattle.js_base.specs.declared.ids.MethodId.{MethodId}
+use Rattle.jif_tree.specs.Trees.{ExprTree, number, local, scalar, element, inverted, negated, binary, declassified}
+use Rattle.jif_tree.specs.Trees.{endorsed, BlockTree, done, set_local, set_field, set_element, branch, loop, call}
+use Rattle.jif_tree.specs.Trees.{give_back}
+use Rattle.jif_tree.specs.LabelRules.{result_of, method_at}
+use Rattle.need_labels.specs.Plan.{statement_host}
+use Rattle.msg_cost.specs.Moves.{PlannedShape, is_same}
+use Rattle.split_rules.specs.Walk.{other_readers}
+
+-- ---- statements one by one
+
+-- the statements of a block, each with nothing behind it
+abbrev pub statements_of : BlockTree → List BlockTree
+statements_of done = []
+statements_of (set_local heading x value rest) = set_local heading x value done ∷ statements_of rest
+statements_of (set_field heading field value rest) = set_field heading field value done ∷ statements_of rest
+statements_of (set_element heading field index value rest) =
+    set_element heading field index value done ∷ statements_of rest
+statements_of (branch heading guard first second rest) =
+    branch heading guard first second done ∷ statements_of rest
+statements_of (loop heading guard body rest) = loop heading guard body done ∷ statements_of rest
+statements_of (call heading site method arguments into rest) =
+    call heading site method arguments into done ∷ statements_of rest
+statements_of (give_back heading value rest) = give_back heading value done ∷ statements_of rest
+
+-- the number of a statement, 0 where there is none
+abbrev pub number_of : BlockTree → StmtId
+number_of done = record { 0 = 0 }
+number_of (set_local heading x value rest) = heading.id
+number_of (set_field heading field value rest) = heading.id
+number_of (set_element heading field index value rest) = heading.id
+number_of (branch heading guard first second rest) = heading.id
+number_of (loop heading guard body rest) = heading.id
+number_of (call heading site method arguments into rest) = heading.id
+number_of (give_back heading value rest) = heading.id
+
+-- whether a statement stands on a host
+abbrev pub is_on : PlannedShape → HostId → BlockTree → Bool
+is_on planned host statement = is_same (statement_host planned.plan (number_of statement)) host
+
+-- the statements in a row on a host with which these begin, and those behind them
+abbrev pub row_of : PlannedShape → HostId → List BlockTree → List BlockTree
+row_of planned host [] = []
+row_of planned host (statement ∷ others) =
+    if is_on planned host statement then statement ∷ row_of planned host others else []
+
+abbrev pub past_row : PlannedShape → HostId → List BlockTree → List BlockTree
+past_row planned host [] = []
+past_row planned host (statement ∷ others) =
+    if is_on planned host statement then past_row planned host others else statement ∷ others
+
+-- ---- what is due
+
+pub data Due : Type 0 where
+  -- a statement
+  run : BlockTree → Due
+  -- the result of a call, which has come back and is still to be kept
+  keep : BlockTree → Due
+
+abbrev pub statement_due : Due → BlockTree
+statement_due (run statement) = statement
+statement_due (keep statement) = statement
+
+-- the numbers of the statements for which something is due
+abbrev pub due_numbers : List Due → List StmtId
+due_numbers due = map (λ item. number_of (statement_due item)) due
+
+-- what is due where a block begins
+abbrev pub all_due : BlockTree → List Due
+all_due block = map run (statements_of block)
+
+-- what is due behind a call, before what follows it
+abbrev pub kept_due : PlannedShape → BlockTree → List Due
+kept_due planned (call heading site method arguments into rest) =
+    kept (result_of (method_at planned.program method)) into
+  where
+    kept : Option VarId → Option VarId → List Due
+    kept (Some result) (Some variable) = keep (call heading site method arguments into rest) ∷ []
+    kept result variable = []
+kept_due planned other = []
+
+-- ---- positions
+
+pub data Level : Type 0 where
+  -- the token with which the body of a method was entered
+  body : MethodId → Level
+  -- the token of the entry of a number, which was pushed for the same call
+  under : ℕ → Level
+
+-- the element of a field that was read, by its index, which is 0 for a plain field
+pub record FieldRead : Type 0 where
+  pub field : FieldId
+  pub index : ExprTree
+
+-- what an expression reads, in the order of its temporaries
+abbrev pub field_reads : ExprTree → List FieldRead
+field_reads (number value) = []
+field_reads (local x) = []
+field_reads (scalar field) = record { field = field; index = number (pos 0) } ∷ []
+field_reads (element field index) = field_reads index ++ record { field = field; index = index } ∷ []
+field_reads (inverted operand) = field_reads operand
+field_reads (negated operand) = field_reads operand
+field_reads (binary operator left right) = field_reads left ++ field_reads right
+field_reads (declassified operand label) = field_reads operand
+field_reads (endorsed operand label) = field_reads operand
+
+-- what a statement reads before it does what it is for; a call reads each argument by itself
+abbrev pub own_reads : BlockTree → List FieldRead
+own_reads done = []
+own_reads (set_local heading x value rest) = field_reads value
+own_reads (set_field heading field value rest) = field_reads value
+own_reads (set_element heading field index value rest) = field_reads index ++ field_reads value
+own_reads (branch heading guard first second rest) = field_reads guard
+own_reads (loop heading guard inner rest) = field_reads guard
+own_reads (call heading site method arguments into rest) = []
+own_reads (give_back heading value rest) = field_reads value
+
+-- a parameter and its argument
+pub record Argument : Type 0 where
+  pub param : VarId
+  pub value : ExprTree
+
+pub data Calling : Type 0 where
+  no_call : Calling
+  -- there is a new frame for a call, with the parameters that are set in it, and those that are still to be set
+  arguing : BlockTree → List Argument → List Argument → Calling
+  -- the entry behind a call is pushed, and what is due is due of the called method
+  entering : BlockTree → Calling
+
+-- the parameters in order, each with its argument
+abbrev pub arguments_of : List VarId → List ExprTree → List Argument
+arguments_of params [] = []
+arguments_of [] (value ∷ values) = []
+arguments_of (param ∷ params) (value ∷ values) =
+    record { param = param; value = value } ∷ arguments_of params values
+
+-- what is read for what comes next, of a statement or of the next argument
+abbrev pub reads_due : Calling → BlockTree → List FieldRead
+reads_due no_call statement = own_reads statement
+reads_due (arguing called set (next ∷ left)) statement = field_reads next.value
+reads_due other statement = []
+
+-- a variable that a host has still to be sent, of the new frame while its parameters are set, otherwise of the frame
+pub record Forward : Type 0 where
+  pub variable : VarId
+  pub host : HostId
+
+pub record Position : Type 0 where
+  pub level : Level
+  pub due : List Due
+  -- what the temporaries hold
+  pub reads : List FieldRead
+  pub calling : Calling
+  pub forwards : List Forward
+
+-- where nothing was read, no call is made, and nothing has to be sent
+abbrev pub calm : Level → List Due → Position
+calm level due = record { level = level; due = due; reads = []; calling = no_call; forwards = [] }
+
+-- An entry: the position where it stands, and a word of those who have to trust whoever enters.
+pub record Entrance : Type 0 where
+  pub position : Position
+  pub need : ℕ
+
+abbrev pub with_reads : Position → List FieldRead → Position
+with_reads here reads = record {
+  level = here.level;
+  due = here.due;
+  reads = reads;
+  calling = here.calling;
+  forwards = here.forwards;
+}
+
+abbrev pub with_forwards : Position → List Forward → Position
+with_forwards here forwards = record {
+  level = here.level;
+  due = here.due;
+  reads = here.reads;
+  calling = here.calling;
+  forwards = forwards;
+}
+
+-- all other hosts with a statement that reads the variable
+abbrev pub forwards_of : PlannedShape → HostId → VarId → List Forward
+forwards_of planned me x = map (λ host. record { variable = x; host = host }) (other_readers planned me x)
