@@ -1,0 +1,2 @@
+mod Splittable
+mod VariableCounts
