@@ -4,7 +4,7 @@ use crate::code_lines::{Split, assert_codes};
 use crate::texts::{EQUAL, TWO};
 use std::test::Fail;
 
-/// Four hosts, of which T may hold all of a transfer of one of Alice's two messages to Bob.
+/// Four hosts, of which T may hold the whole choice of one of Alice's two messages for Bob.
 const FOUR: &str = "principals = ['Alice', 'Bob']\n\
     [[host]]\nname = 'A'\nlabel = '{Alice:; ?:Alice}'\n\
     [[host]]\nname = 'B'\nlabel = '{Bob:; ?:Bob}'\n\
