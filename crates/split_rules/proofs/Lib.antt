@@ -30,3 +30,6 @@ pub mod TypedPrograms
 pub mod TypedPlaces
 pub mod TypedSplit
 pub mod OneNext
+pub mod LabelsKept
+pub mod BackedLabels
+pub mod AllowedTyping

@@ -5,12 +5,13 @@ use Rattle.std.proofs.Common.{refl, ap, sym, subst, arith, append_assoc, length-
 use Rattle.std.proofs.Common.{append-nil, true≢false, slice_index}
 use Rattle.std.proofs.lemmas.Bool.Decides.{eqb_tells}
 use Rattle.std.proofs.lemmas.List.{map-append}
-use Rattle.std.specs.Prelude.{Option, Some, None, ⊤, ◌&&◌, if◌then◌else◌, ◌≤◌, slice_index, bit_or}
+use Rattle.std.specs.Prelude.{Option, Some, None, ⊤, ◌&&◌, if◌then◌else◌, ◌≤◌, ◌<◌, slice_index, bit_or}
 use Rattle.std.specs.Int.{bit_at}
 use Rattle.std.proofs.lemmas.Nat.Bits.{bit_at_or}
 use Rattle.std.specs.List.{AllByRecursion}
 use Rattle.js_base.specs.declared.ids.HostId.{HostId}
 use Rattle.js_base.specs.declared.ids.StmtId.{StmtId}
+use Rattle.label_lattice.specs.declared.label.TheConstants.{READERS}
 use Rattle.jif_tree.specs.Trees.{BlockTree}
 use Rattle.need_labels.specs.Plan.{statement_host}
 use Rattle.msg_cost.specs.declared.spot.Spot.{Spot}
@@ -197,10 +198,10 @@ past_numbers planned host (tree ∷ trees) =
 
 -- a word with more bits covers what the word does
 pub covers_more : (planned : PlannedShape) (need more : ℕ) (due : List Due) → Covers planned need due →
-    ((principal : ℕ) → bit_at need principal ≤ bit_at more principal) → Covers planned more due
+    ((principal : ℕ) → principal < READERS → bit_at need principal ≤ bit_at more principal) → Covers planned more due
 covers_more planned need more [] covers within = tt
 covers_more planned need more (item ∷ others) covers within = (
-  λ principal. let one = covers.0 principal in let two = within principal in omega arith,
+  λ principal below. let one = covers.0 principal below in let two = within principal below in omega arith,
   covers_more planned need more others covers.1 within,
 )
 
@@ -210,9 +211,9 @@ covers_due planned [] = tt
 covers_due planned (item ∷ others) =
     let one = slice_index planned.needs.need (number_of (statement_due item)).0 in
     let rest = need_due planned others in (
-      λ principal. let both = bit_at_or one rest principal in omega arith,
+      λ principal below. let both = bit_at_or one rest principal in omega arith,
       covers_more planned rest (bit_or one rest) others (covers_due planned others)
-          (λ principal. let both = bit_at_or one rest principal in omega arith),
+          (λ principal below. let both = bit_at_or one rest principal in omega arith),
     )
 
 -- ---- lanes

@@ -5,6 +5,7 @@ pub mod Positions
 pub mod Typing
 pub mod Typable
 pub mod TypedCode
+pub mod Allowed
 pub mod SplitCode
 pub mod Flow
 pub mod WalkStart

@@ -1,5 +1,5 @@
 -- What is asked of a program, its hosts and a plan so that their code is sound. A program that was read, resolved and
--- checked, the hosts of a host file, and a plan of allowed places are to keep all of it; that they do is not proved here.
+-- checked, the hosts of a host file, and a plan of allowed places keep all of it, by the laws of the crates above.
 use Rattle.std.specs.Prelude.{◌≡◌, ℕ, ◌<◌, ◌≤◌, List, All, length}
 use Rattle.host_decl.specs.Hosts.{HostsShape, AreHosts}
 use Rattle.jif_tree.specs.Numbering.{CountsFrom, site_numbers}

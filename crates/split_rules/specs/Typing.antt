@@ -1,7 +1,7 @@
 -- What each instruction asks of the position at which it stands, and what it makes of it. The laws speak of one
 -- instruction, of the position behind it, and of the entries that it names.
 use Rattle.std.specs.Prelude.{◌≡◌, ℕ, suc, true, List, [], ◌∷◌, ◌++◌, length, Option, Some, None, slice_get, ◌⊎◌, ◌≤◌}
-use Rattle.std.specs.Prelude.{slice_index}
+use Rattle.std.specs.Prelude.{slice_index, ◌<◌}
 use Rattle.std.specs.Int.{bit_at}
 use Rattle.std.specs.List.{AllByRecursion}
 use Rattle.js_base.specs.declared.ids.HostId.{HostId}
@@ -9,6 +9,7 @@ use Rattle.js_base.specs.declared.ids.FieldId.{FieldId}
 use Rattle.js_base.specs.declared.ids.VarId.{VarId}
 use Rattle.js_base.specs.declared.ids.MethodId.{MethodId}
 use Rattle.js_base.specs.declared.ids.SiteId.{SiteId}
+use Rattle.label_lattice.specs.declared.label.TheConstants.{READERS}
 use Rattle.jif_tree.specs.Trees.{ExprTree, BlockTree, done, set_local, set_field, set_element, branch, loop, call}
 use Rattle.jif_tree.specs.Trees.{give_back, MethodTree}
 use Rattle.jif_tree.specs.LabelRules.{method_at, params_of, result_of}
@@ -43,7 +44,7 @@ AreDueOn planned host due =
 
 -- whoever has to trust the host of a statement for which something is due is in the word
 abbrev pub Covers : PlannedShape → ℕ → List Due → Type 0
-Covers planned need due = AllByRecursion (λ item. (principal : ℕ) →
+Covers planned need due = AllByRecursion (λ item. (principal : ℕ) → principal < READERS →
     bit_at (slice_index planned.needs.need (number_of (statement_due item)).0) principal ≤ bit_at need principal) due
 
 -- those who have to trust whoever enters where this is due, and nobody else

@@ -9,6 +9,7 @@ ghost use Rattle.host_code.specs.Sound.{IsSoundCode};
 ghost use Rattle.split_rules.specs.SplitCode.{split_code};
 ghost use Rattle.split_rules.specs.Splittable.{IsSplittable, HasFew};
 ghost use Rattle.split_rules.specs.Typable.{IsTypable};
+ghost use Rattle.split_rules.specs.Allowed.{IsAllowed};
 ghost use Rattle.split_rules.specs.TypedCode.{Table, IsTypedCode};
 ghost use Rattle.split_rules.specs.Typing.{Follows, Divides};
 ghost use Rattle.split_rules.specs.Positions.{Position, Entrance};
@@ -46,6 +47,13 @@ pub fn split_laws()
         let planned = planned_of labelled needs hosts plan in
         IsSplittable labelled hosts plan → IsTypable planned →
         (table : Table) × IsTypedCode planned (split_code labelled needs hosts plan) table }
+{}
+
+/// Where a program passes the label check, and each statement's host is trusted for what the statement itself needs, hosts
+/// are trusted for all that statements start, as typed code asks.
+pub fn trust_laws()
+    ensures typable { (labelled : Labelled) (needs : NeedsShape) (hosts : HostsShape) (plan : PlanShape) →
+        IsAllowed labelled needs hosts plan → IsTypable (planned_of labelled needs hosts plan) }
 {}
 
 /// The laws of positions leave one outcome: behind an instruction there is one position, and where a branch leads
