@@ -63,7 +63,7 @@ one_argument planned me from (arguing statement set left) x nodes next other fir
       due = from.due;
       reads = [];
       calling = arguing statement (set ++ it ∷ []) others;
-      forwards = forwards_of planned me x;
+      forwards = forwards_of planned me statement x;
     } in
     first.goes ∙ ap (λ it. behind it first.others) same.0 ∙ ap (behind two) same.1 ∙ sym second.goes
 one_argument planned me from calling x nodes next other first second = absurd first
@@ -71,9 +71,10 @@ one_argument planned me from calling x nodes next other first second = absurd fi
 one_sent : (from : Position) (x : VarId) (to : HostId) (next other : Position) → Sends from x to next →
     Sends from x to other → next ≡ other
 one_sent from x to next other first second =
-    let forward : Forward = record { variable = x; host = to } in
-    let same = (same_first from.forwards forward forward first.0 second.0 first.2 second.2).1 in
-    first.3 ∙ ap (with_forwards from) same ∙ sym second.3
+    let one : Forward = record { variable = x; host = to; source = first.0 } in
+    let two : Forward = record { variable = x; host = to; source = second.0 } in
+    let same = (same_first from.forwards one two first.1 second.1 first.3 second.3).1 in
+    first.4 ∙ ap (with_forwards from) same ∙ sym second.4
 
 one_cut : (planned : PlannedShape) (entries : List Entrance) (from : Position) (number : ℕ) (next other : Position) →
     Cuts planned entries from number next →
@@ -102,14 +103,15 @@ pub one_next : (planned : PlannedShape) (entries : List Entrance) (me : HostId) 
 one_next planned entries me from (op.Read field index) next other first second =
     one_read planned me from field index next other first second
 one_next planned entries me from (op.Let x value) next other first second =
-    let same = (same_first from.due first.0 second.0 first.1 second.1 first.2.due second.2.due).1 in
-    first.5 ∙ ap (λ others. record {
+    let same = same_first from.due first.0 second.0 first.1 second.1 first.2.due second.2.due in
+    let behind : Due → List Due → Position = λ item others. record {
       level = from.level;
       due = others;
       reads = [];
       calling = no_call;
-      forwards = forwards_of planned me x;
-    }) same ∙ sym second.5
+      forwards = forwards_of planned me (statement_due item) x;
+    } in
+    first.5 ∙ ap (λ item. behind item first.1) same.0 ∙ ap (behind second.0) same.1 ∙ sym second.5
 one_next planned entries me from (op.Put field index value) next other first second =
     let same = (same_first from.due first.0 second.0 first.1 second.1 first.2.due second.2.due).1 in
     first.5 ∙ ap (calm from.level) same ∙ sym second.5

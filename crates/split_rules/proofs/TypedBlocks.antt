@@ -215,7 +215,7 @@ block_ends walked around level lane entries branches known =
     (here lane.spot.host (calm level [])) nowhere entries branches
     (emitted lane.spot.host around.pc around.owner op.Back ∷ []) (
       known_at nowhere entries branches,
-      (calm level [], refl, tt, (refl, refl)),
+      (calm level [], refl, (tt, tt), (refl, refl)),
       refl,
     ))
 

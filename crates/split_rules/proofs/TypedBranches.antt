@@ -201,7 +201,7 @@ branch_typed walked around level heading guard first second next own others trus
       (join.position, refl, trusted.1, covers, refl),
       (
         known_at (here host (calm (under number) (run statement ∷ []))) joined branches,
-        (calm level due, refl, trusted, (calm (under number) (run statement ∷ []), cuts, refl)),
+        (calm level due, refl, (trusted, tt), (calm (under number) (run statement ∷ []), cuts, refl)),
         reads_then planned site (under number) (run statement ∷ [])
             (due_on planned site (under number) statement [] own (trusted.0, tt)) joined branches guard refl
             (emitted host around.pc heading.id (op.Branch (nodes_of 0 guard) (length branches)) ∷ []) start (
@@ -209,7 +209,7 @@ branch_typed walked around level heading guard first second next own others trus
               (
                 with_reads (calm (under number) (run statement ∷ [])) (field_reads guard),
                 refl,
-                (trusted.0, tt),
+                ((trusted.0, tt), tt),
                 (
                   calm (under number) (all_due first),
                   target,
@@ -362,7 +362,7 @@ loop_typed walked around level heading guard inner next own others trusted inner
               (
                 with_reads (calm level due) (field_reads guard),
                 refl,
-                trusted,
+                (trusted, tt),
                 (
                   again,
                   target,
@@ -382,7 +382,7 @@ loop_typed walked around level heading guard inner next own others trusted inner
                 (
                   again,
                   refl,
-                  due_both planned host (all_due inner) due inner_due trusted,
+                  (due_both planned host (all_due inner) due inner_due trusted, tt),
                   (calm (under number) (all_due inner), cuts, refl),
                 ),
                 refl,

@@ -8,17 +8,17 @@ use Rattle.js_base.specs.declared.ids.SiteId.{SiteId}
 use Rattle.js_base.specs.declared.ids.StmtId.{StmtId}
 use Rattle.js_base.specs.declared.ids.MethodId.{MethodId}
 use Rattle.jif_tree.specs.Trees.{ExprTree, Heading, BlockTree, done, call, MethodTree}
-use Rattle.jif_tree.specs.LabelRules.{method_at, result_of}
+use Rattle.jif_tree.specs.LabelRules.{method_at, result_of, params_of}
 use Rattle.host_code.specs.declared.instruction.Op.TheVariants as op
-use Rattle.msg_cost.specs.Moves.{PlannedShape}
+use Rattle.msg_cost.specs.Moves.{PlannedShape, is_trusted_for}
 use Rattle.split_rules.specs.Expressions.{nodes_of}
 use Rattle.split_rules.specs.Walk.{Walked, emitted, expr_emissions, pass_emissions, argument_emissions, kept_emissions}
 use Rattle.split_rules.specs.Walk.{call_emissions, need_of}
 use Rattle.split_rules.specs.Positions.{is_on, Due, run, keep, all_due, kept_due, Level, body, field_reads, Argument}
 use Rattle.split_rules.specs.Positions.{arguments_of, arguing, entering, Position, calm, with_reads, with_forwards}
-use Rattle.split_rules.specs.Positions.{forwards_of, due_numbers, Entrance}
+use Rattle.split_rules.specs.Positions.{forwards_of, due_numbers, Entrance, number_of}
 use Rattle.split_rules.specs.Typing.{EntryIs, Frames, PushesCall, nowhere, here, AreTyped, AreDueOn, Covers, need_due}
-use Rattle.split_rules.specs.Typing.{need_of_method}
+use Rattle.split_rules.specs.Typing.{need_of_method, IsParam, Gives}
 use Rattle.split_rules.specs.TypedCode.{AreMethodEntries}
 use Rattle.split_rules.proofs.WalkedCalls.{still_there}
 use Rattle.split_rules.proofs.WalkedMoves.{at_last}
@@ -54,18 +54,20 @@ none_left planned site level due statement set entries branches =
 
 arguments_typed : (walked : Walked) (site : Site) (level : Level) (due : List Due) (statement : BlockTree)
     (set : List Argument) → IsDueOn walked.planned site.me (calm level due) →
-    is_on walked.planned site.me statement ≡ true → (entries : List Entrance) (branches : List Position) (params : List VarId)
-    (arguments : List ExprTree) →
+    is_on walked.planned site.me statement ≡ true →
+    is_trusted_for walked.planned site.me (number_of statement) ≡ true → (entries : List Entrance)
+    (branches : List Position) (params : List VarId) (arguments : List ExprTree) →
+    ((x : VarId) → IsParam x params → Gives walked.planned statement x) →
     let left = arguments_of params arguments in
     AreTyped walked.planned (known_at (here site.me (arguing_at level due statement set left)) entries branches)
     (argument_emissions walked site.me site.label site.id params arguments)
     (known_at (here site.me (arguing_at level due statement (set ++ left) [])) entries branches)
-arguments_typed walked site level due statement set on_due own entries branches params [] =
+arguments_typed walked site level due statement set on_due own trusted entries branches params [] among =
     none_left walked.planned site level due statement set entries branches
-arguments_typed walked site level due statement set on_due own entries branches [] (argument ∷ arguments) =
+arguments_typed walked site level due statement set on_due own trusted entries branches [] (argument ∷ arguments) among =
     none_left walked.planned site level due statement set entries branches
-arguments_typed walked site level due statement set on_due own entries branches (param ∷ params)
-    (argument ∷ arguments) =
+arguments_typed walked site level due statement set on_due own trusted entries branches (param ∷ params)
+    (argument ∷ arguments) among =
     let planned = walked.planned in
     let one : Argument = record { param = param; value = argument } in
     let left = arguments_of params arguments in
@@ -76,7 +78,7 @@ arguments_typed walked site level due statement set on_due own entries branches 
     let reads = expr_emissions site.me site.label site.id 0 argument in
     let passes = pass_emissions planned site.me site.label site.id param in
     let handed = emitted site.me site.label site.id (op.Arg param (nodes_of 0 argument)) ∷ passes in
-    let sent = with_forwards second (forwards_of planned site.me param) in
+    let sent = with_forwards second (forwards_of planned site.me statement param) in
     let base_due : IsDueOn planned site.me first =
     record {
       trusted = on_due.trusted;
@@ -112,10 +114,12 @@ arguments_typed walked site level due statement set on_due own entries branches 
           refl,
         ),
       ),
-      pass_typed planned site second refl statement (set ++ one ∷ []) left refl on_due.trusted entries branches param,
+      pass_typed planned site second refl statement (set ++ one ∷ []) left refl on_due.trusted.0 entries branches
+          statement param (record { on_host = own; trusted = trusted; gives = among param (inl refl) }),
     ))
     (subst P (append_assoc set (one ∷ []) left)
-    (arguments_typed walked site level due statement (set ++ one ∷ []) on_due own entries branches params arguments))
+    (arguments_typed walked site level due statement (set ++ one ∷ []) on_due own trusted entries branches params arguments
+    (λ x is. among x (inr is))))
 
 -- ---- results
 
@@ -134,13 +138,13 @@ kept_typed walked site level heading at method arguments None (Some result) is o
 kept_typed walked site level heading at method arguments (Some x) (Some result) is others own trusted entries branches =
     let planned = walked.planned in
     let statement = call heading at method arguments (Some x) done in
-    let next = with_forwards (calm level others) (forwards_of planned site.me x) in
+    let next = with_forwards (calm level others) (forwards_of planned site.me statement x) in
     rw is (
       known_at (here site.me next) entries branches,
       (
         calm level (keep statement ∷ others),
         refl,
-        trusted,
+        (trusted, tt),
         (
           next,
           (
@@ -154,7 +158,8 @@ kept_typed walked site level heading at method arguments (Some x) (Some result) 
           refl,
         ),
       ),
-      send_typed planned site (calm level others) refl refl trusted.1 entries branches x,
+      send_typed planned site (calm level others) refl refl trusted.1 entries branches statement x
+          (record { on_host = own; trusted = trusted.0; gives = inl refl }),
     )
 
 -- what is due behind a call, with or without its result
@@ -203,7 +208,7 @@ call_typed walked site level heading at method arguments into called is there ot
           (
             calm level due,
             refl,
-            trusted,
+            (trusted, tt),
             (
               arguing_at level due statement [] all,
               (run statement, others, record { due = refl; on_host = own; forwards = refl }, refl, framed),
@@ -213,12 +218,13 @@ call_typed walked site level heading at method arguments into called is there ot
           typed_on planned (known_at (here site.me (arguing_at level due statement [] all)) more branches)
               (argument_emissions walked site.me site.label site.id called.params arguments) _
               (known_at (here site.me (arguing_at level due statement all [])) more branches) _
-              (arguments_typed walked site level due statement [] on_due own more branches called.params arguments) (
+              (arguments_typed walked site level due statement [] on_due own trusted.0 more branches called.params arguments
+              params_given) (
                 known_at (here site.me inside) more branches,
-                (arguing_at level due statement all [], refl, trusted, (inside, pushes, refl)),
+                (arguing_at level due statement all [], refl, (trusted, tt), (inside, pushes, refl)),
                 (
                   known_at nowhere more branches,
-                  (inside, refl, inside_due, ((refl, refl, refl, refl, entered), refl)),
+                  (inside, refl, (inside_due, tt), ((refl, refl, refl, refl, entered), refl)),
                   (
                     calm_at site level (kept_due planned statement ++ others) more branches,
                     (behind.position, behind.need, at_last entries behind [], inl refl, refl),
@@ -240,7 +246,12 @@ call_typed walked site level heading at method arguments into called is there ot
     due = run statement ∷ others
 
     on_due : IsDueOn walked.planned site.me (calm level (run statement ∷ others))
-    on_due = record { trusted = trusted; first = run statement; others = others; due = refl; on_host = own }
+    on_due = record { trusted = (trusted, tt); first = run statement; others = others; due = refl; on_host = own }
+
+    params_given : (x : VarId) → IsParam x called.params → Gives walked.planned statement x
+    params_given x is =
+        let P : Option MethodTree → Type 0 = λ it. IsParam x (params_of it) in
+        inr (subst P (sym there) is)
 
     behind : Entrance
     behind = record {

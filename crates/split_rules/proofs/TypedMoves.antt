@@ -291,7 +291,7 @@ leave_from planned around level host (Some back) number tree trees apart entries
     let is_given = subst Q (past_elsewhere planned host tree trees apart) known.0 in
     subst P (sym (row_elsewhere planned host tree trees apart)) (
       gone,
-      (calm (under number) [], refl, tt, (refl, refl)),
+      (calm (under number) [], refl, (tt, tt), (refl, refl)),
       (
         known_at (here back given) entries branches,
         (given, need_due planned (map run (tree ∷ trees)), is_given, inl refl, refl),
@@ -374,7 +374,7 @@ handed walked around level from host tree trees due due_there entries branches a
         (all, refl, due_there, subst P (sym same) (covers_due planned (map run (tree ∷ trees))), refl),
         (
           known_at nowhere more branches,
-          (all, refl, due, ((refl, subst Q same there), refl)),
+          (all, refl, (due, tt), ((refl, subst Q same there), refl)),
           (
             known_at (here host all) more branches,
             (all, named, there, inl refl, refl),
@@ -416,12 +416,12 @@ lent walked around level from host back tree trees due due_back run_there entrie
         (
           calm level (map run all),
           refl,
-          due,
+          (due, tt),
           push_typed planned from back level (map run all) number segment.position both branches cuts due_back,
         ),
         (
           known_at nowhere both branches,
-          (segment.position, refl, due_in_row planned from host all due, ((refl, second), refl)),
+          (segment.position, refl, (due_in_row planned from host all due, tt), ((refl, second), refl)),
           (
             known_at (here host segment.position) both branches,
             (segment.position, segment.need, second_there, inl refl, refl),

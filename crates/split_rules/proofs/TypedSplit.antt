@@ -27,7 +27,7 @@ use Rattle.split_rules.specs.Splittable.{IsSplittable}
 use Rattle.split_rules.specs.Typable.{IsTypableMethod, IsTypable}
 use Rattle.split_rules.specs.Walk.{need_of, methods_emissions, method_entry}
 use Rattle.split_rules.specs.Typing.{AreDueOn, Covers, LeadsTo, EntryIs, Cuts, Pushes, Follows, Enters, Ends, nowhere}
-use Rattle.split_rules.specs.Typing.{here, Known, TypedOp, AreTyped}
+use Rattle.split_rules.specs.Typing.{here, Known, TypedOp, AreTyped, IsTrustedAt}
 use Rattle.split_rules.specs.TypedCode.{IsTypedEntry, Table, IsTypedOp, IsTypedCode}
 use Rattle.split_rules.specs.WalkStart.{front_emissions, known_start}
 use Rattle.split_rules.specs.Flow.{State}
@@ -107,7 +107,7 @@ record InstructionTyped (planned : PlannedShape) (host : HostId) (positions : Li
   from : Position
   after : Known
   stands_at : slice_get positions place ≡ Some from
-  trusted : AreDueOn planned one.host from.due
+  trusted : IsTrustedAt planned one.host from
   typed : TypedOp planned known one.host from one.op after
   next : (position : Position) → after.place ≡ here host position → slice_get positions (suc place) ≡ Some position
   entries : Kept known.entries last.entries
@@ -314,7 +314,7 @@ op_typed : (labelled : Labelled) (hosts : HostsShape) (planned : PlannedShape) (
     (emissions : List Emission) (walk : Walk labelled hosts planned main emissions) (before : List Emission)
     (one : Emitted) (behind : List Emission) → emissions ≡ before ++ instruction one ∷ behind → (me : HostId) →
     one.host ≡ me → (what : Op) → one.op ≡ what →
-    AreDueOn planned me ((table_in walk).at me.0 (length (emitted_on me before))).due
+    IsTrustedAt planned me ((table_in walk).at me.0 (length (emitted_on me before)))
     × IsTypedOp planned (table_in walk) me (length (emitted_on me before))
     (landed me (given labelled planned main emissions) what)
 unfolding table_of
@@ -340,10 +340,10 @@ op_typed labelled hosts planned main emissions walk before one behind is me own 
     next_is next goes_on =
         read_off planned first emissions walk.last walk.typed me (suc place) next (so.next next goes_on)
 
-    trusted : AreDueOn planned me (table.at me.0 place).due
+    trusted : IsTrustedAt planned me (table.at me.0 place)
     trusted =
-        let P : HostId → Type 0 = λ host. AreDueOn planned host so.from.due in
-        let Q : Position → Type 0 = λ position. AreDueOn planned me position.due in
+        let P : HostId → Type 0 = λ host. IsTrustedAt planned host so.from in
+        let Q : Position → Type 0 = λ position. IsTrustedAt planned me position in
         subst Q (sym here_is) (subst P own so.trusted)
 
     typed : TypedOp planned so.known me so.from what so.after
@@ -384,7 +384,7 @@ op_typed labelled hosts planned main emissions walk before one behind is me own 
 
 abbrev IsTypedThere : PlannedShape → Table → HostId → ℕ → Op → Type 0
 IsTypedThere planned table me place what =
-    AreDueOn planned me (table.at me.0 place).due × IsTypedOp planned table me place what
+    IsTrustedAt planned me (table.at me.0 place) × IsTypedOp planned table me place what
 
 instructions_typed : (labelled : Labelled) (hosts : HostsShape) (planned : PlannedShape) (main : MethodTree)
     (emissions : List Emission) (walk : Walk labelled hosts planned main emissions) (me : HostId) (place : ℕ)

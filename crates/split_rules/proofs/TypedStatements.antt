@@ -25,7 +25,7 @@ abbrev pub due_on : (planned : PlannedShape) (site : Site) (level : Level) (stat
     is_on planned site.me statement ≡ true → AreDueOn planned site.me (run statement ∷ others) →
     IsDueOn planned site.me (calm level (run statement ∷ others))
 due_on planned site level statement others on_host trusted =
-    record { trusted = trusted; first = run statement; others = others; due = refl; on_host = on_host }
+    record { trusted = (trusted, tt); first = run statement; others = others; due = refl; on_host = on_host }
 
 -- a statement reads its expression, and what it does then
 abbrev pub behind_reads : Site → Level → List Due → List FieldRead → List Entrance → List Position → Known
@@ -62,14 +62,14 @@ pub set_local_typed : (planned : PlannedShape) (site : Site) (level : Level) (he
 set_local_typed planned site level heading x value others on_host trusted entries branches =
     let statement = set_local heading x value done in
     let due = run statement ∷ others in
-    let next = with_forwards (calm level others) (forwards_of planned site.me x) in
+    let next = with_forwards (calm level others) (forwards_of planned site.me statement x) in
     reads_then planned site level due (due_on planned site level statement others on_host trusted) entries branches value
     refl _ _ (
       known_at (here site.me next) entries branches,
       (
         with_reads (calm level due) (field_reads value),
         refl,
-        trusted,
+        (trusted, tt),
         (
           next,
           (
@@ -83,7 +83,8 @@ set_local_typed planned site level heading x value others on_host trusted entrie
           refl,
         ),
       ),
-      send_typed planned site (calm level others) refl refl trusted.1 entries branches x,
+      send_typed planned site (calm level others) refl refl trusted.1 entries branches statement x
+          (record { on_host = on_host; trusted = trusted.0; gives = refl }),
     )
 
 pub set_field_typed : (planned : PlannedShape) (site : Site) (level : Level) (heading : Heading) (field : FieldId)
@@ -103,7 +104,7 @@ set_field_typed planned site level heading field value others on_host trusted en
       (
         with_reads (calm level due) (field_reads value),
         refl,
-        trusted,
+        (trusted, tt),
         (
           calm level others,
           (
@@ -150,7 +151,7 @@ set_element_typed planned site level heading field index value others on_host tr
       (
         all,
         refl,
-        trusted,
+        (trusted, tt),
         (
           calm level others,
           (
@@ -185,7 +186,7 @@ give_back_typed planned site method heading value result is on_host trusted entr
       (
         with_reads (calm (body method) due) (field_reads value),
         refl,
-        trusted,
+        (trusted, tt),
         (
           calm (body method) [],
           (

@@ -12,14 +12,15 @@ use Rattle.jif_tree.specs.Trees.{ExprTree, number, local, scalar, element, inver
 use Rattle.jif_tree.specs.Trees.{endorsed, BlockTree}
 use Rattle.host_code.specs.declared.code_expr.Node.{Node}
 use Rattle.host_code.specs.declared.instruction.Op.TheVariants as op
-use Rattle.msg_cost.specs.Moves.{PlannedShape}
+use Rattle.msg_cost.specs.Moves.{PlannedShape, is_trusted_for}
 use Rattle.split_rules.specs.Emissions.{Emission}
 use Rattle.split_rules.specs.Expressions.{Reading, reads_in, nodes_of, readings_of, first_element}
 use Rattle.split_rules.specs.Walk.{emitted, read_emissions, expr_emissions, send_emissions, pass_emissions}
 use Rattle.split_rules.specs.Walk.{other_readers}
 use Rattle.split_rules.specs.Positions.{Due, statement_due, is_on, FieldRead, field_reads, Argument, reads_due, arguing}
 use Rattle.split_rules.specs.Positions.{no_call, Forward, Position, with_reads, with_forwards, forwards_of, Entrance}
-use Rattle.split_rules.specs.Typing.{AreDueOn, here, AreTyped}
+use Rattle.split_rules.specs.Positions.{number_of}
+use Rattle.split_rules.specs.Typing.{AreDueOn, IsTrustedAt, AreSourced, Gives, here, AreTyped}
 use Rattle.split_rules.proofs.TypedStates.{known_at, typed_on}
 
 pub reads_many : (expr : ExprTree) → length (field_reads expr) ≡ reads_in expr
@@ -35,7 +36,7 @@ reads_many (endorsed operand label) = reads_many operand
 
 -- a statement on a host is due first, and the host is trusted for all that is due
 pub record IsDueOn (planned : PlannedShape) (me : HostId) (base : Position) : Type 0 where
-  pub trusted : AreDueOn planned me base.due
+  pub trusted : IsTrustedAt planned me base
   pub first : Due
   pub others : List Due
   pub due : base.due ≡ first ∷ others
@@ -159,62 +160,84 @@ expr_typed planned site base on_due entries branches before (endorsed operand la
 
 -- ---- forwards
 
-abbrev forwards_to : VarId → List HostId → List Forward
-forwards_to x hosts = map (λ host. record { variable = x; host = host }) hosts
+abbrev forwards_to : BlockTree → VarId → List HostId → List Forward
+forwards_to source x hosts = map (λ host. record { variable = x; host = host; source = source }) hosts
+
+-- a statement on this host, which is trusted for it, gives the variable its value
+pub record IsGivenOn (planned : PlannedShape) (me : HostId) (source : BlockTree) (x : VarId) : Type 0 where
+  pub on_host : is_on planned me source ≡ true
+  pub trusted : is_trusted_for planned me (number_of source) ≡ true
+  pub gives : Gives planned source x
+
+are_sourced : (planned : PlannedShape) (me : HostId) (source : BlockTree) (x : VarId) →
+    IsGivenOn planned me source x → (hosts : List HostId) → AreSourced planned me (forwards_to source x hosts)
+are_sourced planned me source x given [] = tt
+are_sourced planned me source x given (host ∷ hosts) =
+    ((given.on_host, given.trusted, given.gives), are_sourced planned me source x given hosts)
 
 sends_to : (planned : PlannedShape) (site : Site) (base : Position) → base.reads ≡ [] → base.calling ≡ no_call →
-    AreDueOn planned site.me base.due → (entries : List Entrance) (branches : List Position) (x : VarId) (hosts : List HostId) →
-    AreTyped planned (known_at (here site.me (with_forwards base (forwards_to x hosts))) entries branches)
+    AreDueOn planned site.me base.due → (entries : List Entrance) (branches : List Position) (source : BlockTree)
+    (x : VarId) → IsGivenOn planned site.me source x → (hosts : List HostId) →
+    AreTyped planned (known_at (here site.me (with_forwards base (forwards_to source x hosts))) entries branches)
     (map (λ host. emitted site.me site.label site.id (op.Send x host)) hosts)
     (known_at (here site.me (with_forwards base [])) entries branches)
-sends_to planned site base none no_calls trusted entries branches x [] = refl
-sends_to planned site base none no_calls trusted entries branches x (host ∷ hosts) = (
-  known_at (here site.me (with_forwards base (forwards_to x hosts))) entries branches,
+sends_to planned site base none no_calls trusted entries branches source x given [] = refl
+sends_to planned site base none no_calls trusted entries branches source x given (host ∷ hosts) = (
+  known_at (here site.me (with_forwards base (forwards_to source x hosts))) entries branches,
   (
-    with_forwards base (forwards_to x (host ∷ hosts)),
+    with_forwards base (forwards_to source x (host ∷ hosts)),
     refl,
-    trusted,
-    (with_forwards base (forwards_to x hosts), (no_calls, (forwards_to x hosts, none, refl, refl)), refl),
-  ),
-  sends_to planned site base none no_calls trusted entries branches x hosts,
-)
-
-pub send_typed : (planned : PlannedShape) (site : Site) (base : Position) → base.reads ≡ [] →
-    base.calling ≡ no_call → AreDueOn planned site.me base.due → (entries : List Entrance) (branches : List Position) (x : VarId) →
-    AreTyped planned (known_at (here site.me (with_forwards base (forwards_of planned site.me x))) entries branches)
-    (send_emissions planned site.me site.label site.id x)
-    (known_at (here site.me (with_forwards base [])) entries branches)
-send_typed planned site base none no_calls trusted entries branches x =
-    sends_to planned site base none no_calls trusted entries branches x (other_readers planned site.me x)
-
-passes_to : (planned : PlannedShape) (site : Site) (base : Position) → base.reads ≡ [] → (statement : BlockTree)
-    (set left : List Argument) → base.calling ≡ arguing statement set left →
-    AreDueOn planned site.me base.due → (entries : List Entrance) (branches : List Position) (x : VarId)
-    (hosts : List HostId) →
-    AreTyped planned (known_at (here site.me (with_forwards base (forwards_to x hosts))) entries branches)
-    (map (λ host. emitted site.me site.label site.id (op.Pass x host)) hosts)
-    (known_at (here site.me (with_forwards base [])) entries branches)
-passes_to planned site base none statement set left is trusted entries branches x [] = refl
-passes_to planned site base none statement set left is trusted entries branches x (host ∷ hosts) = (
-  known_at (here site.me (with_forwards base (forwards_to x hosts))) entries branches,
-  (
-    with_forwards base (forwards_to x (host ∷ hosts)),
-    refl,
-    trusted,
+    (trusted, are_sourced planned site.me source x given (host ∷ hosts)),
     (
-      with_forwards base (forwards_to x hosts),
-      (statement, set, left, is, (forwards_to x hosts, none, refl, refl)),
+      with_forwards base (forwards_to source x hosts),
+      (no_calls, (source, forwards_to source x hosts, none, refl, refl)),
       refl,
     ),
   ),
-  passes_to planned site base none statement set left is trusted entries branches x hosts,
+  sends_to planned site base none no_calls trusted entries branches source x given hosts,
+)
+
+pub send_typed : (planned : PlannedShape) (site : Site) (base : Position) → base.reads ≡ [] →
+    base.calling ≡ no_call → AreDueOn planned site.me base.due → (entries : List Entrance) (branches : List Position)
+    (source : BlockTree) (x : VarId) → IsGivenOn planned site.me source x →
+    AreTyped planned
+    (known_at (here site.me (with_forwards base (forwards_of planned site.me source x))) entries branches)
+    (send_emissions planned site.me site.label site.id x)
+    (known_at (here site.me (with_forwards base [])) entries branches)
+send_typed planned site base none no_calls trusted entries branches source x given =
+    sends_to planned site base none no_calls trusted entries branches source x given (other_readers planned site.me x)
+
+passes_to : (planned : PlannedShape) (site : Site) (base : Position) → base.reads ≡ [] → (statement : BlockTree)
+    (set left : List Argument) → base.calling ≡ arguing statement set left → AreDueOn planned site.me base.due →
+    (entries : List Entrance) (branches : List Position) (source : BlockTree) (x : VarId) →
+    IsGivenOn planned site.me source x → (hosts : List HostId) →
+    AreTyped planned (known_at (here site.me (with_forwards base (forwards_to source x hosts))) entries branches)
+    (map (λ host. emitted site.me site.label site.id (op.Pass x host)) hosts)
+    (known_at (here site.me (with_forwards base [])) entries branches)
+passes_to planned site base none statement set left is trusted entries branches source x given [] = refl
+passes_to planned site base none statement set left is trusted entries branches source x given (host ∷ hosts) = (
+  known_at (here site.me (with_forwards base (forwards_to source x hosts))) entries branches,
+  (
+    with_forwards base (forwards_to source x (host ∷ hosts)),
+    refl,
+    (trusted, are_sourced planned site.me source x given (host ∷ hosts)),
+    (
+      with_forwards base (forwards_to source x hosts),
+      (statement, set, left, is, (source, forwards_to source x hosts, none, refl, refl)),
+      refl,
+    ),
+  ),
+  passes_to planned site base none statement set left is trusted entries branches source x given hosts,
 )
 
 pub pass_typed : (planned : PlannedShape) (site : Site) (base : Position) → base.reads ≡ [] → (statement : BlockTree)
-    (set left : List Argument) → base.calling ≡ arguing statement set left →
-    AreDueOn planned site.me base.due → (entries : List Entrance) (branches : List Position) (x : VarId) →
-    AreTyped planned (known_at (here site.me (with_forwards base (forwards_of planned site.me x))) entries branches)
+    (set left : List Argument) → base.calling ≡ arguing statement set left → AreDueOn planned site.me base.due →
+    (entries : List Entrance) (branches : List Position) (source : BlockTree) (x : VarId) →
+    IsGivenOn planned site.me source x →
+    AreTyped planned
+    (known_at (here site.me (with_forwards base (forwards_of planned site.me source x))) entries branches)
     (pass_emissions planned site.me site.label site.id x)
     (known_at (here site.me (with_forwards base [])) entries branches)
-pass_typed planned site base none statement set left is trusted entries branches x =
-    passes_to planned site base none statement set left is trusted entries branches x (other_readers planned site.me x)
+pass_typed planned site base none statement set left is trusted entries branches source x given =
+    passes_to planned site base none statement set left is trusted entries branches source x given
+    (other_readers planned site.me x)

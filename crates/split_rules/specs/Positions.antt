@@ -147,10 +147,12 @@ reads_due no_call statement = own_reads statement
 reads_due (arguing called set (next ∷ left)) statement = field_reads next.value
 reads_due other statement = []
 
--- a variable that a host has still to be sent, of the new frame while its parameters are set, otherwise of the frame
+-- A variable that a host has still to be sent, of the new frame while its parameters are set, otherwise of the frame,
+-- and the statement that gave it its value.
 pub record Forward : Type 0 where
   pub variable : VarId
   pub host : HostId
+  pub source : BlockTree
 
 pub record Position : Type 0 where
   pub level : Level
@@ -187,6 +189,7 @@ with_forwards here forwards = record {
   forwards = forwards;
 }
 
--- all other hosts with a statement that reads the variable
-abbrev pub forwards_of : PlannedShape → HostId → VarId → List Forward
-forwards_of planned me x = map (λ host. record { variable = x; host = host }) (other_readers planned me x)
+-- the variable for all other hosts with a statement that reads it
+abbrev pub forwards_of : PlannedShape → HostId → BlockTree → VarId → List Forward
+forwards_of planned me source x =
+    map (λ host. record { variable = x; host = host; source = source }) (other_readers planned me x)

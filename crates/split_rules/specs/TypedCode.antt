@@ -11,7 +11,7 @@ use Rattle.host_code.specs.Code.{CodeShape, instruction_at}
 use Rattle.msg_cost.specs.Moves.{PlannedShape}
 use Rattle.split_rules.specs.Walk.{need_of}
 use Rattle.split_rules.specs.Positions.{all_due, body, Position, calm, Entrance}
-use Rattle.split_rules.specs.Typing.{EntryIs, AreDueOn, Covers, need_of_method, IsCalm, Follows, Divides, Ends}
+use Rattle.split_rules.specs.Typing.{EntryIs, AreDueOn, IsTrustedAt, Covers, need_of_method, IsCalm, Follows, Divides, Ends}
 
 -- each method has an entry, where its whole body is due
 abbrev pub AreMethodEntries : PlannedShape → List Entrance → Type 0
@@ -46,7 +46,7 @@ pub record IsTypedEntry (planned : PlannedShape) (table : Table) (number : ℕ) 
   pub covers : Covers planned entry.need position.due
 
 -- The entry that ends the program has nothing due. All others are typed, and so are all instructions, whose hosts are
--- trusted for all that is due there.
+-- trusted for all that is due there and has to be sent.
 pub record IsTypedCode (planned : PlannedShape) (code : CodeShape) (table : Table) : Type 0 where
   pub many : length table.entries ≡ length code.entries
   pub halts : EntryIs table.entries 0 (calm (body planned.program.main) [])
@@ -56,4 +56,4 @@ pub record IsTypedCode (planned : PlannedShape) (code : CodeShape) (table : Tabl
       IsTypedEntry planned table (suc number) entry
   pub instructions : (host : HostId) (place : ℕ) (there : Instr) →
       instruction_at code host place ≡ Some there →
-      AreDueOn planned host (table.at host.0 place).due × IsTypedOp planned table host place there.op
+      IsTrustedAt planned host (table.at host.0 place) × IsTypedOp planned table host place there.op

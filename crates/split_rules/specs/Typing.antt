@@ -42,6 +42,27 @@ abbrev pub AreDueOn : PlannedShape → HostId → List Due → Type 0
 AreDueOn planned host due =
     AllByRecursion (λ item. is_trusted_for planned host (number_of (statement_due item)) ≡ true) due
 
+abbrev pub IsParam : VarId → List VarId → Type 0
+IsParam x [] = ⊥
+IsParam x (param ∷ params) = (param ≡ x) ⊎ IsParam x params
+
+-- a statement gives a variable its value: an assignment, or a call whose parameter or kept result it is
+abbrev pub Gives : PlannedShape → BlockTree → VarId → Type 0
+Gives planned (set_local heading variable value rest) x = variable ≡ x
+Gives planned (call heading site method arguments into rest) x =
+    (into ≡ Some x) ⊎ IsParam x (params_of (method_at planned.program method))
+Gives planned other x = ⊥
+
+-- what has to be sent was given its value by a statement on this host, which is trusted for the statement
+abbrev pub AreSourced : PlannedShape → HostId → List Forward → Type 0
+AreSourced planned me forwards = AllByRecursion (λ forward. (is_on planned me forward.source ≡ true)
+    × (is_trusted_for planned me (number_of forward.source) ≡ true)
+    × Gives planned forward.source forward.variable) forwards
+
+-- a host is trusted for what is due and for what has to be sent
+abbrev pub IsTrustedAt : PlannedShape → HostId → Position → Type 0
+IsTrustedAt planned me here = AreDueOn planned me here.due × AreSourced planned me here.forwards
+
 -- whoever has to trust the host of a statement for which something is due is in the word
 abbrev pub Covers : PlannedShape → ℕ → List Due → Type 0
 Covers planned need due = AllByRecursion (λ item. (principal : ℕ) → principal < READERS →
@@ -177,7 +198,7 @@ pub record SetsArgument (planned : PlannedShape) (me : HostId) (here : Position)
     due = here.due;
     reads = [];
     calling = arguing statement (set ++ record { param = x; value = value } ∷ []) others;
-    forwards = forwards_of planned me x;
+    forwards = forwards_of planned me statement x;
   }
 
 abbrev pub Argues : PlannedShape → HostId → Position → Calling → VarId → List Node → Position → Type 0
@@ -188,7 +209,8 @@ Argues planned me here other x nodes next = ⊥
 -- the next forward that is left is sent
 abbrev pub Sends : Position → VarId → HostId → Position → Type 0
 Sends here x to next =
-    (left : List Forward) × (here.reads ≡ []) × (here.forwards ≡ record { variable = x; host = to } ∷ left)
+    (source : BlockTree) × (left : List Forward) × (here.reads ≡ [])
+    × (here.forwards ≡ record { variable = x; host = to; source = source } ∷ left)
     × (next ≡ with_forwards here left)
 
 -- An instruction of a host at a position behind which the host goes on at the next.
@@ -201,7 +223,7 @@ Follows planned entries me here (op.Let x value) next =
       due = others;
       reads = [];
       calling = no_call;
-      forwards = forwards_of planned me x;
+      forwards = forwards_of planned me (statement_due first) x;
     })
 Follows planned entries me here (op.Put field index value) next =
     (first : Due) × (others : List Due) × BeginsWith planned me here first others × (here.calling ≡ no_call)
@@ -287,12 +309,12 @@ TypedOp planned known me from op.Back after = Ends planned known.entries from op
 TypedOp planned known me from other after =
     (next : Position) × Follows planned known.entries me from other next × (after ≡ with_place known (here me next))
 
--- The host of an instruction is trusted for all that is due there. An entry has a calm position from where it is named
+-- The host of an instruction is trusted for all that is due there, and for what has to be sent. An entry has a calm position from where it is named
 -- on, and stands where that is the position. Its host is trusted for all that is due there, and its need has all who
 -- have to be asked for that.
 abbrev pub Types : PlannedShape → Known → Emission → Known → Type 0
 Types planned known (instruction one) after =
-    (from : Position) × (known.place ≡ here one.host from) × AreDueOn planned one.host from.due
+    (from : Position) × (known.place ≡ here one.host from) × IsTrustedAt planned one.host from
     × TypedOp planned known one.host from one.op after
 Types planned known (entry named) after =
     (position : Position) × IsCalm position × AreDueOn planned named.host position.due
