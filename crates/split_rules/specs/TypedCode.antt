@@ -11,7 +11,8 @@ use Rattle.host_code.specs.Code.{CodeShape, instruction_at}
 use Rattle.msg_cost.specs.Moves.{PlannedShape}
 use Rattle.split_rules.specs.Walk.{need_of}
 use Rattle.split_rules.specs.Positions.{all_due, body, Position, calm, Entrance}
-use Rattle.split_rules.specs.Typing.{EntryIs, AreDueOn, IsTrustedAt, Covers, need_of_method, IsCalm, Follows, Divides, Ends}
+use Rattle.split_rules.specs.Typing.{EntryIs, AreDueOn, IsTrustedAt, Covers, need_of_method, IsCalm}
+use Rattle.split_rules.specs.Typing.{Follows, Divides, Ends}
 
 -- each method has an entry, where its whole body is due
 abbrev pub AreMethodEntries : PlannedShape → List Entrance → Type 0
@@ -30,7 +31,8 @@ abbrev pub IsTypedOp : PlannedShape → Table → HostId → ℕ → Op → Type
 IsTypedOp planned table me place (op.Branch guard target) =
     Divides planned me (table.at me.0 place) guard (table.at me.0 (suc place)) (table.at me.0 target)
 IsTypedOp planned table me place (op.Go there on) = Ends planned table.entries (table.at me.0 place) (op.Go there on)
-IsTypedOp planned table me place (op.Call there on) = Ends planned table.entries (table.at me.0 place) (op.Call there on)
+IsTypedOp planned table me place (op.Call there on) =
+    Ends planned table.entries (table.at me.0 place) (op.Call there on)
 IsTypedOp planned table me place op.Back = Ends planned table.entries (table.at me.0 place) op.Back
 IsTypedOp planned table me place other =
     Follows planned table.entries me (table.at me.0 place) other (table.at me.0 (suc place))

@@ -135,7 +135,8 @@ body_of (Some method) = method.body
 -- ---- pushes
 
 -- What is due is cut in two: what is behind stays with the entry that is pushed.
-pub record Cuts (planned : PlannedShape) (entries : List Entrance) (here : Position) (number : ℕ) (next : Position) : Type 0 where
+pub record Cuts (planned : PlannedShape) (entries : List Entrance) (here : Position) (number : ℕ) (next : Position) :
+    Type 0 where
   pub is_calm : IsCalm here
   pub behind : List Due
   pub pushed : EntryIs entries number (calm here.level behind) (need_due planned behind)
@@ -295,8 +296,8 @@ with_place known place = record { place = place; entries = known.entries; branch
 -- An instruction of a host at a position.
 abbrev pub TypedOp : PlannedShape → Known → HostId → Position → Op → Known → Type 0
 TypedOp planned known me from (op.Branch guard number) after =
-    (next : Position) × (target : Position) × (number ≡ length known.branches) × Divides planned me from guard next target
-    × (after ≡ record {
+    (next : Position) × (target : Position) × (number ≡ length known.branches)
+    × Divides planned me from guard next target × (after ≡ record {
       place = here me next;
       entries = known.entries;
       branches = known.branches ++ target ∷ [];
@@ -305,13 +306,14 @@ TypedOp planned known me from (op.Go there on) after =
     Ends planned known.entries from (op.Go there on) × (after ≡ with_place known nowhere)
 TypedOp planned known me from (op.Call there on) after =
     Ends planned known.entries from (op.Call there on) × (after ≡ with_place known nowhere)
-TypedOp planned known me from op.Back after = Ends planned known.entries from op.Back × (after ≡ with_place known nowhere)
+TypedOp planned known me from op.Back after =
+    Ends planned known.entries from op.Back × (after ≡ with_place known nowhere)
 TypedOp planned known me from other after =
     (next : Position) × Follows planned known.entries me from other next × (after ≡ with_place known (here me next))
 
--- The host of an instruction is trusted for all that is due there, and for what has to be sent. An entry has a calm position from where it is named
--- on, and stands where that is the position. Its host is trusted for all that is due there, and its need has all who
--- have to be asked for that.
+-- The host of an instruction is trusted for all that is due there, and for what has to be sent. An entry has a calm
+-- position from where it is named on, and stands where that is the position. Its host is trusted for all that is due
+-- there, and its need has all who have to be asked for that.
 abbrev pub Types : PlannedShape → Known → Emission → Known → Type 0
 Types planned known (instruction one) after =
     (from : Position) × (known.place ≡ here one.host from) × IsTrustedAt planned one.host from

@@ -29,9 +29,9 @@ ghost use Rattle.split_rules.specs.Worked.{sent_local, lent_past, lent_back, loo
 ghost use Rattle.split_rules.specs.Worked.{field_id, var_id, host_id};
 
 /// Whatever the plan, the code of a split program is sound, and its entries stand and its branches lead where they
-/// should, on their own hosts. Where each statement's host is trusted for it, the code is also typed: at each
-/// instruction it is known under whose token a thread runs there and what is still due, and the instruction does what is
-/// due next.
+/// should, on their own hosts. Where hosts are trusted for what their statements start, the code is also typed: at each
+/// instruction it is known under whose token a thread runs there and what is still due, and the instruction does what
+/// is due next.
 pub fn split_laws()
     ensures sound { (labelled : Labelled) (needs : NeedsShape) (hosts : HostsShape) (plan : PlanShape) →
         IsSplittable labelled hosts plan →
@@ -49,8 +49,8 @@ pub fn split_laws()
         (table : Table) × IsTypedCode planned (split_code labelled needs hosts plan) table }
 {}
 
-/// Where a program passes the label check, and each statement's host is trusted for what the statement itself needs, hosts
-/// are trusted for all that statements start, as typed code asks.
+/// Where a program passes the label check, and each statement's host is trusted for what the statement itself needs,
+/// hosts are trusted for all that statements start, as typed code asks.
 pub fn trust_laws()
     ensures typable { (labelled : Labelled) (needs : NeedsShape) (hosts : HostsShape) (plan : PlanShape) →
         IsAllowed labelled needs hosts plan → IsTypable (planned_of labelled needs hosts plan) }

@@ -174,8 +174,8 @@ const RESULTS: [Split; 2] = [
             A 20 back\n",
     },
     // Each argument is read, kept and passed on before the next. `p` is read on A and B and `q` on A and C, and B makes
-    // the call, so `p` is passed to A, and `q` to A and C. The result goes into `x`, which is sent to C. Nothing is sent to
-    // A, where `x` is only set.
+    // the call, so `p` is passed to A, and `q` to A and C. The result goes into `x`, which is sent to C. Nothing is
+    // sent to A, where `x` is only set.
     Split {
         shows: "arguments and a result that several hosts read",
         program: "int{} f;\n\

@@ -10,8 +10,8 @@ const HERS: &str = "principals = ['Alice']\n\
     [[host]]\nname = 'A'\nlabel = '{Alice:}'\n";
 
 const LOOPS: [Split; 2] = [
-    // The guard is read and tested before the entry of the loop is pushed, so that no entry is left where the loop ends.
-    // A is not trusted for `n`, and is lent its statement in each round.
+    // The guard is read and tested before the entry of the loop is pushed, so that no entry is left where the loop
+    // ends. A is not trusted for `n`, and is lent its statement in each round.
     Split {
         shows: "a segment in the midst of a body is lent",
         program: "int{?:Alice} n;\n\

@@ -109,7 +109,8 @@ const SPLITS: [Split; 4] = [
             B 5 statement 2 {Bob: Bob}\n\
             B 6 statement 1 {?: Alice}\n",
     },
-    // The return point asks for the trust of D's own statement, and no longer for Dave's, which the head alone asks for.
+    // The return point asks for the trust of D's own statement, and no longer for Dave's, which the head alone asks
+    // for.
     Split {
         shows: "a return point on the next host",
         program: ON_OTHERS,
