@@ -11,7 +11,7 @@ use Rattle.host_code.specs.Code.{CodeShape}
 use Rattle.host_core.specs.Host.{HostModel, HostShape, state_of}
 use Rattle.net_world.specs.World.{given, present, host_before, hosts_before}
 use Rattle.net_world.specs.Fits.{states_of}
-use Rattle.net_world.specs.Steps.{HaveMade, HasMade, ChangesOnly}
+use Rattle.net_world.specs.Steps.{HaveMade, HasMade, HasCounted, ChangesOnly}
 
 -- ---- one more host
 
@@ -157,6 +157,25 @@ pub made_set : (hosts : List (Option HostModel)) (host : HostId) (before after :
 made_set hosts host before after n there step made =
     present_set (λ number. HasMade (n + 1)) hosts host after (λ number. more_made n (present hosts number) (made number))
     (step (subst (λ o. IfSome (given o) (HasMade n)) there (made host)))
+
+at_set : {X : Type 0} (xs : List X) (i : ℕ) (x y : X) → slice_get xs i ≡ Some y →
+    slice_get (slice_set xs i x) i ≡ Some x
+at_set [] i x y there = absurd (cc)
+at_set (first ∷ xs) zero x y there = refl
+at_set (first ∷ xs) (suc i) x y there = at_set xs i x y there
+
+pub counted_set : (hosts : List (Option HostModel)) (host : HostId) (before after : HostModel) →
+    slice_get hosts host.0 ≡ Some (Some before) →
+    (after.calls ≡ before.calls + 1) × (after.stopped ≡ before.stopped) →
+    HasCounted host hosts (slice_set hosts host.0 (Some after))
+counted_set hosts host before after there counted = record {
+  before = before;
+  after = after;
+  was = ap given there;
+  is = ap given (at_set hosts host.0 (Some after) (Some before) there);
+  calls = counted.0;
+  stopped = counted.1;
+}
 
 -- a host whose state is the same leaves all states the same
 pub states_same : (hosts : List (Option HostModel)) (i : ℕ) (before after : HostModel) →

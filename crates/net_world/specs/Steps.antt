@@ -1,5 +1,5 @@
 -- What the parts of an event find and leave: the tests before it, the step of its host, and its answer.
-use Rattle.std.specs.Prelude.{◌≡◌, ◌≢◌, ◌⊎◌, ◌≤◌, ℕ, false, List, length, Option, Some}
+use Rattle.std.specs.Prelude.{◌≡◌, ◌≢◌, ◌⊎◌, ◌≤◌, ◌+◌, ℕ, false, List, length, Option, Some}
 use Rattle.std.specs.Prelude.{None, IsSome, IsTrue}
 use Rattle.std.specs.Prelude.{IsSomeAnd, IfSome, slice_get, slice_set, Result, Ok, Err}
 use Rattle.js_base.specs.declared.ids.HostId.{HostId}
@@ -58,6 +58,15 @@ pub record HasMoved (kind : HostShape → Outcome → Type 0) (old new : List (O
   pub there : slice_get old host.0 ≡ Some (Some before)
   pub made : kind (state_of before) (record { state = state_of after; sent = sent })
   pub leaves : slice_set old host.0 (Some after) ≡ new
+
+-- the host of the number has answered one more call, and answers on as before
+pub record HasCounted (number : HostId) (old new : List (Option HostModel)) : Type 0 where
+  pub before : HostModel
+  pub after : HostModel
+  pub was : present old number ≡ Some before
+  pub is : present new number ≡ Some after
+  pub calls : after.calls ≡ before.calls + 1
+  pub stopped : after.stopped ≡ before.stopped
 
 -- no host but that of the number has changed
 pub record ChangesOnly (number : HostId) (old new : List (Option HostModel)) : Type 0 where

@@ -11,7 +11,7 @@ ghost use Rattle.net_world.specs.Flying.{HasRoom, pair_place};
 ghost use Rattle.net_world.specs.Told.{ToldHasRoom};
 ghost use Rattle.net_world.specs.World.{without_flight, after_sending, after_telling, letter_of};
 ghost use Rattle.net_world.specs.Fits.{HostsFit, world_of, host_at};
-ghost use Rattle.net_world.specs.Steps.{IsReady, IsActive, HaveMade, HasStepped, ChangesOnly, HasStopped};
+ghost use Rattle.net_world.specs.Steps.{IsReady, IsActive, HaveMade, HasStepped, HasCounted, ChangesOnly, HasStopped};
 
 use crate::moves::{deliver_at, turn_at};
 use crate::world::World;
@@ -81,6 +81,7 @@ impl World {
         ensures err { OnErr result (world_of self.new ≡ world_of self.old) }
         ensures stopped { OnErr result (HasStopped self.new to) }
         ensures made { OnOk result ((n : ℕ) → HaveMade n self.old.hosts → HaveMade (n + 1) self.new.hosts) }
+        ensures counted { OnOk result (HasCounted to self.old.hosts self.new.hosts) }
         ensures others { ChangesOnly to self.old.hosts self.new.hosts }
         ensures fits { HostsFit code.now self.new.hosts }
         ensures sent { OnOk result (SentFits code.now to sent.new) }
@@ -104,6 +105,7 @@ impl World {
         ensures err { OnErr result (world_of self.new ≡ world_of self.old) }
         ensures stopped { OnErr result (HasStopped self.new host) }
         ensures made { OnOk result ((n : ℕ) → HaveMade n self.old.hosts → HaveMade (n + 1) self.new.hosts) }
+        ensures counted { OnOk result (HasCounted host self.old.hosts self.new.hosts) }
         ensures others { ChangesOnly host self.old.hosts self.new.hosts }
         ensures fits { HostsFit code.now self.new.hosts }
         ensures sent { OnOk result (SentFits code.now host sent.new) }

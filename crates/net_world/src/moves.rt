@@ -9,7 +9,7 @@ ghost use Rattle.host_core.specs.Taking.{IsTaking};
 ghost use Rattle.host_core.specs.Turn.{IsTurn, label_of_turn};
 ghost use Rattle.net_world.specs.World.{present};
 ghost use Rattle.net_world.specs.Fits.{HostsFit, PresentFits, states_of};
-ghost use Rattle.net_world.specs.Steps.{IsReady, IsActive, HaveMade, HasMade, HasMoved, ChangesOnly};
+ghost use Rattle.net_world.specs.Steps.{IsReady, IsActive, HaveMade, HasMade, HasMoved, HasCounted, ChangesOnly};
 
 use host_code::{Code, Message};
 use host_core::{Host, HostError, Sent};
@@ -45,6 +45,8 @@ fn deliver_to(
     ensures err { OnErr result (state_of host.new ≡ state_of host.old) }
     ensures stopped { OnErr result (IsStopped host.new) }
     ensures made { OnOk result ((n : ℕ) → HasMade n host.old → HasMade (n + 1) host.new) }
+    ensures counted { OnOk result
+        ((host.new.calls ≡ host.old.calls + 1) × (host.new.stopped ≡ host.old.stopped)) }
     ensures fits { PresentFits code.now me host.new }
     ensures sent { OnOk result (SentFits code.now me sent.new) }
 {
@@ -64,6 +66,8 @@ fn turn_of(host: &mut Host, code: &Code, me: HostId, sent: &mut Sent) -> Result<
     ensures err { OnErr result (state_of host.new ≡ state_of host.old) }
     ensures stopped { OnErr result (IsStopped host.new) }
     ensures made { OnOk result ((n : ℕ) → HasMade n host.old → HasMade (n + 1) host.new) }
+    ensures counted { OnOk result
+        ((host.new.calls ≡ host.old.calls + 1) × (host.new.stopped ≡ host.old.stopped)) }
     ensures fits { PresentFits code.now me host.new }
     ensures sent { OnOk result (SentFits code.now me sent.new) }
 {
@@ -92,6 +96,7 @@ pub fn deliver_at(
     ensures err { OnErr result (states_of hosts.new.items ≡ states_of hosts.old.items) }
     ensures stopped { OnErr result (IsSomeAnd (present hosts.new.items to) IsStopped) }
     ensures made { OnOk result ((n : ℕ) → HaveMade n hosts.old.items → HaveMade (n + 1) hosts.new.items) }
+    ensures counted { OnOk result (HasCounted to hosts.old.items hosts.new.items) }
     ensures others { ChangesOnly to hosts.old.items hosts.new.items }
     ensures fits { HostsFit code.now hosts.new.items }
     ensures sent { OnOk result (SentFits code.now to sent.new) }
@@ -116,6 +121,7 @@ pub fn turn_at(
     ensures err { OnErr result (states_of hosts.new.items ≡ states_of hosts.old.items) }
     ensures stopped { OnErr result (IsSomeAnd (present hosts.new.items me) IsStopped) }
     ensures made { OnOk result ((n : ℕ) → HaveMade n hosts.old.items → HaveMade (n + 1) hosts.new.items) }
+    ensures counted { OnOk result (HasCounted me hosts.old.items hosts.new.items) }
     ensures others { ChangesOnly me hosts.old.items hosts.new.items }
     ensures fits { HostsFit code.now hosts.new.items }
     ensures sent { OnOk result (SentFits code.now me sent.new) }

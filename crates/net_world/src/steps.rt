@@ -13,7 +13,8 @@ ghost use Rattle.net_world.specs.Told.{ToldHasRoom};
 ghost use Rattle.net_world.specs.World.{IsStep, refusal_of, mover, not_bad, not_there, host_busy, no_such_token};
 ghost use Rattle.net_world.specs.World.{misbehaves, without_flight, after_sending, after_telling, letter_of};
 ghost use Rattle.net_world.specs.Fits.{WorldFits, HostsFit, HasOwnToken, world_of, host_at};
-ghost use Rattle.net_world.specs.Steps.{IsReady, IsActive, HaveMade, IsStuck, HasStepped, ChangesOnly, HasNoMemory};
+ghost use Rattle.net_world.specs.Steps.{IsReady, IsActive, HaveMade, IsStuck, HasStepped, HasCounted, ChangesOnly};
+ghost use Rattle.net_world.specs.Steps.{HasNoMemory};
 ghost use Rattle.net_world.specs.Steps.{IsAnswer, HasStopped, IsTakeable, IsActable, IsRefused, CannotRest};
 
 use crate::moves::{deliver_at, label_of, turn_at};
@@ -53,6 +54,8 @@ impl World {
         ensures out_of_memory { IsErrOf result EventError.OutOfMemory → HasNoMemory self.old event.now self.new }
         // No host but that of the event changes.
         ensures others { ChangesOnly (mover event.now) self.old.hosts self.new.hosts }
+        // An event is one more call of its host, which answers on as before.
+        ensures counted { OnOk result (HasCounted (mover event.now) self.old.hosts self.new.hosts) }
         // An event is one more step, and stops no host.
         ensures made { OnOk result ((n : ℕ) → HaveMade n self.old.hosts → HaveMade (n + 1) self.new.hosts) }
         ensures fits { WorldFits code.now self.new }
@@ -69,6 +72,7 @@ impl World {
         requires fits { WorldFits code.now self.old }
         ensures answer { IsAnswer code.now self.old (Event.Take from to place) result self.new }
         ensures made { OnOk result ((n : ℕ) → HaveMade n self.old.hosts → HaveMade (n + 1) self.new.hosts) }
+        ensures counted { OnOk result (HasCounted to self.old.hosts self.new.hosts) }
         ensures others { ChangesOnly to self.old.hosts self.new.hosts }
         ensures fits { WorldFits code.now self.new }
     {
@@ -91,6 +95,7 @@ impl World {
         requires fits { WorldFits code.now self.old }
         ensures answer { IsAnswer code.now self.old (Event.Turn host) result self.new }
         ensures made { OnOk result ((n : ℕ) → HaveMade n self.old.hosts → HaveMade (n + 1) self.new.hosts) }
+        ensures counted { OnOk result (HasCounted host self.old.hosts self.new.hosts) }
         ensures others { ChangesOnly host self.old.hosts self.new.hosts }
         ensures fits { WorldFits code.now self.new }
     {
@@ -118,6 +123,7 @@ impl World {
         requires own { HasOwnToken (world_of self.old) (Event.Act from to made) }
         ensures answer { IsAnswer code.now self.old (Event.Act from to made) result self.new }
         ensures made { OnOk result ((n : ℕ) → HaveMade n self.old.hosts → HaveMade (n + 1) self.new.hosts) }
+        ensures counted { OnOk result (HasCounted to self.old.hosts self.new.hosts) }
         ensures others { ChangesOnly to self.old.hosts self.new.hosts }
         ensures fits { WorldFits code.now self.new }
     {

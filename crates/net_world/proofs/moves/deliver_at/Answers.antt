@@ -3,7 +3,8 @@ use Rattle.std.proofs.lemmas.Result.{on_err_weaker, on_ok_weaker}
 use Rattle.host_core.specs.Host.{IsStopped}
 use Rattle.net_world.specs.Fits.{PresentFits}
 use Rattle.net_world.specs.Steps.{IsReady}
-use Rattle.net_world.proofs.Present.{at_get_or, get_lt, states_same, present_set, has_set, made_set, changes_only}
+use Rattle.net_world.proofs.Present.{at_get_or, get_lt, states_same, present_set, has_set, made_set, counted_set}
+use Rattle.net_world.proofs.Present.{changes_only}
 use Rattle.net_world.proofs.moves.deliver_at.Goals as goal
 
 pub returns-clause-err : goal.returns-clause-err
@@ -28,6 +29,16 @@ returns-clause-made c =
     (get_lt c.args.hosts.now.items c.args.to.0 IsReady c.requires.ready) (sym c.index_mut.ensures.value ∙ c.in-Some.is))
     (made n) all)
     c.deliver_to.ensures.made
+
+pub returns-clause-counted : goal.returns-clause-counted
+returns-clause-counted c =
+    on_ok_weaker c.deliver_to.result
+    (λ counted. counted_set c.args.hosts.now.items c.args.to c.in-Some.host c.deliver_to.new.host
+    (at_get_or c.args.hosts.now.items c.args.to.0 _ c.in-Some.host
+    (get_lt c.args.hosts.now.items c.args.to.0 IsReady c.requires.ready)
+    (sym c.index_mut.ensures.value ∙ c.in-Some.is))
+    counted)
+    c.deliver_to.ensures.counted
 
 pub returns-clause-others : goal.returns-clause-others
 returns-clause-others c = changes_only c.args.hosts.now.items c.args.to (Some c.deliver_to.new.host)
