@@ -1,13 +1,15 @@
 -- How a script ends at the event that is refused.
-use Rattle.std.proofs.Common.{◌≡◌, ◌≢◌, ℕ, suc, ◌<◌, List, [], ◌∷◌, length, get_or, drop, Err, refl, sym, ◌∙◌, ap}
-use Rattle.std.proofs.Common.{drop-cons}
+use Rattle.std.proofs.Common.{◌≡◌, ◌≢◌, ℕ, suc, ◌<◌, List, [], ◌∷◌, length, get_or, drop, take, Err, refl, sym, ◌∙◌, ap}
+use Rattle.std.proofs.Common.{◌+◌, Ok, drop-cons}
+use Rattle.std.proofs.lemmas.List.Sums.{fold_more}
+use Rattle.std.proofs.lemmas.Option.{slice_get-get_or}
 use Rattle.std.specs.List.{fold}
 use Rattle.net_world.specs.declared.first.events.Event.{Event}
 use Rattle.net_world.specs.declared.first.world.EventError.{EventError}
 use Rattle.net_world.specs.declared.first.world.EventError.TheVariants as answer
 use Rattle.net_world.specs.first.Code.{CodeShape}
 use Rattle.net_world.specs.first.World.{World, Refusal, not_there, host_busy, next, at_line, after_event, run}
-use Rattle.net_world.specs.first.EventSteps.{RunFails}
+use Rattle.net_world.specs.first.EventSteps.{RunFails, StopsAt}
 
 -- a refusal is kept to the end
 refused_stays : (code : CodeShape) (refused : ℕ × Refusal) (events : List (ℕ × Event)) →
@@ -35,3 +37,21 @@ run_fails code first w events i d answer.NotThere lt rest there busy going =
 run_fails code first w events i d answer.HostBusy lt rest there busy going =
     sym rest ∙ refused_first code w events i d host_busy lt (busy refl)
 run_fails code first w events i d answer.Stopped lt rest there busy going = going refl
+
+-- one more event that happens
+pub run_more : (code : CodeShape) (first w after : World) (events : List (ℕ × Event)) (i : ℕ) (d : ℕ × Event) →
+    i < length events → run code first (take i events) ≡ Ok w → next code w (get_or events i d).1 ≡ Ok after →
+    run code first (take (i + 1) events) ≡ Ok after
+run_more code first w after events i d lt ran happens =
+    fold_more (after_event code) (Ok first) events i d lt
+    ∙ (ap (λ r. after_event code r (get_or events i d)) ran ∙ ap (at_line (get_or events i d).0) happens)
+
+pub stops_at : (code : CodeShape) (first w after : World) (events : List (ℕ × Event)) (i : ℕ) (d : ℕ × Event) →
+    i < length events → run code first (take i events) ≡ Ok w → after ≡ w →
+    StopsAt code first events (get_or events i d).0 after
+stops_at code first w after events i d lt ran same = record {
+  place = i;
+  event = (get_or events i d).1;
+  there = slice_get-get_or events i d lt;
+  ran = ran ∙ ap Ok (sym same);
+}

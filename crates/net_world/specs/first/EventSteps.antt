@@ -1,5 +1,5 @@
 -- What the parts of an event find and leave: the test before it, the step of its host, and its answer.
-use Rattle.std.specs.Prelude.{◌≡◌, ◌≢◌, ◌≤◌, ◌⊎◌, ℕ, ⊤, false, List, All, length, Option}
+use Rattle.std.specs.Prelude.{◌≡◌, ◌≢◌, ◌≤◌, ◌⊎◌, ℕ, ⊤, false, List, All, length, take, Option}
 use Rattle.std.specs.Prelude.{Some, None, IsSome, IsSomeAnd}
 use Rattle.std.specs.Prelude.{IfSome, IsOk, slice_get, slice_set, Result, Ok, Err}
 use Rattle.js_base.specs.declared.ids.HostId.{HostId}
@@ -88,3 +88,10 @@ RunFails code w events line answer.NotThere = run code w events ≡ Err (line, n
 RunFails code w events line answer.HostBusy = run code w events ≡ Err (line, host_busy)
 RunFails code w events line answer.OutOfMemory = ⊤
 RunFails code w events line answer.Stopped = ⊥
+
+-- the event of this line did not happen, and those before it leave this world
+pub record StopsAt (code : CodeShape) (w : World) (events : List (ℕ × Event)) (line : ℕ) (after : World) : Type 0 where
+  pub place : ℕ
+  pub event : Event
+  pub there : slice_get events place ≡ Some (line, event)
+  pub ran : run code w (take place events) ≡ Ok after

@@ -6,7 +6,7 @@ ghost use Rattle.std.specs.Prelude.{IsSomeAnd, IsErrOf, slice_get, map, option_c
 ghost use Rattle.std.specs.List.{list_any};
 ghost use Rattle.net_world.specs.first.World.{World, world_of, next, not_there, host_busy, run, queue, IsStuck};
 ghost use Rattle.net_world.specs.first.World.{world_at_start, has_halted, AreNumbered, numbers_below, states_of, mover};
-ghost use Rattle.net_world.specs.first.EventSteps.{RunFails, HaveMade, IsReady, IsActive, IsTakeable};
+ghost use Rattle.net_world.specs.first.EventSteps.{RunFails, StopsAt, HaveMade, IsReady, IsActive, IsTakeable};
 ghost use Rattle.net_world.specs.first.EventSteps.{CannotTake, CannotTurn};
 ghost use Rattle.net_world.specs.first.EventSteps.{HasStepped, ChangesOnly, IsAnswer, HasNoMemory};
 ghost use Rattle.net_world.specs.first.HostTable.{host_at_start, after_taking, after_turn, IsStopped};
@@ -102,6 +102,9 @@ impl World {
         requires fresh { HaveMade 0 self.old.hosts }
         ensures ok { OnOk result (run code.now (world_of self.old) events.now ≡ Ok (world_of self.new)) }
         ensures err { IfErr result (λ error. RunFails code.now (world_of self.old) events.now error.0 error.1) }
+        // The events before the line of the error have happened.
+        ensures before { IfErr result (λ error.
+            StopsAt code.now (world_of self.old) events.now error.0 (world_of self.new)) }
     {
         for (line, event) in events {
             if let Err(error) = self.apply(code, event) {
