@@ -12,3 +12,4 @@ pub mod WalkStart
 pub mod Splittable
 pub mod Settled
 pub mod Worked
+pub mod Asking
