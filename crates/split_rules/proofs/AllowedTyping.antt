@@ -45,16 +45,16 @@ use Rattle.split_rules.proofs.WalkedCalls.{nothing_there}
 
 -- ---- lists
 
-by_recursion : {X : Type 0} (P : X → Type 0) (xs : List X) → All P xs → AllByRecursion P xs
+pub by_recursion : {X : Type 0} (P : X → Type 0) (xs : List X) → All P xs → AllByRecursion P xs
 by_recursion P [] all = tt
 by_recursion P (x ∷ xs) all = (All-head P x xs all, by_recursion P xs (All-tail P x xs all))
 
-each_there : {X : Type 0} (P : X → Type 0) (xs : List X) →
+pub each_there : {X : Type 0} (P : X → Type 0) (xs : List X) →
     ((place : ℕ) (x : X) → slice_get xs place ≡ Some x → P x) → AllByRecursion P xs
 each_there P [] each = tt
 each_there P (x ∷ xs) each = (each 0 x refl, each_there P xs (λ place y there. each (suc place) y there))
 
-zipped_there : {X Y : Type 0} (P : X → Y → Type 0) (xs : List X) (ys : List Y) → AllZip P xs ys → (place : ℕ) (x : X) →
+pub zipped_there : {X Y : Type 0} (P : X → Y → Type 0) (xs : List X) (ys : List Y) → AllZip P xs ys → (place : ℕ) (x : X) →
     slice_get xs place ≡ Some x → (y : Y) × (slice_get ys place ≡ Some y) × P x y
 zipped_there P [] [] all place x there = absurd (nothing_there place x there)
 zipped_there P [] (y ∷ ys) all place x there = absurd (nothing_there place x there)
@@ -75,7 +75,7 @@ constraints_met principals statement [] met = tt
 constraints_met principals statement (constraint ∷ constraints) met =
     (met.0, constraints_met principals statement constraints met.1)
 
-met_from : (principals : Declared) (statements : List StatementLabels) →
+pub met_from : (principals : Declared) (statements : List StatementLabels) →
     AllByRecursion (Meets principals) (obligations_of statements) → AreMet principals statements
 met_from principals [] met = tt
 met_from principals (one ∷ statements) met =
@@ -89,7 +89,7 @@ met_from principals (one ∷ statements) met =
 -- ---- trust
 
 -- a host that is trusted for a statement is trusted for one that needs no more
-trusted_less : (planned : PlannedShape) (host : HostId) (statement other : StmtId) →
+pub trusted_less : (planned : PlannedShape) (host : HostId) (statement other : StmtId) →
     is_trusted_for planned host statement ≡ true →
     ((p : ℕ) → p < READERS → bit_at (slice_index planned.needs.need other.0) p ≡ 1 →
     bit_at (slice_index planned.needs.need statement.0) p ≡ 1) →
@@ -127,7 +127,7 @@ at_host labelled needs hosts plan id host stands trusted = by (slice_get hosts.h
     by None is holds = absurd holds
     by (Some row) is holds = rw (stands, is) ((test_decides row.label (slice_index needs.need id.0)).1 holds)
 
-use_needed : (labelled : Labelled) (needs : NeedsShape) (hosts : HostsShape) (plan : PlanShape) →
+pub use_needed : (labelled : Labelled) (needs : NeedsShape) (hosts : HostsShape) (plan : PlanShape) →
     IsAllowed labelled needs hosts plan → (place : ℕ) (one : StatementUse) →
     slice_get (statement_uses hosts.principals labelled) place ≡ Some one →
     IsNeeded (planned_of labelled needs hosts plan) hosts.principals one
@@ -354,7 +354,7 @@ block_trusted planned principals labelled setting same bodies (give_back heading
 
 -- ---- methods
 
-methods_stay : (principals : Declared) (program : ProgramTree) (labels : VariableLabels) (methods : List MethodTree) →
+pub methods_stay : (principals : Declared) (program : ProgramTree) (labels : VariableLabels) (methods : List MethodTree) →
     Stay labels (labels_after_methods principals program labels methods)
 methods_stay principals program labels [] = stay_same labels
 methods_stay principals program labels (method ∷ methods) =

@@ -297,7 +297,7 @@ below_both begin p [] two first second = second
 below_both begin p (label ∷ one) two first second = (first.0, below_both begin p one two first.1 second)
 
 -- a variable of the program is among those that have labels or none
-variable_found : (labelled : Labelled) (method : MethodId) (x : VarId) (labels : VariableLabels) →
+pub variable_found : (labelled : Labelled) (method : MethodId) (x : VarId) (labels : VariableLabels) →
     length labels ≡ length labelled.program.vars → HasVariable labelled.program method x →
     (found : Option Label) × (slice_get labels x.0 ≡ Some found)
 variable_found labelled method x labels many there =

@@ -33,3 +33,9 @@ pub mod OneNext
 pub mod LabelsKept
 pub mod BackedLabels
 pub mod AllowedTyping
+pub mod ToldEmissions
+pub mod ToldStatements
+pub mod ToldMoves
+pub mod ToldWalks
+pub mod SeenLabels
+pub mod SeenBlocks

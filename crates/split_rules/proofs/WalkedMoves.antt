@@ -198,7 +198,7 @@ pub entered_here : (planned : PlannedShape) (from host : HostId) (statements : L
     entered planned from host statements ≡ on host
 entered_here planned from host statements same = rw (eq-eqb from.0 host.0 same) refl
 
-entered_there : (planned : PlannedShape) (from host : HostId) (statements : List StmtId) → from.0 ≢ host.0 →
+pub entered_there : (planned : PlannedShape) (from host : HostId) (statements : List StmtId) → from.0 ≢ host.0 →
     (entered planned from host statements ≡ on host)
     ⊎ (entered planned from host statements ≡ lent_spot host (return_host planned from host statements))
 entered_there planned from host statements apart = by (is_trusted_for_all planned host statements) refl
@@ -209,7 +209,7 @@ entered_there planned from host statements apart = by (is_trusted_for_all planne
     by true is = inl (rw (ne_eqb from.0 host.0 apart, is) refl)
     by false is = inr (rw (ne_eqb from.0 host.0 apart, is) refl)
 
-one_of_two : {X : Type 0} (P : X → Type 0) (b : Bool) (x y : X) → P x → P y → P (cond b x y)
+pub one_of_two : {X : Type 0} (P : X → Type 0) (b : Bool) (x y : X) → P x → P y → P (cond b x y)
 one_of_two P true x y one two = one
 one_of_two P false x y one two = two
 

@@ -6,6 +6,7 @@ pub mod Typing
 pub mod Typable
 pub mod TypedCode
 pub mod Allowed
+pub mod Held
 pub mod SplitCode
 pub mod Flow
 pub mod WalkStart
