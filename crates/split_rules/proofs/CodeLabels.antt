@@ -1,7 +1,7 @@
 -- Each label of an emission, a field or a variable has its place among the labels of the code.
 use Rattle.std.proofs.Common.{◌≡◌, ◌∙◌, ℕ, zero, suc, ◌+◌, ◌<◌, ◌⊎◌, inl, inr, Bool, true, false, List, [], ◌∷◌, ◌++◌}
-use Rattle.std.proofs.Common.{length, Some, slice_get, if◌then◌else◌, ◌||◌, refl, ap, subst}
-use Rattle.std.proofs.Common.{arith, eq-eqb}
+use Rattle.std.proofs.Common.{length, Some, slice_get, if◌then◌else◌, ◌&&◌, ◌||◌, nat_eq, refl, ap, sym, subst}
+use Rattle.std.proofs.Common.{arith, eq-eqb, eqb-true}
 use Rattle.std.specs.List.{list_any, flat_map}
 use Rattle.std.proofs.Math.Bool.{or-true}
 use Rattle.std.proofs.lemmas.List.Folds.{list_any-append}
@@ -112,3 +112,49 @@ pub label_there : (label : Label) (needed : List Label) → IsLabelIn label need
 label_there label needed among =
     let so = place_within 0 label (with_labels [] needed) (is_there label [] needed among) in
     omega arith
+
+-- ---- what is at a place
+
+both_hold : (first second : Bool) → (first && second) ≡ true → (first ≡ true) × (second ≡ true)
+both_hold true second both = (refl, both)
+both_hold false second both = absurd (cc)
+
+words_same : (one other : List ℕ) → same_words one other ≡ true → one ≡ other
+words_same [] [] same = refl
+words_same [] (word ∷ words) same = absurd (cc)
+words_same (word ∷ words) [] same = absurd (cc)
+words_same (word ∷ words) (other ∷ others) same =
+    let both = both_hold (nat_eq word other) (same_words words others) same in
+    ap (λ first. first ∷ words) (eqb-true word other both.0) ∙ ap (λ more. other ∷ more) (words_same words others both.1)
+
+labels_same : (one other : Label) → same_label one other ≡ true → one ≡ other
+labels_same one other same =
+    let both = both_hold (same_words one.rows other.rows) (nat_eq one.trust other.trust) same in
+    let label : List ℕ → ℕ → Label = λ rows trust. record { rows = rows; trust = trust } in
+    ap (λ rows. label rows one.trust) (words_same one.rows other.rows both.0)
+    ∙ ap (λ trust. label other.rows trust) (eqb-true one.trust other.trust both.1)
+
+place_counted : (number : ℕ) (label : Label) (labels : List Label) → list_any (same_label label) labels ≡ true →
+    (place : ℕ) × (label_place number label labels ≡ number + place) × (slice_get labels place ≡ Some label)
+place_counted number label [] found = absurd (cc)
+place_counted number label (first ∷ labels) found =
+    by (same_label label first) refl found (place_counted (suc number) label labels)
+  where
+    by : (b : Bool) → same_label label first ≡ b → (b || list_any (same_label label) labels) ≡ true →
+        (list_any (same_label label) labels ≡ true → (place : ℕ)
+        × (label_place (suc number) label labels ≡ suc number + place) × (slice_get labels place ≡ Some label)) →
+        (place : ℕ) × ((if b then number else label_place (suc number) label labels) ≡ number + place)
+        × (slice_get (first ∷ labels) place ≡ Some label)
+    by true same any later = (0, omega arith, ap Some (sym (labels_same label first same)))
+    by false same any later =
+        let so = later any in
+        let sum = so.1 in
+        (suc so.0, omega arith, so.2)
+
+-- a label that is needed is at its place
+pub label_placed : (label : Label) (needed : List Label) → IsLabelIn label needed →
+    slice_get (with_labels [] needed) (label_place 0 label (with_labels [] needed)) ≡ Some label
+label_placed label needed among =
+    let so = place_counted 0 label (with_labels [] needed) (is_there label [] needed among) in
+    let place : label_place 0 label (with_labels [] needed) ≡ so.0 = let sum = so.1 in omega arith in
+    ap (slice_get (with_labels [] needed)) place ∙ so.2

@@ -39,3 +39,4 @@ pub mod ToldMoves
 pub mod ToldWalks
 pub mod SeenLabels
 pub mod SeenBlocks
+pub mod SeenPrograms
