@@ -40,3 +40,4 @@ pub mod ToldWalks
 pub mod SeenLabels
 pub mod SeenBlocks
 pub mod SeenPrograms
+pub mod ToldCode

@@ -75,7 +75,7 @@ part_of_all P make (first ∷ xs) all zero x is =
 part_of_all P make (first ∷ xs) all (suc place) x is =
     part_of_all P make xs (all_second P (make first) (flat_map make xs) all) place x is
 
-zip_at : {X Y : Type 0} (xs : List X) (ys : List Y) (place : ℕ) (x : X) (y : Y) → slice_get xs place ≡ Some x →
+pub zip_at : {X Y : Type 0} (xs : List X) (ys : List Y) (place : ℕ) (x : X) (y : Y) → slice_get xs place ≡ Some x →
     slice_get ys place ≡ Some y → slice_get (zip xs ys) place ≡ Some (x, y)
 zip_at [] ys place x y is also = absurd (nothing_there place x is)
 zip_at (first ∷ xs) [] place x y is also = absurd (nothing_there place y also)

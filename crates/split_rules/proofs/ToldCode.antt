@@ -1,0 +1,476 @@
+-- What a walk asks of other hosts and tells them, at the instructions of the code that is read off it.
+use Rattle.std.proofs.Common.{◌≡◌, ◌≢◌, ◌∙◌, ℕ, zero, suc, ◌+◌, ◌<◌, List, [], ◌∷◌, ◌++◌, map, length, refl, ap, sym}
+use Rattle.std.proofs.Common.{subst, arith, append_assoc, append-nil, inl, inr}
+use Rattle.std.specs.Prelude.{Option, Some, None, slice_get, unwrap_or, IsSomeAnd}
+use Rattle.std.specs.List.{AllByRecursion, flat_map, range_with_len, zip}
+use Rattle.std.specs.Option.{option_map}
+use Rattle.std.proofs.lemmas.List.{length-map}
+use Rattle.std.proofs.lemmas.List.FromFn.{length-range_with_len}
+use Rattle.std.proofs.lemmas.Option.{slice_get-map, slice_get_within, slice_get_cases}
+use Rattle.js_base.specs.declared.ids.HostId.{HostId}
+use Rattle.js_base.specs.declared.ids.FieldId.{FieldId}
+use Rattle.js_base.specs.declared.ids.VarId.{VarId}
+use Rattle.js_base.specs.declared.ids.EntryId.{EntryId}
+use Rattle.label_lattice.specs.declared.label.Label.{Label}
+use Rattle.label_lattice.specs.Label.{ConfFlows, IntegFlows, IsTrustedBy}
+use Rattle.host_decl.specs.Hosts.{HostShape, HostsShape}
+use Rattle.jif_tree.specs.Trees.{FieldTree, VarTree, MethodTree}
+use Rattle.jif_tree.specs.LabelRules.{method_at}
+use Rattle.host_code.specs.declared.code.Entry.{Entry}
+use Rattle.host_code.specs.declared.instruction.Instr.{Instr}
+use Rattle.host_code.specs.declared.instruction.Op.{Op}
+use Rattle.host_code.specs.declared.instruction.Op.TheVariants as op
+use Rattle.host_code.specs.Code.{CodeShape, CodeHostShape, CodeFieldShape, CodeVariableShape, instruction_at, field_at}
+use Rattle.host_code.specs.Code.{variable_at}
+use Rattle.entry_check.specs.declared.ask.Ask.TheVariants as ask
+use Rattle.entry_check.specs.Checks.{May, MaySee, MayAffect, IsTrustedFor, label_at, label_of_host}
+use Rattle.need_labels.specs.Labelled.{Labelled}
+use Rattle.need_labels.specs.Needs.{NeedsShape}
+use Rattle.need_labels.specs.Plan.{PlanShape, field_host}
+use Rattle.msg_cost.specs.Moves.{PlannedShape, planned_of}
+use Rattle.split_rules.specs.Emissions.{Emission, instruction, entry, stands, lands, Emitted, Named, Counts, counts_after}
+use Rattle.split_rules.specs.Allowed.{IsTrustedHost}
+use Rattle.split_rules.specs.Asking.{IfElsewhere, IsSeenBy}
+use Rattle.split_rules.specs.SplitCode.{emitted_on, entries_in, landed, placed_instruction, part_on, code_labels}
+use Rattle.split_rules.specs.SplitCode.{code_variable, label_place, label_of_emission, code_of_emissions}
+use Rattle.split_rules.specs.Walk.{method_entry, program_emissions, methods_emissions}
+use Rattle.split_rules.proofs.Places.{found, found_entry, entries_append}
+use Rattle.split_rules.proofs.NumberedLists.{numbered_at}
+use Rattle.split_rules.proofs.CodeItems.{code_field, fields_numbered}
+use Rattle.split_rules.proofs.CodeLabels.{IsLabelIn, label_left, label_right, label_of_one, label_placed}
+use Rattle.split_rules.proofs.CodeLabels as labels
+use Rattle.split_rules.proofs.Fronts.{front_of, front_is}
+use Rattle.split_rules.proofs.SoundParts.{part_is, entry_there}
+use Rattle.split_rules.proofs.SoundInstructions.{mapped, get_left}
+use Rattle.split_rules.proofs.WalkedMoves.{no_halt}
+use Rattle.split_rules.proofs.WalkedCalls.{nothing_there}
+use Rattle.split_rules.proofs.ToldEmissions.{Sees, Affects, AffectsVariable, ReadsWell, PutsWell, HandsWell}
+use Rattle.split_rules.proofs.ToldEmissions.{TellsWell, AreTold, told_on, counted_after, entry_of, IsBegun}
+use Rattle.split_rules.proofs.ToldWalks.{MethodTellsWell, methods_told}
+use Rattle.split_rules.proofs.SeenPrograms.{zip_at}
+
+-- ---- a program
+
+entries_told : (labelled : Labelled) (planned : PlannedShape) (named : List Named) (methods : List MethodTree) →
+    AreTold labelled planned named (map (method_entry planned) methods)
+entries_told labelled planned named [] = tt
+entries_told labelled planned named (method ∷ methods) =
+    entries_told labelled planned (named ++ entry_of planned method ∷ []) methods
+
+method_named : (planned : PlannedShape) (methods : List MethodTree) (place : ℕ) (tree : MethodTree) →
+    slice_get methods place ≡ Some tree →
+    slice_get (entries_in (map (method_entry planned) methods)) place ≡ Some (entry_of planned tree)
+method_named planned [] place tree is = absurd (nothing_there place tree is)
+method_named planned (method ∷ methods) zero tree is =
+    let same : method ≡ tree = cc in
+    ap (λ one. Some (entry_of planned one)) same
+method_named planned (method ∷ methods) (suc place) tree is = method_named planned methods place tree is
+
+pub program_told : (labelled : Labelled) (needs : NeedsShape) (hosts : HostsShape) (plan : PlanShape) →
+    let planned = planned_of labelled needs hosts plan in
+    (main : MethodTree) → method_at labelled.program labelled.program.main ≡ Some main →
+    AllByRecursion (MethodTellsWell hosts.principals labelled planned) labelled.program.methods →
+    AreTold labelled planned [] (program_emissions hosts.principals labelled planned)
+program_told labelled needs hosts plan main main_is well = subst P (sym (front_is labelled planned main main_is)) whole
+  where
+    planned : PlannedShape
+    planned = planned_of labelled needs hosts plan
+
+    none : Counts
+    none = record { entries = 0; branches = 0 }
+
+    front : List Emission
+    front = front_of (planned_of labelled needs hosts plan) main labelled.program.methods
+
+    P : List Emission → Type 0
+    P list = AreTold labelled planned [] (list ++ methods_emissions hosts.principals labelled planned
+        (counts_after none list) 0 labelled.program.methods)
+
+    begun : IsBegun labelled planned (entries_in front)
+    begun = record { some = omega arith; methods = method_named planned labelled.program.methods }
+
+    whole : P front
+    whole = told_on labelled planned [] front _
+        (entries_told labelled planned (entry_of planned main ∷ []) labelled.program.methods)
+        (methods_told hosts.principals labelled planned 0 labelled.program.methods well (counts_after none front)
+        (entries_in front) (counted_after none [] front refl) begun)
+
+-- ---- an instruction of a walk
+
+told_behind : (labelled : Labelled) (planned : PlannedShape) (named : List Named) (before : List Emission)
+    (one : Emitted) (behind : List Emission) → AreTold labelled planned named (before ++ instruction one ∷ behind) →
+    TellsWell labelled planned (named ++ entries_in before) one.host one.label one.op
+told_behind labelled planned named [] one behind told =
+    let P : List Named → Type 0 = λ list. TellsWell labelled planned list one.host one.label one.op in
+    subst P (sym (append-nil named)) told.0
+told_behind labelled planned named (instruction other ∷ before) one behind told =
+    told_behind labelled planned named before one behind told.1
+told_behind labelled planned named (entry other ∷ before) one behind told =
+    let P : List Named → Type 0 = λ list. TellsWell labelled planned list one.host one.label one.op in
+    subst P (append_assoc named (other ∷ []) (entries_in before))
+    (told_behind labelled planned (named ++ other ∷ []) before one behind told)
+told_behind labelled planned named (stands host number ∷ before) one behind told =
+    told_behind labelled planned named before one behind told
+told_behind labelled planned named (lands host number ∷ before) one behind told =
+    told_behind labelled planned named before one behind told
+
+hands_more : (planned : PlannedShape) (named more : List Named) (host : HostId) (pc : Label) (there : EntryId)
+    (on : HostId) → HandsWell planned named host pc there on → HandsWell planned (named ++ more) host pc there on
+hands_more planned named more host pc there on well = record {
+  no_halt = well.no_halt;
+  one = well.one;
+  is = get_left named more there.0 well.one well.is;
+  on_host = well.on_host;
+  label_is = well.label_is;
+  sender = well.sender;
+  receiver = well.receiver;
+}
+
+-- with more entries behind those that are named
+tells_more : (labelled : Labelled) (planned : PlannedShape) (named more : List Named) (host : HostId) (pc : Label)
+    (what : Op) → TellsWell labelled planned named host pc what →
+    TellsWell labelled planned (named ++ more) host pc what
+tells_more labelled planned named more host pc (op.Ask there on) well =
+    hands_more planned named more host pc there on well
+tells_more labelled planned named more host pc (op.Go there on) well =
+    hands_more planned named more host pc there on well
+tells_more labelled planned named more host pc (op.Call there on) well = record {
+  no_halt = well.no_halt;
+  one = well.one;
+  is = get_left named more there.0 well.one well.is;
+  on_host = well.on_host;
+  sender = well.sender;
+  trusted = well.trusted;
+  receiver = well.receiver;
+}
+tells_more labelled planned named more host pc (op.Read field index) well = well
+tells_more labelled planned named more host pc (op.Let x value) well = well
+tells_more labelled planned named more host pc (op.Put field index value) well = well
+tells_more labelled planned named more host pc (op.Send x to) well = well
+tells_more labelled planned named more host pc (op.Frame site) well = well
+tells_more labelled planned named more host pc (op.Arg x value) well = well
+tells_more labelled planned named more host pc (op.Pass x to) well = well
+tells_more labelled planned named more host pc (op.Push there) well = well
+tells_more labelled planned named more host pc (op.Ret x value) well = well
+tells_more labelled planned named more host pc op.Back well = well
+tells_more labelled planned named more host pc (op.Branch guard target) well = well
+
+-- ---- an instruction of a code
+
+-- what an instruction of a code was made of
+pub record MadeOf (labelled : Labelled) (planned : PlannedShape) (emissions : List Emission) (me : HostId)
+    (there : Instr) : Type 0 where
+  pub one : Emitted
+  pub before : List Emission
+  pub behind : List Emission
+  pub is : emissions ≡ before ++ instruction one ∷ behind
+  pub made : record {
+    label = label_place 0 one.label (code_labels labelled emissions);
+    statement = one.statement;
+    op = landed me emissions one.op;
+  } ≡ there
+  pub tells : TellsWell labelled planned (entries_in emissions) me one.label one.op
+
+pub made_of : (labelled : Labelled) (hosts : HostsShape) (planned : PlannedShape) (emissions : List Emission) →
+    AreTold labelled planned [] emissions → (me : HostId) (place : ℕ) (there : Instr) →
+    instruction_at (code_of_emissions labelled hosts planned emissions) me place ≡ Some there →
+    MadeOf labelled planned emissions me there
+made_of labelled hosts planned emissions told me place there is = by (slice_get code.parts me.0) refl is
+  where
+    code : CodeShape
+    code = code_of_emissions labelled hosts planned emissions
+
+    needed : List Label
+    needed = code_labels labelled emissions
+
+    within_hosts : me.0 < length hosts.hosts → MadeOf labelled planned emissions me there
+    within_hosts within =
+        let part = part_is labelled hosts planned emissions me within in
+        let one = mapped (placed_instruction needed emissions) (emitted_on me emissions) place there
+        (ap (λ list. slice_get list place) (sym part) ∙ is) in
+        let so = found me emissions place one.0 one.1 in
+        let P : HostId → Type 0 = λ host. placed_instruction needed emissions one.0 ≡ record {
+          label = label_place 0 one.0.label needed;
+          statement = one.0.statement;
+          op = landed host emissions one.0.op;
+        } in
+        let Q : List Emission → Type 0 = λ list. AreTold labelled planned [] list in
+        let R : HostId → Type 0 = λ host.
+        TellsWell labelled planned (entries_in emissions) host one.0.label one.0.op in
+        let S : List Named → Type 0 = λ list. TellsWell labelled planned list one.0.host one.0.label one.0.op in
+        let all_named : entries_in emissions ≡ entries_in so.before ++ entries_in (instruction one.0 ∷ so.behind) =
+        ap entries_in so.is ∙ entries_append so.before (instruction one.0 ∷ so.behind) in
+        record {
+          one = one.0;
+          before = so.before;
+          behind = so.behind;
+          is = so.is;
+          made = sym (subst P so.own refl) ∙ one.2;
+          tells = subst R so.own (subst S (sym all_named)
+              (tells_more labelled planned (entries_in so.before) _ one.0.host one.0.label one.0.op
+              (told_behind labelled planned [] so.before one.0 so.behind (subst Q so.is told))));
+        }
+
+    by : (part : Option (List Instr)) → slice_get code.parts me.0 ≡ part →
+        slice_get (unwrap_or part []) place ≡ Some there → MadeOf labelled planned emissions me there
+    by None part_is at = absurd (cc)
+    by (Some part) is_part at =
+        let within = slice_get_within code.parts me.0 part is_part in
+        let numbers = range_with_len 0 (length hosts.hosts) in
+        let many = length-map numbers (λ number. part_on needed emissions (record { 0 = number })) in
+        let as_many = length-range_with_len 0 (length hosts.hosts) in
+        within_hosts (omega arith)
+
+-- ---- hosts of a code
+
+abbrev code_host : HostShape → CodeHostShape
+code_host host = record { name = host.name; label = host.label }
+
+host_label : (labelled : Labelled) (hosts : HostsShape) (planned : PlannedShape) (emissions : List Emission)
+    (host : HostId) → label_of_host (code_of_emissions labelled hosts planned emissions) host
+    ≡ option_map (λ row. row.label) (slice_get hosts.hosts host.0)
+host_label labelled hosts planned emissions host =
+    ap (λ found. option_map (λ (row : CodeHostShape). row.label) found) (slice_get-map code_host hosts.hosts host.0)
+    ∙ by (slice_get hosts.hosts host.0)
+  where
+    by : (found : Option HostShape) → option_map (λ row. row.label) (option_map code_host found)
+        ≡ option_map (λ row. row.label) found
+    by None = refl
+    by (Some row) = refl
+
+pub sees_in_code : (labelled : Labelled) (needs : NeedsShape) (hosts : HostsShape) (plan : PlanShape)
+    (emissions : List Emission) (host : HostId) (label : Label) →
+    let planned = planned_of labelled needs hosts plan in
+    Sees planned host label →
+    MaySee (Some label) (label_of_host (code_of_emissions labelled hosts planned emissions) host)
+sees_in_code labelled needs hosts plan emissions host label sees =
+    let P : Option Label → Type 0 = λ found. MaySee (Some label) found in
+    subst P (sym (host_label labelled hosts (planned_of labelled needs hosts plan) emissions host))
+    (by (slice_get hosts.hosts host.0) sees)
+  where
+    by : (found : Option HostShape) → IsSomeAnd found (λ row. ConfFlows label row.label) →
+        MaySee (Some label) (option_map (λ row. row.label) found)
+    by None never = absurd never
+    by (Some row) flows = flows
+
+pub affects_in_code : (labelled : Labelled) (needs : NeedsShape) (hosts : HostsShape) (plan : PlanShape)
+    (emissions : List Emission) (host : HostId) (label : Label) →
+    let planned = planned_of labelled needs hosts plan in
+    Affects planned host label →
+    MayAffect (label_of_host (code_of_emissions labelled hosts planned emissions) host) (Some label)
+affects_in_code labelled needs hosts plan emissions host label affects =
+    let P : Option Label → Type 0 = λ found. MayAffect found (Some label) in
+    subst P (sym (host_label labelled hosts (planned_of labelled needs hosts plan) emissions host))
+    (by (slice_get hosts.hosts host.0) affects)
+  where
+    by : (found : Option HostShape) → IsSomeAnd found (λ row. IntegFlows row.label label) →
+        MayAffect (option_map (λ row. row.label) found) (Some label)
+    by None never = absurd never
+    by (Some row) flows = flows
+
+trusted_in_code : (labelled : Labelled) (needs : NeedsShape) (hosts : HostsShape) (plan : PlanShape)
+    (emissions : List Emission) (host : HostId) (need : ℕ) → IsTrustedHost hosts need host →
+    IsTrustedFor (label_of_host (code_of_emissions labelled hosts (planned_of labelled needs hosts plan) emissions) host)
+    need
+trusted_in_code labelled needs hosts plan emissions host need trusted =
+    let P : Option Label → Type 0 = λ found. IsTrustedFor found need in
+    subst P (sym (host_label labelled hosts (planned_of labelled needs hosts plan) emissions host))
+    (by (slice_get hosts.hosts host.0) trusted)
+  where
+    by : (found : Option HostShape) → IsSomeAnd found (λ row. IsTrustedBy row.label need) →
+        IsTrustedFor (option_map (λ row. row.label) found) need
+    by None never = absurd never
+    by (Some row) trusts = trusts
+
+-- ---- fields, variables and entries of a code
+
+pub field_in_code : (labelled : Labelled) (hosts : HostsShape) (planned : PlannedShape) (emissions : List Emission)
+    (field : FieldId) (tree : FieldTree) → slice_get labelled.program.fields field.0 ≡ Some tree →
+    field_at (code_of_emissions labelled hosts planned emissions) field
+    ≡ Some (code_field (code_labels labelled emissions) planned.plan field.0 tree)
+field_in_code labelled hosts planned emissions field tree is =
+    let needed = code_labels labelled emissions in
+    let make = code_field needed planned.plan in
+    let sum : 0 + field.0 ≡ field.0 = omega arith in
+    ap (λ list. slice_get list field.0) (fields_numbered needed planned.plan 0 labelled.program.fields)
+    ∙ numbered_at make 0 labelled.program.fields field.0 tree is ∙ ap (λ at. Some (make at tree)) sum
+
+pub field_labelled : (labelled : Labelled) (hosts : HostsShape) (planned : PlannedShape) (emissions : List Emission)
+    (field : FieldId) (tree : FieldTree) → slice_get labelled.program.fields field.0 ≡ Some tree →
+    label_at (code_of_emissions labelled hosts planned emissions)
+    (label_place 0 tree.label (code_labels labelled emissions)) ≡ Some tree.label
+field_labelled labelled hosts planned emissions field tree is =
+    let own : FieldTree → Label = λ it. it.label in
+    let fields = map own labelled.program.fields in
+    let given = flat_map label_of_emission emissions in
+    label_placed tree.label (fields ++ labelled.var_labels ++ given)
+    (label_left tree.label (fields ++ labelled.var_labels) given
+    (label_left tree.label fields labelled.var_labels
+    (labels.label_at fields field.0 tree.label
+    (slice_get-map own labelled.program.fields field.0 ∙ ap (option_map own) is))))
+
+pub emission_labelled : (labelled : Labelled) (hosts : HostsShape) (planned : PlannedShape)
+    (emissions before : List Emission) (one : Emission) (behind : List Emission) →
+    emissions ≡ before ++ one ∷ behind → (label : Label) → IsLabelIn label (label_of_emission one) →
+    label_at (code_of_emissions labelled hosts planned emissions)
+    (label_place 0 label (code_labels labelled emissions)) ≡ Some label
+emission_labelled labelled hosts planned emissions before one behind is label among =
+    let own : FieldTree → Label = λ it. it.label in
+    let fields = map own labelled.program.fields in
+    let given = flat_map label_of_emission emissions in
+    let P : List Emission → Type 0 = λ list. IsLabelIn label (flat_map label_of_emission list) in
+    label_placed label (fields ++ labelled.var_labels ++ given)
+    (label_right label (fields ++ labelled.var_labels) given
+    (subst P (sym is) (label_of_one label before one behind among)))
+
+-- the variable has a label that the host may affect
+pub variable_granted : (labelled : Labelled) (needs : NeedsShape) (hosts : HostsShape) (plan : PlanShape)
+    (emissions : List Emission) (me owner : HostId) (x : VarId) →
+    length labelled.var_labels ≡ length labelled.program.vars →
+    let planned = planned_of labelled needs hosts plan in
+    AffectsVariable labelled planned me x →
+    May (code_of_emissions labelled hosts planned emissions) owner (ask.Forward x) me
+variable_granted labelled needs hosts plan emissions me owner x many affects =
+    by (slice_get labelled.var_labels x.0) refl affects
+  where
+    planned : PlannedShape
+    planned = planned_of labelled needs hosts plan
+
+    code : CodeShape
+    code = code_of_emissions labelled hosts (planned_of labelled needs hosts plan) emissions
+
+    needed : List Label
+    needed = code_labels labelled emissions
+
+    fields : List Label
+    fields = map (λ field. field.label) labelled.program.fields
+
+    with_variable : (label : Label) → slice_get labelled.var_labels x.0 ≡ Some label → Affects planned me label →
+        (variable : VarTree) → slice_get labelled.program.vars x.0 ≡ Some variable → May code owner (ask.Forward x) me
+    with_variable label is own variable there =
+        let make = code_variable labelled.program needed in
+        let in_code : variable_at code x ≡ Some (make (variable, label)) =
+        slice_get-map make (zip labelled.program.vars labelled.var_labels) x.0
+        ∙ ap (option_map make) (zip_at labelled.program.vars labelled.var_labels x.0 variable label there is) in
+        let given = flat_map label_of_emission emissions in
+        let label_is : label_at code (label_place 0 label needed) ≡ Some label =
+        label_placed label (fields ++ labelled.var_labels ++ given)
+        (label_left label (fields ++ labelled.var_labels) given
+        (label_right label fields labelled.var_labels (labels.label_at labelled.var_labels x.0 label is))) in
+        let P : Option Label → Type 0 = λ it. MayAffect (label_of_host code me) it in
+        let Q : Option CodeVariableShape → Type 0 = λ it. IsSomeAnd it
+        (λ one. MayAffect (label_of_host code me) (label_at code one.label)) in
+        subst Q (sym in_code) (subst P (sym label_is) (affects_in_code labelled needs hosts plan emissions me label own))
+
+    by : (found : Option Label) → slice_get labelled.var_labels x.0 ≡ found → IsSomeAnd found (Affects planned me) →
+        May code owner (ask.Forward x) me
+    by None is never = absurd never
+    by (Some label) is own =
+        let within = slice_get_within labelled.var_labels x.0 label is in
+        elim ((slice_get_cases labelled.program.vars x.0).1) [
+          | inl there ↦ with_variable label is own there.0 there.2
+          | inr past ↦ absurd (let over = past.0 in omega arith)
+        ]
+
+-- ---- what each kind of instruction asks and tells
+
+-- a field of another host is read
+pub read_granted : (labelled : Labelled) (needs : NeedsShape) (hosts : HostsShape) (plan : PlanShape)
+    (emissions : List Emission) (me : HostId) (pc : Label) (field : FieldId) →
+    let planned = planned_of labelled needs hosts plan in
+    let code = code_of_emissions labelled hosts planned emissions in
+    ReadsWell labelled planned me pc field → IfElsewhere code me field (λ owner. May code owner (ask.Get field) me)
+read_granted labelled needs hosts plan emissions me pc field well =
+    by (slice_get labelled.program.fields field.0) refl well
+  where
+    planned : PlannedShape
+    planned = planned_of labelled needs hosts plan
+
+    code : CodeShape
+    code = code_of_emissions labelled hosts (planned_of labelled needs hosts plan) emissions
+
+    by : (found : Option FieldTree) → slice_get labelled.program.fields field.0 ≡ found →
+        IsSomeAnd found (λ tree. Sees planned me tree.label × Sees planned (field_host plan field) pc) →
+        IfElsewhere code me field (λ owner. May code owner (ask.Get field) me)
+    by None is never = absurd never
+    by (Some tree) is own =
+        let P : Option CodeFieldShape → Type 0 = λ found. IsSomeAnd found (λ there. there.host ≢ me →
+        IsSomeAnd found (λ again. (again.host ≡ there.host) × MaySee (label_at code again.label)
+        (label_of_host code me))) in
+        let Q : Option Label → Type 0 = λ label. MaySee label (label_of_host code me) in
+        subst P (sym (field_in_code labelled hosts planned emissions field tree is))
+        (λ apart. (
+          refl,
+          subst Q (sym (field_labelled labelled hosts planned emissions field tree is))
+              (sees_in_code labelled needs hosts plan emissions me tree.label own.0),
+        ))
+
+-- or set
+pub put_granted : (labelled : Labelled) (needs : NeedsShape) (hosts : HostsShape) (plan : PlanShape)
+    (emissions : List Emission) (me : HostId) (pc : Label) (field : FieldId) →
+    let planned = planned_of labelled needs hosts plan in
+    let code = code_of_emissions labelled hosts planned emissions in
+    PutsWell labelled planned me pc field → IfElsewhere code me field (λ owner. May code owner (ask.Set field) me)
+put_granted labelled needs hosts plan emissions me pc field well =
+    by (slice_get labelled.program.fields field.0) refl well
+  where
+    planned : PlannedShape
+    planned = planned_of labelled needs hosts plan
+
+    code : CodeShape
+    code = code_of_emissions labelled hosts (planned_of labelled needs hosts plan) emissions
+
+    by : (found : Option FieldTree) → slice_get labelled.program.fields field.0 ≡ found →
+        IsSomeAnd found (λ tree. Affects planned me tree.label × Sees planned (field_host plan field) pc) →
+        IfElsewhere code me field (λ owner. May code owner (ask.Set field) me)
+    by None is never = absurd never
+    by (Some tree) is own =
+        let P : Option CodeFieldShape → Type 0 = λ found. IsSomeAnd found (λ there. there.host ≢ me →
+        IsSomeAnd found (λ again. (again.host ≡ there.host) × MayAffect (label_of_host code me)
+        (label_at code again.label))) in
+        let Q : Option Label → Type 0 = λ label. MayAffect (label_of_host code me) label in
+        subst P (sym (field_in_code labelled hosts planned emissions field tree is))
+        (λ apart. (
+          refl,
+          subst Q (sym (field_labelled labelled hosts planned emissions field tree is))
+              (affects_in_code labelled needs hosts plan emissions me tree.label own.0),
+        ))
+
+-- the host of a field is told a label of the code
+pub field_told : (labelled : Labelled) (needs : NeedsShape) (hosts : HostsShape) (plan : PlanShape)
+    (emissions : List Emission) (me : HostId) (label : ℕ) (field : FieldId) (tree : FieldTree) →
+    let planned = planned_of labelled needs hosts plan in
+    let code = code_of_emissions labelled hosts planned emissions in
+    slice_get labelled.program.fields field.0 ≡ Some tree → IsSeenBy code label (field_host plan field) →
+    IfElsewhere code me field (IsSeenBy code label)
+field_told labelled needs hosts plan emissions me label field tree is seen =
+    let planned = planned_of labelled needs hosts plan in
+    let code = code_of_emissions labelled hosts planned emissions in
+    let P : Option CodeFieldShape → Type 0 = λ found.
+    IsSomeAnd found (λ there. there.host ≢ me → IsSeenBy code label there.host) in
+    subst P (sym (field_in_code labelled hosts planned emissions field tree is)) (λ apart. seen)
+
+-- an entry is entered by a host that has its need and may see its label
+pub enters_granted : (labelled : Labelled) (needs : NeedsShape) (hosts : HostsShape) (plan : PlanShape)
+    (emissions : List Emission) (me on : HostId) (there : EntryId) (named : Named) → 0 < there.0 →
+    slice_get (entries_in emissions) there.0 ≡ Some named → named.host ≡ on → IsTrustedHost hosts named.need me →
+    let planned = planned_of labelled needs hosts plan in
+    let code = code_of_emissions labelled hosts planned emissions in
+    Sees planned me named.label → May code on (ask.Enter there) me
+enters_granted labelled needs hosts plan emissions me on there named some is on_host trusted sees =
+    let planned = planned_of labelled needs hosts plan in
+    let code = code_of_emissions labelled hosts planned emissions in
+    let needed = code_labels labelled emissions in
+    let so = found_entry emissions there.0 named is in
+    let label_is : label_at code (label_place 0 named.label needed) ≡ Some named.label =
+    emission_labelled labelled hosts planned emissions so.before (entry named) so.behind so.is named.label (inl refl) in
+    let P : Option Entry → Type 0 = λ found. IsSomeAnd found (λ it. (it.host ≡ on)
+    × IsTrustedFor (label_of_host code me) it.need × MaySee (label_at code it.label) (label_of_host code me)) in
+    let Q : Option Label → Type 0 = λ label. MaySee label (label_of_host code me) in (
+      no_halt there.0 some,
+      subst P (sym (entry_there needed emissions there.0 named is)) (
+        on_host,
+        trusted_in_code labelled needs hosts plan emissions me named.need trusted,
+        subst Q (sym label_is) (sees_in_code labelled needs hosts plan emissions me named.label sees),
+      ),
+    )
