@@ -41,3 +41,4 @@ pub mod SeenLabels
 pub mod SeenBlocks
 pub mod SeenPrograms
 pub mod ToldCode
+pub mod AskingSplit

@@ -10,6 +10,8 @@ ghost use Rattle.split_rules.specs.SplitCode.{split_code};
 ghost use Rattle.split_rules.specs.Splittable.{IsSplittable, HasFew};
 ghost use Rattle.split_rules.specs.Typable.{IsTypable};
 ghost use Rattle.split_rules.specs.Allowed.{IsAllowed};
+ghost use Rattle.split_rules.specs.Held.{IsHeld};
+ghost use Rattle.split_rules.specs.Asking.{AreGranted, TellsNoMore};
 ghost use Rattle.split_rules.specs.TypedCode.{Table, IsTypedCode};
 ghost use Rattle.split_rules.specs.Typing.{Follows, Divides};
 ghost use Rattle.split_rules.specs.Positions.{Position, Entrance};
@@ -54,6 +56,17 @@ pub fn split_laws()
 pub fn trust_laws()
     ensures typable { (labelled : Labelled) (needs : NeedsShape) (hosts : HostsShape) (plan : PlanShape) →
         IsAllowed labelled needs hosts plan → IsTypable (planned_of labelled needs hosts plan) }
+{}
+
+/// Where besides each field and each statement stands on a host that may hold it, other hosts grant what the code of a
+/// host asks of them, by the checks of the host table, and no instruction tells another host what it may not see.
+pub fn asking_laws()
+    ensures granted { (labelled : Labelled) (needs : NeedsShape) (hosts : HostsShape) (plan : PlanShape) →
+        IsSplittable labelled hosts plan → IsAllowed labelled needs hosts plan → IsHeld labelled needs hosts plan →
+        AreGranted (split_code labelled needs hosts plan) }
+    ensures tells { (labelled : Labelled) (needs : NeedsShape) (hosts : HostsShape) (plan : PlanShape) →
+        IsSplittable labelled hosts plan → IsAllowed labelled needs hosts plan → IsHeld labelled needs hosts plan →
+        TellsNoMore (split_code labelled needs hosts plan) }
 {}
 
 /// The laws of positions leave one outcome: behind an instruction there is one position, and where a branch leads

@@ -1,0 +1,299 @@
+-- Each request that an instruction of split code makes of another host is granted, and no instruction tells another host
+-- what it may not see.
+use Rattle.std.proofs.Common.{◌≡◌, ◌∙◌, ℕ, zero, suc, ◌<◌, ◌⊎◌, true, inl, inr, List, [], ◌∷◌, length, refl, ap}
+use Rattle.std.proofs.Common.{sym, subst, arith, bit_or}
+use Rattle.std.specs.Prelude.{Option, Some, None, slice_get, slice_index, IsSomeAnd}
+use Rattle.std.specs.Int.{bit_at}
+use Rattle.std.proofs.lemmas.Nat.Bits.{bit_at_or, bit_at-zero}
+use Rattle.js_base.specs.declared.ids.HostId.{HostId}
+use Rattle.js_base.specs.declared.ids.FieldId.{FieldId}
+use Rattle.js_base.specs.declared.ids.EntryId.{EntryId}
+use Rattle.label_lattice.specs.declared.label.Label.{Label}
+use Rattle.label_lattice.specs.Label.{ConfFlows, IsTrustedBy}
+use Rattle.host_decl.specs.Hosts.{HostShape, HostsShape}
+use Rattle.jif_tree.specs.Trees.{FieldTree}
+use Rattle.host_code.specs.declared.instruction.Instr.{Instr}
+use Rattle.host_code.specs.declared.instruction.Op.{Op}
+use Rattle.host_code.specs.declared.instruction.Op.TheVariants as op
+use Rattle.host_code.specs.Code.{CodeShape}
+use Rattle.entry_check.specs.Checks.{MaySee, label_at, label_of_host}
+use Rattle.need_labels.specs.Labelled.{Labelled}
+use Rattle.need_labels.specs.Needs.{NeedsShape}
+use Rattle.need_labels.specs.Plan.{PlanShape, field_host}
+use Rattle.msg_cost.specs.Moves.{PlannedShape, planned_of, is_trusted_for}
+use Rattle.split_rules.specs.Emissions.{Emission, instruction, Named}
+use Rattle.split_rules.specs.Allowed.{IsTrustedHost, IsAllowed}
+use Rattle.split_rules.specs.Held.{IsHeld}
+use Rattle.split_rules.specs.Asking.{IsGranted, IsSeenBy, AreGranted, TellsNoMore}
+use Rattle.split_rules.specs.Asking as asking
+use Rattle.split_rules.specs.Positions.{number_of, Due, statement_due, Position, Entrance}
+use Rattle.split_rules.specs.SplitCode.{entries_in, landed, code_labels, label_place, code_of_emissions, split_code}
+use Rattle.split_rules.specs.Splittable.{IsSplittable}
+use Rattle.split_rules.specs.TypedCode.{Table, IsTypedOp, IsTypedCode}
+use Rattle.split_rules.specs.Typing.{EntryIs, AreDueOn, need_due}
+use Rattle.split_rules.specs.Walk.{program_emissions}
+use Rattle.split_rules.proofs.BackedLabels.{all_second}
+use Rattle.split_rules.proofs.AllowedTyping.{allowed_typable}
+use Rattle.split_rules.proofs.CodeItems.{code_entry}
+use Rattle.split_rules.proofs.SoundParts.{entry_there}
+use Rattle.split_rules.proofs.TypedSplit.{split_is_typed}
+use Rattle.split_rules.proofs.ToldEmissions.{Sees, TellsWell, AreTold}
+use Rattle.split_rules.proofs.SeenLabels.{trusted_host}
+use Rattle.split_rules.proofs.SeenPrograms.{program_tells_well}
+use Rattle.split_rules.proofs.ToldCode.{program_told, made_of, sees_in_code, emission_labelled}
+use Rattle.split_rules.proofs.ToldCode.{variable_granted, read_granted, put_granted, field_told, enters_granted}
+
+-- ---- needs of what is due
+
+none_needed : (planned : PlannedShape) (host : HostId) (label : Label) → Sees planned host label →
+    IsTrustedHost planned.hosts 0 host
+none_needed planned host label sees = by (slice_get planned.hosts.hosts host.0) sees
+  where
+    by : (found : Option HostShape) → IsSomeAnd found (λ row. ConfFlows label row.label) →
+        IsSomeAnd found (λ row. IsTrustedBy row.label 0)
+    by None never = absurd never
+    by (Some row) flows = λ p p_in set. let none = bit_at-zero p in absurd (omega arith)
+
+either_set : (first second : ℕ) → first < 2 → second < 2 → (first ≡ 0 → second ≡ 0 → ⊥) → (first ≡ 1) ⊎ (second ≡ 1)
+either_set zero zero one two apart = absurd (apart refl refl)
+either_set zero (suc second) one two apart = inr (omega arith)
+either_set (suc first) second one two apart = inl (omega arith)
+
+is_bit : (word place : ℕ) → bit_at word place < 2
+is_bit word place = omega arith
+
+both_needed : (planned : PlannedShape) (host : HostId) (first second : ℕ) → IsTrustedHost planned.hosts first host →
+    IsTrustedHost planned.hosts second host → IsTrustedHost planned.hosts (bit_or first second) host
+both_needed planned host first second one two = by (slice_get planned.hosts.hosts host.0) one two
+  where
+    by : (found : Option HostShape) → IsSomeAnd found (λ row. IsTrustedBy row.label first) →
+        IsSomeAnd found (λ row. IsTrustedBy row.label second) →
+        IsSomeAnd found (λ row. IsTrustedBy row.label (bit_or first second))
+    by None never also = absurd never
+    by (Some row) trusts also = λ p p_in set.
+        let both = bit_at_or first second p in
+        elim (either_set (bit_at first p) (bit_at second p) (is_bit first p) (is_bit second p)
+        (λ clear none. omega (arith, both, set, clear, none))) [
+          | inl own ↦ trusts p p_in own
+          | inr other ↦ also p p_in other
+        ]
+
+-- a host that is trusted for all that is due is trusted for its need
+need_held : (planned : PlannedShape) (host : HostId) (label : Label) → Sees planned host label → (due : List Due) →
+    AreDueOn planned host due → IsTrustedHost planned.hosts (need_due planned due) host
+need_held planned host label sees [] trusted = none_needed planned host label sees
+need_held planned host label sees (item ∷ due) trusted =
+    let one = number_of (statement_due item) in
+    both_needed planned host (slice_index planned.needs.need one.0) (need_due planned due)
+    (trusted_host planned host one trusted.0) (need_held planned host label sees due trusted.1)
+
+-- ---- entries
+
+-- an entry that is named has the need of what is due there, as the table says it
+record IsDueAt (planned : PlannedShape) (table : Table) (host : HostId) (number : ℕ) : Type 0 where
+  position : Position
+  due : List Due
+  is : EntryIs table.entries number position (need_due planned due)
+  trusted : AreDueOn planned host due
+
+same_there : {X : Type 0} (list : List X) (place : ℕ) (one other : X) → slice_get list place ≡ Some one →
+    slice_get list place ≡ Some other → one ≡ other
+same_there list place one other first second = let same : Some one ≡ Some other = sym first ∙ second in cc
+
+named_need : (labelled : Labelled) (needs : NeedsShape) (hosts : HostsShape) (plan : PlanShape)
+    (emissions : List Emission) (table : Table) →
+    let planned = planned_of labelled needs hosts plan in
+    IsTypedCode planned (code_of_emissions labelled hosts planned emissions) table → (host : HostId) (label : Label) →
+    Sees planned host label → (number : ℕ) → 0 < number → (named : Named) →
+    slice_get (entries_in emissions) number ≡ Some named → IsDueAt planned table host number →
+    IsTrustedHost hosts named.need host
+named_need labelled needs hosts plan emissions table typed host label sees zero some named is due_at =
+    absurd (omega (arith, some))
+named_need labelled needs hosts plan emissions table typed host label sees (suc number) some named is due_at =
+    let planned = planned_of labelled needs hosts plan in
+    let needed = code_labels labelled emissions in
+    let in_code = typed.entries number (code_entry needed emissions (suc number) named)
+    (entry_there needed emissions (suc number) named is) in
+    let one : Entrance = record { position = in_code.position; need = named.need } in
+    let other : Entrance = record { position = due_at.position; need = need_due planned due_at.due } in
+    let same : other ≡ one = same_there table.entries (suc number) other one due_at.is in_code.is in
+    let P : ℕ → Type 0 = λ need. IsTrustedHost hosts need host in
+    subst P (ap (λ (it : Entrance). it.need) same) (need_held planned host label sees due_at.due due_at.trusted)
+
+go_due : (planned : PlannedShape) (table : Table) (me : HostId) (place : ℕ) (there : EntryId) (on : HostId) →
+    AreDueOn planned me (table.at me.0 place).due → IsTypedOp planned table me place (op.Go there on) →
+    IsDueAt planned table me there.0
+go_due planned table me place there on trusted typed = record {
+  position = table.at me.0 place;
+  due = (table.at me.0 place).due;
+  is = typed.1;
+  trusted = trusted;
+}
+
+ask_due : (planned : PlannedShape) (table : Table) (me : HostId) (place : ℕ) (there : EntryId) (on : HostId) →
+    AreDueOn planned me (table.at me.0 place).due → IsTypedOp planned table me place (op.Ask there on) →
+    IsDueAt planned table me there.0
+ask_due planned table me place there on trusted typed =
+    let cuts = typed.0 in
+    let P : List Due → Type 0 = λ due. AreDueOn planned me due in
+    record {
+      position = _;
+      due = cuts.behind;
+      is = cuts.pushed;
+      trusted = all_second (λ (item : Due). is_trusted_for planned me (number_of (statement_due item)) ≡ true)
+          (table.at me.0 (suc place)).due cuts.behind (subst P cuts.due trusted);
+    }
+
+-- ---- instructions
+
+record IsAsking (labelled : Labelled) (needs : NeedsShape) (hosts : HostsShape) (plan : PlanShape)
+    (emissions : List Emission) (table : Table) : Type 0 where
+  many : length labelled.var_labels ≡ length labelled.program.vars
+  typed : IsTypedCode (planned_of labelled needs hosts plan)
+      (code_of_emissions labelled hosts (planned_of labelled needs hosts plan) emissions) table
+
+op_granted : (labelled : Labelled) (needs : NeedsShape) (hosts : HostsShape) (plan : PlanShape)
+    (emissions : List Emission) (table : Table) → IsAsking labelled needs hosts plan emissions table →
+    (me : HostId) (place : ℕ) (pc : Label) (what : Op) →
+    let planned = planned_of labelled needs hosts plan in
+    TellsWell labelled planned (entries_in emissions) me pc what → AreDueOn planned me (table.at me.0 place).due →
+    IsTypedOp planned table me place (landed me emissions what) →
+    IsGranted (code_of_emissions labelled hosts planned emissions) me (landed me emissions what)
+op_granted labelled needs hosts plan emissions table asks me place pc (op.Read field index) well due typed =
+    read_granted labelled needs hosts plan emissions me pc field well
+op_granted labelled needs hosts plan emissions table asks me place pc (op.Put field index value) well due typed =
+    put_granted labelled needs hosts plan emissions me pc field well
+op_granted labelled needs hosts plan emissions table asks me place pc (op.Send x to) well due typed =
+    variable_granted labelled needs hosts plan emissions me to x asks.many well.0
+op_granted labelled needs hosts plan emissions table asks me place pc (op.Pass x to) well due typed =
+    variable_granted labelled needs hosts plan emissions me to x asks.many well.0
+op_granted labelled needs hosts plan emissions table asks me place pc (op.Ask there on) well due typed =
+    let planned = planned_of labelled needs hosts plan in
+    let P : Label → Type 0 = λ label. Sees planned me label in
+    enters_granted labelled needs hosts plan emissions me on there well.one well.no_halt well.is well.on_host
+    (named_need labelled needs hosts plan emissions table asks.typed me pc well.sender there.0 well.no_halt well.one
+    well.is (ask_due planned table me place there on due typed)) (subst P (sym well.label_is) well.sender)
+op_granted labelled needs hosts plan emissions table asks me place pc (op.Go there on) well due typed =
+    let planned = planned_of labelled needs hosts plan in
+    let P : Label → Type 0 = λ label. Sees planned me label in
+    enters_granted labelled needs hosts plan emissions me on there well.one well.no_halt well.is well.on_host
+    (named_need labelled needs hosts plan emissions table asks.typed me pc well.sender there.0 well.no_halt well.one
+    well.is (go_due planned table me place there on due typed)) (subst P (sym well.label_is) well.sender)
+op_granted labelled needs hosts plan emissions table asks me place pc (op.Call there on) well due typed =
+    λ apart. enters_granted labelled needs hosts plan emissions me on there well.one well.no_halt well.is well.on_host
+    well.trusted well.sender
+op_granted labelled needs hosts plan emissions table asks me place pc (op.Ret x value) well due typed =
+    λ to. variable_granted labelled needs hosts plan emissions me to x asks.many well
+op_granted labelled needs hosts plan emissions table asks me place pc (op.Let x value) well due typed = tt
+op_granted labelled needs hosts plan emissions table asks me place pc (op.Frame site) well due typed = tt
+op_granted labelled needs hosts plan emissions table asks me place pc (op.Arg x value) well due typed = tt
+op_granted labelled needs hosts plan emissions table asks me place pc (op.Push there) well due typed = tt
+op_granted labelled needs hosts plan emissions table asks me place pc op.Back well due typed = tt
+op_granted labelled needs hosts plan emissions table asks me place pc (op.Branch guard target) well due typed = tt
+
+-- the host of a field that is read or set is told
+field_seen : (labelled : Labelled) (needs : NeedsShape) (hosts : HostsShape) (plan : PlanShape)
+    (emissions : List Emission) (me : HostId) (label : ℕ) (field : FieldId) (Holds : FieldTree → Type 0) →
+    let planned = planned_of labelled needs hosts plan in
+    let code = code_of_emissions labelled hosts planned emissions in
+    IsSomeAnd (slice_get labelled.program.fields field.0) Holds →
+    ((tree : FieldTree) → Holds tree → IsSeenBy code label (field_host plan field)) →
+    asking.IfElsewhere code me field (IsSeenBy code label)
+field_seen labelled needs hosts plan emissions me label field Holds well seen =
+    by (slice_get labelled.program.fields field.0) refl well
+  where
+    code : CodeShape
+    code = code_of_emissions labelled hosts (planned_of labelled needs hosts plan) emissions
+
+    by : (found : Option FieldTree) → slice_get labelled.program.fields field.0 ≡ found → IsSomeAnd found Holds →
+        asking.IfElsewhere code me field (IsSeenBy code label)
+    by None is never = absurd never
+    by (Some tree) is holds =
+        field_told labelled needs hosts plan emissions me label field tree is (seen tree holds)
+
+op_tells : (labelled : Labelled) (needs : NeedsShape) (hosts : HostsShape) (plan : PlanShape)
+    (emissions : List Emission) (me : HostId) (label : ℕ) (pc : Label) →
+    let planned = planned_of labelled needs hosts plan in
+    let code = code_of_emissions labelled hosts planned emissions in
+    label_at code label ≡ Some pc → (what : Op) → TellsWell labelled planned (entries_in emissions) me pc what →
+    asking.TellsWell code me label (landed me emissions what)
+op_tells labelled needs hosts plan emissions me label pc is what well = by what well
+  where
+    planned : PlannedShape
+    planned = planned_of labelled needs hosts plan
+
+    code : CodeShape
+    code = code_of_emissions labelled hosts (planned_of labelled needs hosts plan) emissions
+
+    seen : (host : HostId) → Sees (planned_of labelled needs hosts plan) host pc → IsSeenBy code label host
+    seen host sees =
+        let P : Option Label → Type 0 = λ found. MaySee found (label_of_host code host) in
+        subst P (sym is) (sees_in_code labelled needs hosts plan emissions host pc sees)
+
+    by : (it : Op) → TellsWell labelled planned (entries_in emissions) me pc it →
+        asking.TellsWell code me label (landed me emissions it)
+    by (op.Read field index) own = field_seen labelled needs hosts plan emissions me label field
+        (λ tree. Sees planned me tree.label × Sees planned (field_host plan field) pc) own
+        (λ tree both. seen (field_host plan field) both.1)
+    by (op.Put field index value) own = field_seen labelled needs hosts plan emissions me label field _ own
+        (λ tree both. seen (field_host plan field) both.1)
+    by (op.Send x to) own = seen to own.1
+    by (op.Pass x to) own = seen to own.1
+    by (op.Ask there on) own = seen on own.receiver
+    by (op.Go there on) own = seen on own.receiver
+    by (op.Call there on) own = λ apart. seen on own.receiver
+    by (op.Ret x value) own = tt
+    by (op.Let x value) own = tt
+    by (op.Frame site) own = tt
+    by (op.Arg x value) own = tt
+    by (op.Push there) own = tt
+    by op.Back own = tt
+    by (op.Branch guard target) own = tt
+
+-- ---- the laws
+
+told : (labelled : Labelled) (needs : NeedsShape) (hosts : HostsShape) (plan : PlanShape) →
+    IsSplittable labelled hosts plan → IsAllowed labelled needs hosts plan → IsHeld labelled needs hosts plan →
+    let planned = planned_of labelled needs hosts plan in
+    AreTold labelled planned [] (program_emissions hosts.principals labelled planned)
+told labelled needs hosts plan splittable allowed held =
+    program_told labelled needs hosts plan splittable.numbered.main.0 splittable.numbered.main.1
+    (program_tells_well labelled needs hosts plan splittable allowed held)
+
+-- Each request between hosts is granted.
+pub split_is_granted : (labelled : Labelled) (needs : NeedsShape) (hosts : HostsShape) (plan : PlanShape) →
+    IsSplittable labelled hosts plan → IsAllowed labelled needs hosts plan → IsHeld labelled needs hosts plan →
+    AreGranted (split_code labelled needs hosts plan)
+split_is_granted labelled needs hosts plan splittable allowed held me place there is =
+    let planned = planned_of labelled needs hosts plan in
+    let emissions = program_emissions hosts.principals labelled planned in
+    let code = code_of_emissions labelled hosts planned emissions in
+    let typed = split_is_typed labelled needs hosts plan splittable
+    (allowed_typable labelled needs hosts plan allowed) in
+    let made = made_of labelled hosts planned emissions (told labelled needs hosts plan splittable allowed held) me place
+    there is in
+    let own = typed.1.instructions me place there is in
+    let what_is : landed me emissions made.one.op ≡ there.op = ap (λ (it : Instr). it.op) made.made in
+    let P : Op → Type 0 = λ what. IsTypedOp planned typed.0 me place what in
+    let Q : Op → Type 0 = λ what. IsGranted code me what in
+    subst Q what_is (op_granted labelled needs hosts plan emissions typed.0
+    (record { many = splittable.var_labels; typed = typed.1 }) me place made.one.label made.one.op made.tells own.0.0
+    (subst P (sym what_is) own.1))
+
+-- No instruction tells another host what it may not see.
+pub split_tells_no_more : (labelled : Labelled) (needs : NeedsShape) (hosts : HostsShape) (plan : PlanShape) →
+    IsSplittable labelled hosts plan → IsAllowed labelled needs hosts plan → IsHeld labelled needs hosts plan →
+    TellsNoMore (split_code labelled needs hosts plan)
+split_tells_no_more labelled needs hosts plan splittable allowed held me place there is =
+    let planned = planned_of labelled needs hosts plan in
+    let emissions = program_emissions hosts.principals labelled planned in
+    let code = code_of_emissions labelled hosts planned emissions in
+    let needed = code_labels labelled emissions in
+    let made = made_of labelled hosts planned emissions (told labelled needs hosts plan splittable allowed held) me place
+    there is in
+    let label_is : label_at code (label_place 0 made.one.label needed) ≡ Some made.one.label =
+    emission_labelled labelled hosts planned emissions made.before (instruction made.one) made.behind made.is
+    made.one.label (inl refl) in
+    let P : Instr → Type 0 = λ it. asking.TellsWell code me it.label it.op in
+    subst P made.made (op_tells labelled needs hosts plan emissions me (label_place 0 made.one.label needed)
+    made.one.label label_is made.one.op made.tells)
