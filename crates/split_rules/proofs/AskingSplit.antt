@@ -1,6 +1,6 @@
 -- Each request that an instruction of split code makes of another host is granted, and no instruction tells another host
 -- what it may not see.
-use Rattle.std.proofs.Common.{◌≡◌, ◌∙◌, ℕ, zero, suc, ◌<◌, ◌⊎◌, true, inl, inr, List, [], ◌∷◌, length, refl, ap}
+use Rattle.std.proofs.Common.{◌≡◌, ℕ, zero, suc, ◌<◌, ◌⊎◌, true, inl, inr, List, [], ◌∷◌, length, refl, ap}
 use Rattle.std.proofs.Common.{sym, subst, arith, bit_or}
 use Rattle.std.specs.Prelude.{Option, Some, None, slice_get, slice_index, IsSomeAnd}
 use Rattle.std.specs.Int.{bit_at}
@@ -36,9 +36,9 @@ use Rattle.split_rules.proofs.BackedLabels.{all_second}
 use Rattle.split_rules.proofs.AllowedTyping.{allowed_typable}
 use Rattle.split_rules.proofs.CodeItems.{code_entry}
 use Rattle.split_rules.proofs.SoundParts.{entry_there}
-use Rattle.split_rules.proofs.TypedSplit.{split_is_typed}
+use Rattle.split_rules.proofs.TypedSplit.{same_there, split_is_typed}
 use Rattle.split_rules.proofs.ToldEmissions.{Sees, TellsWell, AreTold}
-use Rattle.split_rules.proofs.SeenLabels.{trusted_host}
+use Rattle.split_rules.proofs.SeenLabels.{is_bit, trusted_host}
 use Rattle.split_rules.proofs.SeenPrograms.{program_tells_well}
 use Rattle.split_rules.proofs.ToldCode.{program_told, made_of, sees_in_code, emission_labelled}
 use Rattle.split_rules.proofs.ToldCode.{variable_granted, read_granted, put_granted, field_told, enters_granted}
@@ -58,9 +58,6 @@ either_set : (first second : ℕ) → first < 2 → second < 2 → (first ≡ 0 
 either_set zero zero one two apart = absurd (apart refl refl)
 either_set zero (suc second) one two apart = inr (omega arith)
 either_set (suc first) second one two apart = inl (omega arith)
-
-is_bit : (word place : ℕ) → bit_at word place < 2
-is_bit word place = omega arith
 
 both_needed : (planned : PlannedShape) (host : HostId) (first second : ℕ) → IsTrustedHost planned.hosts first host →
     IsTrustedHost planned.hosts second host → IsTrustedHost planned.hosts (bit_or first second) host
@@ -95,10 +92,6 @@ record IsDueAt (planned : PlannedShape) (table : Table) (host : HostId) (number 
   due : List Due
   is : EntryIs table.entries number position (need_due planned due)
   trusted : AreDueOn planned host due
-
-same_there : {X : Type 0} (list : List X) (place : ℕ) (one other : X) → slice_get list place ≡ Some one →
-    slice_get list place ≡ Some other → one ≡ other
-same_there list place one other first second = let same : Some one ≡ Some other = sym first ∙ second in cc
 
 named_need : (labelled : Labelled) (needs : NeedsShape) (hosts : HostsShape) (plan : PlanShape)
     (emissions : List Emission) (table : Table) →

@@ -45,6 +45,11 @@ pub all_second : {X : Type 0} (P : X → Type 0) (xs ys : List X) → AllByRecur
 all_second P [] ys all = all
 all_second P (x ∷ xs) ys all = all_second P xs ys all.1
 
+pub all_both : {X : Type 0} (P : X → Type 0) (xs ys : List X) → AllByRecursion P xs → AllByRecursion P ys →
+    AllByRecursion P (xs ++ ys)
+all_both P [] ys first second = second
+all_both P (x ∷ xs) ys first second = (first.0, all_both P xs ys first.1 second)
+
 -- ---- constraints
 
 -- all that is asked for of these statements holds
@@ -71,7 +76,7 @@ flow_trusts : (principals : Declared) (pc from to : Label) → Holds principals 
 flow_trusts principals pc from to holds p within trusts =
     join_second from pc p (holds.1 p within trusts)
 
-either_true : (b c : Bool) → (b || c) ≡ true → (b ≡ true) ⊎ (c ≡ true)
+pub either_true : (b c : Bool) → (b || c) ≡ true → (b ≡ true) ⊎ (c ≡ true)
 either_true true c is = inl refl
 either_true false c is = inr is
 

@@ -30,7 +30,7 @@ use Rattle.msg_cost.specs.Moves.{PlannedShape, home_of}
 use Rattle.split_rules.specs.Allowed.{IsLabelled, IsLabelledIfAny, AreLabelled, IsTrustedHost}
 use Rattle.split_rules.specs.Held.{HasLabels, AreGuardsLabelled}
 use Rattle.split_rules.specs.Walk.{need_of}
-use Rattle.split_rules.proofs.BackedLabels.{all_first, all_second, AreMet, variable_found}
+use Rattle.split_rules.proofs.BackedLabels.{all_first, all_second, all_both, AreMet, variable_found}
 use Rattle.split_rules.proofs.LabelsKept.{Stay, stay_then, assignment_stays, block_stays, AreFinal, label_there}
 use Rattle.split_rules.proofs.LabelsKept.{assigned_labelled}
 use Rattle.split_rules.proofs.AllowedTyping.{IsNeeded}
@@ -41,11 +41,6 @@ use Rattle.split_rules.proofs.SeenLabels.{flows_first, flows_second, sees_less, 
 use Rattle.split_rules.proofs.SeenLabels.{changes_affected, reads_field, puts_field, affects_variable}
 
 -- ---- expressions
-
-all_both : {X : Type 0} (P : X → Type 0) (xs ys : List X) → AllByRecursion P xs → AllByRecursion P ys →
-    AllByRecursion P (xs ++ ys)
-all_both P [] ys first second = second
-all_both P (x ∷ xs) ys first second = (first.0, all_both P xs ys first.1 second)
 
 -- what is known of all parts of an expression is known of the whole
 pub whole_of_parts : (setting : MethodSetting) (pc : Label) (labels : VariableLabels) (Q : Label → Type 0)
@@ -424,18 +419,19 @@ answers_well labelled planned principals program method host (Some result) there
 
 -- ---- blocks
 
--- the program labels of statements are those of the label check
+-- all that is asked for a statement holds
+abbrev pub IsMet : Declared → StatementLabels → Type 0
+IsMet principals one = AllByRecursion (Holds principals) one.constraints
+
+-- the program label of a statement is that of the label check
+abbrev pub IsKept : Labelled → StatementLabels → Type 0
+IsKept labelled one = pc_of labelled one.statement ≡ one.pc
+
 abbrev pub AreLabelsKept : Labelled → List StatementLabels → Type 0
-AreLabelsKept labelled statements = AllByRecursion (λ one. pc_of labelled one.statement ≡ one.pc) statements
+AreLabelsKept labelled statements = AllByRecursion (IsKept labelled) statements
 
 abbrev pub AreUsesWell : Labelled → PlannedShape → Declared → List StatementUse → Type 0
 AreUsesWell labelled planned principals uses = AllByRecursion (IsUseWell labelled planned principals) uses
-
-abbrev IsMet : Declared → StatementLabels → Type 0
-IsMet principals one = AllByRecursion (Holds principals) one.constraints
-
-abbrev IsKept : Labelled → StatementLabels → Type 0
-IsKept labelled one = pc_of labelled one.statement ≡ one.pc
 
 pub block_well : (principals : Declared) (labelled : Labelled) (planned : PlannedShape) (tree : MethodTree) →
     ProgramWell labelled planned principals → (method : MethodId) →

@@ -60,7 +60,7 @@ flows_second first second owner reader owner_in reader_in forbids =
     let both = bit_at_and (slice_index first.rows owner) (slice_index second.rows owner) reader in
     omega arith
 
-is_bit : (word place : ℕ) → bit_at word place < 2
+pub is_bit : (word place : ℕ) → bit_at word place < 2
 is_bit word place = omega arith
 
 one_clear : (first second : ℕ) → first < 2 → second < 2 → (first ≡ 1 → second ≡ 1 → ⊥) → (first ≡ 0) ⊎ (second ≡ 0)

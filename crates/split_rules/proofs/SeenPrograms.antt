@@ -1,7 +1,7 @@
 -- Each method of a program that was checked and placed asks other hosts for what these grant, and tells them what they
 -- may see.
-use Rattle.std.proofs.Common.{◌≡◌, ◌∙◌, ℕ, zero, suc, ◌<◌, ◌⊎◌, Bool, true, false, inl, inr, List, [], ◌∷◌, ◌++◌, map}
-use Rattle.std.proofs.Common.{length, refl, ap, sym, subst, arith, nat_eq, cond, filter, ◌||◌, true≢false, eqb-true}
+use Rattle.std.proofs.Common.{◌≡◌, ◌∙◌, ℕ, zero, suc, ◌<◌, Bool, true, false, inl, inr, List, [], ◌∷◌, ◌++◌, map}
+use Rattle.std.proofs.Common.{length, refl, ap, sym, subst, arith, nat_eq, cond, filter, true≢false, eqb-true}
 use Rattle.std.proofs.Common.{eq-eqb, bit_or, get_or}
 use Rattle.std.specs.Prelude.{Option, Some, None, slice_get, slice_index, unwrap_or}
 use Rattle.std.specs.Int.{bit_at}
@@ -25,7 +25,7 @@ use Rattle.jif_tree.specs.Trees.{give_back, FieldTree, MethodTree, ProgramTree}
 use Rattle.jif_tree.specs.LabelRules.{MethodSetting, VariableLabels, StatementLabels, setting_of, part_labels, guarded}
 use Rattle.jif_tree.specs.LabelRules.{labels_after, labels_after_assignment, labels_after_methods, block_labels}
 use Rattle.jif_tree.specs.LabelRules.{methods_labels, program_labels, declared_labels, field_label, expr_label, Meets}
-use Rattle.jif_tree.specs.LabelRules.{Holds, obligations_of, begin_label, params_of, method_at}
+use Rattle.jif_tree.specs.LabelRules.{obligations_of, begin_label, params_of, method_at}
 use Rattle.jif_tree.specs.Numbering.{block_statements, statement_numbers, CountsFrom}
 use Rattle.jif_tree.specs.WellNumbered.{AreMethodsIn, is_some}
 use Rattle.need_labels.specs.Labelled.{Labelled, pc_of, all_labels}
@@ -45,14 +45,15 @@ use Rattle.split_rules.proofs.NumberedLists.{number_there}
 use Rattle.split_rules.proofs.WalkedCalls.{nothing_there}
 use Rattle.split_rules.proofs.WalkedPrograms.{method_there}
 use Rattle.split_rules.proofs.SoundInstructions.{mapped}
-use Rattle.split_rules.proofs.BackedLabels.{all_first, all_second, AreMet}
+use Rattle.split_rules.proofs.BackedLabels.{all_first, all_second, all_both, AreMet, either_true}
 use Rattle.split_rules.proofs.LabelsKept.{block_stays, Stay, AreFinal}
 use Rattle.split_rules.proofs.AllowedTyping.{by_recursion, each_there, zipped_there, met_from, use_needed, methods_stay}
 use Rattle.split_rules.proofs.ToldEmissions.{Sees, Affects}
 use Rattle.split_rules.proofs.ToldWalks.{MethodTellsWell}
 use Rattle.split_rules.proofs.SeenLabels.{flows_first, flows_second, flows_folded, sees_less}
 use Rattle.split_rules.proofs.SeenBlocks.{variables_of_parts, IsToldWell, IsUseWell, AllReadersSee}
-use Rattle.split_rules.proofs.SeenBlocks.{ProgramWell, AreLabelsKept, AreUsesWell, block_well}
+use Rattle.split_rules.proofs.SeenBlocks.{ProgramWell, IsMet, IsKept, AreLabelsKept, AreUsesWell}
+use Rattle.split_rules.proofs.SeenBlocks.{block_well}
 
 -- ---- lists
 
@@ -177,11 +178,6 @@ labels_kept labelled principals counts pc_is =
 abbrev ReadsFlow : Labelled → StatementUse → Type 0
 ReadsFlow labelled one = AllByRecursion (λ x. ConfFlows (label_of labelled x) one.used) one.reads
 
-all_both : {X : Type 0} (P : X → Type 0) (xs ys : List X) → AllByRecursion P xs → AllByRecursion P ys →
-    AllByRecursion P (xs ++ ys)
-all_both P [] ys first second = second
-all_both P (x ∷ xs) ys first second = (first.0, all_both P xs ys first.1 second)
-
 variables_flow : (labelled : Labelled) (setting : MethodSetting) (pc to : Label) (exprs : List ExprTree) →
     AllByRecursion (λ label. ConfFlows label to) (flat_map (part_labels setting pc (all_labels labelled)) exprs) →
     AllByRecursion (λ x. ConfFlows (label_of labelled x) to) (flat_map variables_in exprs)
@@ -254,10 +250,6 @@ methods_flow principals labelled (method ∷ methods) =
     )
 
 -- ---- who reads a variable
-
-either_true : (b c : Bool) → (b || c) ≡ true → (b ≡ true) ⊎ (c ≡ true)
-either_true true c is = inl refl
-either_true false c is = inr is
 
 -- one of the reads is of the variable, so its label flows
 read_flows : (labelled : Labelled) (x : VarId) (to : Label) (reads : List VarId) →
@@ -502,12 +494,6 @@ program_well labelled needs hosts plan premises = record {
         (statement_uses hosts.principals labelled)
     all_well = each_there (IsUseWell labelled planned hosts.principals) uses
         (use_well labelled needs hosts plan premises)
-
-abbrev IsMet : Declared → StatementLabels → Type 0
-IsMet principals one = AllByRecursion (Holds principals) one.constraints
-
-abbrev IsKept : Labelled → StatementLabels → Type 0
-IsKept labelled one = pc_of labelled one.statement ≡ one.pc
 
 methods_well : (principals : Declared) (labelled : Labelled) (planned : PlannedShape) →
     ProgramWell labelled planned principals → (final : VariableLabels) → AreFinal labelled final → (place : ℕ)

@@ -28,6 +28,7 @@ use Rattle.split_rules.specs.Walk.{Walked, Around, Lane, lane_on, lane_at, entry
 use Rattle.split_rules.specs.Walk.{expr_emissions, read_emissions, other_readers, send_emissions, pass_emissions}
 use Rattle.split_rules.specs.Walk.{move_emissions, argument_emissions, kept_emissions, call_emissions}
 use Rattle.split_rules.specs.Walk.{result_emissions, block_emissions, walked_in, method_emissions, methods_emissions}
+use Rattle.split_rules.proofs.BackedLabels.{all_both}
 use Rattle.split_rules.proofs.Places.{entries_append}
 use Rattle.split_rules.proofs.WalkedStates.{counts_more}
 use Rattle.split_rules.proofs.WalkedBlocks.{inside_of, branch_front, branch_own, loop_front, loop_own}
@@ -39,11 +40,6 @@ use Rattle.split_rules.proofs.ToldStatements.{ArgumentsWell, EntersWell, BlockTe
 use Rattle.split_rules.proofs.ToldMoves.{SpotSees, AllSee, next_well, lane_sees, move_told, end_told}
 
 -- ---- reads
-
-all_both : {X : Type 0} (P : X → Type 0) (xs ys : List X) → AllByRecursion P xs → AllByRecursion P ys →
-    AllByRecursion P (xs ++ ys)
-all_both P [] ys first second = second
-all_both P (x ∷ xs) ys first second = (first.0, all_both P xs ys first.1 second)
 
 abbrev AreReadWell : Labelled → PlannedShape → HostId → Label → List Reading → Type 0
 AreReadWell labelled planned host pc readings =

@@ -291,7 +291,7 @@ read_off planned first emissions last typed host place position is =
 same_some : {X : Type 0} (one other : X) → Some one ≡ Some other → one ≡ other
 same_some one other same = cc
 
-same_there : {X : Type 0} (list : List X) (number : ℕ) (one other : X) → slice_get list number ≡ Some one →
+pub same_there : {X : Type 0} (list : List X) (number : ℕ) (one other : X) → slice_get list number ≡ Some one →
     slice_get list number ≡ Some other → one ≡ other
 same_there list number one other first second = same_some one other (sym first ∙ second)
 
