@@ -9,3 +9,5 @@ pub mod Named
 pub mod LabelRules
 pub mod WrittenLabels
 pub mod Limits
+pub mod Returns
+pub mod Labelling
