@@ -3,29 +3,31 @@ use Rattle.std.proofs.Common.{◌≡◌, ℕ, zero, suc, ◌+◌, ◌<◌, ◌�
 use Rattle.std.proofs.Common.{if◌then◌else◌, List, [], ◌∷◌, ◌++◌, map, length, Option, Some, None, slice_get, refl, ap}
 use Rattle.std.proofs.Common.{sym, ◌∙◌, subst, arith, rules}
 use Rattle.std.specs.Prelude.{codes}
-use Rattle.std.specs.List.{AllZip, AllByRecursion, flat_map}
+use Rattle.std.specs.List.{AllByRecursion, flat_map}
 use Rattle.std.specs.Str.{bytes_eq}
 use Rattle.std.proofs.lemmas.Bool.{false≢true}
-use Rattle.std.proofs.lemmas.List.{length-append, length-map}
+use Rattle.std.proofs.lemmas.List.{length-append}
 use Rattle.js_base.specs.declared.ids.VarId.{VarId}
 use Rattle.js_base.specs.declared.ids.MethodId.{MethodId}
 use Rattle.principals.specs.ActsFor.{Declared}
-use Rattle.jif_tree.specs.Trees.{VarTree, MethodTree, ProgramTree}
+use Rattle.jif_tree.specs.Trees.{MethodTree, ProgramTree}
 use Rattle.jif_tree.specs.WellNumbered.{is_some, HasVariable, HasOptionalVariable, HasMethod, IsBlockIn, IsMethodIn}
 use Rattle.jif_tree.specs.WellNumbered.{AreMethodsIn, IsWellNumbered}
 use Rattle.jif_grammar.specs.DraftShapes.{LabelShape, ParamShape, MethodShape, DraftShape}
+use Rattle.jif_resolve.specs.AddedVariables.{param_variable, local_variable}
 use Rattle.jif_resolve.specs.Counts.{LocalShape, locals_in}
 use Rattle.jif_resolve.specs.Meanings.{Global, has_result, fields_from, methods_from, globals_of, is_main, main_from}
 use Rattle.jif_resolve.specs.Places.{Setting, Place, after_variable, after_params, head_after, body_place, counted}
 use Rattle.jif_resolve.specs.Places.{variables_in}
 use Rattle.jif_resolve.specs.Faults.{setting_of, method_faults, methods_faults, label_faults, global_faults}
-use Rattle.jif_resolve.specs.Variables.{VariableShape, variables_from, method_variables, result_variables, param_ids}
-use Rattle.jif_resolve.specs.Resolved.{IsVariableFor, IsMethodFor, AreMethodsFor}
+use Rattle.jif_resolve.specs.Variables.{variables_from, method_variables, result_variables, param_ids}
+use Rattle.jif_resolve.specs.Resolved.{IsMethodFor, AreMethodsFor}
 use Rattle.jif_resolve.specs.Verdicts.{IsProgramOf}
 use Rattle.jif_resolve.proofs.HasProgram.{clean_parts}
 use Rattle.jif_resolve.proofs.Meant.{GlobalIs, AreKnownIn, StandsFrom, from_start, head_stands, tail_stands, fields_are}
 use Rattle.jif_resolve.proofs.Meant.{gives_result, methods_are, method_there, both_all}
-use Rattle.jif_resolve.proofs.Numbers.{one_counted}
+use Rattle.jif_resolve.proofs.StandingVariables.{VariablesStand, all_stand, front_stands, variables_long}
+use Rattle.jif_resolve.proofs.StandingVariables.{other_variables}
 use Rattle.jif_resolve.proofs.Usable.{none_in_two, none_in_three, true_or_false}
 use Rattle.jif_resolve.proofs.Within.{HasVariables, block_in}
 
@@ -117,28 +119,22 @@ method_in program own s before method tree gives globals vars none is =
 
 -- ---- the variables of methods
 
-append_front : {X : Type 0} (P : X → Type 0) (xs ys : List X) (k : ℕ) → AllByRecursion P xs → k < length xs →
-    (x : X) × (slice_get (xs ++ ys) k ≡ Some x) × P x
-append_front P [] ys k all less = absurd (let wrong : k < 0 = less in omega arith)
-append_front P (x ∷ xs) ys zero all less = (x, refl, all.0)
-append_front P (x ∷ xs) ys (suc k) all less =
-    append_front P xs ys k all.1 (let more : suc k < length (x ∷ xs) = less in let same : k < length xs = omega arith in same)
-
-append_back : {X : Type 0} (xs ys : List X) (k : ℕ) → slice_get (xs ++ ys) (length xs + k) ≡ slice_get ys k
-append_back [] ys k = let same : 0 + k ≡ k = omega arith in ap (slice_get ys) same
-append_back (x ∷ xs) ys k =
-    let same : length (x ∷ xs) + k ≡ suc (length xs + k) = omega arith in
-    ap (slice_get (x ∷ xs ++ ys)) same ∙ append_back xs ys k
+all_at : {X : Type 0} (P : X → Type 0) (xs : List X) (k : ℕ) → AllByRecursion P xs → k < length xs →
+    (x : X) × (slice_get xs k ≡ Some x) × P x
+all_at P [] k all less = absurd (let wrong : k < 0 = less in omega arith)
+all_at P (x ∷ xs) zero all less = (x, refl, all.0)
+all_at P (x ∷ xs) (suc k) all less =
+    all_at P xs k all.1 (let more : suc k < length (x ∷ xs) = less in let same : k < length xs = omega arith in same)
 
 params_own : (own : MethodId) (params : List ParamShape) →
     AllByRecursion (λ v. v.method ≡ own)
-    (map (λ param. let one : VariableShape = record { method = own; name = param.name.text; label = Some param.label } in one) params)
+    (map (param_variable own) params)
 params_own own [] = tt
 params_own own (param ∷ params) = (refl, params_own own params)
 
 locals_own : (own : MethodId) (locals : List LocalShape) →
     AllByRecursion (λ v. v.method ≡ own)
-    (map (λ local. let one : VariableShape = record { method = own; name = local.name.text; label = local.label } in one) locals)
+    (map (local_variable own) locals)
 locals_own own [] = tt
 locals_own own (local ∷ locals) = (refl, locals_own own locals)
 
@@ -154,73 +150,21 @@ all_own own method =
     (both_all (λ v. v.method ≡ own) _ _ (params_own own method.params) (locals_own own (locals_in method.body)))
     (result_own own method.result)
 
-result_long : (own : MethodId) (result : Option LabelShape) →
-    length (result_variables own result) ≡ (if has_result result then 1 else 0)
-result_long own None = refl
-result_long own (Some label) = refl
-
-variables_long : (own : MethodId) (method : MethodShape) → length (method_variables own method) ≡ variables_in method
-variables_long own method =
-    let param_variable : ParamShape → VariableShape =
-    λ param. record { method = own; name = param.name.text; label = Some param.label } in
-    let local_variable : LocalShape → VariableShape =
-    λ local. record { method = own; name = local.name.text; label = local.label } in
-    let front = map param_variable method.params in
-    let middle = map local_variable (locals_in method.body) in
-    let back = result_variables own method.result in
-    let outer : length (front ++ middle ++ back) ≡ length (front ++ middle) + length back =
-    length-append (front ++ middle) back in
-    let inner : length (front ++ middle) ≡ length front + length middle = length-append front middle in
-    let one : length front ≡ length method.params = length-map method.params param_variable in
-    let two : length middle ≡ length (locals_in method.body) = length-map (locals_in method.body) local_variable in
-    let three : length back ≡ (if has_result method.result then 1 else 0) = result_long own method.result in
-    let last : ℕ = if has_result method.result then 1 else 0 in
-    omega arith
-
--- the variables from this number on are those of the program
-abbrev VariablesStand : ProgramTree → ℕ → List VariableShape → Type 0
-VariablesStand program first variables =
-    (i : ℕ) (v : VariableShape) → slice_get variables i ≡ Some v →
-    (tree : VarTree) × (slice_get program.vars (first + i) ≡ Some tree) × (tree.method ≡ v.method)
-
-zipped_at : (principals : Declared) (variables : List VariableShape) (trees : List VarTree) →
-    AllZip (IsVariableFor principals) variables trees → (i : ℕ) (v : VariableShape) → slice_get variables i ≡ Some v →
-    (tree : VarTree) × (slice_get trees i ≡ Some tree) × (tree.method ≡ v.method)
-zipped_at principals [] trees all i v is = absurd cc
-zipped_at principals (w ∷ ws) [] all i v is = absurd all
-zipped_at principals (w ∷ ws) (t ∷ ts) all zero v is =
-    let same : w ≡ v = cc in (t, refl, all.0.method ∙ ap (λ x. x.method) same)
-zipped_at principals (w ∷ ws) (t ∷ ts) all (suc i) v is = zipped_at principals ws ts all.1 i v is
-
-own_variables : (program : ProgramTree) (own : MethodId) (first : ℕ) (method : MethodShape)
-    (others : List VariableShape) → VariablesStand program first (method_variables own method ++ others) →
+own_variables : (principals : Declared) (program : ProgramTree) (own : MethodId) (first : ℕ) (method : MethodShape) →
+    VariablesStand principals program first (method_variables own method) →
     HasVariables program own first (variables_in method)
-own_variables program own first method others stands k less =
-    let v = append_front (λ v. v.method ≡ own) (method_variables own method) others k (all_own own method)
+own_variables principals program own first method stands k less =
+    let v = all_at (λ v. v.method ≡ own) (method_variables own method) k (all_own own method)
     (let long : length (method_variables own method) ≡ variables_in method = variables_long own method in
     let here : k < length (method_variables own method) = omega arith in here) in
     let tree = stands k v.0 v.1 in
-    (tree.0, tree.1, tree.2 ∙ v.2)
-
-other_variables : (program : ProgramTree) (own : MethodId) (before : List MethodShape) (method : MethodShape)
-    (others : List VariableShape) →
-    VariablesStand program (counted variables_in before) (method_variables own method ++ others) →
-    VariablesStand program (counted variables_in (before ++ method ∷ [])) others
-other_variables program own before method others stands i v is =
-    let mine = method_variables own method in
-    let tree = stands (length mine + i) v (append_back mine others i ∙ is) in
-    let long : length mine ≡ variables_in method = variables_long own method in
-    let more : counted variables_in (before ++ method ∷ []) ≡ counted variables_in before + variables_in method =
-    one_counted variables_in before method in
-    let same : counted variables_in (before ++ method ∷ []) + i ≡ counted variables_in before + (length mine + i) =
-    omega arith in
-    (tree.0, ap (slice_get program.vars) same ∙ tree.1, tree.2)
+    (tree.0, tree.1, tree.2.method ∙ v.2)
 
 -- ---- all methods
 
 methods_in : (program : ProgramTree) (principals : Declared) (globals : List Global) (first : ℕ)
     (before methods : List MethodShape) (trees : List MethodTree) → AllByRecursion (GlobalIs program) globals →
-    VariablesStand program (counted variables_in before) (variables_from first methods) →
+    VariablesStand principals program (counted variables_in before) (variables_from first methods) →
     methods_faults principals globals before methods ≡ [] →
     AreMethodsFor principals globals before methods trees → AreMethodsIn program first trees
 methods_in program principals globals first before [] trees all stands none are =
@@ -234,9 +178,11 @@ methods_in program principals globals first before (method ∷ methods) trees al
     (methods_faults principals globals (before ++ method ∷ []) methods) none in
     subst (AreMethodsIn program first) (sym same) (
       method_in program own s before method t refl all
-          (own_variables program own (counted variables_in before) method others stands) both.0 one,
+          (own_variables principals program own (counted variables_in before) method
+          (front_stands principals program (counted variables_in before) (method_variables own method) others stands))
+          both.0 one,
       methods_in program principals globals (suc first) (before ++ method ∷ []) methods ts all
-          (other_variables program own before method others stands) both.1 behind,
+          (other_variables principals program own before method others stands) both.1 behind,
     )
 
 -- ---- main
@@ -296,12 +242,9 @@ well_numbered principals draft tree is =
     let parts = none_in_three (flat_map (λ global. global_faults globals global.name) globals)
     (flat_map (λ field. label_faults principals field.label) draft.fields)
     (methods_faults principals globals [] draft.methods) is.no_faults in
-    let stands : VariablesStand tree 0 (variables_from 0 draft.methods) =
-    λ i v here. let found = zipped_at principals (variables_from 0 draft.methods) tree.vars is.is_tree.vars i v
-    here in
-    (found.0, from_start tree.vars i found.0 found.1, found.2) in
     record {
-      methods = methods_in tree principals globals 0 [] draft.methods tree.methods all stands parts.2
+      methods = methods_in tree principals globals 0 [] draft.methods tree.methods all
+          (all_stand principals draft tree is) parts.2
           is.is_tree.methods;
       main = main_in tree principals globals 0 [] draft.methods tree.methods tree.main is.is_tree.methods
           (from_start tree.methods) is.is_tree.main;

@@ -1,7 +1,12 @@
 //! Laws of names, for whoever resolves programs. The calls do nothing.
 
-ghost use Rattle.std.specs.Prelude.{◌≡◌, ◌⊎◌, ◌<◌, [], ◌∷◌, Some, None, codes, length, All, List};
+ghost use Rattle.std.specs.Prelude.{◌≡◌, ◌⊎◌, ◌<◌, true, [], ◌∷◌, Some, None, codes, length, All, List};
 ghost use Rattle.principals.specs.ActsFor.{Declared, IsDeclared};
+ghost use Rattle.label_lattice.specs.Over.{TrustsOver};
+ghost use Rattle.label_lattice.specs.declared.label.TheConstants.{READERS};
+ghost use Rattle.jif_tree.specs.LabelRules.{declared_labels};
+ghost use Rattle.jif_tree.specs.Labelling.{AreLabelledMethods};
+ghost use Rattle.jif_tree.specs.Returns.{ReturnsLast};
 ghost use Rattle.jif_tree.specs.Trees.{ProgramTree};
 ghost use Rattle.jif_tree.specs.WellNumbered.{IsWellNumbered};
 ghost use Rattle.jif_lex.specs.declared.token.Token.{Token};
@@ -59,6 +64,24 @@ pub fn size_laws()
 /// a method returns.
 pub fn limit_laws()
     ensures limited { (list : List Token) (draft : DraftShape) → grammar.IsProgramOf list draft → IsLimited draft }
+{}
+
+/// What typed code asks of a program beside the label check and a plan. The draft keeps the limits of the parser.
+pub fn labelling_laws()
+    // A `return` stands last in a body, and in no block inside it.
+    ensures returns { (principals : Declared) (draft : DraftShape) (tree : ProgramTree) →
+        IsLimited draft → IsProgramOf principals draft tree →
+        All (λ method. ReturnsLast true method.body) tree.methods }
+    // Those who trust a begin label are declared, and with each of them all trust it for whom it acts.
+    ensures begins { (principals : Declared) (draft : DraftShape) (tree : ProgramTree) →
+        IsProgramOf principals draft tree → All (λ method. TrustsOver principals method.begin) tree.methods }
+    ensures readers { (principals : Declared) (draft : DraftShape) (tree : ProgramTree) →
+        IsDeclared principals → IsProgramOf principals draft tree →
+        All (λ method. All (λ member. member.0 < READERS) method.authority) tree.methods }
+    // All of these, and parameters, results and what keeps a result have labels where they are set.
+    ensures labelled { (principals : Declared) (draft : DraftShape) (tree : ProgramTree) →
+        IsDeclared principals → IsLimited draft → IsProgramOf principals draft tree →
+        AreLabelledMethods principals tree (declared_labels tree) tree.methods }
 {}
 
 /// The fault that is found one by one is the first, and none is found where there is none.

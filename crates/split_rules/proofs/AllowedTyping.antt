@@ -25,6 +25,8 @@ use Rattle.jif_tree.specs.LabelRules.{Holds, Constraint, Obligation, obligations
 use Rattle.jif_tree.specs.LabelRules.{labels_after_methods, program_labels, declared_labels, method_at, field_label}
 use Rattle.jif_tree.specs.LabelRules.{begin_label, params_of}
 use Rattle.jif_tree.specs.WellNumbered.{AreMethodsIn, is_some}
+use Rattle.jif_tree.specs.Labelling.{AreLabelledMethods}
+use Rattle.jif_tree.proofs.LabelsKept.{Stay, stay_same, stay_then, block_stays}
 use Rattle.need_labels.specs.Labelled.{Labelled}
 use Rattle.need_labels.specs.Needs.{NeedsShape, Backing, for_label, Backs, StatementUse, all_backing, block_uses}
 use Rattle.need_labels.specs.Needs.{method_uses, statement_uses, IsNeed, statement_use, label_of, labels_of}
@@ -35,12 +37,12 @@ use Rattle.need_labels.proofs.Ordered.{use_numbered}
 use Rattle.msg_cost.specs.Moves.{PlannedShape, planned_of, is_trusted_for}
 use Rattle.msg_cost.proofs.Trusted.{test_decides}
 use Rattle.split_rules.specs.Positions.{statements_of, number_of, run, all_due}
-use Rattle.split_rules.specs.Allowed.{AreLabelledMethods, IsTrustedHost, IsAllowed}
+use Rattle.split_rules.specs.Allowed.{IsTrustedHost, IsAllowed}
 use Rattle.split_rules.specs.Typable.{IsTrustedThere, IsTrustedInside, AreTrusted, IsTypableMethod, IsTypable}
 use Rattle.split_rules.specs.Typing.{AreDueOn, Covers, body_of}
 use Rattle.split_rules.specs.Walk.{need_of}
 use Rattle.split_rules.proofs.BackedLabels.{all_first, all_second, AreMet, IsUnder, block_backed}
-use Rattle.split_rules.proofs.LabelsKept.{Stay, stay_same, stay_then, block_stays, AreFinal}
+use Rattle.split_rules.proofs.LabelsKept.{AreFinal}
 use Rattle.split_rules.proofs.WalkedCalls.{nothing_there}
 
 -- ---- lists

@@ -27,13 +27,13 @@ use Rattle.jif_tree.specs.Trees.{ExprTree, number, local, scalar, element, inver
 use Rattle.jif_tree.specs.Trees.{endorsed, BlockTree, done, set_local, set_field, set_element, branch, loop}
 use Rattle.jif_tree.specs.Trees.{call, give_back, MethodTree, ProgramTree}
 use Rattle.jif_tree.specs.WellNumbered.{HasVariable, IsBlockIn, is_some}
+use Rattle.jif_tree.specs.Labelling.{IsLabelled, IsLabelledIfAny, AreLabelled}
+use Rattle.jif_tree.proofs.LabelsKept.{Stay, stay_then, assignment_stays, block_stays, assigned_labelled}
 use Rattle.need_labels.specs.Labelled.{Labelled}
 use Rattle.need_labels.specs.Needs.{Backing, for_label, for_release, Backs, releases, for_releases, label_of, labels_of}
 use Rattle.need_labels.specs.Needs.{all_backing, StatementUse, statement_use, block_uses, kept_result}
 use Rattle.need_labels.proofs.Somewhere.{any_first, any_none, any_either}
-use Rattle.split_rules.specs.Allowed.{IsLabelled, IsLabelledIfAny, AreLabelled}
-use Rattle.split_rules.proofs.LabelsKept.{Stay, stay_then, assignment_stays, block_stays, AreFinal, label_there}
-use Rattle.split_rules.proofs.LabelsKept.{assigned_labelled}
+use Rattle.split_rules.proofs.LabelsKept.{AreFinal, label_there}
 
 -- ---- lists
 

@@ -27,12 +27,13 @@ use Rattle.need_labels.specs.Needs.{StatementUse, statement_use, block_uses, Tel
 use Rattle.need_labels.specs.Needs.{Backing, for_releases, label_of, labels_of, kept_result}
 use Rattle.need_labels.specs.Plan.{statement_host, field_host}
 use Rattle.msg_cost.specs.Moves.{PlannedShape, home_of}
-use Rattle.split_rules.specs.Allowed.{IsLabelled, IsLabelledIfAny, AreLabelled, IsTrustedHost}
-use Rattle.split_rules.specs.Held.{HasLabels, AreGuardsLabelled}
+use Rattle.jif_tree.specs.Labelling.{IsLabelled, IsLabelledIfAny, AreLabelled}
+use Rattle.jif_tree.specs.GuardLabels.{IsExprLabelled, AreGuardsLabelled}
+use Rattle.jif_tree.proofs.LabelsKept.{Stay, stay_then, assignment_stays, block_stays, assigned_labelled}
+use Rattle.split_rules.specs.Allowed.{IsTrustedHost}
 use Rattle.split_rules.specs.Walk.{need_of}
 use Rattle.split_rules.proofs.BackedLabels.{all_first, all_second, all_both, AreMet, variable_found}
-use Rattle.split_rules.proofs.LabelsKept.{Stay, stay_then, assignment_stays, block_stays, AreFinal, label_there}
-use Rattle.split_rules.proofs.LabelsKept.{assigned_labelled}
+use Rattle.split_rules.proofs.LabelsKept.{AreFinal, label_there}
 use Rattle.split_rules.proofs.AllowedTyping.{IsNeeded}
 use Rattle.split_rules.proofs.ToldEmissions.{Sees, Affects, PutsWell}
 use Rattle.split_rules.proofs.ToldStatements.{ExprReadsWell, ReadersSee, GivesWell, KeepsWell, AnswersWell}
@@ -154,11 +155,11 @@ expr_reads_well principals labelled planned tree method host pc (endorsed operan
 
 -- a guard whose variables have labels has the same label behind the whole program
 guard_same : (labelled : Labelled) (setting : MethodSetting) (pc : Label) (labels final : VariableLabels) →
-    AreFinal labelled final → Stay labels final → (expr : ExprTree) → HasLabels labels expr →
+    AreFinal labelled final → Stay labels final → (expr : ExprTree) → IsExprLabelled labels expr →
     expr_label setting pc labels expr ≡ expr_label setting pc (all_labels labelled) expr
 guard_same labelled setting pc labels final are stay (number value) has = refl
 guard_same labelled setting pc labels final are stay (local x) has =
-    sym (label_there labelled labels final are stay x has.0)
+    sym (label_there labelled labels final are stay x has)
 guard_same labelled setting pc labels final are stay (scalar field) has = refl
 guard_same labelled setting pc labels final are stay (element field index) has =
     ap (λ label. join_of (field_label setting.program field) label)
@@ -168,12 +169,10 @@ guard_same labelled setting pc labels final are stay (inverted operand) has =
 guard_same labelled setting pc labels final are stay (negated operand) has =
     guard_same labelled setting pc labels final are stay operand has
 guard_same labelled setting pc labels final are stay (binary operator left right) has =
-    let one = all_first (IsLabelled labels) (variables_in left) (variables_in right) has in
-    let two = all_second (IsLabelled labels) (variables_in left) (variables_in right) has in
     ap (λ label. join_of label (expr_label setting pc labels right))
-    (guard_same labelled setting pc labels final are stay left one)
+    (guard_same labelled setting pc labels final are stay left has.0)
     ∙ ap (λ label. join_of (expr_label setting pc (all_labels labelled) left) label)
-    (guard_same labelled setting pc labels final are stay right two)
+    (guard_same labelled setting pc labels final are stay right has.1)
 guard_same labelled setting pc labels final are stay (declassified operand label) has =
     ap (λ it. crossed (join_of label pc) it) (guard_same labelled setting pc labels final are stay operand has)
 guard_same labelled setting pc labels final are stay (endorsed operand label) has =

@@ -36,8 +36,11 @@ use Rattle.need_labels.specs.Plan.{PlanShape, first_host, statement_host, field_
 use Rattle.need_labels.proofs.Ordered.{use_numbered}
 use Rattle.need_labels.proofs.Somewhere.{any_first, any_none}
 use Rattle.msg_cost.specs.Moves.{PlannedShape, planned_of}
-use Rattle.split_rules.specs.Allowed.{AreLabelledMethods, IsAllowed, IsTrustedHost}
-use Rattle.split_rules.specs.Held.{AreAllGuardsLabelled, HoldsField, HoldsStatement, IsHeld}
+use Rattle.jif_tree.specs.Labelling.{AreLabelledMethods}
+use Rattle.jif_tree.specs.GuardLabels.{AreAllGuardsLabelled}
+use Rattle.jif_tree.proofs.LabelsKept.{block_stays, Stay}
+use Rattle.split_rules.specs.Allowed.{IsAllowed, IsTrustedHost}
+use Rattle.split_rules.specs.Held.{HoldsField, HoldsStatement, IsHeld}
 use Rattle.split_rules.specs.Splittable.{IsSplittable}
 use Rattle.split_rules.specs.Walk.{need_of}
 use Rattle.split_rules.proofs.Places.{same_host}
@@ -46,7 +49,7 @@ use Rattle.split_rules.proofs.WalkedCalls.{nothing_there}
 use Rattle.split_rules.proofs.WalkedPrograms.{method_there}
 use Rattle.split_rules.proofs.SoundInstructions.{mapped}
 use Rattle.split_rules.proofs.BackedLabels.{all_first, all_second, all_both, AreMet, either_true}
-use Rattle.split_rules.proofs.LabelsKept.{block_stays, Stay, AreFinal}
+use Rattle.split_rules.proofs.LabelsKept.{AreFinal}
 use Rattle.split_rules.proofs.AllowedTyping.{by_recursion, each_there, zipped_there, met_from, use_needed, methods_stay}
 use Rattle.split_rules.proofs.ToldEmissions.{Sees, Affects}
 use Rattle.split_rules.proofs.ToldWalks.{MethodTellsWell}

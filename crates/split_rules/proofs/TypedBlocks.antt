@@ -10,6 +10,7 @@ use Rattle.jif_tree.specs.Trees.{ExprTree, Heading, BlockTree, done, set_local, 
 use Rattle.jif_tree.specs.Trees.{call, give_back, ProgramTree, MethodTree}
 use Rattle.jif_tree.specs.LabelRules.{method_at, result_of}
 use Rattle.jif_tree.specs.WellNumbered.{IsBlockIn, is_some}
+use Rattle.jif_tree.specs.Returns.{ReturnsLast}
 use Rattle.host_code.specs.declared.instruction.Op.TheVariants as op
 use Rattle.need_labels.specs.Plan.{statement_host}
 use Rattle.msg_cost.specs.declared.spot.Spot.{Spot}
@@ -19,7 +20,7 @@ use Rattle.split_rules.specs.Walk.{Walked, Around, Lane, lane_on, lane_at, under
 use Rattle.split_rules.specs.Walk.{move_emissions, end_emissions, result_emissions, call_emissions, block_emissions}
 use Rattle.split_rules.specs.Positions.{statements_of, number_of, is_on, run, Level, body, under, Position, calm}
 use Rattle.split_rules.specs.Positions.{all_due, due_numbers, row_of, Entrance}
-use Rattle.split_rules.specs.Typable.{IsTrustedInside, ReturnsLast, AreTrusted}
+use Rattle.split_rules.specs.Typable.{IsTrustedInside, AreTrusted}
 use Rattle.split_rules.specs.Typing.{body_of, nowhere, here, Known, AreTyped, AreDueOn}
 use Rattle.split_rules.specs.TypedCode.{AreMethodEntries}
 use Rattle.split_rules.proofs.Places.{same_host}

@@ -1,27 +1,16 @@
 -- What is asked of a program and a plan so that their split code is typed.
-use Rattle.std.specs.Prelude.{◌≡◌, Bool, true, false, [], ◌∷◌, ⊤}
+use Rattle.std.specs.Prelude.{◌≡◌, true, [], ◌∷◌, ⊤}
 use Rattle.std.specs.List.{AllByRecursion}
 use Rattle.js_base.specs.declared.ids.StmtId.{StmtId}
 use Rattle.jif_tree.specs.Trees.{BlockTree, done, set_local, set_field, set_element, branch, loop, call, give_back}
 use Rattle.jif_tree.specs.Trees.{MethodTree}
 use Rattle.jif_tree.specs.LabelRules.{method_at}
+use Rattle.jif_tree.specs.Returns.{ReturnsLast}
 use Rattle.need_labels.specs.Plan.{statement_host}
 use Rattle.msg_cost.specs.Moves.{PlannedShape, is_trusted_for}
 use Rattle.split_rules.specs.Positions.{all_due}
 use Rattle.split_rules.specs.Typing.{AreDueOn, Covers, body_of}
 use Rattle.split_rules.specs.Walk.{need_of}
-
--- A `return` is the last statement of a body, and stands in no block inside it.
-abbrev pub ReturnsLast : Bool → BlockTree → Type 0
-ReturnsLast may done = ⊤
-ReturnsLast may (set_local heading x value rest) = ReturnsLast may rest
-ReturnsLast may (set_field heading field value rest) = ReturnsLast may rest
-ReturnsLast may (set_element heading field index value rest) = ReturnsLast may rest
-ReturnsLast may (branch heading guard first second rest) =
-    ReturnsLast false first × ReturnsLast false second × ReturnsLast may rest
-ReturnsLast may (loop heading guard inner rest) = ReturnsLast false inner × ReturnsLast may rest
-ReturnsLast may (call heading site method arguments into rest) = ReturnsLast may rest
-ReturnsLast may (give_back heading value rest) = (may ≡ true) × (rest ≡ done)
 
 -- the host of a statement is trusted for it
 abbrev pub IsTrustedThere : PlannedShape → StmtId → Type 0
