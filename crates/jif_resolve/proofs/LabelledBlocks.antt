@@ -67,7 +67,7 @@ meaning_no_local (Some global) is = is
 abbrev pub AreKnownLabelled : VariableLabels → List Known → Type 0
 AreKnownLabelled labels known = AllByRecursion (λ local. IsLabelled labels local.variable) known
 
-known_later : (labels later : VariableLabels) → Stay labels later → (known : List Known) →
+pub known_later : (labels later : VariableLabels) → Stay labels later → (known : List Known) →
     AreKnownLabelled labels known → AreKnownLabelled later known
 known_later labels later stay [] all = tt
 known_later labels later stay (local ∷ known) all =
@@ -86,7 +86,7 @@ either_labelled : (labels : VariableLabels) (variable : Option VarId) (global : 
 either_labelled labels None global is none = subst (IsLabelledIfAny labels) (sym none) tt
 either_labelled labels (Some variable) global is none = is
 
-meaning_labelled : (labels : VariableLabels) (s : Setting) (p : Place) → AllByRecursion IsNoLocal s.globals →
+pub meaning_labelled : (labels : VariableLabels) (s : Setting) (p : Place) → AllByRecursion IsNoLocal s.globals →
     AreKnownLabelled labels p.known → (name : List ℕ) → IsLabelledIfAny labels (local_of (meaning_at s p name))
 meaning_labelled labels s p globals known name =
     either_labelled labels (known_variable p.known name) (global_meaning s.globals name)
@@ -144,7 +144,7 @@ called_labelled program (method ∷ methods) zero all = all.0.0
 called_labelled program (method ∷ methods) (suc k) all = called_labelled program methods k all.1
 
 -- a variable of the program has a place among the labels, whether it has a label or not
-place_of_label : (program : ProgramTree) (own : MethodId) (labels : VariableLabels) →
+pub place_of_label : (program : ProgramTree) (own : MethodId) (labels : VariableLabels) →
     Stay (declared_labels program) labels → (x : VarId) → HasVariable program own x →
     (found : Option Label) × (slice_get labels x.0 ≡ Some found)
 place_of_label program own labels stay x (tree, there, of) =
@@ -173,7 +173,7 @@ assigned_are_labelled setting pc labels heading (Some (sense.Array field)) value
 assigned_are_labelled setting pc labels heading (Some (sense.Method method params gives)) value rest tree made behind =
     absurd cc
 
-rest_in : (program : ProgramTree) (own : MethodId) (gives : Bool) (heading : Heading) (means : Option Meaning)
+pub rest_in : (program : ProgramTree) (own : MethodId) (gives : Bool) (heading : Heading) (means : Option Meaning)
     (value : ExprTree) (rest tree : BlockTree) → assignment_tree heading means value rest ≡ Some tree →
     IsBlockIn program own gives tree → IsBlockIn program own gives rest
 rest_in program own gives heading None value rest tree made is = absurd cc

@@ -47,7 +47,7 @@ methods_no_locals : (number : ℕ) (methods : List MethodShape) → AllByRecursi
 methods_no_locals number [] = tt
 methods_no_locals number (method ∷ methods) = (refl, methods_no_locals (suc number) methods)
 
-no_locals : (draft : DraftShape) → AllByRecursion IsNoLocal (globals_of draft)
+pub no_locals : (draft : DraftShape) → AllByRecursion IsNoLocal (globals_of draft)
 no_locals draft =
     both_all IsNoLocal (fields_from 0 draft.fields) (methods_from 0 draft.methods) (fields_no_locals 0 draft.fields)
     (methods_no_locals 0 draft.methods)

@@ -12,6 +12,7 @@ mod GlobalLists
 mod HasProgram
 mod KnownLists
 mod LabelledBlocks
+mod LabelledGuards
 mod LabelledPrograms
 mod Limited
 mod Meant

@@ -6,6 +6,7 @@ ghost use Rattle.label_lattice.specs.Over.{TrustsOver};
 ghost use Rattle.label_lattice.specs.declared.label.TheConstants.{READERS};
 ghost use Rattle.jif_tree.specs.LabelRules.{declared_labels};
 ghost use Rattle.jif_tree.specs.Labelling.{AreLabelledMethods};
+ghost use Rattle.jif_tree.specs.GuardLabels.{AreAllGuardsLabelled};
 ghost use Rattle.jif_tree.specs.Returns.{ReturnsLast};
 ghost use Rattle.jif_tree.specs.Trees.{ProgramTree};
 ghost use Rattle.jif_tree.specs.WellNumbered.{IsWellNumbered};
@@ -82,6 +83,10 @@ pub fn labelling_laws()
     ensures labelled { (principals : Declared) (draft : DraftShape) (tree : ProgramTree) →
         IsDeclared principals → IsLimited draft → IsProgramOf principals draft tree →
         AreLabelledMethods principals tree (declared_labels tree) tree.methods }
+    // Each variable that a guard reads has a label where the guard stands.
+    ensures guards { (principals : Declared) (draft : DraftShape) (tree : ProgramTree) →
+        IsProgramOf principals draft tree →
+        AreAllGuardsLabelled principals tree (declared_labels tree) tree.methods }
 {}
 
 /// The fault that is found one by one is the first, and none is found where there is none.
