@@ -1,0 +1,13 @@
+pub mod TreeValues
+pub mod StraightCode
+pub mod Simulates
+pub mod Instructions
+pub mod Moved
+pub mod Rows
+pub mod Kept
+pub mod Turns
+pub mod Takes
+pub mod Events
+pub mod Starts
+pub mod Tracks
+pub mod Obeyed

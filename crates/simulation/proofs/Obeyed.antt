@@ -1,0 +1,148 @@
+-- The laws of hosts that all obey: every event keeps that the world stands for a configuration of the plain run.
+use Rattle.std.proofs.Common.{◌≡◌, ℕ, suc, ◌<◌, inl, inr, List, Some, refl}
+use Rattle.std.proofs.Common.{subst, arith}
+use Rattle.std.specs.Prelude.{ℤ}
+use Rattle.std.proofs.lemmas.Bool.{cases_eq}
+use Rattle.js_base.specs.declared.ids.HostId.{HostId}
+use Rattle.host_decl.specs.Hosts.{HostsShape}
+use Rattle.event_text.specs.declared.event.Event.{Event}
+use Rattle.host_core.specs.Host.{HostShape}
+use Rattle.jif_tree.specs.declared.program.Program.{Program}
+use Rattle.jif_tree.specs.SourceRun.{IsAtEnd, prefix}
+use Rattle.need_labels.specs.Labelled.{Labelled}
+use Rattle.need_labels.specs.Needs.{NeedsShape}
+use Rattle.need_labels.specs.Plan.{PlanShape}
+use Rattle.msg_cost.specs.Moves.{planned_of}
+use Rattle.net_world.specs.Choice.{NoneRuns, NothingFlies}
+use Rattle.net_world.specs.World.{WorldShape, IsRun, world_at_start, state_at, has_halted}
+use Rattle.split_rules.specs.SplitCode.{split_code}
+use Rattle.split_rules.specs.Splittable.{IsSplittable}
+use Rattle.split_rules.specs.Typable.{IsTypable}
+use Rattle.split_rules.specs.TypedCode.{Table, IsTypedCode}
+use Rattle.simulation.specs.Obeying.{IsSet, Follows}
+use Rattle.simulation.proofs.StraightCode.{straight_code}
+use Rattle.simulation.proofs.Simulates.{Split, Simulates}
+use Rattle.simulation.proofs.Starts.{simulates_at_start}
+use Rattle.simulation.proofs.Events.{event_kept, halted_at_end, idle_halted}
+use Rattle.simulation.proofs.Tracks.{IsKept, Tracks, track, track_end}
+
+-- ---- a split program
+
+-- a typed code of a program that is set
+unfoldable pub typed_split : (program : Program) (labelled : Labelled) (needs : NeedsShape) (hosts : HostsShape)
+    (plan : PlanShape) → IsSet program labelled needs hosts plan → (table : Table) →
+    IsTypedCode (planned_of labelled needs hosts plan) (split_code labelled needs hosts plan) table → Split
+typed_split program labelled needs hosts plan set table typed = record {
+  program = program;
+  planned = planned_of labelled needs hosts plan;
+  code = split_code labelled needs hosts plan;
+  table = table;
+  typed = typed;
+  sound = set.sound;
+  granted = set.granted;
+  plain = straight_code labelled needs hosts plan set.straight;
+  is = set.is;
+  main_tree = set.splittable.numbered.main.0;
+  has_main = set.splittable.numbered.main.1;
+  main_entry = refl;
+}
+
+-- ---- along events
+
+-- the world stands for the plain run after so many steps, and the run was not at its end before
+record Stands (split : Split) (store : List (List ℤ)) (world : WorldShape) (n : ℕ) : Type 0 where
+  simulates : Simulates split (prefix split.program store n) world
+  not_before : (m : ℕ) → m < n → ¬ IsAtEnd (prefix split.program store m)
+
+not_at_end : (split : Split) (store : List (List ℤ)) (n : ℕ) →
+    ((m : ℕ) → m < n → ¬ IsAtEnd (prefix split.program store m)) → ¬ IsAtEnd (prefix split.program store n) →
+    (m : ℕ) → m < suc n → ¬ IsAtEnd (prefix split.program store m)
+not_at_end split store n before now m within ends = elim (cases_eq m n) [
+  | inl same ↦ now (subst (λ k. IsAtEnd (prefix split.program store k)) same ends)
+  | inr other ↦ before m (omega arith) ends
+]
+
+kept : (split : Split) (store : List (List ℤ)) → IsKept split.code (Stands split store)
+kept split store world after n event stands step =
+    elim (event_kept split (prefix split.program store n) world after event stands.simulates step) [
+      | inl same ↦ (n, omega arith, record { simulates = same; not_before = stands.not_before })
+      | inr next ↦ (
+        suc n,
+        omega arith,
+        record {
+          simulates = next.1;
+          not_before = not_at_end split store n stands.not_before next.0;
+        },
+      )
+    ]
+
+module _ (split : Split) (store : List (List ℤ)) (hosts : HostsShape)
+    (start : Simulates split (prefix split.program store 0) (world_at_start split.code hosts.hosts 0 store))
+    (events : List Event) (world : WorldShape)
+    (ran : IsRun split.code (world_at_start split.code hosts.hosts 0 store) events world) where
+  tracked : Tracks split.code (Stands split store) (world_at_start split.code hosts.hosts 0 store) 0 events
+  tracked =
+      track split.code (Stands split store) (kept split store) events
+      (world_at_start split.code hosts.hosts 0 store) world 0
+      (record { simulates = start; not_before = λ m within ends. omega arith }) ran
+
+  at_end : (n : ℕ) × Stands split store world n
+  at_end =
+      track_end split.code (Stands split store) (world_at_start split.code hosts.hosts 0 store) world 0 events tracked ran
+
+  pub follows : Follows split.program split.code hosts.hosts store events
+  follows = record {
+    steps = tracked.steps;
+    moments = tracked.moments;
+    first = tracked.first;
+    rising = tracked.rising;
+    fields = λ moment after within is. (tracked.holds moment after within is).simulates.fields;
+    halted = λ moment after within is halts.
+        let stands = tracked.holds moment after within is in
+        record {
+          ends = halted_at_end split _ after stands.simulates halts;
+          not_before = stands.not_before;
+        };
+  }
+
+  pub idle : NoneRuns world → NothingFlies world → has_halted split.code.root world
+  idle none nothing = idle_halted split _ world at_end.1.simulates none nothing
+
+  pub none_ignored : (host : HostId) (state : HostShape) → state_at world host ≡ Some state → state.ignored ≡ 0
+  none_ignored host state is = at_end.1.simulates.orderly.ignored host state is
+
+-- ---- the laws
+
+-- a law of the splitting: the code of a program that can be split is typed
+abbrev pub GivesTables : Type 0
+GivesTables = (labelled : Labelled) (needs : NeedsShape) (hosts : HostsShape) (plan : PlanShape) →
+    let planned = planned_of labelled needs hosts plan in
+    IsSplittable labelled hosts plan → IsTypable planned →
+    (table : Table) × IsTypedCode planned (split_code labelled needs hosts plan) table
+
+module _ (gives : GivesTables) (program : Program) (labelled : Labelled) (needs : NeedsShape) (hosts : HostsShape)
+    (plan : PlanShape) (store : List (List ℤ)) (events : List Event) (world : WorldShape)
+    (set : IsSet program labelled needs hosts plan)
+    (ran : IsRun (split_code labelled needs hosts plan)
+    (world_at_start (split_code labelled needs hosts plan) hosts.hosts 0 store) events world) where
+  split : Split
+  split =
+      let typed = gives labelled needs hosts plan set.splittable set.typable in
+      typed_split program labelled needs hosts plan set typed.0 typed.1
+
+  start : Simulates split (prefix program store 0)
+      (world_at_start (split_code labelled needs hosts plan) hosts.hosts 0 store)
+  unfolding split typed_split
+  start = simulates_at_start split store hosts.hosts refl
+
+  pub fields_follow : Follows program (split_code labelled needs hosts plan) hosts.hosts store events
+  unfolding split typed_split
+  fields_follow = follows split store hosts start events world ran
+
+  pub idle_ends : NoneRuns world → NothingFlies world → has_halted (split_code labelled needs hosts plan).root world
+  unfolding split typed_split
+  idle_ends = idle split store hosts start events world ran
+
+  pub nothing_ignored : (host : HostId) (state : HostShape) → state_at world host ≡ Some state → state.ignored ≡ 0
+  unfolding split typed_split
+  nothing_ignored = none_ignored split store hosts start events world ran

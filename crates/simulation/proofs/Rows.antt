@@ -1,0 +1,105 @@
+-- Rows of fields: that of a host after a step is that of the store after the same.
+use Rattle.std.proofs.Common.{◌≡◌, ◌≢◌, ◌∙◌, ℕ, zero, suc, inl, inr, List, [], ◌∷◌, Option, Some, refl, ap}
+use Rattle.std.proofs.Common.{sym, subst}
+use Rattle.std.specs.Prelude.{ℤ, pos, negsuc, slice_get, slice_set, unwrap_or}
+use Rattle.std.proofs.lemmas.Bool.Decides.{eqb_tells}
+use Rattle.js_base.specs.declared.ids.HostId.{HostId}
+use Rattle.js_base.specs.declared.ids.FieldId.{FieldId}
+use Rattle.jif_tree.specs.Store.{row_of, with_element, store_after_write}
+use Rattle.host_code.specs.Code.{CodeShape, CodeFieldShape, field_at}
+use Rattle.host_core.specs.Host.{HostShape}
+use Rattle.net_world.specs.Flying.{Flying}
+use Rattle.net_world.specs.World.{WorldShape, state_at}
+use Rattle.net_world.proofs.Present.{get_other}
+use Rattle.simulation.specs.Obeying.{FieldsAre}
+use Rattle.simulation.proofs.Simulates.{IsFieldOn}
+use Rattle.simulation.proofs.Moved.{Moved, either}
+
+no_element : (index value : ℤ) → with_element [] index value ≡ []
+no_element (pos index) value = refl
+no_element (negsuc below) value = refl
+
+row_set : (store : List (List ℤ)) (field : ℕ) (make : List ℤ → List ℤ) → make [] ≡ [] →
+    row_of (slice_set store field (make (row_of store field))) field ≡ make (row_of store field)
+row_set [] field make none = sym none
+row_set (row ∷ store) zero make none = refl
+row_set (row ∷ store) (suc field) make none = row_set store field make none
+
+pub row_written : (store : List (List ℤ)) (field : ℕ) (index value : ℤ) →
+    row_of (store_after_write store field index value) field ≡ with_element (row_of store field) index value
+row_written store field index value =
+    row_set store field (λ row. with_element row index value) (no_element index value)
+
+pub row_kept : (store : List (List ℤ)) (field : ℕ) (index value : ℤ) (other : ℕ) → other ≢ field →
+    row_of (store_after_write store field index value) other ≡ row_of store other
+row_kept store field index value other apart =
+    ap (λ o. unwrap_or o []) (get_other store field other (with_element (row_of store field) index value) apart)
+
+-- equal rows stay equal where the same is written in both
+pub same_written : (one store : List (List ℤ)) (field : ℕ) (index value : ℤ) (number : ℕ) →
+    row_of one number ≡ row_of store number →
+    row_of (store_after_write one field index value) number ≡ row_of (store_after_write store field index value) number
+same_written one store field index value number same = elim (eqb_tells number field) [
+  | inl is ↦
+      let at = is.1 in
+      let here : row_of one field ≡ row_of store field =
+      subst (λ n. row_of one n ≡ row_of store n) at same in
+      subst (λ n. row_of (store_after_write one field index value) n
+      ≡ row_of (store_after_write store field index value) n) (sym at)
+      (row_written one field index value ∙ ap (λ row. with_element row index value) here
+      ∙ sym (row_written store field index value))
+  | inr apart ↦ row_kept one field index value number apart.1 ∙ same
+      ∙ sym (row_kept store field index value number apart.1)
+]
+
+-- ---- fields of a world
+
+-- what each field has after a step of a host
+pub fields_moved : (code : CodeShape) (world after : WorldShape) (host : HostId) (old state : HostShape)
+    (flying : Flying) (store now : List (List ℤ)) → FieldsAre code world store → state_at world host ≡ Some old →
+    Moved world host state flying after →
+    ((number : ℕ) → row_of old.rows number ≡ row_of store number → row_of state.rows number ≡ row_of now number) →
+    ((number : ℕ) (field : CodeFieldShape) → slice_get code.fields number ≡ Some field → field.host.0 ≢ host.0 →
+    row_of now number ≡ row_of store number) →
+    FieldsAre code after now
+fields_moved code world after host old state flying store now fields obeys moved own others number field there is obeyed =
+    elim (either world after host old state flying obeys moved field.host there obeyed) [
+      | inl mover ↦
+          ap (λ (s : HostShape). row_of s.rows number) mover.is
+          ∙ own number (fields number field old is (ap (state_at world) mover.same ∙ obeys))
+      | inr other ↦ fields number field there is other.obeys ∙ sym (others number field is other.apart)
+    ]
+
+-- a step that writes no field
+pub fields_same : (code : CodeShape) (world after : WorldShape) (host : HostId) (old state : HostShape)
+    (flying : Flying) (store : List (List ℤ)) → FieldsAre code world store → state_at world host ≡ Some old →
+    Moved world host state flying after → state.rows ≡ old.rows → FieldsAre code after store
+fields_same code world after host old state flying store fields obeys moved rows =
+    fields_moved code world after host old state flying store store fields obeys moved
+    (λ number same. ap (λ list. row_of list number) rows ∙ same) (λ number field is apart. refl)
+
+some_same : {X : Type 0} (o : Option X) (x y : X) → o ≡ Some x → o ≡ Some y → x ≡ y
+some_same o x y first second = let both : Some x ≡ Some y = sym first ∙ second in cc
+
+-- a step that writes a field of the host
+pub fields_written : (code : CodeShape) (world after : WorldShape) (host : HostId) (old state : HostShape)
+    (flying : Flying) (store : List (List ℤ)) (field : FieldId) (index value : ℤ) → FieldsAre code world store →
+    state_at world host ≡ Some old → Moved world host state flying after → IsFieldOn code field host →
+    state.rows ≡ store_after_write old.rows field.0 index value →
+    FieldsAre code after (store_after_write store field.0 index value)
+fields_written code world after host old state flying store field index value fields obeys moved on rows =
+    fields_moved code world after host old state flying store (store_after_write store field.0 index value) fields obeys
+    moved
+    (λ number same. ap (λ list. row_of list number) rows
+    ∙ same_written old.rows store field.0 index value number same)
+    (λ number other is apart. row_kept store field.0 index value number
+    (λ at. apart (ap (λ (f : CodeFieldShape). f.host.0)
+    (some_same (field_at code field) other on.there (ap (slice_get code.fields) (sym at) ∙ is) on.is)
+    ∙ ap (λ (h : HostId). h.0) on.on_host)))
+
+-- the row of a field on its host
+pub row_there : (code : CodeShape) (world : WorldShape) (host : HostId) (state : HostShape) (store : List (List ℤ))
+    (field : FieldId) → FieldsAre code world store → state_at world host ≡ Some state → IsFieldOn code field host →
+    row_of state.rows field.0 ≡ row_of store field.0
+row_there code world host state store field fields obeys on =
+    fields field.0 on.there state on.is (ap (state_at world) on.on_host ∙ obeys)

@@ -1,0 +1,14 @@
+use Rattle.simulation.proofs.Obeyed.{fields_follow, idle_ends, nothing_ignored}
+use Rattle.simulation.proofs.laws.obeying_laws.Goals as goal
+
+pub returns-clause-follows : goal.returns-clause-follows
+returns-clause-follows c = λ program labelled needs hosts plan store events world set ran.
+    fields_follow c.split_laws.ensures.typed program labelled needs hosts plan store events world set ran
+
+pub returns-clause-idle : goal.returns-clause-idle
+returns-clause-idle c = λ program labelled needs hosts plan store events world set ran none nothing.
+    idle_ends c.split_laws.ensures.typed program labelled needs hosts plan store events world set ran none nothing
+
+pub returns-clause-ignored : goal.returns-clause-ignored
+returns-clause-ignored c = λ program labelled needs hosts plan store events world host state set ran is.
+    nothing_ignored c.split_laws.ensures.typed program labelled needs hosts plan store events world set ran host state is

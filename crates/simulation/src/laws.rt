@@ -1,0 +1,43 @@
+//! What holds of all hosts together, whatever the events. The calls do nothing: their contracts are the laws.
+
+ghost use Rattle.std.specs.Prelude.{◌≡◌, ℕ, ℤ, Some, List};
+ghost use Rattle.js_base.specs.declared.ids.HostId.{HostId};
+ghost use Rattle.event_text.specs.declared.event.Event.{Event};
+ghost use Rattle.host_decl.specs.Hosts.{HostsShape};
+ghost use Rattle.host_core.specs.Host as host_state;
+ghost use Rattle.jif_tree.specs.declared.program.Program.{Program};
+ghost use Rattle.need_labels.specs.Labelled.{Labelled};
+ghost use Rattle.need_labels.specs.Needs.{NeedsShape};
+ghost use Rattle.need_labels.specs.Plan.{PlanShape};
+ghost use Rattle.net_world.specs.Choice.{NoneRuns, NothingFlies};
+ghost use Rattle.net_world.specs.World.{WorldShape, IsRun, world_at_start, state_at, has_halted};
+ghost use Rattle.split_rules.specs.SplitCode.{split_code};
+ghost use Rattle.simulation.specs.Obeying.{IsSet, Follows};
+
+use split_rules::split_laws;
+
+/// Where all hosts obey, whatever the events: the fields follow the plain run of the program, and are those at its end
+/// once it has halted. Where nothing is in flight and no thread runs, it has halted. No message is ever ignored.
+pub fn obeying_laws()
+    ensures follows { (program : Program) (labelled : Labelled) (needs : NeedsShape) (hosts : HostsShape)
+        (plan : PlanShape) (store : List (List ℤ)) (events : List Event) (world : WorldShape) →
+        let code = split_code labelled needs hosts plan in
+        IsSet program labelled needs hosts plan →
+        IsRun code (world_at_start code hosts.hosts 0 store) events world →
+        Follows program code hosts.hosts store events }
+    ensures idle { (program : Program) (labelled : Labelled) (needs : NeedsShape) (hosts : HostsShape)
+        (plan : PlanShape) (store : List (List ℤ)) (events : List Event) (world : WorldShape) →
+        let code = split_code labelled needs hosts plan in
+        IsSet program labelled needs hosts plan →
+        IsRun code (world_at_start code hosts.hosts 0 store) events world → NoneRuns world → NothingFlies world →
+        has_halted code.root world }
+    ensures ignored { (program : Program) (labelled : Labelled) (needs : NeedsShape) (hosts : HostsShape)
+        (plan : PlanShape) (store : List (List ℤ)) (events : List Event) (world : WorldShape) (host : HostId)
+        (state : host_state.HostShape) →
+        let code = split_code labelled needs hosts plan in
+        IsSet program labelled needs hosts plan →
+        IsRun code (world_at_start code hosts.hosts 0 store) events world → state_at world host ≡ Some state →
+        state.ignored ≡ 0 }
+{
+    split_laws();
+}
