@@ -9,5 +9,6 @@ pub mod Named
 pub mod LabelRules
 pub mod WrittenLabels
 pub mod Limits
+pub mod Sizes
 pub mod Returns
 pub mod Labelling
