@@ -6,8 +6,8 @@ use Rattle.js_base.specs.declared.ids.StmtId.{StmtId}
 use Rattle.js_base.specs.declared.ids.VarId.{VarId}
 use Rattle.label_lattice.specs.declared.label.Label.{Label}
 use Rattle.jif_tree.specs.Trees.{ExprTree}
+use Rattle.jif_tree.specs.Sizes.{expr_nodes}
 use Rattle.host_code.specs.declared.instruction.Op.TheVariants as op
-use Rattle.msg_cost.specs.Limits.{expr_nodes}
 use Rattle.split_rules.specs.Emissions.{Emission}
 use Rattle.split_rules.specs.Expressions.{Reading, reads_in, nodes_of}
 use Rattle.split_rules.specs.Walk.{Walked, emitted, read_emissions, result_emissions, argument_emissions}

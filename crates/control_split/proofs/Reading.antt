@@ -3,11 +3,11 @@ use Rattle.std.proofs.Common.{◌≡◌, ℕ, suc, ◌+◌, ◌≤◌, List, [],
 use Rattle.std.proofs.lemmas.List.{append_assoc, append-nil, length-append}
 use Rattle.jif_tree.specs.Trees.{ExprTree, number, local, scalar, element, inverted, negated, binary, declassified}
 use Rattle.jif_tree.specs.Trees.{endorsed}
+use Rattle.jif_tree.specs.Sizes.{expr_nodes}
 use Rattle.host_code.specs.declared.code_expr.Node.{Node}
 use Rattle.host_code.specs.declared.code_expr.Node.TheVariants as node
 use Rattle.host_code.specs.declared.code_expr.TheConstants.{MOST_NODES}
 use Rattle.host_code.specs.CodeExpr.{IsExpression, depth_after}
-use Rattle.msg_cost.specs.Limits.{expr_nodes}
 use Rattle.split_rules.specs.Expressions.{reads_in, nodes_of}
 
 -- an expression reads no more than it has nodes

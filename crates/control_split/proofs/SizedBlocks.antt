@@ -10,8 +10,8 @@ use Rattle.jif_tree.specs.declared.program.StmtKind.{StmtKind}
 use Rattle.jif_tree.specs.declared.program.StmtKind as kind
 use Rattle.jif_tree.specs.Trees.{Heading, ExprTree, BlockTree, done, branch, loop, call, statement_tree, block_tree, expr_tree}
 use Rattle.jif_tree.specs.Trees.{row_tree}
+use Rattle.jif_tree.specs.Sizes.{expr_nodes, block_nodes}
 use Rattle.host_code.specs.declared.code_expr.TheConstants.{MOST_NODES}
-use Rattle.msg_cost.specs.Limits.{expr_nodes, block_nodes}
 use Rattle.control_split.specs.Views.{tree_before, IsSizedExpr, IsSizedBlock}
 
 abbrev pub IsFew : ℕ → Type 0

@@ -3,7 +3,7 @@ use Rattle.std.proofs.Common.{List, [], ◌∷◌, All}
 use Rattle.std.specs.List.{flat_map}
 use Rattle.std.proofs.lemmas.List.Elements.{All-cons, All-nil}
 use Rattle.jif_tree.specs.Trees.{MethodTree}
-use Rattle.msg_cost.specs.Limits.{block_nodes}
+use Rattle.jif_tree.specs.Sizes.{block_nodes}
 use Rattle.control_split.specs.Views.{IsSizedBlock}
 use Rattle.control_split.proofs.SizedBlocks.{IsFew, all_first, all_second}
 

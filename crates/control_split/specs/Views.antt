@@ -2,9 +2,9 @@
 use Rattle.std.specs.Prelude.{◌≤◌, All}
 use Rattle.jif_tree.specs.declared.program.Stmt.{Stmt}
 use Rattle.jif_tree.specs.Trees.{BlockTree, ExprTree, method_tree, statement_tree}
+use Rattle.jif_tree.specs.Sizes.{expr_nodes, block_nodes}
 use Rattle.host_code.specs.declared.code_expr.TheConstants.{MOST_NODES}
 use Rattle.need_labels.specs.Labelled.{Labelled, labelled_of}
-use Rattle.msg_cost.specs.Limits.{expr_nodes, block_nodes}
 use Rattle.msg_cost.specs.Moves.{PlannedShape, planned_of}
 use Rattle.split_rules.specs.Walk.{Walked, Around, Lane, walked_in}
 use Rattle.control_split.specs.declared.walk.Split.{Split}

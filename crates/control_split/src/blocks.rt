@@ -5,7 +5,7 @@ ghost use Rattle.js_base.specs.declared.ids.StmtId.{StmtId};
 ghost use Rattle.host_code.specs.declared.code_expr.TheConstants.{MOST_NODES};
 ghost use Rattle.host_code.specs.declared.instruction.Op.TheVariants as op;
 ghost use Rattle.jif_tree.specs.Trees.{done, set_local, set_field, set_element, branch, loop, expr_tree, block_tree};
-ghost use Rattle.msg_cost.specs.Limits.{expr_nodes};
+ghost use Rattle.jif_tree.specs.Sizes.{expr_nodes};
 ghost use Rattle.split_rules.specs.Walk.{lane_on, need_of, block_emissions};
 ghost use Rattle.control_split.specs.Own.{own_emissions};
 ghost use Rattle.control_split.specs.Trace.{traced};

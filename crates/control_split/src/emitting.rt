@@ -3,7 +3,7 @@
 ghost use Rattle.std.specs.Prelude.{◌≡◌, IfOk};
 ghost use Rattle.host_code.specs.CodeParts.{shape_of};
 ghost use Rattle.jif_tree.specs.Trees.{program_tree};
-ghost use Rattle.msg_cost.specs.Limits.{IsSized};
+ghost use Rattle.jif_tree.specs.Sizes.{IsSized};
 ghost use Rattle.need_labels.specs.Labelled.{labelled_of};
 ghost use Rattle.split_rules.specs.SplitCode.{split_code};
 ghost use Rattle.split_rules.specs.Splittable.{IsSplittable, HasFew};

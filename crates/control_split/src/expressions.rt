@@ -4,7 +4,7 @@ ghost use Rattle.std.specs.Prelude.{◌≡◌, ◌+◌, ◌<◌, ◌≤◌, ◌�
 ghost use Rattle.host_code.specs.declared.code_expr.TheConstants.{MOST_NODES};
 ghost use Rattle.host_code.specs.declared.instruction.Op.TheVariants as op;
 ghost use Rattle.jif_tree.specs.Trees.{expr_tree};
-ghost use Rattle.msg_cost.specs.Limits.{expr_nodes};
+ghost use Rattle.jif_tree.specs.Sizes.{expr_nodes};
 ghost use Rattle.split_rules.specs.Expressions.{first_element, nodes_of, reads_in};
 ghost use Rattle.split_rules.specs.Walk.{emitted, expr_emissions};
 ghost use Rattle.control_split.specs.Trace.{traced};

@@ -6,6 +6,7 @@ mod CleanDrafts
 mod Cleanly
 mod DeclaredLabels
 mod ExprSizes
+mod FewNodes
 mod FirstByTest
 mod FirstFault
 mod GlobalLists

@@ -8,6 +8,7 @@ ghost use Rattle.jif_tree.specs.LabelRules.{declared_labels};
 ghost use Rattle.jif_tree.specs.Labelling.{AreLabelledMethods};
 ghost use Rattle.jif_tree.specs.GuardLabels.{AreAllGuardsLabelled};
 ghost use Rattle.jif_tree.specs.Returns.{ReturnsLast};
+ghost use Rattle.jif_tree.specs.Sizes as trees;
 ghost use Rattle.jif_tree.specs.Trees.{ProgramTree};
 ghost use Rattle.jif_tree.specs.WellNumbered.{IsWellNumbered};
 ghost use Rattle.jif_lex.specs.declared.token.Token.{Token};
@@ -62,9 +63,11 @@ pub fn size_laws()
 {}
 
 /// What else a draft of the parser keeps: the sizes of its arrays, its elements, the nodes of its statements, and where
-/// a method returns.
+/// a method returns. Its program has no more statements and nodes.
 pub fn limit_laws()
     ensures limited { (list : List Token) (draft : DraftShape) → grammar.IsProgramOf list draft → IsLimited draft }
+    ensures sized { (principals : Declared) (draft : DraftShape) (tree : ProgramTree) →
+        IsSized draft → IsLimited draft → IsProgramOf principals draft tree → trees.IsSized tree }
 {}
 
 /// What typed code asks of a program beside the label check and a plan. The draft keeps the limits of the parser.

@@ -9,6 +9,7 @@ pub mod Named
 pub mod LabelRules
 pub mod WrittenLabels
 pub mod Limits
+pub mod Sizes
 pub mod Returns
 pub mod Labelling
 pub mod GuardLabels

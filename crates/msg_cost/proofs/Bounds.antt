@@ -19,10 +19,10 @@ use Rattle.jif_tree.specs.Numbering.{block_statements}
 use Rattle.jif_tree.specs.Trees.{ExprTree, number, local, scalar, element, inverted, negated, binary, declassified}
 use Rattle.jif_tree.specs.Trees.{endorsed, BlockTree, done, set_local, set_field, set_element, branch, loop}
 use Rattle.jif_tree.specs.Trees.{call, give_back, MethodTree, ProgramTree}
+use Rattle.jif_tree.specs.Sizes.{IsSized, expr_nodes, block_nodes}
 use Rattle.need_labels.specs.Plan.{field_host, statement_host}
 use Rattle.msg_cost.specs.declared.spot.Spot.{Spot}
 use Rattle.msg_cost.specs.Cost.{cost_of}
-use Rattle.msg_cost.specs.Limits.{IsSized, expr_nodes, block_nodes}
 use Rattle.msg_cost.specs.Moves.{PlannedShape, link_cost, is_same, on, end_of, next_spot, own_statements, block_end}
 use Rattle.msg_cost.specs.Moves.{home_of, called_home, called_end}
 use Rattle.msg_cost.specs.Terms.{Term, message, exchange, inside, leave_terms, enter_terms, move_terms, expr_terms}

@@ -6,6 +6,7 @@ ghost use Rattle.label_lattice.specs.declared.label.Label.{Label};
 ghost use Rattle.label_lattice.specs.Label.{IsTrustedBy};
 ghost use Rattle.host_decl.specs.Hosts.{HostsShape, AreHosts};
 ghost use Rattle.jif_tree.specs.WellNumbered.{IsWellNumbered};
+ghost use Rattle.jif_tree.specs.Sizes.{IsSized};
 ghost use Rattle.need_labels.specs.Labelled.{Labelled};
 ghost use Rattle.need_labels.specs.Needs.{NeedsShape};
 ghost use Rattle.need_labels.specs.Plan.{PlanShape};
@@ -13,7 +14,6 @@ ghost use Rattle.msg_cost.specs.Cost.{plan_cost};
 ghost use Rattle.msg_cost.specs.CostExamples.{lent_in_a_loop, loop_needs, loop_hosts, loop_plan};
 ghost use Rattle.msg_cost.specs.CostExamples.{handed_on, handed_needs, handed_hosts, handed_plan};
 ghost use Rattle.msg_cost.specs.CostLaws.{StandsOn};
-ghost use Rattle.msg_cost.specs.Limits.{IsSized};
 ghost use Rattle.msg_cost.specs.Moves.{is_trusted_by, planned_of};
 ghost use Rattle.msg_cost.specs.Terms.{inside};
 

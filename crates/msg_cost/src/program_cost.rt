@@ -3,11 +3,11 @@
 ghost use Rattle.std.specs.Prelude.{◌≡◌, ◌≤◌, length};
 ghost use Rattle.std.specs.List.{flat_map};
 ghost use Rattle.jif_tree.specs.Trees.{program_tree};
+ghost use Rattle.jif_tree.specs.Sizes.{IsSized};
 ghost use Rattle.need_labels.specs.Labelled.{labelled_of};
 ghost use Rattle.msg_cost.specs.Cost.{cost_of, plan_cost};
 ghost use Rattle.js_base.specs.declared.limits.TheConstants.{METHODS};
 ghost use Rattle.msg_cost.specs.Kept.{IsKept};
-ghost use Rattle.msg_cost.specs.Limits.{IsSized};
 ghost use Rattle.msg_cost.specs.Terms.{method_terms, program_terms};
 ghost use Rattle.msg_cost.specs.Views.{shape_of, capped};
 

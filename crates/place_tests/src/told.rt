@@ -4,7 +4,7 @@ ghost use Rattle.std.specs.Prelude.{IfOk};
 ghost use Rattle.jif_grammar.specs.DraftShapes.{draft_shape};
 ghost use Rattle.jif_resolve.specs.Sizes as drafts;
 ghost use Rattle.jif_tree.specs.Trees.{program_tree};
-ghost use Rattle.msg_cost.specs.Limits.{IsSized};
+ghost use Rattle.jif_tree.specs.Sizes.{IsSized};
 ghost use Rattle.need_labels.specs.Needs.{AreAuthoritiesDeclared};
 
 use host_decl::{HostRow, Hosts, read_hosts};
@@ -42,6 +42,7 @@ fn resolved(alloc: Global, text: &str, principals: &Principals) -> Result<Progra
     ensures sized { IfOk result (λ program. IsSized (program_tree program)) }
     ensures authorities { IfOk result (λ program. AreAuthoritiesDeclared principals.now (program_tree program)) }
 {
+    limit_laws();
     program_laws();
     let draft = drafted(alloc, text)?;
     Ok(resolve(alloc, draft, principals)?)

@@ -3,9 +3,9 @@
 ghost use Rattle.std.specs.Prelude.{◌≡◌, ◌<◌, All, IfOk, length};
 ghost use Rattle.js_base.specs.declared.limits.TheConstants.{HOSTS};
 ghost use Rattle.jif_tree.specs.Trees.{program_tree};
+ghost use Rattle.jif_tree.specs.Sizes.{IsSized};
 ghost use Rattle.need_labels.specs.Labelled.{labelled_of};
 ghost use Rattle.msg_cost.specs.Cost.{plan_cost};
-ghost use Rattle.msg_cost.specs.Limits.{IsSized};
 ghost use Rattle.place_rules.specs.PlaceRules.{IsWordOfSome};
 ghost use Rattle.placement.specs.Starting.{IsStartOf, IsCheapestStart};
 

@@ -2,8 +2,8 @@
 
 ghost use Rattle.std.specs.Prelude.{IfOk, IfErr};
 ghost use Rattle.jif_tree.specs.Trees.{program_tree};
+ghost use Rattle.jif_tree.specs.Sizes.{IsSized};
 ghost use Rattle.need_labels.specs.Labelled.{labelled_of};
-ghost use Rattle.msg_cost.specs.Limits.{IsSized};
 ghost use Rattle.place_rules.specs.Refusal.{IsRefused};
 ghost use Rattle.placement.specs.Placing.{IsPlaced};
 

@@ -5,7 +5,6 @@ pub mod BlockLines
 pub mod BuiltLists
 pub mod CommandWords
 pub mod Faithful
-pub mod FewNodes
 pub mod FirstCode
 pub mod LabelCounts
 pub mod LineCounts

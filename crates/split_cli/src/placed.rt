@@ -7,7 +7,7 @@ ghost use Rattle.jif_tree.specs.Numbering.{statement_numbers};
 ghost use Rattle.jif_tree.specs.Trees.{program_tree};
 ghost use Rattle.jif_tree.specs.WellNumbered.{IsWellNumbered};
 ghost use Rattle.label_check.specs.Checking.{AreAuthorities};
-ghost use Rattle.msg_cost.specs.Limits.{IsSized};
+ghost use Rattle.jif_tree.specs.Sizes.{IsSized};
 ghost use Rattle.need_labels.specs.Labelled.{labelled_of};
 ghost use Rattle.placement.specs.Placing.{HasHosts};
 ghost use Rattle.split_cli.specs.Loading.{EndsAs, IsLoaded};

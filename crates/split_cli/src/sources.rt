@@ -12,7 +12,7 @@ ghost use Rattle.jif_tree.specs.Trees.{program_tree};
 ghost use Rattle.jif_tree.specs.WellNumbered.{IsWellNumbered};
 ghost use Rattle.jif_resolve.specs.Sizes.{IsSized, IsLimited};
 ghost use Rattle.label_check.specs.Checking.{AreAuthorities};
-ghost use Rattle.msg_cost.specs.Limits as few;
+ghost use Rattle.jif_tree.specs.Sizes as few;
 ghost use Rattle.need_labels.specs.Labelled.{labelled_of};
 ghost use Rattle.split_cli.specs.Loading.{EndsAs, IsLoaded};
 ghost use Rattle.split_cli.specs.PlacedSources.{labelled_source};
@@ -141,6 +141,7 @@ fn resolved(alloc: Global, draft: Draft, hosts: &Hosts) -> Result<Program, Stop>
     ensures authorities { IfOk result (λ program. AreAuthorities hosts.now.principals (program_tree program)) }
     ensures few { IfOk result (λ program. few.IsSized (program_tree program)) }
 {
+    limit_laws();
     program_laws();
     match resolve(alloc, draft, hosts.principals()) {
         Ok(program) => Ok(program),

@@ -3,8 +3,8 @@ use Rattle.jif_tree.specs.Named.{AreNamed}
 use Rattle.jif_tree.specs.Numbering.{CountsFrom, site_numbers}
 use Rattle.jif_tree.specs.Trees.{ProgramTree}
 use Rattle.jif_tree.specs.WellNumbered.{IsWellNumbered}
+use Rattle.jif_tree.specs.Sizes.{IsSized}
 use Rattle.label_check.specs.Checking.{AreAuthorities}
-use Rattle.msg_cost.specs.Limits.{IsSized}
 use Rattle.principals.specs.ActsFor.{Declared}
 
 pub record IsReadProgram (principals : Declared) (program : ProgramTree) : Type 0 where

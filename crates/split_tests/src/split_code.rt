@@ -2,7 +2,7 @@
 
 ghost use Rattle.std.specs.Prelude.{◌<◌, All, IfOk, length};
 ghost use Rattle.jif_tree.specs.Trees.{program_tree};
-ghost use Rattle.msg_cost.specs.Limits.{IsSized};
+ghost use Rattle.jif_tree.specs.Sizes.{IsSized};
 ghost use Rattle.split_rules.specs.Splittable.{StandsAmong};
 ghost use Rattle.split_tests.specs.ReadPrograms.{IsReadProgram};
 

@@ -1,5 +1,5 @@
 use Rattle.jif_tree.specs.Trees.{expr_tree}
-use Rattle.msg_cost.specs.Limits.{expr_nodes}
+use Rattle.jif_tree.specs.Sizes.{expr_nodes}
 use Rattle.control_split.proofs.expressions.+add_nodes.Given as goal
 
 -- the nodes of what is left

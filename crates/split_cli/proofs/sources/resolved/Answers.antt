@@ -3,7 +3,6 @@ use Rattle.jif_resolve.specs.declared.resolve_error.ResolveError.TheVariants as 
 use Rattle.jif_grammar.specs.DraftShapes.{draft_shape}
 use Rattle.jif_resolve.specs.Refusals.{IsRefusedFor}
 use Rattle.split_cli.specs.Verdicts.{program_refused, why_not_resolved}
-use Rattle.split_cli.proofs.FewNodes.{few_nodes}
 use Rattle.split_cli.proofs.Stages.{refusal_stops}
 use Rattle.split_cli.proofs.sources.resolved.Goals as goal
 
@@ -23,4 +22,4 @@ returns-in-Err-clause-resolved c =
 
 pub returns-in-Ok-clause-few : goal.returns-in-Ok-clause-few
 returns-in-Ok-clause-few c =
-    few_nodes _ (draft_shape c.args.draft) _ c.in-Ok.ensures.found c.requires.limited c.in-Ok.ensures.limits
+    c.limit_laws.ensures.sized _ (draft_shape c.args.draft) _ c.requires.sized c.requires.limited c.in-Ok.ensures.found

@@ -1,4 +1,3 @@
-use Rattle.split_cli.proofs.FewNodes.{few_nodes}
 use Rattle.split_tests.proofs.split_code.resolved.Goals as goal
 
 pub returns : goal.returns
@@ -9,6 +8,7 @@ returns c =
       numbered = c.program_laws.ensures.well_numbered _ _ _ is;
       sites = c.program_laws.ensures.sites _ _ _ is;
       named = c.named_laws.ensures.of_text _ _ _ _ _ c.in_ok-tokens.ensures.0 c.in_ok-tokens.ensures.1 read is;
-      sized = few_nodes _ _ _ is (c.limit_laws.ensures.limited _ _ read) c.in_ok-resolve.ensures.limits;
+      sized = c.limit_laws.ensures.sized _ _ _ (c.size_laws.ensures _ _ read)
+          (c.limit_laws.ensures.limited _ _ read) is;
       authorities = c.program_laws.ensures.authorities _ _ _ is;
     }

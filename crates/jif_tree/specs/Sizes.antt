@@ -1,4 +1,4 @@
--- Programs whose cost can be counted.
+-- Programs of which each statement has few nodes of expressions.
 use Rattle.std.specs.Prelude.{ℕ, ◌+◌, ◌≤◌, List, [], ◌∷◌, ◌++◌, All, map, sum}
 use Rattle.std.specs.List.{flat_map}
 use Rattle.js_base.specs.declared.limits.TheConstants.{EXPRESSION_NODES}

@@ -7,7 +7,8 @@ use Rattle.std.proofs.lemmas.List.Elements.{All-nil, All-cons, All-append}
 use Rattle.std.proofs.lemmas.List.Sums.{sum_by-cons}
 use Rattle.js_base.specs.declared.limits.TheConstants.{EXPRESSION_NODES}
 use Rattle.principals.specs.ActsFor.{Declared}
-use Rattle.jif_tree.specs.Limits.{IsWithinLimits}
+use Rattle.jif_tree.specs.Sizes.{expr_nodes, block_nodes}
+use Rattle.jif_tree.specs.Sizes as trees
 use Rattle.jif_tree.specs.Trees.{ExprTree, local, scalar, Heading, BlockTree, set_local, set_field, MethodTree}
 use Rattle.jif_tree.specs.Trees.{ProgramTree}
 use Rattle.jif_grammar.specs.DraftShapes.{ExprShape, number_shape, variable_shape}
@@ -24,9 +25,9 @@ use Rattle.jif_resolve.specs.Meanings.{Global, globals_of}
 use Rattle.jif_resolve.specs.Places.{Setting, Place, after_statement, after_block, after_call, after_declaration}
 use Rattle.jif_resolve.specs.Places.{meaning_at, body_place, head_after}
 use Rattle.jif_resolve.specs.Resolved.{variable_tree, assignment_tree, heading_of, IsExprFor, IsBlockFor, AreMethodsFor}
-use Rattle.jif_resolve.specs.Sizes.{HasFewNodes, IsLimitedMethod, IsLimited}
+use Rattle.jif_resolve.specs.Sizes.{HasFewNodes, IsLimitedMethod, IsSized, IsLimited}
 use Rattle.jif_resolve.specs.Verdicts.{IsProgramOf}
-use Rattle.msg_cost.specs.Limits.{expr_nodes, block_nodes, IsSized}
+use Rattle.jif_resolve.proofs.WithinLimits.{within_limits}
 
 -- ---- expressions
 
@@ -156,9 +157,9 @@ few_in_methods principals globals before (method ∷ methods) trees are limited 
     (λ k d lt. limited (suc k) d (omega arith))))
 
 -- the statements of a resolved program are as small as those of its draft
-pub few_nodes : (principals : Declared) (draft : DraftShape) (tree : ProgramTree) → IsProgramOf principals draft tree →
-    IsLimited draft → IsWithinLimits tree → IsSized tree
-few_nodes principals draft tree is limited within = record {
-  within = within;
+pub few_nodes : (principals : Declared) (draft : DraftShape) (tree : ProgramTree) → IsSized draft → IsLimited draft →
+    IsProgramOf principals draft tree → trees.IsSized tree
+few_nodes principals draft tree sized limited is = record {
+  within = within_limits principals draft tree sized is.is_tree;
   nodes = few_in_methods principals (globals_of draft) [] draft.methods tree.methods is.is_tree.methods limited.each;
 }
