@@ -14,3 +14,4 @@ pub mod Splittable
 pub mod Settled
 pub mod Worked
 pub mod Asking
+pub mod Pace

@@ -5,6 +5,7 @@ ghost use Rattle.need_labels.specs.Labelled.{Labelled};
 ghost use Rattle.need_labels.specs.Needs.{NeedsShape};
 ghost use Rattle.need_labels.specs.Plan.{PlanShape};
 ghost use Rattle.msg_cost.specs.Moves.{PlannedShape, planned_of};
+ghost use Rattle.msg_cost.specs.Limits.{IsSized};
 ghost use Rattle.host_code.specs.Sound.{IsSoundCode};
 ghost use Rattle.split_rules.specs.SplitCode.{split_code};
 ghost use Rattle.split_rules.specs.Splittable.{IsSplittable, HasFew};
@@ -12,6 +13,7 @@ ghost use Rattle.split_rules.specs.Typable.{IsTypable};
 ghost use Rattle.split_rules.specs.Allowed.{IsAllowed};
 ghost use Rattle.split_rules.specs.Held.{IsHeld};
 ghost use Rattle.split_rules.specs.Asking.{AreGranted, TellsNoMore};
+ghost use Rattle.split_rules.specs.Pace.{Allowance, IsPaced};
 ghost use Rattle.split_rules.specs.TypedCode.{Table, IsTypedCode};
 ghost use Rattle.split_rules.specs.Typing.{Follows, Divides};
 ghost use Rattle.split_rules.specs.Positions.{Position, Entrance};
@@ -67,6 +69,14 @@ pub fn asking_laws()
     ensures tells { (labelled : Labelled) (needs : NeedsShape) (hosts : HostsShape) (plan : PlanShape) →
         IsSplittable labelled hosts plan → IsAllowed labelled needs hosts plan → IsHeld labelled needs hosts plan →
         TellsNoMore (split_code labelled needs hosts plan) }
+{}
+
+/// The hosts of a program within the limits run at most 512 instructions for each step of the plain run: there are
+/// numbers at the places of its code by which the code is paced.
+pub fn pace_laws()
+    ensures paced { (labelled : Labelled) (needs : NeedsShape) (hosts : HostsShape) (plan : PlanShape) →
+        IsSplittable labelled hosts plan → IsSized labelled.program →
+        (left : Allowance) × IsPaced (split_code labelled needs hosts plan) left }
 {}
 
 /// The laws of positions leave one outcome: behind an instruction there is one position, and where a branch leads
