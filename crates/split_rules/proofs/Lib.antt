@@ -46,3 +46,4 @@ pub mod PacedEmissions
 pub mod PacedWalks
 pub mod PacedPlaces
 pub mod PacedSplit
+pub mod PacedRuns

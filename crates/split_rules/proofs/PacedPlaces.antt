@@ -1,11 +1,12 @@
--- How many instructions may still come at each place of the hosts, as the walk says it. An entry that a thread is handed to
--- stands where the walk says it next.
-use Rattle.std.proofs.Common.{◌≡◌, ◌≢◌, ◌∙◌, ℕ, suc, ◌+◌, ◌<◌, ◌≤◌, ◌⊎◌, inl, inr, List, [], ◌∷◌, ◌++◌, length}
+-- How many instructions may still come at each place of the hosts, as the walk says it, and where in the walk an entry
+-- stands that a thread is handed to.
+use Rattle.std.proofs.Common.{◌≡◌, ◌≢◌, ◌∙◌, ℕ, zero, suc, ◌+◌, ◌<◌, ◌≤◌, ◌⊎◌, inl, inr, List, [], ◌∷◌, ◌++◌, length}
 use Rattle.std.proofs.Common.{refl, ap, sym, subst, arith, nat_eq, eq-eqb, append-nil}
 use Rattle.std.proofs.lemmas.Bool.Decides.{eqb_tells}
 use Rattle.std.proofs.lemmas.List.{append_cancel_left}
 use Rattle.std.specs.Prelude.{Some, slice_get, unwrap_or, if◌then◌else◌, ⊤}
 use Rattle.js_base.specs.declared.ids.HostId.{HostId}
+use Rattle.js_base.specs.declared.ids.EntryId.{EntryId}
 use Rattle.host_code.specs.declared.instruction.Op.{Op}
 use Rattle.host_code.specs.declared.instruction.Op.TheVariants as op
 use Rattle.host_code.specs.Code.{halt}
@@ -14,6 +15,7 @@ use Rattle.split_rules.specs.Emissions.{Emission, instruction, entry, stands, la
 use Rattle.split_rules.specs.Flow.{Scope, Flow, stopped, at, awaited, Pending, State, after, OperationFits}
 use Rattle.split_rules.specs.Flow.{InstructionFits, IsFirst, Goes}
 use Rattle.split_rules.specs.Pace.{Allowance}
+use Rattle.split_rules.specs.Walk.{entry_id}
 use Rattle.split_rules.specs.SplitCode.{emitted_on, before_entry}
 use Rattle.split_rules.proofs.Pendings.{Numbered, of_entries, of_branches, due, count, before, mark, before_mark}
 use Rattle.split_rules.proofs.Pendings.{Passes, passes_mark, IsAbsent, IsAmong, not_among, keeps, adds, places}
@@ -77,6 +79,15 @@ unfolding left_in
 left_there emissions host place number is = ap (λ found. unwrap_or found 0) is
 
 -- ---- what is known at an instruction
+
+-- an entry that is named has a number above that of the one that ends the program
+pub numbered_from : (there : EntryId) (Holds : ℕ → Type 0) → (there ≡ halt → ⊥) → ((number : ℕ) → Holds (suc number)) →
+    Holds there.0
+numbered_from there Holds not_halt others = by there.0 refl
+  where
+    by : (number : ℕ) → there.0 ≡ number → Holds number
+    by zero is = absurd (not_halt (ap entry_id is))
+    by (suc number) is = others number
 
 -- the instruction does not enter where the program ends
 abbrev pub NamesNoHalt : Op → Type 0

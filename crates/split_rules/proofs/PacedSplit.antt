@@ -1,5 +1,5 @@
 -- The code of a split program is paced: the numbers of its places are those of the walk.
-use Rattle.std.proofs.Common.{◌≡◌, ◌∙◌, ℕ, zero, suc, ◌+◌, ◌<◌, ◌≤◌, ◌⊎◌, Bool, true, false, cond, inl, inr, List, []}
+use Rattle.std.proofs.Common.{◌≡◌, ◌∙◌, ℕ, suc, ◌+◌, ◌*◌, ◌<◌, ◌≤◌, ◌⊎◌, Bool, true, false, cond, inl, inr, List, []}
 use Rattle.std.proofs.Common.{◌∷◌, ◌++◌, length, refl, ap, sym, subst, arith, append_assoc}
 use Rattle.std.specs.Prelude.{All, Option, Some, None, slice_get, unwrap_or}
 use Rattle.std.proofs.lemmas.List.{length-map}
@@ -32,7 +32,8 @@ use Rattle.split_rules.specs.Pace.{IsPaced}
 use Rattle.split_rules.specs.SplitCode.{emitted_on, before_entry, before_landing, landed, code_labels}
 use Rattle.split_rules.specs.SplitCode.{placed_instruction, part_on, code_of_emissions, split_code}
 use Rattle.split_rules.specs.Splittable.{IsSplittable}
-use Rattle.split_rules.specs.Walk.{entry_id, methods_emissions}
+use Rattle.split_rules.specs.ThreadRun.{Thread, Runs, IsAtMain}
+use Rattle.split_rules.specs.Walk.{methods_emissions}
 use Rattle.split_rules.specs.WalkStart.{scope_of, front_emissions}
 use Rattle.split_rules.proofs.NumberedLists.{at_all}
 use Rattle.split_rules.proofs.Places.{found, emitted_append}
@@ -45,7 +46,8 @@ use Rattle.split_rules.proofs.WalkedPrograms.{program_goes}
 use Rattle.split_rules.proofs.TypedSplit.{landing_place, entry_place}
 use Rattle.split_rules.proofs.PacedEmissions.{calls_first, at_op, ahead, StandsNext, Paces}
 use Rattle.split_rules.proofs.PacedWalks.{HasFewHosts, methods_paced}
-use Rattle.split_rules.proofs.PacedPlaces.{left_in, Spot, spot_there, marked_there, stands_once}
+use Rattle.split_rules.proofs.PacedRuns.{begun_few}
+use Rattle.split_rules.proofs.PacedPlaces.{numbered_from, left_in, Spot, spot_there, marked_there, stands_once}
 
 -- what a walk and its pace give together
 record Walk (labelled : Labelled) (hosts : HostsShape) (planned : PlannedShape) (main : MethodTree)
@@ -85,15 +87,6 @@ entry_left labelled hosts planned main emissions walk number there is =
       left = ap (left_in emissions named.host.0) place ∙ marked.there;
       few = marked.few;
     })
-
--- an entry that is named has a number above that of the one that ends the program
-numbered_from : (there : EntryId) (Holds : ℕ → Type 0) → (there ≡ halt → ⊥) → ((number : ℕ) → Holds (suc number)) →
-    Holds there.0
-numbered_from there Holds not_halt others = by there.0 refl
-  where
-    by : (number : ℕ) → there.0 ≡ number → Holds number
-    by zero is = absurd (not_halt (ap entry_id is))
-    by (suc number) is = others number
 
 call_enters : (labelled : Labelled) (hosts : HostsShape) (planned : PlannedShape) (main : MethodTree)
     (emissions : List Emission) → Walk labelled hosts planned main emissions → (me : HostId) (place : ℕ)
@@ -391,3 +384,14 @@ split_is_paced labelled needs hosts plan splittable sized =
 
     P : List Emission → Type 0
     P front = (left : Allowance) × IsPaced (code_of_emissions labelled hosts planned (front ++ emissions)) left
+
+-- So its threads run few instructions.
+pub split_runs_few : (labelled : Labelled) (needs : NeedsShape) (hosts : HostsShape) (plan : PlanShape) →
+    IsSplittable labelled hosts plan → IsSized labelled.program → (count steps : ℕ) (first last : Thread) →
+    IsAtMain (split_code labelled needs hosts plan) first →
+    Runs (split_code labelled needs hosts plan) count steps first last → count ≤ PACE * (steps + 1)
+split_runs_few labelled needs hosts plan splittable sized count steps first last begun runs =
+    let paced = split_is_paced labelled needs hosts plan splittable sized in
+    let number_of : EntryId → ℕ = λ there. there.0 in
+    begun_few (split_code labelled needs hosts plan) paced.0 paced.1
+    (λ is. let same = ap number_of is in omega arith) count steps first last begun runs

@@ -1,7 +1,7 @@
--- A walk over a program is paced: between the steps of the plain run each block does no more than its expressions, its
--- parameters and the hosts of a program within limits ask for.
-use Rattle.std.proofs.Common.{◌≡◌, ◌∙◌, ℕ, suc, ◌+◌, ◌*◌, ◌≤◌, Bool, true, false, cond, List, [], ◌∷◌, ◌++◌, map, filter}
-use Rattle.std.proofs.Common.{length, refl, subst, arith, length-append, ◌&&◌, not, nat_eq}
+-- A walk over a program is paced: between one step and the next it gives no more than the expressions of a statement,
+-- the parameters of a method and the hosts of a program within limits ask for.
+use Rattle.std.proofs.Common.{◌≡◌, ◌∙◌, ℕ, suc, ◌+◌, ◌*◌, ◌≤◌, Bool, true, false, cond, List, [], ◌∷◌, ◌++◌, map}
+use Rattle.std.proofs.Common.{filter, length, refl, subst, arith, length-append, ◌&&◌, not, nat_eq}
 use Rattle.std.specs.Prelude.{Option, Some, None, All, sum}
 use Rattle.std.specs.List.{range_with_len, flat_map}
 use Rattle.std.proofs.lemmas.List.Concat.{flat_map-cons}
@@ -28,6 +28,7 @@ use Rattle.msg_cost.specs.declared.spot.Spot.{Spot}
 use Rattle.msg_cost.specs.Limits.{expr_nodes, block_nodes}
 use Rattle.msg_cost.specs.Moves.{PlannedShape, is_same, end_of, next_spot, own_statements, home_of}
 use Rattle.msg_cost.specs.Terms.{reads_on}
+use Rattle.msg_cost.proofs.Bounds.{all_left, all_right}
 use Rattle.split_rules.specs.Emissions.{Emission, stands, lands, Counts, counts_after}
 use Rattle.split_rules.specs.Expressions.{Reading, reads_in, nodes_of, readings_of, first_element}
 use Rattle.split_rules.specs.Walk.{Walked, Around, Lane, lane_on, entry_id, under_token, emitted}
@@ -35,7 +36,6 @@ use Rattle.split_rules.specs.Walk.{expr_emissions, read_emissions, other_readers
 use Rattle.split_rules.specs.Walk.{leave_emissions, enter_emissions, move_emissions, end_emissions}
 use Rattle.split_rules.specs.Walk.{argument_emissions, kept_emissions, call_emissions, result_emissions}
 use Rattle.split_rules.specs.Walk.{block_emissions, walked_in, method_emissions, methods_emissions}
-use Rattle.msg_cost.proofs.Bounds.{all_left, all_right}
 use Rattle.split_rules.proofs.WalkedMoves.{one_of_two}
 use Rattle.split_rules.proofs.WalkedBlocks.{inside_of, branch_front, branch_own, loop_front, loop_own}
 use Rattle.split_rules.proofs.PacedEmissions.{IsPacedBy, Spends, spends_on, spends_then, spends_more}
@@ -153,8 +153,8 @@ enter_paced walked around counts from host (Some back) statements =
     (spends_more 512 490 (spends_nothing 490) (omega arith) (omega arith))
     (spends_more 512 490
     (spends_then (one_entry _ 494) (spends_then (one_entry _ 494) (spends_then (one_push _ 491
-    (one_of_two IsPush (is_same from back) (op.Push (entry_id counts.entries)) (op.Ask (entry_id counts.entries) back) tt
-    tt)) (hands_paced from host around.pc around.owner (counts.entries + 1) 490 (omega arith)))))
+    (one_of_two IsPush (is_same from back) (op.Push (entry_id counts.entries)) (op.Ask (entry_id counts.entries) back)
+    tt tt)) (hands_paced from host around.pc around.owner (counts.entries + 1) 490 (omega arith)))))
     (omega arith) (omega arith))
 
 move_paced : (walked : Walked) (around : Around) (counts : Counts) (lane : Lane) (next : Spot)

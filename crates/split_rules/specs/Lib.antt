@@ -15,3 +15,4 @@ pub mod Settled
 pub mod Worked
 pub mod Asking
 pub mod Pace
+pub mod ThreadRun

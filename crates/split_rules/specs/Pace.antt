@@ -1,8 +1,9 @@
--- How many instructions the hosts of split code run for each step of the plain run: no more than 512. Each place of a
--- host has a number, which says how many instructions may still come before the next step. Take the steps that are still
--- to come 512 times, add the number of the place, and one for each entry on the chain of the token: where code is paced,
--- each instruction makes this sum smaller. What makes a step pays by the 512 of that step, an instruction that gives the
--- token back pays by the entry that it takes off the chain, and every other one pays from the number of its place.
+-- How many instructions the hosts of split code run for each step of the program: no more than 512. A step is an
+-- assignment, a value that is given back, the test of a guard, a call, or a result that is kept.
+-- Each place of a host has a number, which says how many instructions may still come there before the next step. Code
+-- is paced where each instruction leads to a place with a smaller number, but for these: what makes a step has the 512
+-- of that step beside, what puts an entry on the chain of the token pays one for it, and what takes an entry off the
+-- chain has that one beside.
 use Rattle.std.specs.Prelude.{◌≡◌, ℕ, ◌+◌, ◌<◌, ◌≤◌, suc, Bool, true, false, Option, Some, None, slice_get}
 use Rattle.js_base.specs.declared.ids.HostId.{HostId}
 use Rattle.js_base.specs.declared.ids.EntryId.{EntryId}
@@ -30,7 +31,7 @@ Falls left me place next = left me.0 next < left me.0 place
 abbrev pub FallsWithEntry : Allowance → HostId → ℕ → ℕ → Type 0
 FallsWithEntry left me place next = left me.0 next + 1 < left me.0 place
 
--- one that makes a step of the plain run, and may put an entry on the chain
+-- one that makes a step, and may put an entry on the chain
 abbrev pub FallsWithStep : Allowance → HostId → ℕ → ℕ → Type 0
 FallsWithStep left me place next = left me.0 next + 1 < left me.0 place + PACE
 

@@ -13,14 +13,15 @@ ghost use Rattle.split_rules.specs.Typable.{IsTypable};
 ghost use Rattle.split_rules.specs.Allowed.{IsAllowed};
 ghost use Rattle.split_rules.specs.Held.{IsHeld};
 ghost use Rattle.split_rules.specs.Asking.{AreGranted, TellsNoMore};
-ghost use Rattle.split_rules.specs.Pace.{Allowance, IsPaced};
+ghost use Rattle.split_rules.specs.Pace.{PACE, Allowance, IsPaced};
+ghost use Rattle.split_rules.specs.ThreadRun.{Thread, Runs, IsAtMain};
 ghost use Rattle.split_rules.specs.TypedCode.{Table, IsTypedCode};
 ghost use Rattle.split_rules.specs.Typing.{Follows, Divides};
 ghost use Rattle.split_rules.specs.Positions.{Position, Entrance};
 ghost use Rattle.split_rules.specs.Emissions.{counts_after};
 ghost use Rattle.split_rules.specs.Settled.{AreSettled};
 ghost use Rattle.split_rules.specs.Walk.{program_emissions};
-ghost use Rattle.std.specs.Prelude.{◌≡◌, List, ◌∷◌, [], length, pos};
+ghost use Rattle.std.specs.Prelude.{◌≡◌, ℕ, ◌+◌, ◌*◌, ◌≤◌, List, ◌∷◌, [], length, pos};
 ghost use Rattle.js_base.specs.declared.ids.HostId.{HostId};
 ghost use Rattle.js_base.specs.declared.binary_operator.BinOp.TheVariants as operator;
 ghost use Rattle.host_code.specs.declared.instruction.Op.{Op};
@@ -71,12 +72,17 @@ pub fn asking_laws()
         TellsNoMore (split_code labelled needs hosts plan) }
 {}
 
-/// The hosts of a program within the limits run at most 512 instructions for each step of the plain run: there are
-/// numbers at the places of its code by which the code is paced.
+/// Where a program is within the limits, its hosts run few instructions for each step: there are numbers at the places
+/// of the code by which it is paced, and so from where the program begins a thread runs at most 512 for each step that
+/// it makes, and 512 more.
 pub fn pace_laws()
     ensures paced { (labelled : Labelled) (needs : NeedsShape) (hosts : HostsShape) (plan : PlanShape) →
         IsSplittable labelled hosts plan → IsSized labelled.program →
         (left : Allowance) × IsPaced (split_code labelled needs hosts plan) left }
+    ensures runs_few { (labelled : Labelled) (needs : NeedsShape) (hosts : HostsShape) (plan : PlanShape) →
+        IsSplittable labelled hosts plan → IsSized labelled.program → (count steps : ℕ) (first last : Thread) →
+        IsAtMain (split_code labelled needs hosts plan) first →
+        Runs (split_code labelled needs hosts plan) count steps first last → count ≤ PACE * (steps + 1) }
 {}
 
 /// The laws of positions leave one outcome: behind an instruction there is one position, and where a branch leads
