@@ -101,7 +101,7 @@ pub data Step (kind : Numbered) (state : State) (emission : Emission) : Type 0 w
       count kind (after state emission) ≡ count kind state → (after state emission).flow ≡ at host 0 →
       Step kind state emission
 
-first_off : (host : HostId) (number : ℕ) (pendings : List Pending) → IsFirst host number pendings →
+pub first_off : (host : HostId) (number : ℕ) (pendings : List Pending) → IsFirst host number pendings →
     pendings ≡ record { host = host; number = number } ∷ drop 1 pendings
 first_off host number [] first = absurd first
 first_off host number (pending ∷ others) first = ap (λ one. one ∷ others) first

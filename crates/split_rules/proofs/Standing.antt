@@ -24,7 +24,7 @@ pub emitted_own : (host : HostId) (one : Emitted) (others : List Emission) → o
     emitted_on host (instruction one ∷ others) ≡ one ∷ emitted_on host others
 emitted_own host one others own = rw (eq-eqb one.host.0 host.0 (ap (λ id. id.0) own)) refl
 
-own_instruction : (host : HostId) (scope : Scope) (state : State) (one : Emitted) (flow : Flow) →
+pub own_instruction : (host : HostId) (scope : Scope) (state : State) (one : Emitted) (flow : Flow) →
     InstructionFits scope state one flow → GoesOn host flow → one.host ≡ host
 own_instruction host scope state one stopped fits on = absurd on
 own_instruction host scope state one (at here count) fits on = sym fits.0 ∙ on
@@ -64,7 +64,7 @@ leaves_or_goes me count op.Back = inl tt
 leaves_or_goes me count (op.Go there on) = inl tt
 leaves_or_goes me count other = inr refl
 
-behind_instruction : (scope : Scope) (state : State) (one : Emitted) (flow : Flow) →
+pub behind_instruction : (scope : Scope) (state : State) (one : Emitted) (flow : Flow) →
     InstructionFits scope state one flow → IsLeaving one.op ⊎ GoesOn one.host (flow_after flow one)
 behind_instruction scope state one stopped fits = absurd fits
 behind_instruction scope state one (at here count) fits = leaves_or_goes one.host count one.op

@@ -249,7 +249,7 @@ entry_before planned number [] emissions = refl
 entry_before planned number (method ∷ methods) emissions =
     ap (λ list. method_entry planned method ∷ list) (entry_before planned number methods emissions)
 
-landing_place : (host : HostId) (labelled : Labelled) (planned : PlannedShape) (main : MethodTree) (number : ℕ)
+pub landing_place : (host : HostId) (labelled : Labelled) (planned : PlannedShape) (main : MethodTree) (number : ℕ)
     (emissions : List Emission) →
     length (emitted_on host (before_landing number (given labelled planned main emissions)))
     ≡ length (emitted_on host (before_landing number emissions))
@@ -258,7 +258,7 @@ landing_place host labelled planned main number emissions =
     (landing_before planned number labelled.program.methods emissions)
     ∙ ap length (given_emitted host labelled planned main (before_landing number emissions))
 
-entry_place : (host : HostId) (labelled : Labelled) (planned : PlannedShape) (main : MethodTree) (number : ℕ)
+pub entry_place : (host : HostId) (labelled : Labelled) (planned : PlannedShape) (main : MethodTree) (number : ℕ)
     (emissions : List Emission) →
     length (emitted_on host (before_entry (suc number) (given labelled planned main emissions)))
     ≡ length (emitted_on host (before_entry (suc number) emissions))

@@ -14,3 +14,5 @@ pub mod Splittable
 pub mod Settled
 pub mod Worked
 pub mod Asking
+pub mod Pace
+pub mod ThreadRun

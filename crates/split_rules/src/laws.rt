@@ -5,6 +5,7 @@ ghost use Rattle.need_labels.specs.Labelled.{Labelled};
 ghost use Rattle.need_labels.specs.Needs.{NeedsShape};
 ghost use Rattle.need_labels.specs.Plan.{PlanShape};
 ghost use Rattle.msg_cost.specs.Moves.{PlannedShape, planned_of};
+ghost use Rattle.msg_cost.specs.Limits.{IsSized};
 ghost use Rattle.host_code.specs.Sound.{IsSoundCode};
 ghost use Rattle.split_rules.specs.SplitCode.{split_code};
 ghost use Rattle.split_rules.specs.Splittable.{IsSplittable, HasFew};
@@ -12,13 +13,15 @@ ghost use Rattle.split_rules.specs.Typable.{IsTypable};
 ghost use Rattle.split_rules.specs.Allowed.{IsAllowed};
 ghost use Rattle.split_rules.specs.Held.{IsHeld};
 ghost use Rattle.split_rules.specs.Asking.{AreGranted, TellsNoMore};
+ghost use Rattle.split_rules.specs.Pace.{PACE, Allowance, IsPaced};
+ghost use Rattle.split_rules.specs.ThreadRun.{Thread, Runs, IsAtMain};
 ghost use Rattle.split_rules.specs.TypedCode.{Table, IsTypedCode};
 ghost use Rattle.split_rules.specs.Typing.{Follows, Divides};
 ghost use Rattle.split_rules.specs.Positions.{Position, Entrance};
 ghost use Rattle.split_rules.specs.Emissions.{counts_after};
 ghost use Rattle.split_rules.specs.Settled.{AreSettled};
 ghost use Rattle.split_rules.specs.Walk.{program_emissions};
-ghost use Rattle.std.specs.Prelude.{◌≡◌, List, ◌∷◌, [], length, pos};
+ghost use Rattle.std.specs.Prelude.{◌≡◌, ℕ, ◌+◌, ◌*◌, ◌≤◌, List, ◌∷◌, [], length, pos};
 ghost use Rattle.js_base.specs.declared.ids.HostId.{HostId};
 ghost use Rattle.js_base.specs.declared.binary_operator.BinOp.TheVariants as operator;
 ghost use Rattle.host_code.specs.declared.instruction.Op.{Op};
@@ -67,6 +70,19 @@ pub fn asking_laws()
     ensures tells { (labelled : Labelled) (needs : NeedsShape) (hosts : HostsShape) (plan : PlanShape) →
         IsSplittable labelled hosts plan → IsAllowed labelled needs hosts plan → IsHeld labelled needs hosts plan →
         TellsNoMore (split_code labelled needs hosts plan) }
+{}
+
+/// Where a program is within the limits, its hosts run few instructions for each step: there are numbers at the places
+/// of the code by which it is paced, and so from where the program begins a thread runs at most 512 for each step that
+/// it makes, and 512 more.
+pub fn pace_laws()
+    ensures paced { (labelled : Labelled) (needs : NeedsShape) (hosts : HostsShape) (plan : PlanShape) →
+        IsSplittable labelled hosts plan → IsSized labelled.program →
+        (left : Allowance) × IsPaced (split_code labelled needs hosts plan) left }
+    ensures runs_few { (labelled : Labelled) (needs : NeedsShape) (hosts : HostsShape) (plan : PlanShape) →
+        IsSplittable labelled hosts plan → IsSized labelled.program → (count steps : ℕ) (first last : Thread) →
+        IsAtMain (split_code labelled needs hosts plan) first →
+        Runs (split_code labelled needs hosts plan) count steps first last → count ≤ PACE * (steps + 1) }
 {}
 
 /// The laws of positions leave one outcome: behind an instruction there is one position, and where a branch leads

@@ -3,4 +3,4 @@
 
 mod laws;
 
-pub use laws::{asking_laws, split_laws, trust_laws, typing_laws, worked_laws};
+pub use laws::{asking_laws, pace_laws, split_laws, trust_laws, typing_laws, worked_laws};
