@@ -23,7 +23,7 @@ use Rattle.host_code.specs.Code.{CodeShape, instruction_at, halt}
 use Rattle.need_labels.specs.Labelled.{Labelled}
 use Rattle.need_labels.specs.Needs.{NeedsShape}
 use Rattle.need_labels.specs.Plan.{PlanShape}
-use Rattle.msg_cost.specs.Limits.{IsSized}
+use Rattle.jif_tree.specs.Sizes.{IsSized}
 use Rattle.msg_cost.specs.Moves.{PlannedShape, planned_of}
 use Rattle.split_rules.specs.Emissions.{Emission, instruction, entry, stands, lands, Emitted, Counts, counts_after}
 use Rattle.split_rules.specs.Flow.{Scope, State, Goes}

@@ -25,7 +25,7 @@ use Rattle.jif_tree.specs.WellNumbered.{IsBlockIn, AreMethodsIn, is_some}
 use Rattle.host_code.specs.declared.instruction.Op.TheVariants as op
 use Rattle.need_labels.specs.Labelled.{Labelled}
 use Rattle.msg_cost.specs.declared.spot.Spot.{Spot}
-use Rattle.msg_cost.specs.Limits.{expr_nodes, block_nodes}
+use Rattle.jif_tree.specs.Sizes.{expr_nodes, block_nodes}
 use Rattle.msg_cost.specs.Moves.{PlannedShape, is_same, end_of, next_spot, own_statements, home_of}
 use Rattle.msg_cost.specs.Terms.{reads_on}
 use Rattle.msg_cost.proofs.Bounds.{all_left, all_right}

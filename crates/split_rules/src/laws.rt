@@ -5,7 +5,7 @@ ghost use Rattle.need_labels.specs.Labelled.{Labelled};
 ghost use Rattle.need_labels.specs.Needs.{NeedsShape};
 ghost use Rattle.need_labels.specs.Plan.{PlanShape};
 ghost use Rattle.msg_cost.specs.Moves.{PlannedShape, planned_of};
-ghost use Rattle.msg_cost.specs.Limits.{IsSized};
+ghost use Rattle.jif_tree.specs.Sizes.{IsSized};
 ghost use Rattle.host_code.specs.Sound.{IsSoundCode};
 ghost use Rattle.split_rules.specs.SplitCode.{split_code};
 ghost use Rattle.split_rules.specs.Splittable.{IsSplittable, HasFew};
