@@ -1,10 +1,13 @@
 pub mod TreeValues
-pub mod StraightCode
+pub mod PlainCode
 pub mod Simulates
 pub mod Instructions
+pub mod Transfers
 pub mod Moved
 pub mod Rows
 pub mod Kept
+pub mod Turning
+pub mod Pops
 pub mod Turns
 pub mod Takes
 pub mod Events

@@ -2,6 +2,10 @@
 use Rattle.std.proofs.Common.{◌≡◌, ℕ, suc, ◌<◌, inl, inr, List, Some, refl}
 use Rattle.std.proofs.Common.{subst, arith}
 use Rattle.std.specs.Prelude.{ℤ}
+use Rattle.std.specs.List.{AllByRecursion}
+use Rattle.std.proofs.Common.{[], ◌∷◌, zero, Some}
+use Rattle.std.specs.Prelude.{slice_get}
+use Rattle.std.proofs.lemmas.List.{length-map}
 use Rattle.std.proofs.lemmas.Bool.{cases_eq}
 use Rattle.js_base.specs.declared.ids.HostId.{HostId}
 use Rattle.host_decl.specs.Hosts.{HostsShape}
@@ -14,13 +18,14 @@ use Rattle.need_labels.specs.Needs.{NeedsShape}
 use Rattle.need_labels.specs.Plan.{PlanShape}
 use Rattle.msg_cost.specs.Moves.{planned_of}
 use Rattle.net_world.specs.Choice.{NoneRuns, NothingFlies}
-use Rattle.net_world.specs.World.{WorldShape, IsRun, world_at_start, state_at, has_halted}
+use Rattle.net_world.specs.World.{named_host, WorldShape, IsRun, world_at_start, state_at, has_halted}
 use Rattle.split_rules.specs.SplitCode.{split_code}
 use Rattle.split_rules.specs.Splittable.{IsSplittable}
 use Rattle.split_rules.specs.Typable.{IsTypable}
 use Rattle.split_rules.specs.TypedCode.{Table, IsTypedCode}
 use Rattle.simulation.specs.Obeying.{IsSet, Follows}
-use Rattle.simulation.proofs.StraightCode.{straight_code}
+use Rattle.simulation.specs.Programs.{AreReaders}
+use Rattle.simulation.proofs.PlainCode.{plain_code}
 use Rattle.simulation.proofs.Simulates.{Split, Simulates}
 use Rattle.simulation.proofs.Starts.{simulates_at_start}
 use Rattle.simulation.proofs.Events.{event_kept, halted_at_end, idle_halted}
@@ -28,8 +33,14 @@ use Rattle.simulation.proofs.Tracks.{IsKept, Tracks, track, track_end}
 
 -- ---- a split program
 
+pub all_at : {X : Type 0} (P : X → Type 0) (xs : List X) (place : ℕ) (x : X) → AllByRecursion P xs →
+    slice_get xs place ≡ Some x → P x
+all_at P [] place x all is = absurd (cc)
+all_at P (first ∷ xs) zero x all is = let same : first ≡ x = cc in subst P same all.0
+all_at P (first ∷ xs) (suc place) x all is = all_at P xs place x all.1 is
+
 -- a typed code of a program that is set
-unfoldable pub typed_split : (program : Program) (labelled : Labelled) (needs : NeedsShape) (hosts : HostsShape)
+unfoldable typed_split : (program : Program) (labelled : Labelled) (needs : NeedsShape) (hosts : HostsShape)
     (plan : PlanShape) → IsSet program labelled needs hosts plan → (table : Table) →
     IsTypedCode (planned_of labelled needs hosts plan) (split_code labelled needs hosts plan) table → Split
 typed_split program labelled needs hosts plan set table typed = record {
@@ -40,11 +51,14 @@ typed_split program labelled needs hosts plan set table typed = record {
   typed = typed;
   sound = set.sound;
   granted = set.granted;
-  plain = straight_code labelled needs hosts plan set.straight;
+  plain = plain_code labelled needs hosts plan set.call_free;
   is = set.is;
   main_tree = set.splittable.numbered.main.0;
   has_main = set.splittable.numbered.main.1;
   main_entry = refl;
+  readers = all_at (λ method. AreReaders (planned_of labelled needs hosts plan) method.body) labelled.program.methods
+      labelled.program.main.0 set.splittable.numbered.main.0 set.readers set.splittable.numbered.main.1;
+  many = length-map hosts.hosts named_host;
 }
 
 -- ---- along events

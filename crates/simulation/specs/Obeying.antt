@@ -1,6 +1,7 @@
 -- What hosts that all obey promise together, where they run the code of a split program: their fields follow the plain
 -- run of the program.
 use Rattle.std.specs.Prelude.{◌≡◌, ℕ, ◌+◌, ◌≤◌, ℤ, List, length, take, Some, slice_get, slice_index}
+use Rattle.std.specs.List.{AllByRecursion}
 use Rattle.std.specs.List.Sorted.{IsNonDecreasing}
 use Rattle.host_decl.specs.Hosts as declared_hosts
 use Rattle.host_decl.specs.Hosts.{HostsShape}
@@ -21,10 +22,10 @@ use Rattle.split_rules.specs.SplitCode.{split_code}
 use Rattle.split_rules.specs.Splittable.{IsSplittable}
 use Rattle.split_rules.specs.Typable.{IsTypable}
 use Rattle.net_world.specs.World.{WorldShape, IsRun, world_at_start, state_at, has_halted}
-use Rattle.simulation.specs.Straight.{AreStraight}
+use Rattle.simulation.specs.Programs.{IsCallFree, AreReaders}
 
--- A program and a plan by which it can be split, so that hosts are trusted for what their statements start, and grant
--- each other's requests. Each method runs from its first statement to its last on its home.
+-- A program without calls and a plan by which it can be split, so that hosts are trusted for what their statements
+-- start, grant each other's requests, and are sent the variables that they read.
 pub record IsSet (program : Program) (labelled : Labelled) (needs : NeedsShape) (hosts : HostsShape) (plan : PlanShape)
     : Type 0 where
   pub is : program_tree program ≡ labelled.program
@@ -32,7 +33,9 @@ pub record IsSet (program : Program) (labelled : Labelled) (needs : NeedsShape) 
   pub typable : IsTypable (planned_of labelled needs hosts plan)
   pub sound : IsSoundCode (split_code labelled needs hosts plan)
   pub granted : AreGranted (split_code labelled needs hosts plan)
-  pub straight : AreStraight (planned_of labelled needs hosts plan)
+  pub call_free : AllByRecursion (λ method. IsCallFree method.body) labelled.program.methods
+  pub readers : AllByRecursion (λ method. AreReaders (planned_of labelled needs hosts plan) method.body)
+      labelled.program.methods
 
 -- each field has on its host what the store has
 abbrev pub FieldsAre : CodeShape → WorldShape → List (List ℤ) → Type 0
