@@ -35,7 +35,7 @@ use Rattle.split_rules.specs.Positions.{number_of, statement_due, is_on, calm, n
 use Rattle.split_rules.specs.Positions.{forwards_of, all_due, statements_of}
 use Rattle.split_rules.specs.Typing.{Reads, Sets, Stores, IsValue, Follows}
 use Rattle.split_rules.proofs.TypedValues.{reads_many}
-use Rattle.simulation.specs.Programs.{IsReader, AreReaders}
+use Rattle.simulation.proofs.KnownReaders.{IsReader, AreReaders}
 use Rattle.simulation.proofs.TreeValues.{tree_value, value_is, read_value, value_there, all_left, all_right, all_both}
 use Rattle.simulation.proofs.TreeValues.{AreSame}
 use Rattle.simulation.proofs.Simulates.{Split, place_of, alone, due_of, chain_due, IsLeft, IsAt}

@@ -1,5 +1,6 @@
 pub mod TreeValues
 pub mod PlainCode
+pub mod KnownReaders
 pub mod Simulates
 pub mod Instructions
 pub mod Transfers

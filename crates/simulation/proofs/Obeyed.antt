@@ -24,7 +24,7 @@ use Rattle.split_rules.specs.Splittable.{IsSplittable}
 use Rattle.split_rules.specs.Typable.{IsTypable}
 use Rattle.split_rules.specs.TypedCode.{Table, IsTypedCode}
 use Rattle.simulation.specs.Obeying.{IsSet, Follows}
-use Rattle.simulation.specs.Programs.{AreReaders}
+use Rattle.simulation.proofs.KnownReaders.{AreReaders, program_readers}
 use Rattle.simulation.proofs.PlainCode.{plain_code}
 use Rattle.simulation.proofs.Simulates.{Split, Simulates}
 use Rattle.simulation.proofs.Starts.{simulates_at_start}
@@ -57,7 +57,9 @@ typed_split program labelled needs hosts plan set table typed = record {
   has_main = set.splittable.numbered.main.1;
   main_entry = refl;
   readers = all_at (λ method. AreReaders (planned_of labelled needs hosts plan) method.body) labelled.program.methods
-      labelled.program.main.0 set.splittable.numbered.main.0 set.readers set.splittable.numbered.main.1;
+      labelled.program.main.0 set.splittable.numbered.main.0
+      (program_readers hosts.principals labelled (planned_of labelled needs hosts plan) refl set.needs_of set.call_free
+      set.splittable.numbered.methods) set.splittable.numbered.main.1;
   many = length-map hosts.hosts named_host;
 }
 

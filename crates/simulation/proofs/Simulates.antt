@@ -34,7 +34,7 @@ use Rattle.split_rules.specs.TypedCode.{Table, IsTypedCode}
 use Rattle.net_world.specs.Flying.{Flight, Flying, with_flights}
 use Rattle.net_world.specs.World.{WorldShape, state_at, misbehaves}
 use Rattle.simulation.specs.Obeying.{FieldsAre}
-use Rattle.simulation.specs.Programs.{AreReaders}
+use Rattle.simulation.proofs.KnownReaders.{AreReaders}
 use Rattle.simulation.proofs.PlainCode.{IsPlainCode}
 use Rattle.simulation.proofs.TreeValues.{read_value}
 
