@@ -12,6 +12,7 @@ pub mod Pops
 pub mod Turns
 pub mod Takes
 pub mod Events
+pub mod Possible
 pub mod Starts
 pub mod Tracks
 pub mod Obeyed

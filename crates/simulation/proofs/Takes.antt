@@ -46,7 +46,7 @@ passing : (split : Split) (state : HostShape) (from : HostId) (m : Message) (out
 passing split state from m outcome takes may =
     sym (ap (after_taking split.code state from m) (takes.1.1 may)) ∙ takes.2
 
-may_here : (split : Split) (state : HostShape) (owner : HostId) (what : Ask) (from : HostId) → state.me ≡ owner →
+pub may_here : (split : Split) (state : HostShape) (owner : HostId) (what : Ask) (from : HostId) → state.me ≡ owner →
     May split.code owner what from → May split.code state.me what from
 may_here split state owner what from me may = subst (λ host. May split.code host what from) (sym me) may
 
@@ -207,7 +207,7 @@ first_passes : {X : Type 0} (p : X → Bool) (x : X) → p x ≡ true → positi
 first_passes p x passes = rw passes refl
 
 -- the one thread that waits is the one that is answered
-awaited_first : (state : HostShape) (waiting : WaitingShape) (awaited : Awaited) (request : RequestId)
+pub awaited_first : (state : HostShape) (waiting : WaitingShape) (awaited : Awaited) (request : RequestId)
     (from : HostId) → state.waiting ≡ waiting ∷ [] → waiting.awaited ≡ awaited → waiting.request ≡ request →
     waiting.asked ≡ from → place_of_awaiting state awaited request from ≡ Some 0
 awaited_first state waiting awaited request from is kind number by =
