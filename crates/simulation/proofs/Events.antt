@@ -1,23 +1,24 @@
 -- Every event leaves a world that stands for the same configuration of the plain run, or for the next.
-use Rattle.std.proofs.Common.{◌≡◌, ◌∙◌, ℕ, inl, inr, true, false, [], ◌∷◌, Option}
-use Rattle.std.proofs.Common.{Some, None, refl, ap, sym, subst}
+use Rattle.std.proofs.Common.{◌≡◌, ◌∙◌, ℕ, inl, inr, true, false, List, [], ◌∷◌, Option, Some, None, refl, ap, sym}
+use Rattle.std.proofs.Common.{subst}
 use Rattle.std.specs.Prelude.{IsSome, IsSomeAnd, IsTrue}
 use Rattle.std.proofs.lemmas.Bool.Decides.{eqb_tells}
 use Rattle.js_base.specs.declared.ids.HostId.{HostId}
 use Rattle.jif_tree.specs.SourceRun.{Configuration, IsAtEnd}
+use Rattle.ics_stack.specs.declared.stack.StackEntry.{StackEntry}
 use Rattle.event_text.specs.declared.event.Event.{Event}
 use Rattle.event_text.specs.declared.event.Event.TheVariants.{Take, Turn, Act}
 use Rattle.host_core.specs.Host.{HostShape}
 use Rattle.host_core.specs.Turn.{IsTurn, label_of_turn}
 use Rattle.net_world.specs.Choice.{NoneRuns, NothingFlies}
 use Rattle.net_world.specs.Flying.{Flight, Flying}
-use Rattle.net_world.specs.World.{WorldShape, IsStep, IsTurnStep, IsTakeStep, state_at, after_step}
-use Rattle.net_world.specs.World.{has_halted}
-use Rattle.simulation.proofs.Simulates.{Split, Stands, Simulates, Goes, Holder, runs, asked, answered, halted}
-use Rattle.simulation.proofs.Simulates.{only}
+use Rattle.net_world.specs.World.{WorldShape, IsStep, IsTurnStep, IsTakeStep, state_at, after_step, has_halted}
+use Rattle.split_rules.specs.Positions.{Forward}
+use Rattle.simulation.proofs.Simulates.{Split, only, Holder, runs, asked, answered, goes, returns, halted, IsIdle, Stands}
+use Rattle.simulation.proofs.Simulates.{AreIdle, GoesOn, Simulates, Goes}
 use Rattle.simulation.proofs.Moved.{same_id, none_taken, own_cell}
-use Rattle.simulation.proofs.Turns.{root_turn}
-use Rattle.simulation.proofs.Takes.{asked_taken, answered_taken}
+use Rattle.simulation.proofs.Turns.{holder_turn}
+use Rattle.simulation.proofs.Takes.{asked_taken, answered_taken, going_taken, returning_taken}
 
 some_same : {X : Type 0} (o : Option X) (x y : X) → o ≡ Some x → o ≡ Some y → x ≡ y
 some_same o x y first second = let both : Some x ≡ Some y = sym first ∙ second in cc
@@ -27,47 +28,72 @@ no_thread {X = X} o none some = let both : IsSome {T = X} None = subst IsSome no
 
 -- ---- turns
 
--- only the root makes turns, and only where it runs
-turned : (split : Split) (c : Configuration) (world after : WorldShape) (sim : Simulates split c world)
-    (holder : Holder) → Stands split c world sim.state holder → IsTurnStep split.code world split.code.root after →
-    Goes split c after
-turned split c world after sim runs stands step =
-    let state = some_same (state_at world split.code.root) step.state sim.state step.obeys sim.root in
-    root_turn split c world after sim stands step.outcome
-    (subst (λ (s : HostShape). IsTurn split.code s step.outcome) state step.turns)
-    (ap (λ (s : HostShape). after_step world split.code.root step.outcome (label_of_turn split.code s)) (sym state)
-    ∙ step.leaves)
-turned split c world after sim (asked owner) stands step =
-    let state = some_same (state_at world split.code.root) step.state sim.state step.obeys sim.root in
-    absurd (no_thread step.state.running (ap (λ (s : HostShape). s.running) state ∙ stands.waits.running) step.runs)
-turned split c world after sim (answered owner) stands step =
-    let state = some_same (state_at world split.code.root) step.state sim.state step.obeys sim.root in
-    absurd (no_thread step.state.running (ap (λ (s : HostShape). s.running) state ∙ stands.waits.running) step.runs)
-turned split c world after sim halted stands step =
-    let state = some_same (state_at world split.code.root) step.state sim.state step.obeys sim.root in
-    absurd (no_thread step.state.running (ap (λ (s : HostShape). s.running) state ∙ stands.running) step.runs)
+-- a host where nothing runs makes no turn
+idle_turn : (split : Split) (world after : WorldShape) (holder : Holder) → AreIdle holder world → (host : HostId) →
+    IsIdle holder host → IsTurnStep split.code world host after → ⊥
+idle_turn split world after holder idle host rests step =
+    no_thread step.state.running (idle host step.state step.obeys rests).0 step.runs
 
-turn_event : (split : Split) (c : Configuration) (world after : WorldShape) → Simulates split c world →
-    (host : HostId) → IsTurnStep split.code world host after → Goes split c after
-turn_event split c world after sim host step = elim (eqb_tells host.0 split.code.root.0) [
+-- nor does one that waits
+waiting_turn : (split : Split) (world after : WorldShape) (host holder : HostId) (state : HostShape) →
+    state_at world holder ≡ Some state → state.running ≡ None → host.0 ≡ holder.0 →
+    IsTurnStep split.code world host after → ⊥
+waiting_turn split world after host holder state there rests same step =
+    let one : host ≡ holder = same_id host holder same in
+    let is = some_same (state_at world holder) step.state state (ap (state_at world) (sym one) ∙ step.obeys) there in
+    no_thread step.state.running (ap (λ (s : HostShape). s.running) is ∙ rests) step.runs
+
+turned : (split : Split) (c : Configuration) (world after : WorldShape) (sim : Simulates split c world)
+    (holder : Holder) → sim.holder ≡ holder → Stands split c sim.chain sim.out world holder → AreIdle holder world →
+    GoesOn holder world → (host : HostId) → IsTurnStep split.code world host after → Goes split c after
+turned split c world after sim (runs holder) is stands idle none host step = elim (eqb_tells host.0 holder.0) [
   | inl same ↦
-      turned split c world after sim sim.holder sim.stands
-      (subst (λ h. IsTurnStep split.code world h after) (same_id host split.code.root same.1) step)
-  | inr apart ↦ absurd (no_thread step.state.running (sim.orderly.rest host step.state step.obeys apart.1) step.runs)
+      let one : host ≡ holder = same_id host holder same.1 in
+      let run = stands.1 in
+      let here = subst (λ h. IsTurnStep split.code world h after) one step in
+      let state = some_same (state_at world holder) here.state run.state here.obeys run.there in
+      holder_turn split c world after holder sim is run stands.0 none idle here.outcome
+      (subst (λ (s : HostShape). IsTurn split.code s here.outcome) state here.turns)
+      (ap (λ (s : HostShape). after_step world holder here.outcome (label_of_turn split.code s)) (sym state)
+      ∙ here.leaves)
+  | inr apart ↦ absurd (idle_turn split world after (runs holder) idle host apart.1 step)
 ]
+turned split c world after sim (asked holder owner) is stands idle none host step = elim (eqb_tells host.0 holder.0) [
+  | inl same ↦
+      let waits = stands.1.waits in
+      absurd (waiting_turn split world after host holder waits.state waits.there waits.running same.1 step)
+  | inr apart ↦ absurd (idle_turn split world after (asked holder owner) idle host apart.1 step)
+]
+turned split c world after sim (answered holder owner) is stands idle none host step =
+    elim (eqb_tells host.0 holder.0) [
+      | inl same ↦
+          let waits = stands.1.waits in
+          absurd (waiting_turn split world after host holder waits.state waits.there waits.running same.1 step)
+      | inr apart ↦ absurd (idle_turn split world after (answered holder owner) idle host apart.1 step)
+    ]
+turned split c world after sim (goes from to) is stands idle none host step =
+    absurd (idle_turn split world after (goes from to) idle host tt step)
+turned split c world after sim (returns from to) is stands idle none host step =
+    absurd (idle_turn split world after (returns from to) idle host tt step)
+turned split c world after sim halted is stands idle none host step =
+    absurd (idle_turn split world after halted idle host tt step)
 
 -- ---- messages
 
 taken : (split : Split) (c : Configuration) (world after : WorldShape) (sim : Simulates split c world)
-    (holder : Holder) → Stands split c world sim.state holder → (from to : HostId) (place : ℕ) →
-    IsTakeStep split.code world from to place after → Goes split c after
-taken split c world after sim runs stands from to place step =
-    absurd (none_taken world from to place step.flight stands.flying step.there)
-taken split c world after sim (asked owner) stands from to place step =
-    asked_taken split c world after sim owner stands from to place step
-taken split c world after sim (answered owner) stands from to place step =
-    answered_taken split c world after sim owner stands from to place step
-taken split c world after sim halted stands from to place step =
+    (holder : Holder) → Stands split c sim.chain sim.out world holder → AreIdle holder world → GoesOn holder world →
+    (from to : HostId) (place : ℕ) → IsTakeStep split.code world from to place after → Goes split c after
+taken split c world after sim (runs holder) stands idle none from to place step =
+    absurd (none_taken world from to place step.flight stands.1.flying step.there)
+taken split c world after sim (asked holder owner) stands idle none from to place step =
+    asked_taken split c world after sim holder owner idle none stands.0 stands.1 from to place step
+taken split c world after sim (answered holder owner) stands idle none from to place step =
+    answered_taken split c world after sim holder owner idle none stands.0 stands.1 from to place step
+taken split c world after sim (goes sender target) stands idle none from to place step =
+    going_taken split c world after sim sender target idle none stands.0 stands.1 from to place step
+taken split c world after sim (returns sender target) stands idle none from to place step =
+    returning_taken split c world after sim sender target idle none stands.0 stands.1 from to place step
+taken split c world after sim halted stands idle none from to place step =
     absurd (none_taken world from to place step.flight stands.flying step.there)
 
 -- ---- events
@@ -75,36 +101,43 @@ taken split c world after sim halted stands from to place step =
 pub event_kept : (split : Split) (c : Configuration) (world after : WorldShape) (event : Event) →
     Simulates split c world → IsStep split.code world event after → Goes split c after
 event_kept split c world after (Take from to place) sim step =
-    taken split c world after sim sim.holder sim.stands from to place step
-event_kept split c world after (Turn host) sim step = turn_event split c world after sim host step
+    taken split c world after sim sim.holder sim.stands sim.idle sim.goes_on from to place step
+event_kept split c world after (Turn host) sim step =
+    turned split c world after sim sim.holder refl sim.stands sim.idle sim.goes_on host step
 event_kept split c world after (Act from to made) sim step =
     absurd (let none = sim.orderly.none_bad from in let bad = step.bad in cc)
 
 -- ---- what such a world has
 
-halting : (o : Option HostShape) (state : HostShape) → o ≡ Some state → IsSomeAnd o (λ host. IsTrue host.halted) →
-    state.halted ≡ true
-halting None state is halts = absurd halts
-halting (Some there) state is halts =
-    let same : there ≡ state = cc in
-    ap (λ (s : HostShape). s.halted) (sym same) ∙ halts
+halting : (o : Option HostShape) → IsSomeAnd o (λ host. IsTrue host.halted) →
+    (state : HostShape) × (o ≡ Some state) × (state.halted ≡ true)
+halting None halts = absurd halts
+halting (Some state) halts = (state, refl, halts)
 
 not_halted : (state : HostShape) → state.halted ≡ false → state.halted ≡ true → ⊥
 not_halted state one other = cc
 
-ended : (split : Split) (c : Configuration) (world : WorldShape) (state : HostShape) (holder : Holder) →
-    Stands split c world state holder → state.halted ≡ true → IsAtEnd c
-ended split c world state runs stands halts = absurd (not_halted state stands.stack.goes_on halts)
-ended split c world state (asked owner) stands halts = absurd (not_halted state stands.waits.stack.goes_on halts)
-ended split c world state (answered owner) stands halts = absurd (not_halted state stands.waits.stack.goes_on halts)
-ended split c world state halted stands halts = stands.ends
+still : (world : WorldShape) (root : HostId) →
+    ((host : HostId) (state : HostShape) → state_at world host ≡ Some state → state.halted ≡ false) →
+    has_halted root world → ⊥
+still world root none halts =
+    let has = halting (state_at world root) halts in
+    not_halted has.0 (none root has.0 has.1) has.2
+
+ended : (split : Split) (c : Configuration) (world : WorldShape) (chain : List StackEntry) (out : List Forward)
+    (holder : Holder) → Stands split c chain out world holder → GoesOn holder world → has_halted split.code.root world →
+    IsAtEnd c
+ended split c world chain out (runs holder) stands none halts = absurd (still world split.code.root none halts)
+ended split c world chain out (asked holder owner) stands none halts = absurd (still world split.code.root none halts)
+ended split c world chain out (answered holder owner) stands none halts = absurd (still world split.code.root none halts)
+ended split c world chain out (goes from to) stands none halts = absurd (still world split.code.root none halts)
+ended split c world chain out (returns from to) stands none halts = absurd (still world split.code.root none halts)
+ended split c world chain out halted stands none halts = stands.ends
 
 -- where the world has halted the plain run is at its end
 pub halted_at_end : (split : Split) (c : Configuration) (world : WorldShape) → Simulates split c world →
     has_halted split.code.root world → IsAtEnd c
-halted_at_end split c world sim halts =
-    ended split c world sim.state sim.holder sim.stands
-    (halting (state_at world split.code.root) sim.state sim.root halts)
+halted_at_end split c world sim halts = ended split c world sim.chain sim.out sim.holder sim.stands sim.goes_on halts
 
 flies : (world : WorldShape) (from to : HostId) (flight : Flight) → world.flying ≡ only from to (flight ∷ []) →
     NothingFlies world → ⊥
@@ -129,21 +162,26 @@ has_ended (Some there) state is halts =
     let same : there ≡ state = cc in
     ap (λ (s : HostShape). s.halted) same ∙ halts
 
-idle_stands : (split : Split) (c : Configuration) (world : WorldShape) (state : HostShape) →
-    state_at world split.code.root ≡ Some state → (holder : Holder) → Stands split c world state holder →
-    NoneRuns world → NothingFlies world → has_halted split.code.root world
-idle_stands split c world state root runs stands none idle =
-    absurd (none split.code.root
-    (has_run (state_at world split.code.root) state root (subst IsSome (sym stands.running) refl)))
-idle_stands split c world state root (asked owner) stands none idle =
-    absurd (flies world split.code.root owner stands.waits.flight stands.waits.flying idle)
-idle_stands split c world state root (answered owner) stands none idle =
-    absurd (flies world owner split.code.root stands.waits.flight stands.waits.flying idle)
-idle_stands split c world state root halted stands none idle =
-    has_ended (state_at world split.code.root) state root stands.halted
+idle_stands : (split : Split) (c : Configuration) (world : WorldShape) (chain : List StackEntry) (out : List Forward)
+    (holder : Holder) → Stands split c chain out world holder → NoneRuns world → NothingFlies world →
+    has_halted split.code.root world
+idle_stands split c world chain out (runs holder) stands none idle =
+    let run = stands.1 in
+    absurd (none holder
+    (has_run (state_at world holder) run.state run.there (subst IsSome (sym run.running) refl)))
+idle_stands split c world chain out (asked holder owner) stands none idle =
+    absurd (flies world holder owner stands.1.waits.flight stands.1.waits.flying idle)
+idle_stands split c world chain out (answered holder owner) stands none idle =
+    absurd (flies world owner holder stands.1.waits.flight stands.1.waits.flying idle)
+idle_stands split c world chain out (goes from to) stands none idle =
+    absurd (flies world from to stands.1.flight stands.1.flying idle)
+idle_stands split c world chain out (returns from to) stands none idle =
+    absurd (flies world from to stands.1.flight stands.1.flying idle)
+idle_stands split c world chain out halted stands none idle =
+    has_ended (state_at world split.code.root) stands.state stands.there stands.halted
 
 -- where nothing is left to happen the program has halted
 pub idle_halted : (split : Split) (c : Configuration) (world : WorldShape) → Simulates split c world →
     NoneRuns world → NothingFlies world → has_halted split.code.root world
 idle_halted split c world sim none idle =
-    idle_stands split c world sim.state sim.root sim.holder sim.stands none idle
+    idle_stands split c world sim.chain sim.out sim.holder sim.stands none idle

@@ -13,11 +13,9 @@ use Rattle.host_decl.specs.Hosts as declared_hosts
 use Rattle.jif_tree.specs.declared.program.Program.{Program}
 use Rattle.jif_tree.specs.declared.program.Method.{Method}
 use Rattle.jif_tree.specs.declared.program.Stmt.{Stmt}
-use Rattle.jif_tree.specs.declared.program.StmtKind.{StmtKind}
-use Rattle.jif_tree.specs.declared.program.StmtKind as kind
 use Rattle.jif_tree.specs.SourceRun.{configuration_at_start, main_body, body_of}
 use Rattle.jif_tree.specs.Store.{row_of}
-use Rattle.jif_tree.specs.Trees.{BlockTree, Heading, done, MethodTree, ProgramTree, statement_tree, block_tree}
+use Rattle.jif_tree.specs.Trees.{MethodTree, ProgramTree, block_tree}
 use Rattle.jif_tree.specs.Trees.{method_tree, program_tree}
 use Rattle.host_code.specs.declared.code.Entry.{Entry}
 use Rattle.host_code.specs.Code.{CodeShape, CodeFieldShape, halt, entry_at}
@@ -28,11 +26,24 @@ use Rattle.net_world.specs.World.{AreHostsOf, named_host, world_at_start, state_
 use Rattle.net_world.specs.World.{is_absent, host_before, hosts_before}
 use Rattle.split_rules.specs.Positions as positions
 use Rattle.split_rules.specs.Positions.{Position, calm, all_due, statements_of}
-use Rattle.simulation.specs.Obeying.{FieldsAre}
-use Rattle.simulation.proofs.Simulates.{Split, place_of, due_of, Simulates, IsOrderly, runs}
+use Rattle.std.proofs.Common.{◌++◌, append-nil, subst}
+use Rattle.std.specs.Prelude.{All}
+use Rattle.std.proofs.lemmas.List.Elements.{All-get_or}
+use Rattle.std.proofs.lemmas.Option.{slice_get_within, get_or_from_slice_get}
+use Rattle.js_base.specs.declared.ids.FrameId.{FrameId}
+use Rattle.js_base.specs.declared.ids.VarId.{VarId}
+use Rattle.ics_stack.specs.declared.stack.StackEntry.{StackEntry}
+use Rattle.host_code.specs.Sound.{EntryFits}
+use Rattle.msg_cost.specs.Moves.{PlannedShape}
 use Rattle.simulation.proofs.TreeValues.{read_value}
+use Rattle.simulation.proofs.Simulates.{Split, place_of, due_at, chain_due, AreStacks, runs, Simulates}
+use Rattle.simulation.proofs.Transfers.{AreStatements, one_more}
 use Rattle.simulation.proofs.Moved.{same_id}
-use Rattle.simulation.proofs.Turns.{root_there}
+use Rattle.simulation.proofs.Pops.{own_stack, other_stack}
+
+all_there : {X : Type 0} (P : X → Type 0) (xs : List X) (i : ℕ) (x : X) → All P xs → slice_get xs i ≡ Some x → P x
+all_there P xs i x all there =
+    subst P (get_or_from_slice_get xs i x x there) (All-get_or P xs i x (slice_get_within xs i x there) all)
 
 -- ---- hosts before the first event
 
@@ -107,7 +118,11 @@ pub record IsFresh (code : CodeShape) (store : List (List ℤ)) (host : HostId) 
   pub me : state.me ≡ host
   pub ignored : state.ignored ≡ 0
   pub rows : state.rows ≡ own_rows host store 0 code.fields
+  pub halts : state.halted ≡ false
+  pub waiting : state.waiting ≡ []
+  pub variables : state.variables ≡ (λ frame variable. pos 0)
   pub rest : host.0 ≢ code.root.0 → state.running ≡ None
+  pub entries : host.0 ≢ code.root.0 → state.entries ≡ []
 
 fresh : (code : CodeShape) (store : List (List ℤ)) (host : HostId) (state : HostShape) (entry : Entry) →
     entry_at code code.main ≡ Some entry → IsStart code store host state → IsFresh code store host state
@@ -119,7 +134,11 @@ fresh code store host state entry main start = elim (eqb_tells host.0 code.root.
         me = ap (λ (s : HostShape). s.me) is;
         ignored = ap (λ (s : HostShape). s.ignored) is;
         rows = ap (λ (s : HostShape). s.rows) is;
+        halts = ap (λ (s : HostShape). s.halted) is;
+        waiting = ap (λ (s : HostShape). s.waiting) is;
+        variables = ap (λ (s : HostShape). s.variables) is;
         rest = λ apart. absurd (apart same.1);
+        entries = λ apart. absurd (apart same.1);
       }
   | inr apart ↦
       let is : state ≡ idle_host code store start.key host =
@@ -128,7 +147,11 @@ fresh code store host state entry main start = elim (eqb_tells host.0 code.root.
         me = ap (λ (s : HostShape). s.me) is;
         ignored = ap (λ (s : HostShape). s.ignored) is;
         rows = ap (λ (s : HostShape). s.rows) is;
+        halts = ap (λ (s : HostShape). s.halted) is;
+        waiting = ap (λ (s : HostShape). s.waiting) is;
+        variables = ap (λ (s : HostShape). s.variables) is;
         rest = λ other. ap (λ (s : HostShape). s.running) is;
+        entries = λ other. ap (λ (s : HostShape). s.entries) is;
       }
 ]
 
@@ -146,34 +169,25 @@ own_row_at host store n (first ∷ fields) (suc k) field there same =
 
 -- ---- what is due at the start
 
-one_statement : (what : StmtKind) (heading : Heading) (rest : BlockTree) →
-    statements_of (statement_tree what heading rest) ≡ statement_tree what heading done ∷ statements_of rest
-one_statement (kind.Let x value) heading rest = refl
-one_statement (kind.SetField field value) heading rest = refl
-one_statement (kind.SetElement field index value) heading rest = refl
-one_statement (kind.If' guard m first n second) heading rest = refl
-one_statement (kind.While' guard m body) heading rest = refl
-one_statement (kind.Call site method args into) heading rest = refl
-one_statement (kind.Return value) heading rest = refl
+block_statements : (planned : PlannedShape) (statements : List Stmt) →
+    AreStatements planned (block_tree statements) statements
+block_statements planned [] = record { due = refl; readers = λ readers. tt }
+block_statements planned (statement ∷ statements) =
+    one_more planned statement (block_tree statements) statements (block_statements planned statements)
 
-block_due : (statements : List Stmt) → all_due (block_tree statements) ≡ map due_of statements
-block_due [] = refl
-block_due (statement ∷ statements) =
-    ap (map positions.run)
-    (one_statement statement.kind (record { id = statement.id; line = statement.line }) (block_tree statements))
-    ∙ ap (λ list. due_of statement ∷ list) (block_due statements)
-
-main_due : (found : Option Method) (tree : MethodTree) → option_map method_tree found ≡ Some tree →
-    all_due tree.body ≡ map due_of (body_of found)
-main_due None tree is = absurd (cc)
-main_due (Some method) tree is =
+main_statements : (planned : PlannedShape) (found : Option Method) (tree : MethodTree) →
+    option_map method_tree found ≡ Some tree → AreStatements planned tree.body (body_of found)
+main_statements planned None tree is = absurd (cc)
+main_statements planned (Some method) tree is =
     let same : method_tree method ≡ tree = cc in
-    ap (λ (m : MethodTree). all_due m.body) (sym same) ∙ block_due method.body.items
+    subst (λ (m : MethodTree). AreStatements planned m.body method.body.items) same
+    (block_statements planned method.body.items)
 
-body_due : (program : Program) (planned : ProgramTree) → program_tree program ≡ planned → (tree : MethodTree) →
-    slice_get planned.methods planned.main.0 ≡ Some tree → all_due tree.body ≡ map due_of (main_body program)
-body_due program planned same tree is =
-    main_due (slice_get program.methods.items program.main.0) tree
+body_statements : (planned : PlannedShape) (program : Program) → program_tree program ≡ planned.program →
+    (tree : MethodTree) → slice_get planned.program.methods planned.program.main.0 ≡ Some tree →
+    AreStatements planned tree.body (main_body program)
+body_statements planned program same tree is =
+    main_statements planned (slice_get program.methods.items program.main.0) tree
     (sym (slice_get-map method_tree program.methods.items program.main.0)
     ∙ ap (λ (p : ProgramTree). slice_get p.methods p.main.0) same ∙ is)
 
@@ -200,28 +214,50 @@ entrance_of split entry is tree has main =
         let equal : first ≡ second = cc in
         ap (λ (e : positions.Entrance). e.position) equal
 
-orderly_at_start : (split : Split) (store : List (List ℤ)) (rows : List declared_hosts.HostShape) (entry : Entry) →
-    entry_at split.code split.code.main ≡ Some entry →
-    IsOrderly split.code (world_at_start split.code rows 0 store)
-orderly_at_start split store rows entry main =
-    let code = split.code in
-    record {
-      none_bad = λ host. none_absent code store 0 rows host.0;
-      numbers = λ host state is. (fresh code store host state entry main (starts code store rows host state is)).me;
-      rest = λ host state is apart.
-          (fresh code store host state entry main (starts code store rows host state is)).rest apart;
-      ignored = λ host state is. (fresh code store host state entry main (starts code store rows host state is)).ignored;
-    }
+-- each host is fresh
+fresh_there : (split : Split) (store : List (List ℤ)) (rows : List declared_hosts.HostShape) (entry : Entry) →
+    entry_at split.code split.code.main ≡ Some entry → (host : HostId) (state : HostShape) →
+    state_at (world_at_start split.code rows 0 store) host ≡ Some state → IsFresh split.code store host state
+fresh_there split store rows entry main host state is =
+    fresh split.code store host state entry main (starts split.code store rows host state is)
 
-fields_at_start : (split : Split) (store : List (List ℤ)) (rows : List declared_hosts.HostShape) (entry : Entry) →
-    entry_at split.code split.code.main ≡ Some entry →
-    FieldsAre split.code (world_at_start split.code rows 0 store) store
-fields_at_start split store rows entry main number field state there is =
+long_start : (code : CodeShape) (store : List (List ℤ)) (n : ℕ) (rows : List declared_hosts.HostShape) →
+    length (hosts_before code store 0 n rows) ≡ length rows
+long_start code store n [] = refl
+long_start code store n (row ∷ rows) = ap suc (long_start code store (n + 1) rows)
+
+-- the entry that ends the program, on the stack of a root with this key
+abbrev last_entry : CodeShape → List (List ℤ) → List ℕ → StackEntry
+last_entry code store key = record {
+  token = new_token (idle_host code store key code.root) halt main_frame;
+  entry = halt;
+  frame = main_frame;
+  kept = last_token code.root;
+}
+
+some_same : {X : Type 0} (o : Option X) (x y : X) → o ≡ Some x → o ≡ Some y → x ≡ y
+some_same o x y first second = let both : Some x ≡ Some y = sym first ∙ second in cc
+
+stacks_at_start : (split : Split) (store : List (List ℤ)) (rows : List declared_hosts.HostShape) (entry : Entry) →
+    entry_at split.code split.code.main ≡ Some entry → (key : List ℕ) →
+    state_at (world_at_start split.code rows 0 store) split.code.root
+    ≡ Some (root_state split.code store key split.code.root entry) →
+    AreStacks (last_entry split.code store key ∷ []) (world_at_start split.code rows 0 store)
+stacks_at_start split store rows entry main key there host state is =
     let code = split.code in
-    ap (λ (list : List (List ℤ)). row_of list number)
-    (fresh code store field.host state entry main (starts code store rows field.host state is)).rows
-    ∙ own_row_at field.host store 0 code.fields number field there refl
-    ∙ ap (row_of store) (omega arith)
+    let world = world_at_start code rows 0 store in
+    let last = last_entry code store key in
+    elim (eqb_tells host.0 code.root.0) [
+      | inl same ↦
+          let one : host ≡ code.root = same_id host code.root same.1 in
+          let state_is : state ≡ root_state code store key code.root entry =
+          some_same (state_at world code.root) state (root_state code store key code.root entry)
+          (ap (state_at world) (sym one) ∙ is) there in
+          ap (λ (s : HostShape). s.entries) state_is ∙ sym (own_stack host last [] (sym one))
+      | inr apart ↦
+          (fresh_there split store rows entry main host state is).entries apart.1
+          ∙ sym (other_stack code.root host last [] refl apart.1)
+    ]
 
 started : (split : Split) (store : List (List ℤ)) (rows : List declared_hosts.HostShape) → AreHostsOf split.code rows →
     (found : Option Entry) → entry_at split.code split.code.main ≡ found →
@@ -231,56 +267,77 @@ started split store rows hosts None is on_root = absurd on_root
 started split store rows hosts (Some entry) is on_root =
     let code = split.code in
     let root = code.root in
+    let world = world_at_start code rows 0 store in
     let many : length rows ≡ length code.hosts = sym (length-map rows named_host) ∙ ap length hosts in
-    let there = there_within code store 0 rows root.0 (let within = root_there split in omega arith) in
+    let entries_fit : EntryFits code entry = all_there (EntryFits code) code.entries code.main.0 entry
+    split.sound.entries is in
+    let within : root.0 < length code.hosts = subst (λ (h : HostId). h.0 < length code.hosts) on_root entries_fit.host in
+    let there = there_within code store 0 rows root.0 (omega arith) in
     let start = starts code store rows root there.0 there.1 in
     let state = root_state code store start.key root entry in
     let state_is : there.0 ≡ state = start.is ∙ root_is code store start.key root entry refl is in
-    let place : place_of split entry.at
-    ≡ calm (positions.body (record { 0 = split.planned.program.main.0 })) (all_due split.main_tree.body) =
+    let root_there : state_at world root ≡ Some state = there.1 ∙ ap Some state_is in
+    let number = split.planned.program.main.0 in
+    let place : place_of split root entry.at
+    ≡ calm (positions.body (record { 0 = number })) (all_due split.main_tree.body) =
     ap (λ (host : HostId). split.table.at host.0 entry.at) (sym on_root)
     ∙ entrance_of split entry is split.main_tree split.has_main split.main_entry in
+    let body = body_statements split.planned split.program split.is split.main_tree split.has_main in
+    let last = last_entry code store start.key in
+    let none_behind : due_at (slice_get split.table.entries 0) ≡ [] = ap due_at split.typed.halts in
     record {
-      state = state;
-      root = there.1 ∙ ap Some state_is;
-      orderly = orderly_at_start split store rows entry is;
-      fields = fields_at_start split store rows entry is;
-      variables = record {
+      chain = last ∷ [];
+      out = [];
+      holder = runs root;
+      orderly = record {
+        count = long_start code store 0 rows ∙ many;
+        none_bad = λ host. none_absent code store 0 rows host.0;
+        numbers = λ host s at. (fresh_there split store rows entry is host s at).me;
+        ignored = λ host s at. (fresh_there split store rows entry is host s at).ignored;
+      };
+      stacks = stacks_at_start split store rows entry is start.key root_there;
+      idle = λ host s at apart. (
+        (fresh_there split store rows entry is host s at).rest apart,
+        (fresh_there split store rows entry is host s at).waiting,
+      );
+      goes_on = λ host s at. (fresh_there split store rows entry is host s at).halts;
+      fields = λ number field s there at.
+          ap (λ (list : List (List ℤ)). row_of list number) (fresh_there split store rows entry is field.host s at).rows
+          ∙ own_row_at field.host store 0 code.fields number field there refl
+          ∙ ap (row_of store) (omega arith);
+      call = record {
         call = record { caller = 0; method = split.program.main.0; values = λ x. pos 0 };
         calls = refl;
-        same = λ x. refl;
       };
-      holder = runs;
-      stands = record {
-        thread = thread_at entry main_frame (new_token (idle_host code store start.key root) halt main_frame);
-        token = new_token (idle_host code store start.key root) halt main_frame;
-        stack = record {
-          top = record {
-            token = new_token (idle_host code store start.key root) halt main_frame;
-            entry = halt;
-            frame = main_frame;
-            kept = last_token root;
+      agree = λ host s x at reads. inr (ap (λ (v : FrameId → VarId → ℤ). v main_frame x)
+          (fresh_there split store rows entry is host s at).variables);
+      stands = (
+        (refl, refl),
+        record {
+          state = state;
+          there = root_there;
+          thread = thread_at entry main_frame last.token;
+          running = refl;
+          waiting = refl;
+          sent = tt;
+          flying = refl;
+          at = record {
+            frame = refl;
+            held = refl;
+            left = record {
+              left = main_body split.program;
+              pending = refl;
+              due = ap (λ (p : Position). p.due ++ chain_due split (last ∷ [])) place
+                  ∙ ap (λ list. all_due split.main_tree.body ++ (list ++ [])) none_behind
+                  ∙ append-nil (all_due split.main_tree.body) ∙ body.due;
+              readers = body.readers split.readers;
+            };
+            calling = ap (λ (p : Position). p.calling) place;
+            forwards = ap (λ (p : Position). p.forwards) place;
+            temporaries = sym (ap (λ (p : Position). map (read_value store (λ x. pos 0)) p.reads) place);
           };
-          entries = refl;
-          is_token = refl;
-          is_halt = refl;
-          on_root = refl;
-          goes_on = refl;
-        };
-        running = refl;
-        waiting = refl;
-        flying = refl;
-        at = record {
-          frame = refl;
-          held = refl;
-          left = main_body split.program;
-          pending = refl;
-          due = ap (λ (p : Position). p.due) place
-              ∙ body_due split.program split.planned.program split.is split.main_tree split.has_main;
-          calling = ap (λ (p : Position). p.calling) place;
-          temporaries = sym (ap (λ (p : Position). map (read_value store (λ x. pos 0)) p.reads) place);
-        };
-      };
+        },
+      );
     }
 
 -- the world before the first event stands for the start of the plain run

@@ -1,33 +1,43 @@
--- Taking the one message in flight: a request by its owner, or an answer by the root.
-use Rattle.std.proofs.Common.{◌≡◌, ◌∙◌, ℕ, inl, inr, Bool, true, List, [], ◌∷◌}
-use Rattle.std.proofs.Common.{Option, Some, refl, ap, sym, subst}
+-- Taking the one message in flight: a request by its owner, an answer by the host that waits, or the token.
+use Rattle.std.proofs.Common.{◌≡◌, ◌≢◌, ◌∙◌, ℕ, ◌⊎◌, inl, inr, Bool, true, List, [], ◌∷◌, Option, Some, None, refl, ap}
+use Rattle.std.proofs.Common.{sym, subst}
 use Rattle.std.specs.Prelude.{ℤ, IsSome, slice_get, position, remove}
 use Rattle.std.specs.Option.{option_map}
 use Rattle.std.proofs.lemmas.Bool.{eq-eqb}
 use Rattle.js_base.specs.declared.ids.HostId.{HostId}
+use Rattle.js_base.specs.declared.ids.EntryId.{EntryId}
 use Rattle.js_base.specs.declared.ids.RequestId.{RequestId}
 use Rattle.jif_tree.specs.SourceRun.{Configuration, step}
 use Rattle.jif_tree.specs.Store.{element_at, row_of}
+use Rattle.ics_stack.specs.declared.stack.StackEntry.{StackEntry}
+use Rattle.ics_stack.specs.Stack.{top_token}
 use Rattle.host_code.specs.declared.message.Message.{Message}
 use Rattle.host_code.specs.declared.message.Message.TheVariants as message
+use Rattle.host_code.specs.Sound.{IsEntryOn}
 use Rattle.host_code.specs.Thread.{ThreadShape, Awaited, WaitingShape}
 use Rattle.host_code.specs.Thread.Awaited.{value_of_field, acknowledgement, token_of_entry}
 use Rattle.entry_check.specs.declared.ask.Ask.{Ask}
 use Rattle.entry_check.specs.declared.ask.Ask.TheVariants as ask
 use Rattle.entry_check.specs.Checks.{May}
 use Rattle.host_core.specs.Awaiting.{awaits, is_same_answer}
-use Rattle.host_core.specs.Host.{HostShape, Outcome, without_message, with_message, with_row_written}
-use Rattle.host_core.specs.Host.{with_variable_set, with_temporary}
+use Rattle.host_core.specs.Host.{HostShape, Outcome, without_message, with_message, with_row_written, after_push}
+use Rattle.host_core.specs.Host.{with_variable_set, with_temporary, with_token, new_token, after_pop, after_entering}
+use Rattle.host_core.specs.Host.{with_running, thread_at}
 use Rattle.host_core.specs.Start.{main_frame}
 use Rattle.host_core.specs.Taking.{IsTaking, Passes, after_taking, after_passing, after_answer, place_of_awaiting}
+use Rattle.split_rules.specs.Positions.{Forward}
 use Rattle.net_world.specs.Flying.{Flight}
 use Rattle.net_world.specs.World.{WorldShape, IsTakeStep, state_at, without_flight, after_step}
 use Rattle.simulation.specs.Obeying.{FieldsAre}
-use Rattle.simulation.proofs.Simulates.{Split, IsAt, only, IsRequest, IsAnswer, IsWaiting, IsAsked}
-use Rattle.simulation.proofs.Simulates.{IsAnswered, Simulates, Goes, runs, answered}
+use Rattle.simulation.proofs.Simulates.{Split, IsChain, on_stack, IsAt, only, AreSent, Agree, runs}
+use Rattle.simulation.proofs.Simulates.{asked, answered, goes, returns, halted, Holder, IsIdle, IsRequest}
+use Rattle.simulation.proofs.Simulates.{IsAnswer, IsWaiting, IsAsked, IsAnswered, IsGoing, IsReturning, AreIdle, Simulates}
+use Rattle.simulation.proofs.Simulates.{Goes}
 use Rattle.simulation.proofs.Moved.{Moved, mover_state, other_state, moved_silent, moved_telling, the_one, emptied}
 use Rattle.simulation.proofs.Rows.{fields_same, fields_written, row_there}
-use Rattle.simulation.proofs.Kept.{orderly_moved, holds_same, variables_kept}
+use Rattle.simulation.proofs.Kept.{orderly_moved, NoneHalted, none_halted_moved, stacks_moved, idle_moved}
+use Rattle.simulation.proofs.Kept.{agree_same, agree_forwarded, call_kept, sent_kept}
+use Rattle.simulation.proofs.Pops.{own_stack, other_stack, top_on_stack, pushed_chain, Ended, Continued, popped}
 
 -- a message that passes does what it is for
 passing : (split : Split) (state : HostShape) (from : HostId) (m : Message) (outcome : Outcome) →
@@ -36,104 +46,155 @@ passing : (split : Split) (state : HostShape) (from : HostId) (m : Message) (out
 passing split state from m outcome takes may =
     sym (ap (after_taking split.code state from m) (takes.1.1 may)) ∙ takes.2
 
-may_here : (split : Split) (state : HostShape) (owner : HostId) (asked : Ask) (from : HostId) → state.me ≡ owner →
-    May split.code owner asked from → May split.code state.me asked from
-may_here split state owner asked from me may = subst (λ host. May split.code host asked from) (sym me) may
+pub may_here : (split : Split) (state : HostShape) (owner : HostId) (what : Ask) (from : HostId) → state.me ≡ owner →
+    May split.code owner what from → May split.code state.me what from
+may_here split state owner what from me may = subst (λ host. May split.code host what from) (sym me) may
 
 -- ---- requests
 
 -- the owner of a request has answered
 answers : (split : Split) (c now : Configuration) (world after : WorldShape) (sim : Simulates split c world)
-    (owner : HostId) (waits : IsWaiting split world sim.state owner split.code.root owner) (old new : HostShape)
-    (label : ℕ) (answer : Message) (outcome : Outcome) → state_at world owner ≡ Some old → new.me ≡ old.me →
-    new.ignored ≡ old.ignored → new.running ≡ old.running → with_message new split.code.root answer ≡ outcome →
-    after_step (without_flight world split.code.root owner 0) owner outcome (Some label) ≡ after →
-    now.calls ≡ c.calls → IsAnswer split now waits.token waits.thread answer →
-    (Moved world owner new (only owner split.code.root (record { message = answer; label = label } ∷ [])) after →
-    FieldsAre split.code after now.store) → Simulates split now after
-answers split c now world after sim owner waits old new label answer outcome obeys me ignored running is leaves calls
-    ready fields =
-    let root = split.code.root in
+    (holder owner : HostId) → AreIdle (asked holder owner) world → NoneHalted world →
+    (waits : IsWaiting c sim.out world holder owner holder owner) (chain : List StackEntry) (out : List Forward)
+    (old new : HostShape) (label : ℕ) (answer : Message) (outcome : Outcome) → state_at world owner ≡ Some old →
+    new.me ≡ old.me → new.ignored ≡ old.ignored → new.running ≡ old.running → new.waiting ≡ old.waiting →
+    new.halted ≡ old.halted → new.entries ≡ on_stack owner chain →
+    ((other : HostId) → other.0 ≢ owner.0 → on_stack other chain ≡ on_stack other sim.chain) →
+    with_message new holder answer ≡ outcome →
+    after_step (without_flight world holder owner 0) owner outcome (Some label) ≡ after → now.calls ≡ c.calls →
+    IsChain split chain → AreSent now (waits.state.variables main_frame) holder out →
+    IsAnswer split now chain out holder waits.thread answer →
+    (Moved world owner new (only owner holder (record { message = answer; label = label } ∷ [])) after →
+    FieldsAre split.code after now.store × Agree split now out after) → Simulates split now after
+answers split c now world after sim holder owner idle none_halted waits chain out old new label answer outcome obeys me
+    ignored running waiting halts entries others is leaves calls is_chain sent ready given =
     let flight : Flight = record { message = answer; label = label } in
-    let flying = only owner root (flight ∷ []) in
-    let left = without_flight world root owner 0 in
-    let stepped = moved_telling left owner outcome new root answer (Some label) label after sim.orderly.none_bad
-    (emptied world root owner waits.flight waits.flying) refl is leaves in
+    let flying = only owner holder (flight ∷ []) in
+    let left = without_flight world holder owner 0 in
+    let stepped = moved_telling left owner outcome new holder answer (Some label) label after sim.orderly.none_bad
+    (emptied world holder owner waits.flight waits.flying) refl is leaves in
     let moved : Moved world owner new flying after = record { hosts = stepped.hosts; flying = stepped.flying } in
+    let kept = given moved in
+    let rested = idle owner old obeys waits.other in
     record {
-      state = sim.state;
-      root = other_state world after owner root new flying moved (λ same. waits.other (sym same)) ∙ sim.root;
-      orderly = orderly_moved split.code world after owner old new flying sim.orderly obeys moved me ignored
-          (λ apart. running ∙ sim.orderly.rest owner old obeys apart);
-      fields = fields moved;
-      variables = variables_kept c now (sim.state.variables main_frame) (sim.state.variables main_frame) sim.variables
-          calls (λ x. refl);
-      holder = answered owner;
-      stands = record {
-        waits = record {
-          thread = waits.thread;
-          token = waits.token;
-          flight = flight;
-          stack = waits.stack;
-          running = waits.running;
-          waiting = waits.waiting;
-          asked = waits.asked;
-          other = waits.other;
-          flying = moved.flying;
-        };
-        answer = ready;
-      };
+      chain = chain;
+      out = out;
+      holder = answered holder owner;
+      orderly = orderly_moved split.code world after owner old new flying sim.orderly obeys moved me ignored;
+      stacks = stacks_moved sim.chain chain world after owner old new flying sim.stacks obeys moved entries others;
+      idle = idle_moved (asked holder owner) (answered holder owner) world after owner old new flying idle obeys moved
+          (λ other apart rests. rests) (λ rests. (running ∙ rested.0, waiting ∙ rested.1));
+      goes_on = none_halted_moved world after owner old new flying none_halted obeys moved
+          (halts ∙ none_halted owner old obeys);
+      fields = kept.0;
+      call = call_kept c now sim.call calls;
+      agree = kept.1;
+      stands = (
+        is_chain,
+        record {
+          waits = record {
+            state = waits.state;
+            there = other_state world after owner holder new flying moved (λ same. waits.other (sym same)) ∙ waits.there;
+            thread = waits.thread;
+            flight = flight;
+            running = waits.running;
+            waiting = waits.waiting;
+            asked = waits.asked;
+            other = waits.other;
+            sent = sent;
+            flying = moved.flying;
+          };
+          answer = ready;
+        },
+      );
     }
 
 request_taken : (split : Split) (c : Configuration) (world after : WorldShape) (sim : Simulates split c world)
-    (owner : HostId) (waits : IsWaiting split world sim.state owner split.code.root owner) (m : Message) →
-    IsRequest split c waits.token owner waits.thread m → (old : HostShape) → state_at world owner ≡ Some old →
-    (outcome : Outcome) (label : ℕ) → IsTaking split.code old split.code.root m outcome →
-    after_step (without_flight world split.code.root owner 0) owner outcome (Some label) ≡ after → Goes split c after
-request_taken split c world after sim owner waits (message.Get request field place) asks old obeys outcome label takes
-    leaves =
-    let root = split.code.root in
+    (holder owner : HostId) → AreIdle (asked holder owner) world → NoneHalted world → IsChain split sim.chain →
+    (waits : IsWaiting c sim.out world holder owner holder owner) (m : Message) →
+    IsRequest split c sim.chain sim.out holder owner waits.thread m → (old : HostShape) →
+    state_at world owner ≡ Some old → (outcome : Outcome) (label : ℕ) → IsTaking split.code old holder m outcome →
+    after_step (without_flight world holder owner 0) owner outcome (Some label) ≡ after → Goes split c after
+request_taken split c world after sim holder owner idle none_halted is_chain waits (message.Get request field place) asks
+    old obeys outcome label takes leaves =
     let me = sim.orderly.numbers owner old obeys in
     let own = element_at (row_of old.rows field.0) place in
     let value = element_at (row_of c.store field.0) place in
     let same : own ≡ value = ap (λ (row : List ℤ). element_at row place)
     (row_there split.code world owner old c.store field sim.fields obeys asks.3) in
-    let done : with_message old root (message.Value request value) ≡ outcome =
-    ap (λ v. with_message old root (message.Value request v)) (sym same)
-    ∙ passing split old root (message.Get request field place) outcome takes
-    (may_here split old owner (ask.Get field) root me asks.2) in
-    inl (answers split c c world after sim owner waits old old label (message.Value request value) outcome obeys refl
-    refl refl done leaves refl (asks.0, asks.1, asks.4)
-    (λ moved. fields_same split.code world after owner old old _ c.store sim.fields obeys moved refl))
-request_taken split c world after sim owner waits (message.Set request field place value) asks old obeys outcome label
-    takes leaves =
-    let root = split.code.root in
+    let done : with_message old holder (message.Value request value) ≡ outcome =
+    ap (λ v. with_message old holder (message.Value request v)) (sym same)
+    ∙ passing split old holder (message.Get request field place) outcome takes
+    (may_here split old owner (ask.Get field) holder me asks.2) in
+    inl (answers split c c world after sim holder owner idle none_halted waits sim.chain sim.out old old label
+    (message.Value request value) outcome obeys refl refl refl refl refl (sim.stacks owner old obeys)
+    (λ other apart. refl) done leaves refl is_chain waits.sent (asks.0, asks.1, asks.4)
+    (λ moved. (
+      fields_same split.code world after owner old old _ c.store sim.fields obeys moved refl,
+      agree_same split c c sim.out world after owner old old _ sim.agree obeys moved refl refl,
+    )))
+request_taken split c world after sim holder owner idle none_halted is_chain waits (message.Set request field place value)
+    asks old obeys outcome label takes leaves =
     let me = sim.orderly.numbers owner old obeys in
     let new = with_row_written old field place value in
     let next = step split.program c in
-    let done : with_message new root (message.Ack request) ≡ outcome =
-    passing split old root (message.Set request field place value) outcome takes
-    (may_here split old owner (ask.Set field) root me asks.2) in
+    let done : with_message new holder (message.Ack request) ≡ outcome =
+    passing split old holder (message.Set request field place value) outcome takes
+    (may_here split old owner (ask.Set field) holder me asks.2) in
     inr (
       asks.4,
-      answers split c next world after sim owner waits old new label (message.Ack request) outcome obeys refl refl refl
-          done leaves asks.6 (asks.0, asks.1, asks.7)
-          (λ moved. subst (FieldsAre split.code after) (sym asks.5)
-          (fields_written split.code world after owner old new _ c.store field place value sim.fields obeys moved asks.3
-          refl)),
+      answers split c next world after sim holder owner idle none_halted waits sim.chain sim.out old new label
+          (message.Ack request) outcome obeys refl refl refl refl refl (sim.stacks owner old obeys) (λ other apart. refl) done
+          leaves asks.6 is_chain (sent_kept c next (waits.state.variables main_frame) holder sim.out asks.6 waits.sent)
+          (asks.0, asks.1, asks.7)
+          (λ moved. (
+            subst (FieldsAre split.code after) (sym asks.5)
+                (fields_written split.code world after owner old new _ c.store field place value sim.fields obeys moved asks.3 refl),
+            agree_same split c next sim.out world after owner old new _ sim.agree obeys moved refl asks.6,
+          )),
     )
-request_taken split c world after sim owner waits (message.Forward request frame x value) asks old obeys outcome label
-    takes leaves =
-    let root = split.code.root in
+request_taken split c world after sim holder owner idle none_halted is_chain waits
+    (message.Forward request frame x value) asks old obeys outcome label takes leaves =
     let me = sim.orderly.numbers owner old obeys in
     let new = with_variable_set old frame x value in
-    let done : with_message new root (message.Ack request) ≡ outcome =
-    passing split old root (message.Forward request frame x value) outcome takes
-    (may_here split old owner (ask.Forward x) root me asks.2) in
-    inl (answers split c c world after sim owner waits old new label (message.Ack request) outcome obeys refl refl refl
-    done leaves refl (asks.0, asks.1, asks.3)
-    (λ moved. fields_same split.code world after owner old new _ c.store sim.fields obeys moved refl))
-request_taken split c world after sim owner waits _ asks old obeys outcome label takes leaves = absurd asks
+    let done : with_message new holder (message.Ack request) ≡ outcome =
+    passing split old holder (message.Forward request frame x value) outcome takes
+    (may_here split old owner (ask.Forward x) holder me asks.2) in
+    let sent = subst (AreSent c (waits.state.variables main_frame) holder) asks.7 waits.sent in
+    inl (answers split c c world after sim holder owner idle none_halted waits sim.chain asks.6 old new label
+    (message.Ack request) outcome obeys refl refl refl refl refl (sim.stacks owner old obeys) (λ other apart. refl) done
+    leaves refl is_chain sent.2 (asks.0, asks.1, asks.8)
+    (λ moved. (
+      fields_same split.code world after owner old new _ c.store sim.fields obeys moved refl,
+      agree_forwarded split c asks.6 world after owner old new _ frame x value asks.5
+          (subst (λ out. Agree split c out world) asks.7 sim.agree) obeys moved refl asks.3 asks.4,
+    )))
+request_taken split c world after sim holder owner idle none_halted is_chain waits
+    (message.Sync request frame entry token) asks old obeys outcome label takes leaves =
+    let me = sim.orderly.numbers owner old obeys in
+    let new = after_push old entry frame token in
+    let pushed : StackEntry = record {
+      token = new_token old entry frame;
+      entry = entry;
+      frame = frame;
+      kept = token;
+    } in
+    let done : with_message new holder (message.Token request pushed.token) ≡ outcome =
+    passing split old holder (message.Sync request frame entry token) outcome takes
+    (may_here split old owner (ask.Enter entry) holder me asks.2) in
+    inl (answers split c c world after sim holder owner idle none_halted waits (pushed ∷ sim.chain) sim.out old new label
+    (message.Token request pushed.token) outcome obeys refl refl refl refl refl
+    (ap (λ list. pushed ∷ list) (sim.stacks owner old obeys) ∙ sym (own_stack owner pushed sim.chain me))
+    (λ other apart. other_stack owner other pushed sim.chain me apart) done leaves refl
+    (pushed_chain split sim.chain pushed token is_chain asks.5
+    (subst (λ h. IsEntryOn split.code h entry) (sym me) asks.4) asks.3 refl) waits.sent
+    (asks.0, asks.1, asks.6 pushed refl)
+    (λ moved. (
+      fields_same split.code world after owner old new _ c.store sim.fields obeys moved refl,
+      agree_same split c c sim.out world after owner old new _ sim.agree obeys moved refl refl,
+    )))
+request_taken split c world after sim holder owner idle none_halted is_chain waits _ asks old obeys outcome label takes
+    leaves = absurd asks
 
 -- ---- answers
 
@@ -146,10 +207,10 @@ first_passes : {X : Type 0} (p : X → Bool) (x : X) → p x ≡ true → positi
 first_passes p x passes = rw passes refl
 
 -- the one thread that waits is the one that is answered
-awaited_first : (state : HostShape) (waiting : WaitingShape) (awaited : Awaited) (request : RequestId)
+pub awaited_first : (state : HostShape) (waiting : WaitingShape) (awaited : Awaited) (request : RequestId)
     (from : HostId) → state.waiting ≡ waiting ∷ [] → waiting.awaited ≡ awaited → waiting.request ≡ request →
     waiting.asked ≡ from → place_of_awaiting state awaited request from ≡ Some 0
-awaited_first state waiting awaited request from is kind number asked =
+awaited_first state waiting awaited request from is kind number by =
     let own : awaits awaited request from (record {
       thread = waiting.thread;
       awaited = awaited;
@@ -165,22 +226,67 @@ awaited_first state waiting awaited request from is kind number asked =
     let passes : awaits awaited request from waiting ≡ true =
     ap (λ a. awaits awaited request from (record waiting { awaited = a })) kind
     ∙ ap (λ r. awaits awaited request from (record waiting { awaited = awaited; request = r })) number
-    ∙ ap (λ h. awaits awaited request from (record waiting { awaited = awaited; request = request; asked = h })) asked
+    ∙ ap (λ h. awaits awaited request from (record waiting { awaited = awaited; request = request; asked = h })) by
     ∙ own in
     ap (position (awaits awaited request from)) is ∙ first_passes (awaits awaited request from) waiting passes
 
--- the root goes on as it is after the answer
+-- a host runs again, or anew, and nothing is in flight
+begins : (split : Split) (c : Configuration) (world after : WorldShape) (sim : Simulates split c world) (before : Holder)
+    (from host : HostId) (flight : Flight) (chain : List StackEntry) (out : List Forward) →
+    AreIdle before world → NoneHalted world → ((other : HostId) → other.0 ≢ host.0 → IsIdle before other) →
+    world.flying ≡ only from host (flight ∷ []) → (old new : HostShape) (thread : ThreadShape) →
+    state_at world host ≡ Some old → new.me ≡ old.me → new.ignored ≡ old.ignored → new.halted ≡ old.halted →
+    new.rows ≡ old.rows → new.variables ≡ old.variables → new.running ≡ Some thread → new.waiting ≡ [] →
+    new.entries ≡ on_stack host chain →
+    ((other : HostId) → other.0 ≢ host.0 → on_stack other chain ≡ on_stack other sim.chain) → (outcome : Outcome)
+    (label : ℕ) → without_message new ≡ outcome →
+    after_step (without_flight world from host 0) host outcome (Some label) ≡ after → IsChain split chain →
+    Agree split c out world → AreSent c (new.variables main_frame) host out → IsAt split c chain out host thread →
+    Goes split c after
+begins split c world after sim before from host flight chain out idle none_halted apart flying old new thread obeys me
+    ignored halts rows variables running waiting entries others outcome label is leaves is_chain agree sent at =
+    let left = without_flight world from host 0 in
+    let stepped = moved_silent left host outcome new (Some label) after is leaves in
+    let moved : Moved world host new left.flying after = record { hosts = stepped.hosts; flying = stepped.flying } in
+    inl (record {
+      chain = chain;
+      out = out;
+      holder = runs host;
+      orderly = orderly_moved split.code world after host old new left.flying sim.orderly obeys moved me ignored;
+      stacks = stacks_moved sim.chain chain world after host old new left.flying sim.stacks obeys moved entries others;
+      idle = idle_moved before (runs host) world after host old new left.flying idle obeys moved
+          (λ other differs rests. apart other differs) (λ rests. absurd (rests refl));
+      goes_on = none_halted_moved world after host old new left.flying none_halted obeys moved
+          (halts ∙ none_halted host old obeys);
+      fields = fields_same split.code world after host old new left.flying c.store sim.fields obeys moved rows;
+      call = sim.call;
+      agree = agree_same split c c out world after host old new left.flying agree obeys moved variables refl;
+      stands = (
+        is_chain,
+        record {
+          state = new;
+          there = mover_state world after host old new left.flying obeys moved;
+          thread = thread;
+          running = running;
+          waiting = waiting;
+          sent = sent;
+          flying = moved.flying ∙ emptied world from host flight flying;
+          at = at;
+        },
+      );
+    })
+
+-- the host that waits goes on as it is after the answer
 resumes : (split : Split) (c : Configuration) (world after : WorldShape) (sim : Simulates split c world)
-    (owner : HostId) (waits : IsWaiting split world sim.state owner owner split.code.root)
-    (change : ThreadShape → ThreadShape) (place : Option ℕ) (outcome : Outcome) (label : ℕ) → place ≡ Some 0 →
-    without_message (after_answer sim.state place change) ≡ outcome →
-    after_step (without_flight world owner split.code.root 0) split.code.root outcome (Some label) ≡ after →
-    IsAt split c waits.token (change waits.thread.thread) → Goes split c after
-resumes split c world after sim owner waits change place outcome label first is leaves at =
-    let root = split.code.root in
-    let state = sim.state in
+    (holder owner : HostId) → AreIdle (answered holder owner) world → NoneHalted world → IsChain split sim.chain →
+    (waits : IsWaiting c sim.out world holder owner owner holder) (change : ThreadShape → ThreadShape)
+    (place : Option ℕ) (outcome : Outcome) (label : ℕ) → place ≡ Some 0 →
+    without_message (after_answer waits.state place change) ≡ outcome →
+    after_step (without_flight world owner holder 0) holder outcome (Some label) ≡ after →
+    IsAt split c sim.chain sim.out holder (change waits.thread.thread) → Goes split c after
+resumes split c world after sim holder owner idle none_halted is_chain waits change place outcome label first is leaves at =
+    let state = waits.state in
     let new : HostShape = record state { running = Some (change waits.thread.thread); waiting = [] } in
-    let left = without_flight world owner root 0 in
     let done : without_message new ≡ outcome =
     sym (ap (λ p. without_message (after_answer state p change)) first
     ∙ ap (λ (list : List WaitingShape). without_message (record state {
@@ -188,48 +294,122 @@ resumes split c world after sim owner waits change place outcome label first is 
       waiting = remove list 0;
     })) waits.waiting)
     ∙ is in
-    let stepped = moved_silent left root outcome new (Some label) after done leaves in
-    let moved : Moved world root new left.flying after = record { hosts = stepped.hosts; flying = stepped.flying } in
-    inl (record {
-      state = new;
-      root = mover_state world after root state new left.flying sim.root moved;
-      orderly = orderly_moved split.code world after root state new left.flying sim.orderly sim.root moved refl refl
-          (λ apart. absurd (apart refl));
-      fields = fields_same split.code world after root state new left.flying c.store sim.fields sim.root moved refl;
-      variables = sim.variables;
-      holder = runs;
-      stands = record {
-        thread = change waits.thread.thread;
-        token = waits.token;
-        stack = holds_same split state new waits.token waits.stack refl refl;
-        running = refl;
-        waiting = refl;
-        flying = moved.flying ∙ emptied world owner root waits.flight waits.flying;
-        at = at;
-      };
-    })
+    begins split c world after sim (answered holder owner) owner holder waits.flight sim.chain sim.out idle none_halted
+    (λ other apart. apart) waits.flying state new (change waits.thread.thread) waits.there refl refl refl refl refl refl
+    refl (sim.stacks holder state waits.there) (λ other apart. refl) outcome label done leaves is_chain sim.agree
+    waits.sent at
 
 answer_taken : (split : Split) (c : Configuration) (world after : WorldShape) (sim : Simulates split c world)
-    (owner : HostId) (waits : IsWaiting split world sim.state owner owner split.code.root) (m : Message) →
-    IsAnswer split c waits.token waits.thread m → (outcome : Outcome) (label : ℕ) →
-    IsTaking split.code sim.state owner m outcome →
-    after_step (without_flight world owner split.code.root 0) split.code.root outcome (Some label) ≡ after →
-    Goes split c after
-answer_taken split c world after sim owner waits (message.Value request value) answer outcome label takes leaves =
-    let place = place_of_awaiting sim.state value_of_field request owner in
-    let first = awaited_first sim.state waits.thread value_of_field request owner waits.waiting answer.0 answer.1
+    (holder owner : HostId) → AreIdle (answered holder owner) world → NoneHalted world → IsChain split sim.chain →
+    (waits : IsWaiting c sim.out world holder owner owner holder) (m : Message) →
+    IsAnswer split c sim.chain sim.out holder waits.thread m → (outcome : Outcome) (label : ℕ) →
+    IsTaking split.code waits.state owner m outcome →
+    after_step (without_flight world owner holder 0) holder outcome (Some label) ≡ after → Goes split c after
+answer_taken split c world after sim holder owner idle none_halted is_chain waits (message.Value request value) answer
+    outcome label takes leaves =
+    let place = place_of_awaiting waits.state value_of_field request owner in
+    let first = awaited_first waits.state waits.thread value_of_field request owner waits.waiting answer.0 answer.1
     waits.asked in
-    resumes split c world after sim owner waits (with_temporary value) place outcome label first
-    (passing split sim.state owner (message.Value request value) outcome takes (subst IsSome (sym first) refl)) leaves
-    answer.2
-answer_taken split c world after sim owner waits (message.Ack request) answer outcome label takes leaves =
-    let place = place_of_awaiting sim.state acknowledgement request owner in
-    let first = awaited_first sim.state waits.thread acknowledgement request owner waits.waiting answer.0 answer.1
+    resumes split c world after sim holder owner idle none_halted is_chain waits (with_temporary value) place outcome label
+    first (passing split waits.state owner (message.Value request value) outcome takes (subst IsSome (sym first) refl))
+    leaves answer.2
+answer_taken split c world after sim holder owner idle none_halted is_chain waits (message.Ack request) answer outcome
+    label takes leaves =
+    let place = place_of_awaiting waits.state acknowledgement request owner in
+    let first = awaited_first waits.state waits.thread acknowledgement request owner waits.waiting answer.0 answer.1
     waits.asked in
-    resumes split c world after sim owner waits (λ thread. thread) place outcome label first
-    (passing split sim.state owner (message.Ack request) outcome takes (subst IsSome (sym first) refl)) leaves
+    resumes split c world after sim holder owner idle none_halted is_chain waits (λ thread. thread) place outcome label
+    first (passing split waits.state owner (message.Ack request) outcome takes (subst IsSome (sym first) refl)) leaves
     answer.2
-answer_taken split c world after sim owner waits _ answer outcome label takes leaves = absurd answer
+answer_taken split c world after sim holder owner idle none_halted is_chain waits (message.Token request token) answer
+    outcome label takes leaves =
+    let place = place_of_awaiting waits.state token_of_entry request owner in
+    let first = awaited_first waits.state waits.thread token_of_entry request owner waits.waiting answer.0 answer.1
+    waits.asked in
+    resumes split c world after sim holder owner idle none_halted is_chain waits (with_token (Some token)) place outcome
+    label first (passing split waits.state owner (message.Token request token) outcome takes
+    (subst IsSome (sym first) refl)) leaves answer.2
+answer_taken split c world after sim holder owner idle none_halted is_chain waits _ answer outcome label takes leaves =
+    absurd answer
+
+-- ---- the token
+
+-- an entry is gone to
+token_goes : (split : Split) (c : Configuration) (world after : WorldShape) (sim : Simulates split c world)
+    (from to : HostId) → AreIdle (goes from to) world → NoneHalted world → IsChain split sim.chain →
+    (going : IsGoing split c sim.chain sim.out world from to) (old : HostShape) → state_at world to ≡ Some old →
+    (outcome : Outcome) (label : ℕ) →
+    IsTaking split.code old from (message.Rgoto main_frame (record { 0 = going.number }) going.token) outcome →
+    after_step (without_flight world from to 0) to outcome (Some label) ≡ after → Goes split c after
+token_goes split c world after sim from to idle none_halted is_chain going old obeys outcome label takes leaves =
+    let me = sim.orderly.numbers to old obeys in
+    let entry : EntryId = record { 0 = going.number } in
+    let thread = thread_at going.there main_frame going.token in
+    let new = with_running old (Some thread) in
+    let done : without_message new ≡ outcome =
+    sym (ap (λ found. without_message (after_entering old found main_frame going.token)) going.entry)
+    ∙ passing split old from (message.Rgoto main_frame entry going.token) outcome takes
+    (may_here split old to (ask.Enter entry) from me going.may) in
+    let rested = idle to old obeys tt in
+    begins split c world after sim (goes from to) from to going.flight sim.chain [] idle none_halted (λ other apart. tt)
+    going.flying old new thread obeys refl refl refl refl refl refl rested.1 (sim.stacks to old obeys)
+    (λ other apart. refl) outcome label done leaves is_chain (subst (λ out. Agree split c out world) going.none_out sim.agree)
+    tt going.at
+
+-- the token comes back
+token_returns : (split : Split) (c : Configuration) (world after : WorldShape) (sim : Simulates split c world)
+    (from to : HostId) → AreIdle (returns from to) world → NoneHalted world → IsChain split sim.chain →
+    (back : IsReturning split c sim.chain sim.out world from to) (old : HostShape) → state_at world to ≡ Some old →
+    (outcome : Outcome) (label : ℕ) → IsTaking split.code old from (message.Lgoto back.token) outcome →
+    after_step (without_flight world from to 0) to outcome (Some label) ≡ after →
+    (Ended split c sim.chain to old ⊎ Continued split c sim.chain to old) → Goes split c after
+token_returns split c world after sim from to idle none_halted is_chain back old obeys outcome label takes leaves
+    (inl ended) =
+    let stack = sim.stacks to old obeys in
+    let new : HostShape = record old { entries = []; running = None; halted = true } in
+    let passed = passing split old from (message.Lgoto back.token) outcome takes
+    (ap top_token stack ∙ top_on_stack to sim.chain back.token back.top back.host) in
+    let done : without_message new ≡ outcome =
+    sym (ap (λ list. without_message (after_pop split.code old list)) stack ∙ ap without_message ended.is) ∙ passed in
+    let left = without_flight world from to 0 in
+    let stepped = moved_silent left to outcome new (Some label) after done leaves in
+    let moved : Moved world to new left.flying after = record { hosts = stepped.hosts; flying = stepped.flying } in
+    let rested = idle to old obeys tt in
+    inl (record {
+      chain = [];
+      out = [];
+      holder = halted;
+      orderly = orderly_moved split.code world after to old new left.flying sim.orderly obeys moved refl refl;
+      stacks = stacks_moved sim.chain [] world after to old new left.flying sim.stacks obeys moved refl ended.others;
+      idle = idle_moved (returns from to) halted world after to old new left.flying idle obeys moved
+          (λ other apart rests. tt) (λ rests. (refl, rested.1));
+      goes_on = tt;
+      fields = fields_same split.code world after to old new left.flying c.store sim.fields obeys moved refl;
+      call = sim.call;
+      agree = agree_same split c c [] world after to old new left.flying
+          (subst (λ out. Agree split c out world) back.none_out sim.agree) obeys moved refl refl;
+      stands = record {
+        state = new;
+        there = ap (state_at after) (sym ended.on_root)
+            ∙ mover_state world after to old new left.flying obeys moved;
+        halted = refl;
+        flying = moved.flying ∙ emptied world from to back.flight back.flying;
+        none_out = refl;
+        ends = ended.ends;
+      };
+    })
+token_returns split c world after sim from to idle none_halted is_chain back old obeys outcome label takes leaves
+    (inr more) =
+    let stack = sim.stacks to old obeys in
+    let new = with_running (record old { entries = on_stack to more.now }) (Some more.thread) in
+    let passed = passing split old from (message.Lgoto back.token) outcome takes
+    (ap top_token stack ∙ top_on_stack to sim.chain back.token back.top back.host) in
+    let done : without_message new ≡ outcome =
+    sym (ap (λ list. without_message (after_pop split.code old list)) stack ∙ ap without_message more.is) ∙ passed in
+    let rested = idle to old obeys tt in
+    begins split c world after sim (returns from to) from to back.flight more.now [] idle none_halted
+    (λ other apart. tt) back.flying old new more.thread obeys refl refl refl refl refl refl rested.1 refl more.others
+    outcome label done leaves more.is_chain (subst (λ out. Agree split c out world) back.none_out sim.agree) tt more.at
 
 -- ---- events
 
@@ -245,32 +425,71 @@ take_at split world after from to from' to' place from_is to_is place_is step =
     (subst (λ t. IsTakeStep split.code world from t 0 after) to_is
     (subst (λ p. IsTakeStep split.code world from to p after) place_is step))
 
+-- a host takes the one message in flight
+record TakesOne (split : Split) (world after : WorldShape) (from to : HostId) (m : Message) : Type 0 where
+  old : HostShape
+  obeys : state_at world to ≡ Some old
+  outcome : Outcome
+  label : ℕ
+  takes : IsTaking split.code old from m outcome
+  leaves : after_step (without_flight world from to 0) to outcome (Some label) ≡ after
+
+takes_one : (split : Split) (world after : WorldShape) (from to from' to' : HostId) (place : ℕ) (flight : Flight) →
+    world.flying ≡ only from' to' (flight ∷ []) → IsTakeStep split.code world from to place after →
+    TakesOne split world after from' to' flight.message
+takes_one split world after from to from' to' place flight flying step =
+    let is = the_one world from to from' to' place step.flight flight flying step.there in
+    let here = take_at split world after from to from' to' place is.from_is is.to_is is.place_is step in
+    let same = (the_one world from' to' from' to' 0 here.flight flight flying here.there).flight_is in
+    record {
+      old = here.state;
+      obeys = here.obeys;
+      outcome = here.outcome;
+      label = here.flight.label;
+      takes = subst (λ (f : Flight). IsTaking split.code here.state from' f.message here.outcome) same here.takes;
+      leaves = here.leaves;
+    }
+
 -- the request in flight is taken
 pub asked_taken : (split : Split) (c : Configuration) (world after : WorldShape) (sim : Simulates split c world)
-    (owner : HostId) → IsAsked split c world sim.state owner → (from to : HostId) (place : ℕ) →
+    (holder owner : HostId) → AreIdle (asked holder owner) world → NoneHalted world → IsChain split sim.chain →
+    IsAsked split c sim.chain sim.out world holder owner → (from to : HostId) (place : ℕ) →
     IsTakeStep split.code world from to place after → Goes split c after
-asked_taken split c world after sim owner stands from to place step =
-    let root = split.code.root in
-    let flight = stands.waits.flight in
-    let is = the_one world from to root owner place step.flight flight stands.waits.flying step.there in
-    let here = take_at split world after from to root owner place is.from_is is.to_is is.place_is step in
-    let same = (the_one world root owner root owner 0 here.flight flight stands.waits.flying here.there).flight_is in
-    request_taken split c world after sim owner stands.waits flight.message stands.request here.state here.obeys
-    here.outcome here.flight.label
-    (subst (λ (f : Flight). IsTaking split.code here.state root f.message here.outcome) same here.takes) here.leaves
+asked_taken split c world after sim holder owner idle none_halted is_chain stands from to place step =
+    let one = takes_one split world after from to holder owner place stands.waits.flight stands.waits.flying step in
+    request_taken split c world after sim holder owner idle none_halted is_chain stands.waits stands.waits.flight.message
+    stands.request one.old one.obeys one.outcome one.label one.takes one.leaves
 
 -- the answer in flight is taken
 pub answered_taken : (split : Split) (c : Configuration) (world after : WorldShape) (sim : Simulates split c world)
-    (owner : HostId) → IsAnswered split c world sim.state owner → (from to : HostId) (place : ℕ) →
+    (holder owner : HostId) → AreIdle (answered holder owner) world → NoneHalted world → IsChain split sim.chain →
+    IsAnswered split c sim.chain sim.out world holder owner → (from to : HostId) (place : ℕ) →
     IsTakeStep split.code world from to place after → Goes split c after
-answered_taken split c world after sim owner stands from to place step =
-    let root = split.code.root in
-    let flight = stands.waits.flight in
-    let is = the_one world from to owner root place step.flight flight stands.waits.flying step.there in
-    let here = take_at split world after from to owner root place is.from_is is.to_is is.place_is step in
-    let same = (the_one world owner root owner root 0 here.flight flight stands.waits.flying here.there).flight_is in
-    let state = some_same (state_at world root) here.state sim.state here.obeys sim.root in
-    answer_taken split c world after sim owner stands.waits flight.message stands.answer here.outcome
-    here.flight.label
-    (subst (λ (s : HostShape). IsTaking split.code s owner flight.message here.outcome) state
-    (subst (λ (f : Flight). IsTaking split.code here.state owner f.message here.outcome) same here.takes)) here.leaves
+answered_taken split c world after sim holder owner idle none_halted is_chain stands from to place step =
+    let waits = stands.waits in
+    let one = takes_one split world after from to owner holder place waits.flight waits.flying step in
+    let state = some_same (state_at world holder) one.old waits.state one.obeys waits.there in
+    answer_taken split c world after sim holder owner idle none_halted is_chain waits waits.flight.message stands.answer
+    one.outcome one.label
+    (subst (λ (s : HostShape). IsTaking split.code s owner waits.flight.message one.outcome) state one.takes) one.leaves
+
+-- the token is taken at an entry
+pub going_taken : (split : Split) (c : Configuration) (world after : WorldShape) (sim : Simulates split c world)
+    (sender target : HostId) → AreIdle (goes sender target) world → NoneHalted world → IsChain split sim.chain →
+    IsGoing split c sim.chain sim.out world sender target → (from to : HostId) (place : ℕ) →
+    IsTakeStep split.code world from to place after → Goes split c after
+going_taken split c world after sim sender target idle none_halted is_chain stands from to place step =
+    let one = takes_one split world after from to sender target place stands.flight stands.flying step in
+    token_goes split c world after sim sender target idle none_halted is_chain stands one.old one.obeys one.outcome
+    one.label (subst (λ m. IsTaking split.code one.old sender m one.outcome) stands.message one.takes) one.leaves
+
+-- the token is taken by who gave it
+pub returning_taken : (split : Split) (c : Configuration) (world after : WorldShape) (sim : Simulates split c world)
+    (sender target : HostId) → AreIdle (returns sender target) world → NoneHalted world → IsChain split sim.chain →
+    IsReturning split c sim.chain sim.out world sender target → (from to : HostId) (place : ℕ) →
+    IsTakeStep split.code world from to place after → Goes split c after
+returning_taken split c world after sim sender target idle none_halted is_chain stands from to place step =
+    let one = takes_one split world after from to sender target place stands.flight stands.flying step in
+    token_returns split c world after sim sender target idle none_halted is_chain stands one.old one.obeys one.outcome
+    one.label (subst (λ m. IsTaking split.code one.old sender m one.outcome) stands.message one.takes) one.leaves
+    (popped split c sim.chain target one.old stands.token is_chain stands.left stands.top stands.host)

@@ -3,6 +3,7 @@
 use Rattle.std.proofs.Common.{◌≡◌, ◌∙◌, ℕ, suc, ◌+◌, List, [], ◌∷◌, ◌++◌, map, length, refl, ap, sym, subst}
 use Rattle.std.proofs.Common.{arith, append_assoc, append-nil}
 use Rattle.std.specs.Prelude.{ℤ, pos, ⊤}
+use Rattle.std.specs.List.{AllByRecursion}
 use Rattle.std.proofs.lemmas.List.{map-append, length-map}
 use Rattle.js_base.specs.declared.ids.VarId.{VarId}
 use Rattle.jif_tree.specs.declared.program.Expr.{Expr}
@@ -14,6 +15,7 @@ use Rattle.jif_tree.specs.Trees.{ExprTree, number, local, scalar, element, inver
 use Rattle.jif_tree.specs.Trees.{endorsed, expr_tree}
 use Rattle.host_code.specs.declared.code_expr.Node.{Node}
 use Rattle.host_code.specs.declared.code_expr.Node.TheVariants as node
+use Rattle.need_labels.specs.Needs.{variables_in}
 use Rattle.host_core.specs.Values.{temporary_at, values_after, first_of_values, value_of_nodes}
 use Rattle.split_rules.specs.Expressions.{reads_in, nodes_of}
 use Rattle.split_rules.specs.Positions.{FieldRead, field_reads}
@@ -99,20 +101,52 @@ holds_own before (value ∷ values) =
     (append_assoc before (value ∷ []) values) more in
     (at_seam before value values, holds_from (before ++ value ∷ values) values _ _ (long_push before value) all)
 
+-- ---- variables
+
+pub all_left : {X : Type 0} (P : X → Type 0) (one other : List X) → AllByRecursion P (one ++ other) →
+    AllByRecursion P one
+all_left P [] other all = tt
+all_left P (x ∷ one) other all = (all.0, all_left P one other all.1)
+
+pub all_right : {X : Type 0} (P : X → Type 0) (one other : List X) → AllByRecursion P (one ++ other) →
+    AllByRecursion P other
+all_right P [] other all = all
+all_right P (x ∷ one) other all = all_right P one other all.1
+
+pub all_both : {X : Type 0} (P : X → Type 0) (one other : List X) → AllByRecursion P one → AllByRecursion P other →
+    AllByRecursion P (one ++ other)
+all_both P [] other first second = second
+all_both P (x ∷ one) other first second = (first.0, all_both P one other first.1 second)
+
+-- the variables of an expression have their values
+abbrev pub AreSame : (ℕ → ℤ) → (VarId → ℤ) → ExprTree → Type 0
+AreSame values variables e = AllByRecursion (λ x. variables x ≡ values x.0) (variables_in e)
+
+same_left : (values : ℕ → ℤ) (variables : VarId → ℤ) (left right : ExprTree) →
+    AllByRecursion (λ x. variables x ≡ values x.0) (variables_in left ++ variables_in right) →
+    AreSame values variables left
+same_left values variables left right = all_left (λ x. variables x ≡ values x.0) (variables_in left) (variables_in right)
+
+same_right : (values : ℕ → ℤ) (variables : VarId → ℤ) (left right : ExprTree) →
+    AllByRecursion (λ x. variables x ≡ values x.0) (variables_in left ++ variables_in right) →
+    AreSame values variables right
+same_right values variables left right =
+    all_right (λ x. variables x ≡ values x.0) (variables_in left) (variables_in right)
+
 -- ---- nodes
 
 -- the nodes of an expression put its value in front of the values
 pub after_nodes : (store : List (List ℤ)) (values : ℕ → ℤ) (variables : VarId → ℤ) →
-    ((x : VarId) → variables x ≡ values x.0) → (temporaries : List ℤ) (first : ℕ) (e : ExprTree) →
+    (temporaries : List ℤ) (first : ℕ) (e : ExprTree) → AreSame values variables e →
     Holds temporaries first (map (read_value store values) (field_reads e)) → (nodes : List Node) (stack : List ℤ) →
     values_after variables temporaries (nodes_of first e ++ nodes) stack
     ≡ values_after variables temporaries nodes (tree_value store values e ∷ stack)
-after_nodes store values variables same temporaries first (number n) holds nodes stack = refl
-after_nodes store values variables same temporaries first (local x) holds nodes stack =
-    ap (λ v. values_after variables temporaries nodes (v ∷ stack)) (same x)
-after_nodes store values variables same temporaries first (scalar field) holds nodes stack =
+after_nodes store values variables temporaries first (number n) same holds nodes stack = refl
+after_nodes store values variables temporaries first (local x) same holds nodes stack =
+    ap (λ v. values_after variables temporaries nodes (v ∷ stack)) same.0
+after_nodes store values variables temporaries first (scalar field) same holds nodes stack =
     ap (λ v. values_after variables temporaries nodes (v ∷ stack)) holds.0
-after_nodes store values variables same temporaries first (element field index) holds nodes stack =
+after_nodes store values variables temporaries first (element field index) same holds nodes stack =
     let reads = map (read_value store values) (field_reads index) in
     let own : FieldRead = record { field = field; index = index } in
     let apart = subst (Holds temporaries first) (map-append (read_value store values) (field_reads index) (own ∷ []))
@@ -122,15 +156,15 @@ after_nodes store values variables same temporaries first (element field index) 
     ∙ reads_many index in
     ap (λ v. values_after variables temporaries nodes (v ∷ stack))
     (ap (λ n. temporary_at temporaries (first + n)) (sym many) ∙ parts.back.0)
-after_nodes store values variables same temporaries first (inverted operand) holds nodes stack =
+after_nodes store values variables temporaries first (inverted operand) same holds nodes stack =
     ap (λ list. values_after variables temporaries list stack)
     (append_assoc (nodes_of first operand) (node.Not ∷ []) nodes)
-    ∙ after_nodes store values variables same temporaries first operand holds (node.Not ∷ nodes) stack
-after_nodes store values variables same temporaries first (negated operand) holds nodes stack =
+    ∙ after_nodes store values variables temporaries first operand same holds (node.Not ∷ nodes) stack
+after_nodes store values variables temporaries first (negated operand) same holds nodes stack =
     ap (λ list. values_after variables temporaries list stack)
     (append_assoc (nodes_of first operand) (node.Negate ∷ []) nodes)
-    ∙ after_nodes store values variables same temporaries first operand holds (node.Negate ∷ nodes) stack
-after_nodes store values variables same temporaries first (binary operator left right) holds nodes stack =
+    ∙ after_nodes store values variables temporaries first operand same holds (node.Negate ∷ nodes) stack
+after_nodes store values variables temporaries first (binary operator left right) same holds nodes stack =
     let reads = map (read_value store values) (field_reads left) in
     let others = map (read_value store values) (field_reads right) in
     let apart = subst (Holds temporaries first) (map-append (read_value store values) (field_reads left) (field_reads right))
@@ -144,31 +178,31 @@ after_nodes store values variables same temporaries first (binary operator left 
     ap (λ list. values_after variables temporaries list stack)
     (append_assoc (one ++ other) (node.Binary operator ∷ []) nodes
     ∙ append_assoc one other (node.Binary operator ∷ nodes))
-    ∙ after_nodes store values variables same temporaries first left parts.front
+    ∙ after_nodes store values variables temporaries first left (same_left values variables left right same) parts.front
     (other ++ node.Binary operator ∷ nodes) stack
-    ∙ after_nodes store values variables same temporaries (first + reads_in left) right behind
+    ∙ after_nodes store values variables temporaries (first + reads_in left) right (same_right values variables left right same) behind
     (node.Binary operator ∷ nodes) (tree_value store values left ∷ stack)
-after_nodes store values variables same temporaries first (declassified operand label) holds nodes stack =
-    after_nodes store values variables same temporaries first operand holds nodes stack
-after_nodes store values variables same temporaries first (endorsed operand label) holds nodes stack =
-    after_nodes store values variables same temporaries first operand holds nodes stack
+after_nodes store values variables temporaries first (declassified operand label) same holds nodes stack =
+    after_nodes store values variables temporaries first operand same holds nodes stack
+after_nodes store values variables temporaries first (endorsed operand label) same holds nodes stack =
+    after_nodes store values variables temporaries first operand same holds nodes stack
 
 nodes_value : (store : List (List ℤ)) (values : ℕ → ℤ) (variables : VarId → ℤ) →
-    ((x : VarId) → variables x ≡ values x.0) → (temporaries : List ℤ) (first : ℕ) (e : ExprTree) →
+    (temporaries : List ℤ) (first : ℕ) (e : ExprTree) → AreSame values variables e →
     Holds temporaries first (map (read_value store values) (field_reads e)) →
     value_of_nodes variables temporaries (nodes_of first e) ≡ tree_value store values e
-nodes_value store values variables same temporaries first e holds =
+nodes_value store values variables temporaries first e same holds =
     ap first_of_values
     (ap (λ list. values_after variables temporaries list []) (sym (append-nil (nodes_of first e)))
-    ∙ after_nodes store values variables same temporaries first e holds [] [])
+    ∙ after_nodes store values variables temporaries first e same holds [] [])
 
 -- The temporaries hold some reads, and among them, behind some others, those of the expression.
 pub value_there : (store : List (List ℤ)) (values : ℕ → ℤ) (variables : VarId → ℤ) →
-    ((x : VarId) → variables x ≡ values x.0) → (temporaries : List ℤ) (reads before behind : List FieldRead)
-    (e : ExprTree) (first : ℕ) → temporaries ≡ map (read_value store values) reads →
+    (temporaries : List ℤ) (reads before behind : List FieldRead) (e : ExprTree) (first : ℕ) →
+    AreSame values variables e → temporaries ≡ map (read_value store values) reads →
     reads ≡ before ++ (field_reads e ++ behind) → first ≡ length before →
     value_of_nodes variables temporaries (nodes_of first e) ≡ tree_value store values e
-value_there store values variables same temporaries reads before behind e first holds are at =
+value_there store values variables temporaries reads before behind e first same holds are at =
     let read = read_value store values in
     let front = map read before in
     let own = map read (field_reads e) in
@@ -179,5 +213,5 @@ value_there store values variables same temporaries reads before behind e first 
     let place : length front ≡ first = length-map before read ∙ sym at in
     let all : Holds temporaries first (own ++ more) = subst (λ t. Holds t first (own ++ more)) (sym list)
     (holds_from (front ++ (own ++ more)) (own ++ more) (length front) first place (holds_own front (own ++ more))) in
-    nodes_value store values variables same temporaries first e
+    nodes_value store values variables temporaries first e same
     (holds_parts temporaries first own more all).front

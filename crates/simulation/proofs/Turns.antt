@@ -1,18 +1,18 @@
--- A turn of the root, by the instruction that it runs.
-use Rattle.std.proofs.Common.{◌≡◌, ◌≢◌, ◌∙◌, ℕ, inl, inr, Bool, true, List, []}
-use Rattle.std.proofs.Common.{Option, Some, None, refl, ap, sym, subst}
-use Rattle.std.specs.Prelude.{ℤ, ◌==◌, ◌↔◌, if◌then◌else◌, IsTrue, IsSomeAnd, All, slice_get, ⊤}
+-- A turn of the holder, by the instruction that it runs.
+use Rattle.std.proofs.Common.{◌≡◌, ◌≢◌, ◌∙◌, ℕ, suc, ◌⊎◌, inl, inr, Bool, true, false, List, [], ◌∷◌, Option}
+use Rattle.std.proofs.Common.{Some, None, refl, ap, sym, subst}
+use Rattle.std.specs.Prelude.{ℤ, pos, ◌==◌, ◌↔◌, if◌then◌else◌, IsTrue, IsSomeAnd}
 use Rattle.std.specs.Option.{option_and_then}
+use Rattle.std.specs.Ordering.{int_eq}
 use Rattle.std.proofs.lemmas.Bool.Decides.{eqb_tells}
-use Rattle.std.proofs.lemmas.Bool.{eq-eqb}
-use Rattle.std.proofs.lemmas.List.Elements.{All-get_or}
-use Rattle.std.proofs.lemmas.Option.{slice_get_within, get_or_from_slice_get}
 use Rattle.js_base.specs.declared.ids.HostId.{HostId}
 use Rattle.js_base.specs.declared.ids.FieldId.{FieldId}
 use Rattle.js_base.specs.declared.ids.VarId.{VarId}
-use Rattle.jif_tree.specs.SourceRun as source
-use Rattle.jif_tree.specs.SourceRun.{Configuration, IsAtEnd, step}
+use Rattle.js_base.specs.declared.ids.EntryId.{EntryId}
+use Rattle.jif_tree.specs.SourceRun.{Configuration, step}
 use Rattle.jif_tree.specs.Store.{element_at, row_of}
+use Rattle.capability.specs.declared.token.Token.{Token}
+use Rattle.ics_stack.specs.declared.stack.StackEntry.{StackEntry}
 use Rattle.ics_stack.specs.Stack.{top_token}
 use Rattle.host_code.specs.declared.code.Entry.{Entry}
 use Rattle.host_code.specs.declared.code_expr.Node.{Node}
@@ -20,111 +20,108 @@ use Rattle.host_code.specs.declared.instruction.Instr.{Instr}
 use Rattle.host_code.specs.declared.instruction.Op.{Op}
 use Rattle.host_code.specs.declared.instruction.Op.TheVariants as op
 use Rattle.host_code.specs.declared.message.Message.TheVariants as message
-use Rattle.host_code.specs.Code.{CodeShape, CodeFieldShape, halt, field_at, entry_at, instruction_at}
-use Rattle.host_code.specs.Sound.{IsSoundCode, IsHost, OperationFits, EntryFits}
-use Rattle.host_code.specs.Thread.Awaited.{value_of_field, acknowledgement}
+use Rattle.host_code.specs.Code.{CodeFieldShape, field_at, entry_at, instruction_at}
+use Rattle.host_code.specs.Sound.{IsHost, IsEntryOn, OperationFits}
+use Rattle.host_code.specs.Thread.{ThreadShape}
+use Rattle.host_code.specs.Thread.Awaited.{value_of_field, acknowledgement, token_of_entry}
 use Rattle.host_core.specs.Host.{HostShape, Outcome, without_message, with_message, with_running, with_row_written}
-use Rattle.host_core.specs.Host.{with_variable_set, after_pop, after_entering, after_step, after_clearing}
-use Rattle.host_core.specs.Host.{with_temporary, with_one_ignored, value_in_thread, next_request, after_asking}
+use Rattle.host_core.specs.Host.{with_variable_set, after_pop, after_push, after_step, after_clearing, with_temporary}
+use Rattle.host_core.specs.Host.{with_token, with_one_ignored, thread_at, new_token, value_in_thread, next_request, after_asking}
 use Rattle.host_core.specs.Start.{main_frame}
-use Rattle.host_core.specs.Turn.{with_thread, after_read, after_put, after_back, after_operation, PassesWith}
-use Rattle.host_core.specs.Turn.{IsRunning, IsTurn, IsTurnOf, label_of_turn, label_of_thread}
+use Rattle.host_core.specs.Turn.{with_thread, after_read, after_put, after_own_push, after_ask, after_go, after_back}
+use Rattle.host_core.specs.Turn.{after_branch, after_operation, PassesWith, IsRunning, IsTurn, IsTurnOf, label_of_turn}
+use Rattle.host_core.specs.Turn.{label_of_thread}
 use Rattle.split_rules.specs.Asking.{IsGranted, IfElsewhere}
+use Rattle.split_rules.specs.Positions.{forwards_of}
+use Rattle.split_rules.specs.Typing.{Cuts, Pushes}
 use Rattle.split_rules.specs.TypedCode.{IsTypedOp}
-use Rattle.net_world.specs.World as host
+use Rattle.net_world.specs.World as world_steps
 use Rattle.net_world.specs.World.{WorldShape}
 use Rattle.simulation.specs.Obeying.{FieldsAre}
+use Rattle.simulation.proofs.PlainCode.{IsPlain}
 use Rattle.simulation.proofs.Simulates as simulates
-use Rattle.simulation.proofs.StraightCode.{IsPlain}
-use Rattle.simulation.proofs.Simulates.{Split, place_of, IsAt, IsFieldOn, Simulates, Goes, halted}
-use Rattle.simulation.proofs.Instructions.{read_at, let_at, put_at, send_at, back_at}
+use Rattle.simulation.proofs.Simulates.{Split, place_of, IsChain, on_stack, IsAt, IsFieldOn, AreSent, Agree, runs, goes, returns}
+use Rattle.simulation.proofs.Simulates.{AreIdle, halted, Simulates, Goes}
+use Rattle.simulation.proofs.Instructions.{Agrees, read_at, let_at, put_at, send_at}
+use Rattle.simulation.proofs.Transfers.{push_at, push_calm, go_at, back_at, branch_at}
 use Rattle.simulation.proofs.Moved.{same_id, mover_state, moved_silent}
 use Rattle.simulation.proofs.Rows.{fields_same, fields_written, row_there}
-use Rattle.simulation.proofs.Kept.{orderly_moved, variables_kept, variables_set, Turning, acting, goes_on, stays, asks}
+use Rattle.simulation.proofs.Kept.{orderly_moved, stacks_moved, idle_moved, agree_same, agree_set, call_kept, call_set}
+use Rattle.simulation.proofs.Kept.{NoneHalted, host_within, is_sent, own_set, holder_agrees}
+use Rattle.simulation.proofs.Pops.{own_stack, other_stack, top_of, top_on_stack, pushed_chain, Ended, Continued, popped}
+use Rattle.simulation.proofs.Turning.{Turning, acting, goes_on, goes_on_same, stays, asks, passes_on}
 
--- ---- what the root knows
+-- ---- what the holder knows
 
-all_there : {X : Type 0} (P : X → Type 0) (xs : List X) (i : ℕ) (x : X) → All P xs → slice_get xs i ≡ Some x → P x
-all_there P xs i x all there =
-    subst P (get_or_from_slice_get xs i x x there) (All-get_or P xs i x (slice_get_within xs i x there) all)
+holder_me : (split : Split) (c : Configuration) (world after : WorldShape) (host : HostId)
+    (t : Turning split c world after host) → t.run.state.me ≡ host
+holder_me split c world after host t = t.orderly.numbers host t.run.state t.run.there
 
-entry_host : (code : CodeShape) → IsSoundCode code → (found : Option Entry) → entry_at code code.main ≡ found →
-    IsSomeAnd found (λ there. there.host ≡ code.root) → IsHost code code.root
-entry_host code sound None is on_root = absurd on_root
-entry_host code sound (Some there) is on_root =
-    subst (IsHost code) on_root (all_there (EntryFits code) code.entries code.main.0 there sound.entries is).host
-
--- the root is a host of the code
-pub root_there : (split : Split) → IsHost split.code split.code.root
-root_there split =
-    entry_host split.code split.sound (entry_at split.code split.code.main) refl split.sound.main
-
-root_me : (split : Split) (c : Configuration) (world after : WorldShape) (t : Turning split c world after) →
-    t.state.me ≡ split.code.root
-root_me split c world after t = t.orderly.numbers split.code.root t.state t.root
-
-variables_same : (split : Split) (c : Configuration) (world after : WorldShape) (t : Turning split c world after)
-    (x : VarId) → t.state.variables t.run.thread.frame x ≡ source.variable c.calls 0 x.0
-variables_same split c world after t x =
-    ap (λ f. t.state.variables f x) t.run.at.frame ∙ t.variables.same x
+-- it has the variables that it reads
+knows : (split : Split) (c : Configuration) (world after : WorldShape) (host : HostId)
+    (t : Turning split c world after host) → Agrees split c host (t.run.state.variables t.run.thread.frame)
+knows split c world after host t =
+    subst (λ f. Agrees split c host (t.run.state.variables f)) (sym t.run.at.frame)
+    (holder_agrees split c t.out world host t.run.state t.agree t.run.there t.run.sent)
 
 -- a field of the code, here or elsewhere
 owned : (split : Split) (field : FieldId) (there : CodeFieldShape) → field_at split.code field ≡ Some there →
     (host : HostId) → there.host.0 ≡ host.0 → IsFieldOn split.code field host
 owned split field there is host same = record { there = there; is = is; on_host = same_id there.host host same }
 
-granted_there : (split : Split) (field : FieldId) (there : CodeFieldShape) (holds : HostId → Type 0) →
-    field_at split.code field ≡ Some there → IfElsewhere split.code split.code.root field holds →
-    there.host.0 ≢ split.code.root.0 → holds there.host
-granted_there split field there holds is granted apart =
-    let so = subst (λ (o : Option CodeFieldShape). IsSomeAnd o (λ one. one.host ≢ split.code.root → holds one.host)) is
-    granted in
+granted_there : (split : Split) (me : HostId) (field : FieldId) (there : CodeFieldShape) (holds : HostId → Type 0) →
+    field_at split.code field ≡ Some there → IfElsewhere split.code me field holds → there.host.0 ≢ me.0 →
+    holds there.host
+granted_there split me field there holds is granted apart =
+    let so = subst (λ (o : Option CodeFieldShape). IsSomeAnd o (λ one. one.host ≢ me → holds one.host)) is granted in
     so (λ same. apart (ap (λ (h : HostId). h.0) same))
+
+-- nothing is left to be sent
+none_to_send : (split : Split) (c : Configuration) (world after : WorldShape) (host : HostId)
+    (t : Turning split c world after host) → t.out ≡ [] → Agree split c [] world
+none_to_send split c world after host t none = subst (λ out. Agree split c out world) none t.agree
 
 -- ---- reads
 
-read_found : (split : Split) (c : Configuration) (world after : WorldShape) (t : Turning split c world after)
-    (label : ℕ) → t.label ≡ Some label → (field : FieldId) (index : List Node) →
-    IsTypedOp split.planned split.table split.code.root t.run.thread.at (op.Read field index) →
-    IsGranted split.code split.code.root (op.Read field index) → (found : Option CodeFieldShape) →
+read_found : (split : Split) (c : Configuration) (world after : WorldShape) (host : HostId)
+    (t : Turning split c world after host) (label : ℕ) → t.label ≡ Some label → (field : FieldId) (index : List Node) →
+    IsTypedOp split.planned split.table host t.run.thread.at (op.Read field index) →
+    IsGranted split.code host (op.Read field index) → (found : Option CodeFieldShape) →
     field_at split.code field ≡ found → after_read (acting t) t.run.thread field index found ≡ t.outcome →
     Goes split c after
-read_found split c world after t label labels field index law granted None found is = stays split c world after t is
-read_found split c world after t label labels field index law granted (Some there) found is =
+read_found split c world after host t label labels field index law granted None found is =
+    stays split c world after host t is
+read_found split c world after host t label labels field index law granted (Some there) found is =
     let thread = t.run.thread in
-    let me = root_me split c world after t in
-    let host = acting t in
-    let variables = t.state.variables thread.frame in
-    let place = value_in_thread host thread index in
+    let me = holder_me split c world after host t in
+    let state = acting t in
+    let place = value_in_thread state thread index in
     let value = element_at (row_of c.store field.0) place in
-    let own = element_at (row_of t.state.rows field.0) place in
-    let at = read_at split c t.run.token thread variables (variables_same split c world after t) t.run.at field index
-    law in
-    let local = with_thread host (with_temporary own (after_step thread)) in
-    let remote = with_message (after_asking host thread.at (after_step thread) value_of_field there.host) there.host
-    (message.Get (next_request host thread.at) field place) in
-    elim (eqb_tells there.host.0 t.state.me.0) [
+    let own = element_at (row_of t.run.state.rows field.0) place in
+    let at = read_at split c t.chain t.out host thread (t.run.state.variables thread.frame)
+    (knows split c world after host t) t.run.at field index law in
+    let near = with_thread state (with_temporary own (after_step thread)) in
+    let far = with_message (after_asking state thread.at (after_step thread) value_of_field there.host) there.host
+    (message.Get (next_request state thread.at) field place) in
+    elim (eqb_tells there.host.0 t.run.state.me.0) [
       | inl same ↦
-          let here : there.host.0 ≡ split.code.root.0 = same.1 ∙ ap (λ (h : HostId). h.0) me in
-          let on = owned split field there found split.code.root here in
-          let row : row_of t.state.rows field.0 ≡ row_of c.store field.0 =
-          row_there split.code world split.code.root t.state c.store field t.fields t.root on in
+          let here : there.host.0 ≡ host.0 = same.1 ∙ ap (λ (h : HostId). h.0) me in
+          let row : row_of t.run.state.rows field.0 ≡ row_of c.store field.0 =
+          row_there split.code world host t.run.state c.store field t.fields t.run.there
+          (owned split field there found host here) in
           let given : own ≡ value = ap (λ (r : List ℤ). element_at r place) row in
-          let done : with_thread host (with_temporary value (after_step thread)) ≡ t.outcome =
-          ap (λ v. with_thread host (with_temporary v (after_step thread))) (sym given)
-          ∙ sym (ap (λ (b : Bool). if b then local else remote) same.0) ∙ is in
-          let next = with_temporary value (after_step thread) in
-          inl (goes_on split c world after t c host next refl refl refl refl refl done at t.variables
-          (λ moved. fields_same split.code world after split.code.root t.state (with_running host (Some next))
-          world.flying c.store t.fields t.root moved refl))
+          let done : with_thread state (with_temporary value (after_step thread)) ≡ t.outcome =
+          ap (λ v. with_thread state (with_temporary v (after_step thread))) (sym given)
+          ∙ sym (ap (λ (b : Bool). if b then near else far) same.0) ∙ is in
+          goes_on_same split c world after host t (with_temporary value (after_step thread)) done at
       | inr apart ↦
-          let away : there.host.0 ≢ split.code.root.0 = λ same. apart.1 (same ∙ sym (ap (λ (h : HostId). h.0) me)) in
-          let done : remote ≡ t.outcome = sym (ap (λ (b : Bool). if b then local else remote) apart.0) ∙ is in
-          asks split c world after t label labels (after_step thread) value_of_field there.host
-          (message.Get (next_request host thread.at) field place) away done (
+          let away : there.host.0 ≢ host.0 = λ same. apart.1 (same ∙ sym (ap (λ (h : HostId). h.0) me)) in
+          let done : far ≡ t.outcome = sym (ap (λ (b : Bool). if b then near else far) apart.0) ∙ is in
+          asks split c world after host t label labels (after_step thread) value_of_field there.host
+          (message.Get (next_request state thread.at) field place) away done (
             refl,
             refl,
-            granted_there split field there _ found granted away,
+            granted_there split host field there _ found granted away,
             owned split field there found there.host refl,
             at,
           )
@@ -132,221 +129,434 @@ read_found split c world after t label labels field index law granted (Some ther
 
 -- ---- assignments
 
-set_local : (split : Split) (c : Configuration) (world after : WorldShape) (t : Turning split c world after)
-    (x : VarId) (nodes : List Node) →
-    IsTypedOp split.planned split.table split.code.root t.run.thread.at (op.Let x nodes) →
+set_local : (split : Split) (c : Configuration) (world after : WorldShape) (host : HostId)
+    (t : Turning split c world after host) (x : VarId) (nodes : List Node) →
+    IsTypedOp split.planned split.table host t.run.thread.at (op.Let x nodes) →
     with_thread (with_variable_set (acting t) t.run.thread.frame x (value_in_thread (acting t) t.run.thread nodes))
     (after_clearing t.run.thread) ≡ t.outcome → Goes split c after
-set_local split c world after t x nodes law is =
+set_local split c world after host t x nodes law is =
     let thread = t.run.thread in
+    let old = t.run.state in
     let value = value_in_thread (acting t) thread nodes in
-    let sets = let_at split c t.run.token thread (t.state.variables thread.frame) (variables_same split c world after t)
+    let sets = let_at split c t.chain t.out host thread (old.variables thread.frame) (knows split c world after host t)
     t.run.at x nodes law in
     let next = step split.program c in
     let state = with_variable_set (acting t) thread.frame x value in
+    let new = with_running state (Some (after_clearing thread)) in
     inr (
       sets.busy,
-      goes_on split c world after t next state (after_clearing thread) refl refl refl refl refl is sets.at
-          (variables_set c next t.state.variables thread.frame x value t.variables sets.calls t.run.at.frame)
-          (λ moved. subst (FieldsAre split.code after) (sym sets.store)
-          (fields_same split.code world after split.code.root t.state (with_running state (Some (after_clearing thread)))
-          world.flying c.store t.fields t.root moved refl)),
+      goes_on split c world after host t next t.chain (forwards_of split.planned host sets.source x) state
+          (after_clearing thread) refl refl refl refl (t.stacks host old t.run.there) (λ other apart. refl) is t.is_chain
+          sets.at (call_set c next x value t.call sets.calls)
+          (is_sent split next (state.variables main_frame) host sets.source x
+          (own_set c next old.variables thread.frame x value t.call sets.calls t.run.at.frame))
+          (λ moved. (
+            subst (FieldsAre split.code after) (sym sets.store)
+                (fields_same split.code world after host old new world.flying c.store t.fields t.run.there moved refl),
+            agree_set split c next world after host old new world.flying thread.frame x value sets.source t.orderly
+                (none_to_send split c world after host t sets.none_out) t.run.there moved refl t.run.at.frame t.call sets.calls,
+          )),
     )
 
-put_found : (split : Split) (c : Configuration) (world after : WorldShape) (t : Turning split c world after)
-    (label : ℕ) → t.label ≡ Some label → (field : FieldId) (index nodes : List Node) →
-    IsTypedOp split.planned split.table split.code.root t.run.thread.at (op.Put field index nodes) →
-    IsGranted split.code split.code.root (op.Put field index nodes) → (found : Option CodeFieldShape) →
+put_found : (split : Split) (c : Configuration) (world after : WorldShape) (host : HostId)
+    (t : Turning split c world after host) (label : ℕ) → t.label ≡ Some label → (field : FieldId)
+    (index nodes : List Node) →
+    IsTypedOp split.planned split.table host t.run.thread.at (op.Put field index nodes) →
+    IsGranted split.code host (op.Put field index nodes) → (found : Option CodeFieldShape) →
     field_at split.code field ≡ found → after_put (acting t) t.run.thread field index nodes found ≡ t.outcome →
     Goes split c after
-put_found split c world after t label labels field index nodes law granted None found is =
-    stays split c world after t is
-put_found split c world after t label labels field index nodes law granted (Some there) found is =
+put_found split c world after host t label labels field index nodes law granted None found is =
+    stays split c world after host t is
+put_found split c world after host t label labels field index nodes law granted (Some there) found is =
     let thread = t.run.thread in
-    let me = root_me split c world after t in
-    let host = acting t in
-    let place = value_in_thread host thread index in
-    let value = value_in_thread host thread nodes in
-    let sets = put_at split c t.run.token thread (t.state.variables thread.frame) (variables_same split c world after t)
+    let old = t.run.state in
+    let me = holder_me split c world after host t in
+    let bare = acting t in
+    let place = value_in_thread bare thread index in
+    let value = value_in_thread bare thread nodes in
+    let sets = put_at split c t.chain t.out host thread (old.variables thread.frame) (knows split c world after host t)
     t.run.at field index nodes law in
     let next = step split.program c in
-    let state = with_row_written host field place value in
-    let local = with_thread state (after_clearing thread) in
-    let remote = with_message (after_asking host thread.at (after_clearing thread) acknowledgement there.host) there.host
-    (message.Set (next_request host thread.at) field place value) in
-    elim (eqb_tells there.host.0 t.state.me.0) [
+    let state = with_row_written bare field place value in
+    let new = with_running state (Some (after_clearing thread)) in
+    let near = with_thread state (after_clearing thread) in
+    let far = with_message (after_asking bare thread.at (after_clearing thread) acknowledgement there.host) there.host
+    (message.Set (next_request bare thread.at) field place value) in
+    elim (eqb_tells there.host.0 old.me.0) [
       | inl same ↦
-          let here : there.host.0 ≡ split.code.root.0 = same.1 ∙ ap (λ (h : HostId). h.0) me in
-          let on = owned split field there found split.code.root here in
-          let done : local ≡ t.outcome = sym (ap (λ (b : Bool). if b then local else remote) same.0) ∙ is in
+          let here : there.host.0 ≡ host.0 = same.1 ∙ ap (λ (h : HostId). h.0) me in
+          let on = owned split field there found host here in
+          let done : near ≡ t.outcome = sym (ap (λ (b : Bool). if b then near else far) same.0) ∙ is in
           inr (
             sets.busy,
-            goes_on split c world after t next state (after_clearing thread) refl refl refl refl refl done sets.at
-                (variables_kept c next (t.state.variables main_frame) (t.state.variables main_frame) t.variables sets.calls
-                (λ x. refl))
-                (λ moved. subst (FieldsAre split.code after) (sym sets.store)
-                (fields_written split.code world after split.code.root t.state
-                (with_running state (Some (after_clearing thread))) world.flying c.store field place value t.fields t.root
-                moved on refl)),
+            goes_on split c world after host t next t.chain [] state (after_clearing thread) refl refl refl refl
+                (t.stacks host old t.run.there) (λ other apart. refl) done t.is_chain sets.at
+                (call_kept c next t.call sets.calls) tt
+                (λ moved. (
+                  subst (FieldsAre split.code after) (sym sets.store)
+                      (fields_written split.code world after host old new world.flying c.store field place value t.fields t.run.there
+                      moved on refl),
+                  agree_same split c next [] world after host old new world.flying
+                      (none_to_send split c world after host t sets.none_out) t.run.there moved refl sets.calls,
+                )),
           )
       | inr apart ↦
-          let away : there.host.0 ≢ split.code.root.0 = λ same. apart.1 (same ∙ sym (ap (λ (h : HostId). h.0) me)) in
-          let done : remote ≡ t.outcome = sym (ap (λ (b : Bool). if b then local else remote) apart.0) ∙ is in
-          asks split c world after t label labels (after_clearing thread) acknowledgement there.host
-          (message.Set (next_request host thread.at) field place value) away done (
+          let away : there.host.0 ≢ host.0 = λ same. apart.1 (same ∙ sym (ap (λ (h : HostId). h.0) me)) in
+          let done : far ≡ t.outcome = sym (ap (λ (b : Bool). if b then near else far) apart.0) ∙ is in
+          asks split c world after host t label labels (after_clearing thread) acknowledgement there.host
+          (message.Set (next_request bare thread.at) field place value) away done (
             refl,
             refl,
-            granted_there split field there _ found granted away,
+            granted_there split host field there _ found granted away,
             owned split field there found there.host refl,
             sets.busy,
             sets.store,
             sets.calls,
-            sets.at,
+            subst (λ out. IsAt split next t.chain out host (after_clearing thread)) (sym sets.none_out) sets.at,
           )
     ]
 
 -- ---- forwards
 
-forwards : (split : Split) (c : Configuration) (world after : WorldShape) (t : Turning split c world after)
-    (label : ℕ) → t.label ≡ Some label → (x : VarId) (to : HostId) →
-    IsTypedOp split.planned split.table split.code.root t.run.thread.at (op.Send x to) →
-    IsGranted split.code split.code.root (op.Send x to) → to.0 ≢ split.code.root.0 →
+forwards : (split : Split) (c : Configuration) (world after : WorldShape) (host : HostId)
+    (t : Turning split c world after host) (label : ℕ) → t.label ≡ Some label → (x : VarId) (to : HostId) →
+    IsTypedOp split.planned split.table host t.run.thread.at (op.Send x to) →
+    IsGranted split.code host (op.Send x to) →
     with_message (after_asking (acting t) t.run.thread.at (after_step t.run.thread) acknowledgement to) to
     (message.Forward (next_request (acting t) t.run.thread.at) t.run.thread.frame x
-    (t.state.variables t.run.thread.frame x)) ≡ t.outcome → Goes split c after
-forwards split c world after t label labels x to law granted apart is =
-    asks split c world after t label labels (after_step t.run.thread) acknowledgement to
-    (message.Forward (next_request (acting t) t.run.thread.at) t.run.thread.frame x
-    (t.state.variables t.run.thread.frame x)) apart is (
+    (t.run.state.variables t.run.thread.frame x)) ≡ t.outcome → Goes split c after
+forwards split c world after host t label labels x to law granted is =
+    let thread = t.run.thread in
+    let old = t.run.state in
+    let sends = send_at split c t.chain t.out host thread t.run.at x to law in
+    let sent = subst (AreSent c (old.variables main_frame) host) sends.first t.run.sent in
+    asks split c world after host t label labels (after_step thread) acknowledgement to
+    (message.Forward (next_request (acting t) thread.at) thread.frame x (old.variables thread.frame x)) sent.1 is (
       refl,
       refl,
       granted,
-      send_at split c t.run.token t.run.thread t.run.at x to law,
+      t.run.at.frame,
+      ap (λ f. old.variables f x) t.run.at.frame ∙ sent.0,
+      sends.source,
+      sends.left,
+      sends.first,
+      sends.at,
     )
 
--- ---- the end
+-- ---- branches
 
-ends : (split : Split) (c : Configuration) (world after : WorldShape) (t : Turning split c world after) →
-    IsTypedOp split.planned split.table split.code.root t.run.thread.at op.Back → (passes : Bool) →
-    (IsTrue passes ↔ PassesWith split.code (acting t) op.Back t.run.thread.held) →
-    after_back split.code (acting t) t.run.thread t.run.thread.held passes ≡ t.outcome → Goes split c after
-ends split c world after t law passes checked is =
-    let code = split.code in
+branches : (split : Split) (c : Configuration) (world after : WorldShape) (host : HostId)
+    (t : Turning split c world after host) (guard : List Node) (target : ℕ) →
+    IsTypedOp split.planned split.table host t.run.thread.at (op.Branch guard target) →
+    after_branch (acting t) t.run.thread guard target ≡ t.outcome → Goes split c after
+branches split c world after host t guard target law is =
     let thread = t.run.thread in
-    let token = t.run.token in
-    let host = acting t in
-    let stack = t.run.stack in
-    let top = stack.top in
-    let me = root_me split c world after t in
-    let bare = with_running host None in
-    let entered = after_entering (record bare { entries = [] }) (entry_at code top.entry) top.frame top.kept in
-    let new : HostShape = record bare { entries = []; running = None; halted = true } in
-    let sends = with_message (with_running host None) token.host (message.Lgoto token) in
-    let popped = λ (b : Bool). without_message (if b then after_pop code bare host.entries else with_one_ignored bare) in
-    let top_is : top_token t.state.entries ≡ Some token = ap top_token stack.entries ∙ ap Some stack.is_token in
-    let passing : PassesWith code host op.Back thread.held =
-    subst (PassesWith code host op.Back) (sym t.run.at.held) (λ same. top_is) in
-    let passed : passes ≡ true = checked.1 passing in
-    let own : (token.host.0 == t.state.me.0) ≡ true =
-    eq-eqb token.host.0 t.state.me.0 (ap (λ (h : HostId). h.0) (stack.on_root ∙ sym me)) in
-    let done : without_message new ≡ t.outcome =
-    sym (ap (λ o. after_back code host thread o passes) t.run.at.held
-    ∙ ap (λ (b : Bool). if b then popped passes else sends) own
-    ∙ ap popped passed
-    ∙ ap (λ list. without_message (after_pop code bare list)) stack.entries
-    ∙ ap (λ (b : Bool). without_message (if b then new else entered))
-    (eq-eqb top.entry.0 halt.0 (ap (λ e. e.0) stack.is_halt)))
-    ∙ is in
-    let moved = moved_silent world code.root t.outcome new t.label after done t.leaves in
+    let old = t.run.state in
+    let value = value_in_thread (acting t) thread guard in
+    let decides = branch_at split c t.chain t.out host thread (old.variables thread.frame)
+    (knows split c world after host t) t.run.at guard target law in
+    let next = step split.program c in
+    let aim : ThreadShape = record (after_clearing thread) { at = target } in
+    let one = if int_eq value (pos 0) then aim else after_clearing thread in
+    let done : with_thread (acting t) one ≡ t.outcome =
+    either_thread (int_eq value (pos 0)) (acting t) aim (after_clearing thread) ∙ is in
+    let new = with_running (acting t) (Some one) in
+    inr (
+      decides.busy,
+      goes_on split c world after host t next t.chain [] (acting t) one refl refl refl refl
+          (t.stacks host old t.run.there) (λ other apart. refl) done t.is_chain decides.at
+          (call_kept c next t.call decides.calls) tt
+          (λ moved. (
+            subst (FieldsAre split.code after) (sym decides.store)
+                (fields_same split.code world after host old new world.flying c.store t.fields t.run.there moved refl),
+            agree_same split c next [] world after host old new world.flying
+                (none_to_send split c world after host t decides.none_out) t.run.there moved refl decides.calls,
+          )),
+    )
+  where
+    either_thread : (b : Bool) (state : HostShape) (first other : ThreadShape) →
+        with_thread state (if b then first else other) ≡ (if b then with_thread state first else with_thread state other)
+    either_thread true state first other = refl
+    either_thread false state first other = refl
+
+-- ---- pushes
+
+pushes : (split : Split) (c : Configuration) (world after : WorldShape) (host : HostId)
+    (t : Turning split c world after host) (entry : EntryId) →
+    IsTypedOp split.planned split.table host t.run.thread.at (op.Push entry) → IsEntryOn split.code host entry →
+    (token : Token) → top_token t.chain ≡ Some token →
+    after_own_push (acting t) t.run.thread entry t.run.thread.held ≡ t.outcome → Goes split c after
+pushes split c world after host t entry law is_entry token top is =
+    let thread = t.run.thread in
+    let old = t.run.state in
+    let me = holder_me split c world after host t in
+    let bare = acting t in
+    let is_pushed : StackEntry = record {
+      token = new_token bare entry thread.frame;
+      entry = entry;
+      frame = thread.frame;
+      kept = token;
+    } in
+    let state = after_push bare entry thread.frame token in
+    let next = with_token (Some is_pushed.token) (after_step thread) in
+    let done : with_thread state next ≡ t.outcome =
+    sym (ap (after_own_push bare thread entry) (t.run.at.held ∙ top)) ∙ is in
+    let law_cuts : Cuts split.planned split.table.entries (place_of split host thread.at) entry.0
+    (place_of split host (suc thread.at)) =
+    subst (λ calling. Pushes split.planned split.table.entries (place_of split host thread.at) calling entry.0
+    (place_of split host (suc thread.at))) t.run.at.calling law in
+    let new = with_running state (Some next) in
+    let none = push_calm split c t.chain t.out host thread t.run.at entry law_cuts in
+    inl (goes_on split c world after host t c (is_pushed ∷ t.chain) [] state next refl refl refl refl
+    (ap (λ list. is_pushed ∷ list) (t.stacks host old t.run.there) ∙ sym (own_stack host is_pushed t.chain me))
+    (λ other apart. other_stack host other is_pushed t.chain me apart) done
+    (pushed_chain split t.chain is_pushed token t.is_chain top
+    (subst (λ h. IsEntryOn split.code h entry) (sym me) is_entry) t.run.at.frame refl)
+    (push_at split c t.chain t.out host thread t.run.at entry law_cuts is_pushed refl) t.call tt
+    (λ moved. (
+      fields_same split.code world after host old new world.flying c.store t.fields t.run.there moved refl,
+      agree_same split c c [] world after host old new world.flying (none_to_send split c world after host t none)
+          t.run.there moved refl refl,
+    )))
+
+-- ---- transfers
+
+syncs : (split : Split) (c : Configuration) (world after : WorldShape) (host : HostId)
+    (t : Turning split c world after host) (label : ℕ) → t.label ≡ Some label → (entry : EntryId) (on : HostId) →
+    IsTypedOp split.planned split.table host t.run.thread.at (op.Ask entry on) →
+    IsGranted split.code host (op.Ask entry on) → IsEntryOn split.code on entry → on ≢ host → (token : Token) →
+    top_token t.chain ≡ Some token → after_ask (acting t) t.run.thread entry on t.run.thread.held ≡ t.outcome →
+    Goes split c after
+syncs split c world after host t label labels entry on law granted is_entry apart token top is =
+    let thread = t.run.thread in
+    let bare = acting t in
+    let waiting = with_token None (after_step thread) in
+    let done : with_message (after_asking bare thread.at waiting token_of_entry on) on
+    (message.Sync (next_request bare thread.at) thread.frame entry token) ≡ t.outcome =
+    sym (ap (after_ask bare thread entry on) (t.run.at.held ∙ top)) ∙ is in
+    let none = push_calm split c t.chain t.out host thread t.run.at entry law.0 in
+    asks split c world after host t label labels waiting token_of_entry on
+    (message.Sync (next_request bare thread.at) thread.frame entry token) (λ same. apart (same_id on host same)) done (
+      refl,
+      refl,
+      granted,
+      t.run.at.frame,
+      is_entry,
+      top,
+      λ pushed same. subst (λ out. IsAt split c (pushed ∷ t.chain) out host
+          (with_token (Some pushed.token) (after_step thread))) (sym none)
+          (push_at split c t.chain t.out host thread t.run.at entry law.0 pushed same),
+    )
+
+hands_over : (split : Split) (c : Configuration) (world after : WorldShape) (host : HostId)
+    (t : Turning split c world after host) (label : ℕ) → t.label ≡ Some label → (entry : EntryId) (on : HostId) →
+    IsTypedOp split.planned split.table host t.run.thread.at (op.Go entry on) →
+    IsGranted split.code host (op.Go entry on) → IsEntryOn split.code on entry → (found : Option Entry) →
+    entry_at split.code entry ≡ found → IsSomeAnd found (λ there. there.host ≡ on) → (token : Token) →
+    top_token t.chain ≡ Some token →
+    after_go (acting t) t.run.thread t.run.thread.frame entry on t.run.thread.held ≡ t.outcome → Goes split c after
+hands_over split c world after host t label labels entry on law granted is_entry None found on_host token top is =
+    absurd on_host
+hands_over split c world after host t label labels entry on law granted is_entry (Some there) found on_host token top is =
+    let thread = t.run.thread in
+    let bare = acting t in
+    let held = t.run.at.held ∙ top in
+    let done : with_message bare on (message.Rgoto main_frame entry token) ≡ t.outcome =
+    ap (λ f. with_message bare on (message.Rgoto f entry token)) (sym t.run.at.frame)
+    ∙ sym (ap (after_go bare thread thread.frame entry on) held) ∙ is in
+    let over = go_at split c t.chain t.out host thread t.run.at entry on is_entry.0 law token held in
+    passes_on split c world after host t label labels on (message.Rgoto main_frame entry token) (goes host on) done
+    (λ other apart rests. apart) (λ none. none)
+    (λ flying. (
+      t.is_chain,
+      record {
+        number = entry.0;
+        there = there;
+        flight = record { message = message.Rgoto main_frame entry token; label = label };
+        token = token;
+        flying = flying;
+        message = refl;
+        may = granted;
+        entry = found;
+        none_out = over.none_out;
+        at = subst (λ h. IsAt split c t.chain [] h (thread_at there main_frame token)) on_host (over.at there found);
+      },
+    ))
+
+-- ---- the way back
+
+returns_own : (split : Split) (c : Configuration) (world after : WorldShape) (host : HostId)
+    (t : Turning split c world after host) → t.out ≡ [] →
+    without_message (after_pop split.code (acting t) (on_stack host t.chain)) ≡ t.outcome →
+    (Ended split c t.chain host (acting t) ⊎ Continued split c t.chain host (acting t)) → Goes split c after
+returns_own split c world after host t none is (inl ended) =
+    let old = t.run.state in
+    let new : HostShape = record (acting t) { entries = []; running = None; halted = true } in
+    let moved = moved_silent world host t.outcome new t.label after (sym (ap without_message ended.is) ∙ is) t.leaves in
     inl (record {
-      state = new;
-      root = mover_state world after code.root t.state new world.flying t.root moved;
-      orderly = orderly_moved code world after code.root t.state new world.flying t.orderly t.root moved refl refl
-          (λ apart. refl);
-      fields = fields_same code world after code.root t.state new world.flying c.store t.fields t.root moved refl;
-      variables = t.variables;
+      chain = [];
+      out = [];
       holder = halted;
+      orderly = orderly_moved split.code world after host old new world.flying t.orderly t.run.there moved refl refl;
+      stacks = stacks_moved t.chain [] world after host old new world.flying t.stacks t.run.there moved refl ended.others;
+      idle = idle_moved (runs host) halted world after host old new world.flying t.idle t.run.there moved
+          (λ other apart rests. apart) (λ rests. (refl, t.run.waiting));
+      goes_on = tt;
+      fields = fields_same split.code world after host old new world.flying c.store t.fields t.run.there moved refl;
+      call = t.call;
+      agree = agree_same split c c [] world after host old new world.flying
+          (none_to_send split c world after host t none) t.run.there moved refl refl;
       stands = record {
-        running = refl;
+        state = new;
+        there = ap (world_steps.state_at after) (sym ended.on_root)
+            ∙ mover_state world after host old new world.flying t.run.there moved;
         halted = refl;
         flying = moved.flying ∙ t.run.flying;
-        ends = back_at split c token thread t.run.at law;
+        none_out = refl;
+        ends = ended.ends;
       };
     })
+returns_own split c world after host t none is (inr more) =
+    let old = t.run.state in
+    let state : HostShape = record (acting t) { entries = on_stack host more.now } in
+    let new = with_running state (Some more.thread) in
+    inl (goes_on split c world after host t c more.now [] state more.thread refl refl refl refl refl more.others
+    (sym (ap without_message more.is) ∙ is) more.is_chain more.at t.call tt
+    (λ moved. (
+      fields_same split.code world after host old new world.flying c.store t.fields t.run.there moved refl,
+      agree_same split c c [] world after host old new world.flying (none_to_send split c world after host t none)
+          t.run.there moved refl refl,
+    )))
+
+gives_back : (split : Split) (c : Configuration) (world after : WorldShape) (host : HostId)
+    (t : Turning split c world after host) (label : ℕ) → t.label ≡ Some label →
+    IsTypedOp split.planned split.table host t.run.thread.at op.Back → (passes : Bool) →
+    (IsTrue passes ↔ PassesWith split.code (acting t) op.Back t.run.thread.held) → (token : Token) →
+    top_token t.chain ≡ Some token →
+    after_back split.code (acting t) t.run.thread t.run.thread.held passes ≡ t.outcome → Goes split c after
+gives_back split c world after host t label labels law passes checked token top is =
+    let code = split.code in
+    let thread = t.run.thread in
+    let old = t.run.state in
+    let bare = acting t in
+    let me = holder_me split c world after host t in
+    let held = t.run.at.held ∙ top in
+    let gives = back_at split c t.chain t.out host thread t.run.at law in
+    let stack = t.stacks host old t.run.there in
+    let popped_by = λ (b : Bool). without_message (if b then after_pop code bare old.entries else with_one_ignored bare) in
+    let sends = with_message bare token.host (message.Lgoto token) in
+    let given : (if token.host.0 == old.me.0 then popped_by passes else sends) ≡ t.outcome =
+    sym (ap (λ o. after_back code bare thread o passes) held) ∙ is in
+    elim (eqb_tells token.host.0 old.me.0) [
+      | inl same ↦
+          let own : token.host ≡ host = same_id token.host host (same.1 ∙ ap (λ (h : HostId). h.0) me) in
+          let passing : PassesWith code bare op.Back thread.held =
+          subst (PassesWith code bare op.Back) (sym held)
+          (λ again. ap top_token stack ∙ top_on_stack host t.chain token top own) in
+          let passed : passes ≡ true = checked.1 passing in
+          let done : without_message (after_pop code bare (on_stack host t.chain)) ≡ t.outcome =
+          ap (λ list. without_message (after_pop code bare list)) (sym stack) ∙ ap popped_by (sym passed)
+          ∙ sym (ap (λ (b : Bool). if b then popped_by passes else sends) same.0) ∙ given in
+          returns_own split c world after host t gives.none_out done
+          (popped split c t.chain host bare token t.is_chain gives.left top own)
+      | inr apart ↦
+          let done : sends ≡ t.outcome =
+          sym (ap (λ (b : Bool). if b then popped_by passes else sends) apart.0) ∙ given in
+          passes_on split c world after host t label labels token.host (message.Lgoto token) (returns host token.host) done
+          (λ other differs rests. differs) (λ none. none)
+          (λ flying. (
+            t.is_chain,
+            record {
+              flight = record { message = message.Lgoto token; label = label };
+              token = token;
+              flying = flying;
+              message = refl;
+              host = refl;
+              top = top;
+              none_out = gives.none_out;
+              left = gives.left;
+            },
+          ))
+    ]
 
 -- ---- any instruction
 
--- what is forwarded goes to another host
-abbrev pub GoesElsewhere : HostId → Op → Type 0
-GoesElsewhere me (op.Send x to) = to.0 ≢ me.0
-GoesElsewhere me other = ⊤
-
-operation : (split : Split) (c : Configuration) (world after : WorldShape) (t : Turning split c world after)
-    (label : ℕ) → t.label ≡ Some label → (what : Op) → IsPlain what →
-    IsTypedOp split.planned split.table split.code.root t.run.thread.at what →
-    IsGranted split.code split.code.root what → GoesElsewhere split.code.root what → (passes : Bool) →
+operation : (split : Split) (c : Configuration) (world after : WorldShape) (host : HostId)
+    (t : Turning split c world after host) (label count : ℕ) → t.label ≡ Some label → (what : Op) → IsPlain what →
+    IsTypedOp split.planned split.table host t.run.thread.at what → IsGranted split.code host what →
+    OperationFits split.code host count what → (token : Token) → top_token t.chain ≡ Some token → (passes : Bool) →
     (IsTrue passes ↔ PassesWith split.code (acting t) what t.run.thread.held) →
     after_operation split.code (acting t) t.run.thread what passes ≡ t.outcome → Goes split c after
-operation split c world after t label labels (op.Read field index) plain law granted away passes checked is =
-    read_found split c world after t label labels field index law granted (field_at split.code field) refl is
-operation split c world after t label labels (op.Let x nodes) plain law granted away passes checked is =
-    set_local split c world after t x nodes law is
-operation split c world after t label labels (op.Put field index nodes) plain law granted away passes checked is =
-    put_found split c world after t label labels field index nodes law granted (field_at split.code field) refl is
-operation split c world after t label labels (op.Send x to) plain law granted away passes checked is =
-    forwards split c world after t label labels x to law granted away is
-operation split c world after t label labels op.Back plain law granted away passes checked is =
-    ends split c world after t law passes checked is
-operation split c world after t label labels _ plain law granted away passes checked is = absurd plain
+operation split c world after host t label count labels (op.Read field index) plain law granted fits token top passes
+    checked is =
+    read_found split c world after host t label labels field index law granted (field_at split.code field) refl is
+operation split c world after host t label count labels (op.Let x nodes) plain law granted fits token top passes checked
+    is = set_local split c world after host t x nodes law is
+operation split c world after host t label count labels (op.Put field index nodes) plain law granted fits token top
+    passes checked is =
+    put_found split c world after host t label labels field index nodes law granted (field_at split.code field) refl is
+operation split c world after host t label count labels (op.Send x to) plain law granted fits token top passes checked is =
+    forwards split c world after host t label labels x to law granted is
+operation split c world after host t label count labels (op.Push entry) plain law granted fits token top passes checked
+    is = pushes split c world after host t entry law fits token top is
+operation split c world after host t label count labels (op.Ask entry on) plain law granted fits token top passes checked
+    is = syncs split c world after host t label labels entry on law granted fits.0 fits.1.1 token top is
+operation split c world after host t label count labels (op.Go entry on) plain law granted fits token top passes checked
+    is =
+    hands_over split c world after host t label labels entry on law granted fits.0 (entry_at split.code entry) refl
+    fits.0.1 token top is
+operation split c world after host t label count labels op.Back plain law granted fits token top passes checked is =
+    gives_back split c world after host t label labels law passes checked token top is
+operation split c world after host t label count labels (op.Branch guard target) plain law granted fits token top passes
+    checked is = branches split c world after host t guard target law is
+operation split c world after host t label count labels _ plain law granted fits token top passes checked is =
+    absurd plain
 
 -- ---- a turn
 
--- a host that is sent a forward is another
-send_elsewhere : (split : Split) (place : ℕ) (there : Instr) →
-    instruction_at split.code split.code.root place ≡ Some there → GoesElsewhere split.code.root there.op
-send_elsewhere split place there is =
-    other_host split.code split.code.root _ there.op
-    ((split.sound.parts split.code.root (root_there split)).instructions place there is).operation
-  where
-    other_host : (code : CodeShape) (me : HostId) (count : ℕ) (what : Op) → OperationFits code me count what →
-        GoesElsewhere me what
-    other_host code me count (op.Send x to) fits = λ same. fits.1.1 (same_id to me same)
-    other_host code me count _ fits = tt
-
-turn_found : (split : Split) (c : Configuration) (world after : WorldShape) (t : Turning split c world after)
-    (found : Option Instr) → instruction_at split.code split.code.root t.run.thread.at ≡ found →
+turn_found : (split : Split) (c : Configuration) (world after : WorldShape) (host : HostId)
+    (t : Turning split c world after host) → IsHost split.code host → (found : Option Instr) →
+    instruction_at split.code host t.run.thread.at ≡ found →
     t.label ≡ option_and_then (λ one. Some one.label) found →
     IsRunning split.code (acting t) t.run.thread found t.outcome → Goes split c after
-turn_found split c world after t None is labels runs = stays split c world after t runs
-turn_found split c world after t (Some there) is labels runs =
+turn_found split c world after host t within None is labels running = stays split c world after host t running
+turn_found split c world after host t within (Some there) is labels running =
     let at = t.run.thread.at in
-    operation split c world after t there.label labels there.op (split.plain split.code.root at there is)
-    (split.typed.instructions split.code.root at there is).1 (split.granted split.code.root at there is)
-    (send_elsewhere split at there is) runs.0 runs.1 runs.2
+    let token = top_of split t.chain t.is_chain in
+    operation split c world after host t there.label _ labels there.op (split.plain host at there is)
+    (split.typed.instructions host at there is).1 (split.granted host at there is)
+    ((split.sound.parts host within).instructions at there is).operation token.0 token.1 running.0 running.1 running.2
 
--- the root makes a turn
-pub root_turn : (split : Split) (c : Configuration) (world after : WorldShape) (sim : Simulates split c world)
-    (run : simulates.IsRunning split c world sim.state) (outcome : Outcome) → IsTurn split.code sim.state outcome →
-    host.after_step world split.code.root outcome (label_of_turn split.code sim.state) ≡ after → Goes split c after
-root_turn split c world after sim run outcome turns leaves =
+-- the host that holds the token makes a turn
+pub holder_turn : (split : Split) (c : Configuration) (world after : WorldShape) (host : HostId) →
+    (sim : Simulates split c world) → sim.holder ≡ runs host →
+    (run : simulates.IsRunning split c sim.chain sim.out world host) → IsChain split sim.chain → NoneHalted world →
+    AreIdle (runs host) world → (outcome : Outcome) → IsTurn split.code run.state outcome →
+    world_steps.after_step world host outcome (label_of_turn split.code run.state) ≡ after → Goes split c after
+holder_turn split c world after host sim holds run is_chain none_halted idle outcome turns leaves =
     let code = split.code in
     let thread = run.thread in
-    let me = sim.orderly.numbers code.root sim.state sim.root in
-    let found = instruction_at code code.root thread.at in
-    let labels : label_of_turn code sim.state ≡ option_and_then (λ one. Some one.label) found =
-    ap (label_of_thread code sim.state.me) run.running
-    ∙ ap (λ m. label_of_thread code m (Some thread)) me in
-    let runs : IsRunning code (with_running sim.state None) thread found outcome =
-    subst (λ m. IsRunning code (with_running sim.state None) thread (instruction_at code m thread.at) outcome) me
-    (subst (λ o. IsTurnOf code sim.state o outcome) run.running turns) in
-    turn_found split c world after (record {
-      state = sim.state;
-      root = sim.root;
+    let state = run.state in
+    let me = sim.orderly.numbers host state run.there in
+    let found = instruction_at code host thread.at in
+    let labels : label_of_turn code state ≡ option_and_then (λ one. Some one.label) found =
+    ap (label_of_thread code state.me) run.running ∙ ap (λ m. label_of_thread code m (Some thread)) me in
+    let running : IsRunning code (with_running state None) thread found outcome =
+    subst (λ m. IsRunning code (with_running state None) thread (instruction_at code m thread.at) outcome) me
+    (subst (λ o. IsTurnOf code state o outcome) run.running turns) in
+    turn_found split c world after host (record {
+      chain = sim.chain;
+      out = sim.out;
+      is_chain = is_chain;
       orderly = sim.orderly;
+      stacks = sim.stacks;
+      idle = idle;
+      none_halted = none_halted;
       fields = sim.fields;
-      variables = sim.variables;
+      call = sim.call;
+      agree = sim.agree;
       run = run;
       outcome = outcome;
-      label = label_of_turn code sim.state;
+      label = label_of_turn code state;
       leaves = leaves;
-    }) found refl labels runs
+    }) (host_within code world host state sim.orderly run.there) found refl labels running

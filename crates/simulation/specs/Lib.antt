@@ -1,2 +1,2 @@
-pub mod Straight
+pub mod Programs
 pub mod Obeying

@@ -1,6 +1,7 @@
 -- What hosts that all obey promise together, where they run the code of a split program: their fields follow the plain
 -- run of the program.
 use Rattle.std.specs.Prelude.{◌≡◌, ℕ, ◌+◌, ◌≤◌, ℤ, List, length, take, Some, slice_get, slice_index}
+use Rattle.std.specs.List.{AllByRecursion}
 use Rattle.std.specs.List.Sorted.{IsNonDecreasing}
 use Rattle.host_decl.specs.Hosts as declared_hosts
 use Rattle.host_decl.specs.Hosts.{HostsShape}
@@ -13,7 +14,7 @@ use Rattle.host_code.specs.Sound.{IsSoundCode}
 use Rattle.host_core.specs.Host.{HostShape}
 use Rattle.event_text.specs.declared.event.Event.{Event}
 use Rattle.need_labels.specs.Labelled.{Labelled}
-use Rattle.need_labels.specs.Needs.{NeedsShape}
+use Rattle.need_labels.specs.Needs.{NeedsShape, AreNeedsOf}
 use Rattle.need_labels.specs.Plan.{PlanShape}
 use Rattle.msg_cost.specs.Moves.{planned_of}
 use Rattle.split_rules.specs.Asking.{AreGranted}
@@ -21,18 +22,19 @@ use Rattle.split_rules.specs.SplitCode.{split_code}
 use Rattle.split_rules.specs.Splittable.{IsSplittable}
 use Rattle.split_rules.specs.Typable.{IsTypable}
 use Rattle.net_world.specs.World.{WorldShape, IsRun, world_at_start, state_at, has_halted}
-use Rattle.simulation.specs.Straight.{AreStraight}
+use Rattle.simulation.specs.Programs.{IsCallFree}
 
--- A program and a plan by which it can be split, so that hosts are trusted for what their statements start, and grant
--- each other's requests. Each method runs from its first statement to its last on its home.
+-- A program without calls, its needs, and a plan by which it can be split, so that hosts are trusted for what their
+-- statements start and grant each other's requests.
 pub record IsSet (program : Program) (labelled : Labelled) (needs : NeedsShape) (hosts : HostsShape) (plan : PlanShape)
     : Type 0 where
   pub is : program_tree program ≡ labelled.program
   pub splittable : IsSplittable labelled hosts plan
+  pub needs_of : AreNeedsOf hosts.principals labelled needs
   pub typable : IsTypable (planned_of labelled needs hosts plan)
   pub sound : IsSoundCode (split_code labelled needs hosts plan)
   pub granted : AreGranted (split_code labelled needs hosts plan)
-  pub straight : AreStraight (planned_of labelled needs hosts plan)
+  pub call_free : AllByRecursion (λ method. IsCallFree method.body) labelled.program.methods
 
 -- each field has on its host what the store has
 abbrev pub FieldsAre : CodeShape → WorldShape → List (List ℤ) → Type 0

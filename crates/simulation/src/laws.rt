@@ -9,15 +9,16 @@ ghost use Rattle.jif_tree.specs.declared.program.Program.{Program};
 ghost use Rattle.need_labels.specs.Labelled.{Labelled};
 ghost use Rattle.need_labels.specs.Needs.{NeedsShape};
 ghost use Rattle.need_labels.specs.Plan.{PlanShape};
-ghost use Rattle.net_world.specs.Choice.{NoneRuns, NothingFlies};
-ghost use Rattle.net_world.specs.World.{WorldShape, IsRun, world_at_start, state_at, has_halted};
+ghost use Rattle.net_world.specs.Choice.{NoneRuns, NothingFlies, IsNextEvent};
+ghost use Rattle.net_world.specs.World.{WorldShape, IsStep, IsRun, world_at_start, state_at, has_halted};
 ghost use Rattle.split_rules.specs.SplitCode.{split_code};
 ghost use Rattle.simulation.specs.Obeying.{IsSet, Follows};
 
 use split_rules::split_laws;
 
 /// Where all hosts obey, whatever the events: the fields follow the plain run of the program, and are those at its end
-/// once it has halted. Where nothing is in flight and no thread runs, it has halted. No message is ever ignored.
+/// once it has halted. Where nothing is in flight and no thread runs, it has halted. No message is ever ignored. Before
+/// that one event is possible, which is the event that comes next.
 pub fn obeying_laws()
     ensures follows { (program : Program) (labelled : Labelled) (needs : NeedsShape) (hosts : HostsShape)
         (plan : PlanShape) (store : List (List ℤ)) (events : List Event) (world : WorldShape) →
@@ -38,6 +39,19 @@ pub fn obeying_laws()
         IsSet program labelled needs hosts plan →
         IsRun code (world_at_start code hosts.hosts 0 store) events world → state_at world host ≡ Some state →
         state.ignored ≡ 0 }
+    ensures next { (program : Program) (labelled : Labelled) (needs : NeedsShape) (hosts : HostsShape)
+        (plan : PlanShape) (store : List (List ℤ)) (events : List Event) (world : WorldShape) (event : Event) →
+        let code = split_code labelled needs hosts plan in
+        IsSet program labelled needs hosts plan →
+        IsRun code (world_at_start code hosts.hosts 0 store) events world → IsNextEvent world (Some event) →
+        (after : WorldShape) × IsStep code world event after }
+    ensures one { (program : Program) (labelled : Labelled) (needs : NeedsShape) (hosts : HostsShape)
+        (plan : PlanShape) (store : List (List ℤ)) (events : List Event) (world after other : WorldShape)
+        (first second : Event) →
+        let code = split_code labelled needs hosts plan in
+        IsSet program labelled needs hosts plan →
+        IsRun code (world_at_start code hosts.hosts 0 store) events world → IsStep code world first after →
+        IsStep code world second other → first ≡ second }
 {
     split_laws();
 }

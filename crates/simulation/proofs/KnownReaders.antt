@@ -1,0 +1,236 @@
+-- Where the needs are those of the program, the host of each statement is one of those that read its variables.
+use Rattle.std.proofs.Common.{◌≡◌, ◌∙◌, ℕ, suc, ◌<◌, ◌⊎◌, inl, inr, Bool, true, false, List, [], ◌∷◌, ◌++◌, map}
+use Rattle.std.proofs.Common.{length, Some, refl, ap, sym, subst}
+use Rattle.std.specs.Prelude.{◌||◌, cond, filter, nat_eq, slice_get, unwrap_or, ⊤}
+use Rattle.std.specs.List.{AllByRecursion, range_with_len, flat_map, list_any}
+use Rattle.std.proofs.lemmas.Bool.{eq-eqb}
+use Rattle.std.proofs.lemmas.Option.{slice_get-map, slice_get_within}
+use Rattle.std.specs.Option.{option_map}
+use Rattle.js_base.specs.declared.ids.StmtId.{StmtId}
+use Rattle.js_base.specs.declared.ids.VarId.{VarId}
+use Rattle.js_base.specs.declared.ids.MethodId.{MethodId}
+use Rattle.principals.specs.ActsFor.{Declared}
+use Rattle.jif_tree.specs.LabelRules.{MethodSetting, setting_of}
+use Rattle.jif_tree.specs.Trees.{ExprTree, number, local, scalar, element, inverted, negated, binary, declassified}
+use Rattle.jif_tree.specs.Trees.{endorsed, BlockTree, done, set_local, set_field, set_element, branch, loop, call}
+use Rattle.jif_tree.specs.Trees.{give_back, MethodTree, ProgramTree}
+use Rattle.jif_tree.specs.WellNumbered.{IsExprIn, IsBlockIn, AreMethodsIn}
+use Rattle.need_labels.specs.Labelled.{Labelled}
+use Rattle.need_labels.specs.Needs.{StatementUse, AreNeedsOf, variables_in, block_uses, method_uses}
+use Rattle.need_labels.specs.Needs.{statement_uses, readers_of}
+use Rattle.need_labels.specs.Plan.{statement_host}
+use Rattle.msg_cost.specs.Moves.{PlannedShape}
+use Rattle.msg_cost.specs.Terms.{reads_on}
+use Rattle.split_rules.proofs.NumberedLists.{number_there}
+use Rattle.simulation.specs.Programs.{IsCallFree}
+use Rattle.simulation.proofs.TreeValues.{all_left, all_right, all_both}
+
+-- ---- readers
+
+-- the host of a statement is one of those that read the variables of an expression
+abbrev pub IsReader : PlannedShape → StmtId → ExprTree → Type 0
+IsReader planned statement expr =
+    AllByRecursion (λ x. reads_on planned x (statement_host planned.plan statement).0 ≡ true) (variables_in expr)
+
+-- the host of each statement of a block, and of the blocks in it, reads the variables of its expressions
+abbrev pub AreReaders : PlannedShape → BlockTree → Type 0
+AreReaders planned done = ⊤
+AreReaders planned (set_local heading x value rest) = IsReader planned heading.id value × AreReaders planned rest
+AreReaders planned (set_field heading field value rest) = IsReader planned heading.id value × AreReaders planned rest
+AreReaders planned (set_element heading field index value rest) =
+    IsReader planned heading.id index × IsReader planned heading.id value × AreReaders planned rest
+AreReaders planned (branch heading guard first second rest) =
+    IsReader planned heading.id guard × AreReaders planned first × AreReaders planned second × AreReaders planned rest
+AreReaders planned (loop heading guard body rest) =
+    IsReader planned heading.id guard × AreReaders planned body × AreReaders planned rest
+AreReaders planned (call heading site method arguments into rest) =
+    AllByRecursion (IsReader planned heading.id) arguments × AreReaders planned rest
+AreReaders planned (give_back heading value rest) = IsReader planned heading.id value × AreReaders planned rest
+
+-- ---- uses among uses
+
+abbrev pub IsIn : {X : Type 0} → X → List X → Type 0
+IsIn x [] = ⊥
+IsIn x (first ∷ xs) = (first ≡ x) ⊎ IsIn x xs
+
+in_left : {X : Type 0} (x : X) (xs ys : List X) → IsIn x xs → IsIn x (xs ++ ys)
+in_left x [] ys is_in = absurd is_in
+in_left x (first ∷ xs) ys (inl same) = inl same
+in_left x (first ∷ xs) ys (inr more) = inr (in_left x xs ys more)
+
+in_right : {X : Type 0} (x : X) (xs ys : List X) → IsIn x ys → IsIn x (xs ++ ys)
+in_right x [] ys is_in = is_in
+in_right x (first ∷ xs) ys is_in = inr (in_right x xs ys is_in)
+
+or_true : (b : Bool) → (b || true) ≡ true
+or_true true = refl
+or_true false = refl
+
+any_in : {X : Type 0} (p : X → Bool) (x : X) (xs : List X) → IsIn x xs → p x ≡ true → list_any p xs ≡ true
+any_in p x [] is_in passes = absurd is_in
+any_in p x (first ∷ xs) (inl same) passes = rw (ap p same ∙ passes) refl
+any_in p x (first ∷ xs) (inr more) passes = rw (any_in p x xs more passes) (or_true (p first))
+
+behind_first : (first : StatementUse) (id : StmtId) (others : List StatementUse) (b : Bool) →
+    IsIn id (map (λ other. other.id) others) → IsIn id (map (λ other. other.id) (cond b (first ∷ others) others))
+behind_first first id others true is_in = inr is_in
+behind_first first id others false is_in = is_in
+
+-- a statement that reads a variable is among its readers
+reads_in : (one : StatementUse) (x : VarId) (uses : List StatementUse) → IsIn one uses → IsIn x one.reads →
+    IsIn one.id (readers_of uses x.0)
+reads_in one x [] is_in reads = absurd is_in
+reads_in one x (first ∷ uses) (inl same) reads =
+    let own : list_any (λ read. nat_eq read.0 x.0) first.reads ≡ true =
+    any_in (λ read. nat_eq read.0 x.0) x first.reads (subst (λ (other : StatementUse). IsIn x other.reads) (sym same) reads)
+    (eq-eqb x.0 x.0 refl) in
+    taken_first (list_any (λ read. nat_eq read.0 x.0) first.reads) own
+  where
+    rest : List StatementUse
+    rest = filter (λ other. list_any (λ read. nat_eq read.0 x.0) other.reads) uses
+
+    taken_first : (b : Bool) → b ≡ true → IsIn one.id (map (λ other. other.id) (cond b (first ∷ rest) rest))
+    taken_first true is = inl (ap (λ (other : StatementUse). other.id) same)
+    taken_first false is = absurd (cc)
+reads_in one x (first ∷ uses) (inr more) reads =
+    let others = filter (λ other. list_any (λ read. nat_eq read.0 x.0) other.reads) uses in
+    behind_first first one.id others (list_any (λ read. nat_eq read.0 x.0) first.reads) (reads_in one x uses more reads)
+
+-- ---- expressions
+
+all_map : {X : Type 0} (P Q : X → Type 0) → ((x : X) → P x → Q x) → (xs : List X) → AllByRecursion P xs →
+    AllByRecursion Q xs
+all_map P Q make [] all = tt
+all_map P Q make (x ∷ xs) all = (make x all.0, all_map P Q make xs all.1)
+
+-- every variable that an expression reads is there
+variables_there : (program : ProgramTree) (method : MethodId) (e : ExprTree) → IsExprIn program method e →
+    AllByRecursion (λ x. x.0 < length program.vars) (variables_in e)
+variables_there program method (number value) fits = tt
+variables_there program method (local x) fits = (slice_get_within program.vars x.0 fits.0 fits.1, tt)
+variables_there program method (scalar field) fits = tt
+variables_there program method (element field index) fits = variables_there program method index fits.1
+variables_there program method (inverted operand) fits = variables_there program method operand fits
+variables_there program method (negated operand) fits = variables_there program method operand fits
+variables_there program method (binary operator left right) fits =
+    all_both (λ x. x.0 < length program.vars) (variables_in left) (variables_in right)
+    (variables_there program method left fits.0) (variables_there program method right fits.1)
+variables_there program method (declassified operand label) fits = variables_there program method operand fits
+variables_there program method (endorsed operand label) fits = variables_there program method operand fits
+
+-- the host of a statement reads what the statement reads
+abbrev pub IsKnownUse : PlannedShape → StatementUse → Type 0
+IsKnownUse planned one = (x : VarId) → IsIn x one.reads → x.0 < length planned.program.vars →
+    reads_on planned x (statement_host planned.plan one.id).0 ≡ true
+
+known_use : (principals : Declared) (labelled : Labelled) (planned : PlannedShape) →
+    planned.program ≡ labelled.program → AreNeedsOf principals labelled planned.needs → (one : StatementUse) →
+    IsIn one (statement_uses principals labelled) → IsKnownUse planned one
+known_use principals labelled planned same are one is_in x reads within =
+    let uses = statement_uses principals labelled in
+    let host = (statement_host planned.plan one.id).0 in
+    let many = length labelled.program.vars in
+    let inside : x.0 < many = subst (λ (p : ProgramTree). x.0 < length p.vars) same within in
+    let row : slice_get planned.needs.readers x.0 ≡ Some (readers_of uses x.0) =
+    ap (λ list. slice_get list x.0) are.readers
+    ∙ slice_get-map (readers_of uses) (range_with_len 0 many) x.0
+    ∙ ap (option_map (readers_of uses)) (number_there many x.0 inside) in
+    ap (λ found. list_any (λ statement. nat_eq (statement_host planned.plan statement).0 host) (unwrap_or found [])) row
+    ∙ any_in (λ statement. nat_eq (statement_host planned.plan statement).0 host) one.id (readers_of uses x.0)
+    (reads_in one x uses is_in reads) (eq-eqb host host refl)
+
+-- the host of a statement reads the variables of an expression all of which the statement reads
+is_reader : (planned : PlannedShape) (method : MethodId) (id : StmtId) (reads : List VarId) (e : ExprTree) →
+    IsExprIn planned.program method e →
+    ((x : VarId) → IsIn x reads → x.0 < length planned.program.vars →
+    reads_on planned x (statement_host planned.plan id).0 ≡ true) →
+    ((x : VarId) → IsIn x (variables_in e) → IsIn x reads) → IsReader planned id e
+is_reader planned method id reads e fits known among =
+    each (variables_in e) (variables_there planned.program method e fits) among
+  where
+    each : (xs : List VarId) → AllByRecursion (λ x. x.0 < length planned.program.vars) xs →
+        ((x : VarId) → IsIn x xs → IsIn x reads) →
+        AllByRecursion (λ x. reads_on planned x (statement_host planned.plan id).0 ≡ true) xs
+    each [] within inside = tt
+    each (x ∷ xs) within inside =
+        (known x (inside x (inl refl)) within.0, each xs within.1 (λ y is_in. inside y (inr is_in)))
+
+-- ---- blocks
+
+all_from : {X : Type 0} (P : X → Type 0) (xs : List X) → ((x : X) → IsIn x xs → P x) → AllByRecursion P xs
+all_from P [] each = tt
+all_from P (x ∷ xs) each = (each x (inl refl), all_from P xs (λ y is_in. each y (inr is_in)))
+
+block_readers : (labelled : Labelled) (planned : PlannedShape) (setting : MethodSetting) (method : MethodId)
+    (gives : Bool) (block : BlockTree) → IsCallFree block → IsBlockIn planned.program method gives block →
+    AllByRecursion (IsKnownUse planned) (block_uses labelled setting block) → AreReaders planned block
+block_readers labelled planned setting method gives done free fits known = tt
+block_readers labelled planned setting method gives (set_local heading x value rest) free fits known = (
+  is_reader planned method heading.id (variables_in value ++ []) value fits.1 known.0
+      (λ y is_in. in_left y (variables_in value) [] is_in),
+  block_readers labelled planned setting method gives rest free fits.2 known.1,
+)
+block_readers labelled planned setting method gives (set_field heading field value rest) free fits known = (
+  is_reader planned method heading.id (variables_in value ++ []) value fits.1 known.0
+      (λ y is_in. in_left y (variables_in value) [] is_in),
+  block_readers labelled planned setting method gives rest free fits.2 known.1,
+)
+block_readers labelled planned setting method gives (set_element heading field index value rest) free fits known =
+    let reads = variables_in index ++ (variables_in value ++ []) in (
+      is_reader planned method heading.id reads index fits.1 known.0
+          (λ y is_in. in_left y (variables_in index) (variables_in value ++ []) is_in),
+      is_reader planned method heading.id reads value fits.2 known.0
+          (λ y is_in. in_right y (variables_in index) (variables_in value ++ [])
+          (in_left y (variables_in value) [] is_in)),
+      block_readers labelled planned setting method gives rest free fits.3 known.1,
+    )
+block_readers labelled planned setting method gives (branch heading guard first second rest) free fits known =
+    let P = IsKnownUse planned in
+    let one = block_uses labelled setting first in
+    let two = block_uses labelled setting second in
+    let behind = block_uses labelled setting rest in
+    let inside = all_left P (one ++ two) behind known.1 in (
+      is_reader planned method heading.id (variables_in guard ++ []) guard fits.0 known.0
+          (λ y is_in. in_left y (variables_in guard) [] is_in),
+      block_readers labelled planned setting method gives first free.0 fits.1 (all_left P one two inside),
+      block_readers labelled planned setting method gives second free.1 fits.2 (all_right P one two inside),
+      block_readers labelled planned setting method gives rest free.2 fits.3 (all_right P (one ++ two) behind known.1),
+    )
+block_readers labelled planned setting method gives (loop heading guard body rest) free fits known =
+    let P = IsKnownUse planned in
+    let inside = block_uses labelled setting body in
+    let behind = block_uses labelled setting rest in (
+      is_reader planned method heading.id (variables_in guard ++ []) guard fits.0 known.0
+          (λ y is_in. in_left y (variables_in guard) [] is_in),
+      block_readers labelled planned setting method gives body free.0 fits.1 (all_left P inside behind known.1),
+      block_readers labelled planned setting method gives rest free.1 fits.2 (all_right P inside behind known.1),
+    )
+block_readers labelled planned setting method gives _ free fits known = absurd free
+
+-- ---- programs
+
+methods_readers : (principals : Declared) (labelled : Labelled) (planned : PlannedShape) (first : ℕ)
+    (methods : List MethodTree) → AllByRecursion (λ method. IsCallFree method.body) methods →
+    AreMethodsIn planned.program first methods →
+    AllByRecursion (IsKnownUse planned) (flat_map (method_uses principals labelled) methods) →
+    AllByRecursion (λ method. AreReaders planned method.body) methods
+methods_readers principals labelled planned first [] free fits known = tt
+methods_readers principals labelled planned first (method ∷ methods) free fits known =
+    let own = method_uses principals labelled method in
+    let others = flat_map (method_uses principals labelled) methods in (
+      block_readers labelled planned (setting_of principals labelled.program method) (record { 0 = first }) _ method.body
+          free.0 fits.0.body (all_left (IsKnownUse planned) own others known).1,
+      methods_readers principals labelled planned (suc first) methods free.1 fits.1
+          (all_right (IsKnownUse planned) own others known),
+    )
+
+-- in a program without calls the host of each statement reads the variables of its expressions
+pub program_readers : (principals : Declared) (labelled : Labelled) (planned : PlannedShape) →
+    planned.program ≡ labelled.program → AreNeedsOf principals labelled planned.needs →
+    AllByRecursion (λ method. IsCallFree method.body) labelled.program.methods →
+    AreMethodsIn planned.program 0 labelled.program.methods →
+    AllByRecursion (λ method. AreReaders planned method.body) labelled.program.methods
+program_readers principals labelled planned same are free fits =
+    methods_readers principals labelled planned 0 labelled.program.methods free fits
+    (all_from (IsKnownUse planned) (statement_uses principals labelled)
+    (known_use principals labelled planned same are))
