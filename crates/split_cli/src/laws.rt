@@ -15,6 +15,7 @@ use jif_lex::lex_laws;
 use jif_resolve::{program_laws, resolve_laws};
 use label_check::failure_laws;
 use need_labels::need_laws;
+use net_world::laws::step_laws;
 use place_rules::place_rule_laws;
 use placement::placement_laws;
 use source_run::run_laws;
@@ -56,4 +57,5 @@ pub fn due_laws()
     place_rule_laws();
     placement_laws();
     run_laws();
+    step_laws();
 }
