@@ -1,7 +1,8 @@
 -- Driven worlds: one event more, and that what comes next is never refused.
 use Rattle.std.proofs.Common.{◌≡◌, ◌≢◌, ℕ, zero, suc, ◌+◌, ◌<◌, ◌≤◌, false, List, [], ◌∷◌, ◌++◌, length}
 use Rattle.std.proofs.Common.{Option, Some, None, refl, ap, sym, subst, ◌∙◌, arith, ⊎_elim}
-use Rattle.std.specs.Prelude.{◌↔◌, IsErrOf, Result, Err, ℤ, All, IsSome, IsSomeAnd, IfSome, IsTrue, slice_get, is_some, if◌then◌else◌}
+use Rattle.std.specs.Prelude.{◌↔◌, IsErrOf, Result, Err, ℤ, All, IsSome, IsSomeAnd, IfSome, IsTrue, slice_get}
+use Rattle.std.specs.Prelude.{is_some, if◌then◌else◌}
 use Rattle.std.proofs.lemmas.List.{length-append, length-map}
 use Rattle.std.proofs.lemmas.List.Elements.{All-head}
 use Rattle.std.proofs.lemmas.Nat.Bits.{bit_at-zero}

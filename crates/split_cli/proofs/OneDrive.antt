@@ -11,7 +11,7 @@ use Rattle.event_text.specs.declared.event.Event.{Event}
 use Rattle.event_text.specs.declared.event.Event.TheVariants.{Take, Turn, Act}
 use Rattle.host_code.specs.Code.{CodeShape}
 use Rattle.net_world.specs.Choice.{IsNextEvent, IsFirstRunning, IsFirstFrom, IsFirstFlying}
-use Rattle.net_world.specs.World.{WorldShape, IsStep}
+use Rattle.net_world.specs.World.{WorldShape, IsStep, IsRun}
 use Rattle.split_cli.specs.Drive.{code_of, first_world, drive_text, IsDriveReport, DueForHosts, long, bad_line, driven}
 use Rattle.split_cli.specs.Drive.{DueForDrive}
 use Rattle.split_cli.specs.Driven.{IsDriven, DrivesTo, rested, spent}
@@ -79,9 +79,17 @@ never_both world (Turn host) next rest = rest.0 host next.runs
 never_both world (Take from to place) next rest = rest.1 from to next.1.target.flies
 never_both world (Act from to made) next rest = next
 
+-- ---- a drive is a run
+
+pub driven_run : (code : CodeShape) (world after : WorldShape) (events : List Event) →
+    IsDriven code world events after → IsRun code world events after
+driven_run code world after [] made = made
+driven_run code world after (event ∷ events) made =
+    (made.1.0, made.1.1, driven_run code made.1.0 after events made.1.2)
+
 -- ---- so one list of events is made
 
--- two drives that went as far as each other, or one that went on where the other ended
+-- the same events, and the same world behind them
 pub record AreOne (first second : List Event) (one two : WorldShape) : Type 0 where
   pub events : first ≡ second
   pub worlds : one ≡ two

@@ -1,4 +1,5 @@
--- Which programs are driven so far: no method has a branch, a loop, a call or a return, and all stands on the root host.
+-- Which programs are driven so far: no method has a branch, a loop, a call or a return, and all statements are on the
+-- root host.
 use Rattle.std.specs.Prelude.{◌≡◌, All, ⊤}
 use Rattle.jif_tree.specs.declared.program.StmtKind.{StmtKind}
 use Rattle.jif_tree.specs.declared.program.StmtKind as kind

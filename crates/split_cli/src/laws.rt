@@ -2,6 +2,10 @@
 
 ghost use Rattle.std.specs.Prelude.{◌≡◌, ◌<◌, ℕ, List, Option, Some};
 ghost use Rattle.js_base.specs.Counts.{last_count};
+ghost use Rattle.event_text.specs.declared.event.Event.{Event};
+ghost use Rattle.host_code.specs.Code.{CodeShape};
+ghost use Rattle.net_world.specs.World.{WorldShape, IsRun};
+ghost use Rattle.split_cli.specs.Driven.{IsDriven};
 ghost use Rattle.split_cli.specs.Verdicts.{VerdictShape};
 ghost use Rattle.split_cli.specs.Loads.{FilesChange, IsFileFault};
 ghost use Rattle.split_cli.specs.Due.{Due, IsDue};
@@ -41,6 +45,10 @@ pub fn due_laws()
         (holds : List ℕ → Option (List ℕ)) (first second : VerdictShape) →
         files.held ≡ Some holds → files.faults_before < last_count →
         IsDue words files first → IsDue words files second → first ≡ second }
+
+    // The events of a drive are a run of the world.
+    ensures driven_runs { (code : CodeShape) (world after : WorldShape) (events : List Event) →
+        IsDriven code world events after → IsRun code world events after }
 
     // A file fault is due for one place of the names, as long as the count of loads tells it.
     ensures one_fault { (names : List (List ℕ)) (files : FilesChange) (first second : VerdictShape)

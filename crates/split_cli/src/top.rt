@@ -26,7 +26,8 @@ use std::alloc::Global;
 /// Runs `jifsplit` on the words after its name.
 ///
 /// It answers `Done` where the report of the command was put on `out`, and `Spent` where it was put for a run that its
-/// steps did not end, or for hosts that were driven by all their events and not to their rest. Any other answer is a refusal or a fault:
+/// steps did not end, or for hosts that its events did not bring to their rest. Any other answer is a refusal or a
+/// fault:
 /// - `Usage`: the words ask for no command.
 /// - `SourceRefused`: the program is refused for its text, its names or its labels; or no host may hold some part of
 ///   it, or hosts cannot run it yet.

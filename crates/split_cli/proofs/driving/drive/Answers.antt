@@ -47,7 +47,8 @@ loop-made-preserved c =
     let next = rw c.in-Some.is at c.next_event.ensures in
     gone_on c.step_laws.ensures.misbehaving c.args.code.now (world_of c.args.world.now) c.loop-made.made world
     c.apply.new.self c.in-Some.event gone next
-    (let step : IsStep c.args.code.now (world_of world) c.in-Some.event (world_of c.apply.new.self) = search rules in step)
+    (let step : IsStep c.args.code.now (world_of world) c.in-Some.event (world_of c.apply.new.self) = search rules in
+    step)
     c.apply.ensures.fits
     (let made : (n : ℕ) → HaveMade n world.hosts → HaveMade (n + 1) c.apply.new.self.hosts = search rules in
     made c.loop-made.made gone.fresh)

@@ -1,3 +1,4 @@
+use Rattle.split_cli.proofs.OneDrive.{driven_run}
 use Rattle.split_cli.proofs.OnePlaced.{PlaceLaws, places_once}
 use Rattle.split_cli.proofs.OneSource.{SourceLaws, sources_once}
 use Rattle.split_cli.proofs.OneVerdict.{AllLaws, due_once, answer_once, one_fault_place}
@@ -61,3 +62,6 @@ returns-clause-one_answer c = answer_once (all_laws c)
 
 pub returns-clause-one_fault : goal.returns-clause-one_fault
 returns-clause-one_fault c = one_fault_place
+
+pub returns-clause-driven_runs : goal.returns-clause-driven_runs
+returns-clause-driven_runs c = driven_run

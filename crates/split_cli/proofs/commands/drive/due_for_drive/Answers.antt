@@ -9,7 +9,8 @@ pub returns-in_err-loaded-clause-due : goal.returns-in_err-loaded-clause-due
 returns-in_err-loaded-clause-due g c =
     due_handed_on (IsDueForCommand (Drive c.args.program.now c.args.hosts.now c.args.start.now c.args.events) _)
     c.in_err-loaded.field-0.0 c.from_residual.result c.from_residual.ensures
-    (loading_stops (Drive c.args.program.now c.args.hosts.now c.args.start.now c.args.events) _ _ c.in_err-loaded.field-0.0
+    (loading_stops (Drive c.args.program.now c.args.hosts.now c.args.start.now c.args.events) _ _
+    c.in_err-loaded.field-0.0
     (three_names c.program_file.result c.host_file.result c.script_file.result _ _ _ c.program_file.ensures.name
     c.host_file.ensures.name c.script_file.ensures.name)
     c.in_err-loaded.ensures.stopped)

@@ -9,8 +9,8 @@ use Rattle.split_cli.proofs.commands.drive.due_for_loaded.Goals as goal
 
 pub returns-in_err-placed : goal.returns-in_err-placed
 returns-in_err-placed c = λ names others p h s loaded_p loaded_h loaded_s.
-    due_handed_on (DueForBytes (Drive names others c.args.name.now c.args.most) (p ∷ h ∷ s ∷ [])) c.in_err-placed.field-0.0
-    c.from_residual.result c.from_residual.ensures
+    due_handed_on (DueForBytes (Drive names others c.args.name.now c.args.most) (p ∷ h ∷ s ∷ []))
+    c.in_err-placed.field-0.0 c.from_residual.result c.from_residual.ensures
     (due_stops (PlacedSources p h) (DueForDrive c.args.name.now s c.args.most) c.in_err-placed.field-0.0
     (c.in_err-placed.ensures.places p h loaded_p loaded_h))
 
