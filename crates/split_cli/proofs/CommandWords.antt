@@ -2,7 +2,7 @@
 use Rattle.std.proofs.Common.{◌≡◌, ◌≢◌, ℕ, List, [], ◌∷◌, length, get_or, arith, map, sym, ◌∙◌, String, Global}
 use Rattle.std.specs.Prelude.{string_bytes, codes}
 use Rattle.std.specs.Fmt.{decimal}
-use Rattle.split_cli.specs.Commands.{CommandShape, Check, Run, Replay, IsCommand, IsStepCount, words_of}
+use Rattle.split_cli.specs.Commands.{CommandShape, Check, Run, Replay, Drive, IsCommand, IsStepCount, words_of}
 
 -- texts, by their places
 pub three : (xs : List (String Global)) (a b c : String Global) → length xs ≡ 3 → a ≡ get_or xs 0 a →
@@ -62,3 +62,16 @@ no_steps words a b c d e last is last_is none (Run program hosts start steps) co
     ∙ last_word a b c d e (codes "run") program hosts start (decimal steps) (sym is ∙ same))
 no_steps words a b c d e last is last_is none (Replay program hosts events) command same =
     let never : ⊥ = cc in never
+no_steps words a b c d e last is last_is none (Drive program hosts start events) command same =
+    none events command (last_is
+    ∙ last_word a b c d e (codes "drive") program hosts start (decimal events) (sym is ∙ same))
+
+-- nor do five words that begin with no command that has a number
+pub no_verb : (a b c d e : List ℕ) → a ≢ codes "run" → a ≢ codes "drive" → (command : CommandShape) →
+    IsCommand command → ◌≢◌ {A = List (List ℕ)} (a ∷ b ∷ c ∷ d ∷ e ∷ []) (words_of command)
+no_verb a b c d e not_run not_drive (Check program hosts) command same = let never : ⊥ = cc in never
+no_verb a b c d e not_run not_drive (Run program hosts start steps) command same =
+    not_run (let first : a ≡ codes "run" = cc in first)
+no_verb a b c d e not_run not_drive (Replay program hosts events) command same = let never : ⊥ = cc in never
+no_verb a b c d e not_run not_drive (Drive program hosts start events) command same =
+    not_drive (let first : a ≡ codes "drive" = cc in first)

@@ -1,7 +1,7 @@
 -- What holds of the first code of a program.
 use Rattle.std.proofs.Common.{◌≡◌, ℕ, zero, suc, ◌+◌, ◌-◌, ◌^◌, ◌<◌, ◌≤◌, List, [], ◌∷◌, ◌++◌, length, get_or, take, map}
 use Rattle.std.proofs.Common.{refl, ap, sym, ◌∙◌, subst, arith}
-use Rattle.std.specs.Prelude.{All, Some, replicate, slice_get, string_bytes, unwrap_or}
+use Rattle.std.specs.Prelude.{All, replicate, slice_get, string_bytes, unwrap_or}
 use Rattle.std.proofs.lemmas.List.{length-append, length-map, length-replicate, length-take-le, take_more}
 use Rattle.std.proofs.lemmas.List.Elements.{All-nil, All-cons}
 use Rattle.js_base.specs.declared.ids.HostId.{HostId}

@@ -4,13 +4,16 @@ pub mod Assigning
 pub mod BlockLines
 pub mod BuiltLists
 pub mod CommandWords
+pub mod DriveDue
 pub mod Faithful
 pub mod FirstCode
 pub mod LabelCounts
 pub mod LineCounts
 pub mod LoadedFiles
 pub mod Loading
+pub mod NextEvents
 pub mod OneCode
+pub mod OneDrive
 pub mod OnePlaced
 pub mod OneReplay
 pub mod OneRun
@@ -19,6 +22,7 @@ pub mod OneVerdict
 pub mod PlacedLists
 pub mod Places
 pub mod PlanLines
+pub mod ReadLaws
 pub mod Reading
 pub mod Refusals
 pub mod ReplayDue
@@ -30,4 +34,7 @@ pub mod RunReport
 pub mod Stages
 pub mod StepCounts
 pub mod Stops
+pub mod StraightLists
 pub mod TreeCode
+pub mod VariableCounts
+pub mod WorldLines

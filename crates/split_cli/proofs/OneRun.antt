@@ -25,7 +25,7 @@ pub record RunLaws : Type 0 where
 form_of_tree : FieldTree → FieldForm
 form_of_tree field = record { name = field.name; size = field.size; array = field.array; first = field.first }
 
-same_values : (program other : Program) (start : List ℕ) → program_tree program ≡ program_tree other →
+pub same_values : (program other : Program) (start : List ℕ) → program_tree program ≡ program_tree other →
     start_of program.fields.items start ≡ start_of other.fields.items start
 unfolding form_of_tree
 same_values program other start same =

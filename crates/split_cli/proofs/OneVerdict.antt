@@ -7,7 +7,8 @@ use Rattle.std.specs.List.{AllZip, AllByRecursion}
 use Rattle.std.proofs.lemmas.Bool.{false≢true}
 use Rattle.std.proofs.lemmas.Fmt.{decimal_injective}
 use Rattle.js_base.specs.Counts.{last_count, Rose}
-use Rattle.split_cli.specs.Commands.{CommandShape, Check, Run, Replay, IsStepCount, IsCommand, words_of, files_of}
+use Rattle.split_cli.specs.Commands.{CommandShape, Check, Run, Replay, Drive, IsStepCount, IsCommand, words_of}
+use Rattle.split_cli.specs.Commands.{files_of}
 use Rattle.split_cli.specs.Verdicts.{VerdictShape, no_such_file}
 use Rattle.split_cli.specs.Loads.{FilesChange, Told, IsHeld, counted_by, IsFirstAbsent, IsFileFault}
 use Rattle.split_cli.specs.Sources.{Sources}
@@ -15,8 +16,10 @@ use Rattle.split_cli.specs.PlacedSources.{PlacedSources}
 use Rattle.split_cli.specs.Check.{plan_report}
 use Rattle.split_cli.specs.PlainRun.{DueForRun}
 use Rattle.split_cli.specs.Replay.{DueForReplay}
+use Rattle.split_cli.specs.Drive.{DueForDrive}
 use Rattle.split_cli.specs.Due.{DueForBytes, DueForFiles, DueForCommand, absent, loaded, Due, no_words, for_command}
 use Rattle.split_cli.specs.Due.{IsDue}
+use Rattle.split_cli.proofs.OneDrive.{OneStep, drive_once}
 use Rattle.split_cli.proofs.OnePlaced.{PlaceLaws, places_once}
 use Rattle.split_cli.proofs.OneReplay.{replay_once}
 use Rattle.split_cli.proofs.OneRun.{RunLaws, run_once}
@@ -29,6 +32,7 @@ pub record AllLaws : Type 0 where
   pub sources : SourceLaws
   pub places : PlaceLaws
   pub runs : RunLaws
+  pub steps : OneStep
 
 -- ---- what is due for the bytes of all files
 
@@ -43,6 +47,10 @@ bytes_once laws (Run program hosts start steps) (p ∷ h ∷ s ∷ []) first sec
 bytes_once laws (Replay program hosts events) (p ∷ h ∷ e ∷ []) first second one two =
     one_due (PlacedSources p h) (DueForReplay events e) first second
     (places_once laws.sources laws.places p h) (λ placed was. replay_once events e placed first second) one two
+bytes_once laws (Drive program hosts start events) (p ∷ h ∷ s ∷ []) first second one two =
+    one_due (PlacedSources p h) (DueForDrive start s events) first second
+    (places_once laws.sources laws.places p h)
+    (λ placed was. drive_once laws.steps start s events placed first second) one two
 bytes_once laws (Check program hosts) [] first second one two = absurd one
 bytes_once laws (Check program hosts) (p ∷ []) first second one two = absurd one
 bytes_once laws (Check program hosts) (p ∷ h ∷ s ∷ more) first second one two = absurd one
@@ -54,6 +62,10 @@ bytes_once laws (Replay program hosts events) [] first second one two = absurd o
 bytes_once laws (Replay program hosts events) (p ∷ []) first second one two = absurd one
 bytes_once laws (Replay program hosts events) (p ∷ h ∷ []) first second one two = absurd one
 bytes_once laws (Replay program hosts events) (p ∷ h ∷ e ∷ x ∷ more) first second one two = absurd one
+bytes_once laws (Drive program hosts start events) [] first second one two = absurd one
+bytes_once laws (Drive program hosts start events) (p ∷ []) first second one two = absurd one
+bytes_once laws (Drive program hosts start events) (p ∷ h ∷ []) first second one two = absurd one
+bytes_once laws (Drive program hosts start events) (p ∷ h ∷ s ∷ x ∷ more) first second one two = absurd one
 
 -- ---- what is due for a command
 
@@ -151,6 +163,7 @@ pub one_command : (first second : CommandShape) → IsCommand first → IsComman
 one_command (Check p h) (Check q i) one two same = cc
 one_command (Check p h) (Run q i t n) one two same = absurd (let no = same in cc)
 one_command (Check p h) (Replay q i f) one two same = absurd (let no = same in cc)
+one_command (Check p h) (Drive q i t n) one two same = absurd (let no = same in cc)
 one_command (Run p h s n) (Check q i) one two same = absurd (let no = same in cc)
 one_command (Run p h s n) (Run q i t m) one two same =
     let steps : decimal n ≡ decimal m = cc in
@@ -160,9 +173,21 @@ one_command (Run p h s n) (Run q i t m) one two same =
     let number : n ≡ m = same_steps n m one two steps in
     cc
 one_command (Run p h s n) (Replay q i f) one two same = absurd (let no = same in cc)
+one_command (Run p h s n) (Drive q i t m) one two same = absurd (let no = same in cc)
 one_command (Replay p h e) (Check q i) one two same = absurd (let no = same in cc)
 one_command (Replay p h e) (Run q i t n) one two same = absurd (let no = same in cc)
 one_command (Replay p h e) (Replay q i f) one two same = cc
+one_command (Replay p h e) (Drive q i t n) one two same = absurd (let no = same in cc)
+one_command (Drive p h s n) (Check q i) one two same = absurd (let no = same in cc)
+one_command (Drive p h s n) (Run q i t m) one two same = absurd (let no = same in cc)
+one_command (Drive p h s n) (Replay q i f) one two same = absurd (let no = same in cc)
+one_command (Drive p h s n) (Drive q i t m) one two same =
+    let events : decimal n ≡ decimal m = cc in
+    let program : p ≡ q = cc in
+    let hosts : h ≡ i = cc in
+    let start : s ≡ t = cc in
+    let number : n ≡ m = same_steps n m one two events in
+    cc
 
 pub due_once : AllLaws → (words : List (List ℕ)) (holds : List ℕ → Option (List ℕ)) (number other : ℕ)
     (first second : VerdictShape) →

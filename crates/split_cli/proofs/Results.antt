@@ -11,11 +11,11 @@ pub both_ok : {T E : Type 0} (r : Result T E) (P Q : T → Type 0) → IfOk r P 
 both_ok (Ok x) P Q first second = (first, second)
 both_ok (Err e) P Q first second = tt
 
--- the tokens of a text are few
-pub few_tokens : {E : Type 0} (r : Result (Vec Token Global) E) (text : List ℕ) (F : E → Type 0) →
+-- the tokens of a text are tokens
+pub are_tokens : {E : Type 0} (r : Result (Vec Token Global) E) (text : List ℕ) (F : E → Type 0) →
     ((bytes : List ℕ) (list : List Token) → length bytes ≤ PROGRAM_BYTES → ReadsAs bytes (tokens list) →
     AreTokens list) →
     MatchResult r (λ list. (length text ≤ PROGRAM_BYTES) × ReadsAs text (tokens list.items)) F →
-    IfOk r (λ list. length list.items ≤ PROGRAM_BYTES)
-few_tokens (Ok list) text F law found = (law text list.items found.0 found.1).0
-few_tokens (Err why) text F law found = tt
+    IfOk r (λ list. AreTokens list.items)
+are_tokens (Ok list) text F law found = law text list.items found.0 found.1
+are_tokens (Err why) text F law found = tt

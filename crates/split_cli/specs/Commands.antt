@@ -3,13 +3,14 @@ use Rattle.std.specs.Prelude.{◌≢◌, ℕ, ◌≤◌, List, [], ◌∷◌, co
 use Rattle.std.specs.Fmt.{decimal}
 use Rattle.split_cli.specs.declared.words.TheConstants.{STEPS}
 
--- a command with its files, and with its number of steps
+-- a command with its files, and with its number of steps or events
 pub data CommandShape : Type 0 where
   Check : (program hosts : List ℕ) → CommandShape
   Run : (program hosts start : List ℕ) (steps : ℕ) → CommandShape
   Replay : (program hosts events : List ℕ) → CommandShape
+  Drive : (program hosts start : List ℕ) (events : ℕ) → CommandShape
 
--- a number of steps that can be asked for
+-- a number of steps or events that can be asked for
 pub record IsStepCount (steps : ℕ) : Type 0 where
   pub least : 1 ≤ steps
   pub most : steps ≤ STEPS
@@ -19,18 +20,21 @@ abbrev pub IsCommand : CommandShape → Type 0
 IsCommand (Check program hosts) = ⊤
 IsCommand (Run program hosts start steps) = IsStepCount steps
 IsCommand (Replay program hosts events) = ⊤
+IsCommand (Drive program hosts start events) = IsStepCount events
 
 -- the words that ask for it: a number is written in decimal digits, without leading zeros
 abbrev pub words_of : CommandShape → List (List ℕ)
 words_of (Check program hosts) = codes "check" ∷ program ∷ hosts ∷ []
 words_of (Run program hosts start steps) = codes "run" ∷ program ∷ hosts ∷ start ∷ decimal steps ∷ []
 words_of (Replay program hosts events) = codes "replay" ∷ program ∷ hosts ∷ events ∷ []
+words_of (Drive program hosts start events) = codes "drive" ∷ program ∷ hosts ∷ start ∷ decimal events ∷ []
 
 -- the files that are loaded for it, in order
 abbrev pub files_of : CommandShape → List (List ℕ)
 files_of (Check program hosts) = program ∷ hosts ∷ []
 files_of (Run program hosts start steps) = program ∷ hosts ∷ start ∷ []
 files_of (Replay program hosts events) = program ∷ hosts ∷ events ∷ []
+files_of (Drive program hosts start events) = program ∷ hosts ∷ start ∷ []
 
 -- the words ask for no command
 abbrev pub HaveNoForm : List (List ℕ) → Type 0

@@ -3,6 +3,8 @@ pub mod Asked
 pub mod Built
 pub mod Check
 pub mod Commands
+pub mod Drive
+pub mod Driven
 pub mod Due
 pub mod Faithful
 pub mod Loading
@@ -11,6 +13,7 @@ pub mod PlaceLines
 pub mod PlacedShapes
 pub mod PlacedSources
 pub mod PlainRun
+pub mod ReadPrograms
 pub mod Replay
 pub mod Report
 pub mod SourceShapes
@@ -18,5 +21,7 @@ pub mod Sources
 pub mod Stages
 pub mod StatementLines
 pub mod StepCounts
+pub mod Straight
 pub mod Text
 pub mod Verdicts
+pub mod WorldReport

@@ -40,7 +40,7 @@ pub fn root_of(program: &Program, plan: &Plan) -> HostId
 }
 
 /// Whether all are this host.
-fn stand_on(hosts: &[HostId], host: HostId) -> bool
+pub fn stand_on(hosts: &[HostId], host: HostId) -> bool
     ensures { IsTrue result ↔ All (λ one. one ≡ host) hosts.now }
 {
     hosts.iter().all(|one| *one == host)

@@ -2,6 +2,10 @@
 
 ghost use Rattle.std.specs.Prelude.{◌≡◌, ◌<◌, ℕ, List, Option, Some};
 ghost use Rattle.js_base.specs.Counts.{last_count};
+ghost use Rattle.event_text.specs.declared.event.Event.{Event};
+ghost use Rattle.host_code.specs.Code.{CodeShape};
+ghost use Rattle.net_world.specs.World.{WorldShape, IsRun};
+ghost use Rattle.split_cli.specs.Driven.{IsDriven};
 ghost use Rattle.split_cli.specs.Verdicts.{VerdictShape};
 ghost use Rattle.split_cli.specs.Loads.{FilesChange, IsFileFault};
 ghost use Rattle.split_cli.specs.Due.{Due, IsDue};
@@ -15,6 +19,7 @@ use jif_lex::lex_laws;
 use jif_resolve::{program_laws, resolve_laws};
 use label_check::failure_laws;
 use need_labels::need_laws;
+use net_world::laws::step_laws;
 use place_rules::place_rule_laws;
 use placement::placement_laws;
 use source_run::run_laws;
@@ -41,6 +46,10 @@ pub fn due_laws()
         files.held ≡ Some holds → files.faults_before < last_count →
         IsDue words files first → IsDue words files second → first ≡ second }
 
+    // The events of a drive are a run of the world.
+    ensures driven_runs { (code : CodeShape) (world after : WorldShape) (events : List Event) →
+        IsDriven code world events after → IsRun code world events after }
+
     // A file fault is due for one place of the names, as long as the count of loads tells it.
     ensures one_fault { (names : List (List ℕ)) (files : FilesChange) (first second : VerdictShape)
         (one : IsFileFault names files first) (two : IsFileFault names files second) →
@@ -56,4 +65,5 @@ pub fn due_laws()
     place_rule_laws();
     placement_laws();
     run_laws();
+    step_laws();
 }

@@ -3,6 +3,7 @@
 
 mod built;
 mod commands;
+mod driving;
 mod first_code;
 mod laws;
 mod load;
@@ -13,9 +14,11 @@ mod row_line;
 mod sources;
 mod statement_lines;
 mod stop;
+mod straight;
 mod top;
 mod verdict;
 mod words;
+mod world_report;
 
 pub use laws::due_laws;
 pub use top::jifsplit;

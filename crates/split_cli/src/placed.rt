@@ -10,9 +10,11 @@ ghost use Rattle.label_check.specs.Checking.{AreAuthorities};
 ghost use Rattle.jif_tree.specs.Sizes.{IsSized};
 ghost use Rattle.need_labels.specs.Labelled.{labelled_of};
 ghost use Rattle.placement.specs.Placing.{HasHosts};
+ghost use Rattle.split_rules.specs.Splittable.{IsSplittable};
 ghost use Rattle.split_cli.specs.Loading.{EndsAs, IsLoaded};
 ghost use Rattle.split_cli.specs.PlacedShapes.{placed_shape};
 ghost use Rattle.split_cli.specs.PlacedSources.{OnHosts, PlacedSources, labelled_source};
+ghost use Rattle.split_cli.specs.ReadPrograms.{IsReadProgram};
 ghost use Rattle.split_cli.specs.SourceShapes.{source_shape};
 
 use crate::load::Loaded;
@@ -47,6 +49,9 @@ pub fn read_places(alloc: Global, program: &Loaded, hosts: &Loaded) -> Result<Pl
     ensures hosts { IfOk result (λ placed. HasHosts placed.source.hosts placed.plan) }
     ensures each { IfOk result (λ placed.
         length placed.plan.fields ≡ length placed.source.checked.program.fields.items) }
+    // Its code can be made.
+    ensures splittable { IfOk result (λ placed.
+        IsSplittable (labelled_of placed.source.checked) placed.source.hosts placed.plan) }
 {
     let source = read_sources(alloc, program, hosts)?;
     placed(alloc, source)
@@ -57,11 +62,14 @@ fn placed(alloc: Global, source: Source) -> Result<PlacedSource, Stop>
     requires sized { IsSized (program_tree source.checked.program) }
     requires authorities { AreAuthorities source.hosts.principals (program_tree source.checked.program) }
     requires labelled { labelled_of source.checked ≡ labelled_source (source_shape source) }
+    requires read { IsReadProgram (labelled_of source.checked) }
     ensures placed { EndsAs placed_shape (OnHosts (source_shape source)) result }
     ensures kept { IfOk result (λ placed. placed.source ≡ source) }
     ensures hosts { IfOk result (λ placed. HasHosts source.hosts placed.plan) }
     ensures each { IfOk result (λ placed.
         length placed.plan.fields ≡ length source.checked.program.fields.items) }
+    ensures splittable { IfOk result (λ placed.
+        IsSplittable (labelled_of source.checked) source.hosts placed.plan) }
 {
     placement_laws();
     let needs = needs_of(alloc, &source.checked, source.hosts.principals())?;

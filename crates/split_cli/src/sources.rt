@@ -3,11 +3,12 @@
 ghost use Rattle.std.specs.Prelude.{◌≡◌, ◌≤◌, ℕ, List, IfOk, MatchResult, length};
 ghost use Rattle.js_base.specs.declared.limits.TheConstants.{PROGRAM_BYTES, HOSTS_BYTES};
 ghost use Rattle.jif_lex.specs.Lexing.{LexFails};
+ghost use Rattle.jif_lex.specs.TokenLists.{AreTokens};
 ghost use Rattle.jif_lex.specs.Tokens.{ReadsAs, tokens};
 ghost use Rattle.jif_grammar.specs.DraftShapes.{draft_shape};
 ghost use Rattle.host_decl.specs.Reading.{ReadsHosts, RefusesHosts};
 ghost use Rattle.jif_tree.specs.Limits.{IsWithinLimits};
-ghost use Rattle.jif_tree.specs.Numbering.{statement_numbers};
+ghost use Rattle.jif_tree.specs.Numbering.{CountsFrom, site_numbers, statement_numbers};
 ghost use Rattle.jif_tree.specs.Trees.{program_tree};
 ghost use Rattle.jif_tree.specs.WellNumbered.{IsWellNumbered};
 ghost use Rattle.jif_resolve.specs.Sizes.{IsSized, IsLimited};
@@ -16,6 +17,7 @@ ghost use Rattle.jif_tree.specs.Sizes as few;
 ghost use Rattle.need_labels.specs.Labelled.{labelled_of};
 ghost use Rattle.split_cli.specs.Loading.{EndsAs, IsLoaded};
 ghost use Rattle.split_cli.specs.PlacedSources.{labelled_source};
+ghost use Rattle.split_cli.specs.ReadPrograms.{IsReadDraft, IsReadProgram};
 ghost use Rattle.split_cli.specs.SourceShapes.{source_shape};
 ghost use Rattle.split_cli.specs.Sources.{Lexed, Parsed, Drafted, HostsRead, Resolved, Labelled, Sources};
 
@@ -25,7 +27,7 @@ use crate::stop::{Stop, stopped};
 use crate::verdict::Verdict;
 use host_decl::{Hosts, HostsError, host_file_laws, read_hosts};
 use jif_lex::{LexError, Token, lex, token_laws};
-use jif_parse::parse;
+use jif_parse::{named_laws, parse};
 use jif_resolve::{limit_laws, program_laws, resolve, size_laws};
 use jif_tree::{Checked, Draft, Program};
 use label_check::check;
@@ -51,7 +53,9 @@ pub fn read_sources(alloc: Global, program: &Loaded, hosts: &Loaded) -> Result<S
     ensures sized { IfOk result (λ source. few.IsSized (program_tree source.checked.program)) }
     ensures authorities { IfOk result
         (λ source. AreAuthorities source.hosts.principals (program_tree source.checked.program)) }
+    ensures read { IfOk result (λ source. IsReadProgram (labelled_of source.checked)) }
 {
+    named_laws();
     let draft = drafted(alloc, program)?;
     let hosts = hosts_read(alloc, hosts)?;
     let program = resolved(alloc, draft, &hosts)?;
@@ -64,6 +68,7 @@ fn drafted(alloc: Global, program: &Loaded) -> Result<Draft, Stop>
     ensures drafted { (p : List ℕ) → IsLoaded PROGRAM_BYTES p program.now → EndsAs draft_shape (Drafted p) result }
     ensures sized { IfOk result (λ draft. IsSized (draft_shape draft)) }
     ensures limited { IfOk result (λ draft. IsLimited (draft_shape draft)) }
+    ensures read { IfOk result (λ draft. IsReadDraft (draft_shape draft)) }
 {
     let tokens = lexed(alloc, program)?;
     parsed(alloc, &tokens)
@@ -73,7 +78,7 @@ fn drafted(alloc: Global, program: &Loaded) -> Result<Draft, Stop>
 fn lexed(alloc: Global, program: &Loaded) -> Result<Vec<Token>, Stop>
     ensures lexed { (p : List ℕ) → IsLoaded PROGRAM_BYTES p program.now →
         EndsAs (λ list. list.items) (Lexed p) result }
-    ensures few { IfOk result (λ list. length list.items ≤ PROGRAM_BYTES) }
+    ensures sound { IfOk result (λ list. AreTokens list.items) }
 {
     match tokens_of(alloc, program) {
         Ok(tokens) => Ok(tokens),
@@ -86,7 +91,7 @@ fn tokens_of(alloc: Global, program: &Loaded) -> Result<Vec<Token>, LexError>
     ensures tokens { (p : List ℕ) → IsLoaded PROGRAM_BYTES p program.now → MatchResult result
         (λ list. (length p ≤ PROGRAM_BYTES) × ReadsAs p (tokens list.items))
         (LexFails p) }
-    ensures few { IfOk result (λ list. length list.items ≤ PROGRAM_BYTES) }
+    ensures sound { IfOk result (λ list. AreTokens list.items) }
 {
     token_laws();
     match program {
@@ -97,10 +102,11 @@ fn tokens_of(alloc: Global, program: &Loaded) -> Result<Vec<Token>, LexError>
 
 /// The draft that tokens are.
 fn parsed(alloc: Global, tokens: &[Token]) -> Result<Draft, Stop>
-    requires { length tokens.now ≤ PROGRAM_BYTES }
+    requires { AreTokens tokens.now }
     ensures parsed { EndsAs draft_shape (Parsed tokens.now) result }
     ensures sized { IfOk result (λ draft. IsSized (draft_shape draft)) }
     ensures limited { IfOk result (λ draft. IsLimited (draft_shape draft)) }
+    ensures read { IfOk result (λ draft. IsReadDraft (draft_shape draft)) }
 {
     size_laws();
     limit_laws();
@@ -140,6 +146,7 @@ fn resolved(alloc: Global, draft: Draft, hosts: &Hosts) -> Result<Program, Stop>
     ensures numbered { IfOk result (λ program. IsWellNumbered (program_tree program)) }
     ensures authorities { IfOk result (λ program. AreAuthorities hosts.now.principals (program_tree program)) }
     ensures few { IfOk result (λ program. few.IsSized (program_tree program)) }
+    ensures sites { IfOk result (λ program. CountsFrom 1 (site_numbers (program_tree program))) }
 {
     limit_laws();
     program_laws();

@@ -10,6 +10,7 @@ ghost use Rattle.split_cli.specs.Faithful.{PutsFaithfully};
 ghost use Rattle.split_cli.specs.Verdicts.{verdict_shape, no_memory_line};
 
 use crate::commands::check::due_for_check;
+use crate::commands::drive::due_for_drive;
 use crate::commands::replay::due_for_replay;
 use crate::commands::run::due_for_run;
 use crate::stop::Stop;
@@ -25,10 +26,11 @@ use std::alloc::Global;
 /// Runs `jifsplit` on the words after its name.
 ///
 /// It answers `Done` where the report of the command was put on `out`, and `Spent` where it was put for a run that its
-/// steps did not end. Any other answer is a refusal or a fault:
+/// steps did not end, or for hosts that its events did not bring to their rest. Any other answer is a refusal or a
+/// fault:
 /// - `Usage`: the words ask for no command.
-/// - `SourceRefused`: the program is refused for its text, its names or its labels; or, in a replay, hosts cannot run
-///   it yet, or no host may hold a field.
+/// - `SourceRefused`: the program is refused for its text, its names or its labels; or no host may hold some part of
+///   it, or hosts cannot run it yet.
 /// - `InputRefused`: a file is absent, the host file is refused, or the file of starting values or of events is too
 ///   long, or a line of it has no form or asks for what cannot happen.
 /// - `FileFault`: a file could not be read.
@@ -168,6 +170,7 @@ fn due_for<F: Files>(
     asked: &Command<'_>,
     files: &mut F,
 ) -> Result<Verdict, OutOfMemory>
+    requires { command.IsCommand (command_shape asked.now) }
     ensures due { IfOk result (λ verdict. IsDueForCommand (command_shape asked.now)
         (record {
           held = F.held files.old;
@@ -195,6 +198,12 @@ fn due_for<F: Files>(
             hosts,
             events,
         } => due_for_replay(alloc, program, hosts, events, files),
+        Command::Drive {
+            program,
+            hosts,
+            start,
+            events,
+        } => due_for_drive(alloc, program, hosts, start, *events, files),
     };
     match due {
         Ok(verdict) => Ok(verdict),

@@ -1,12 +1,12 @@
 //! The words of commands.
 
-ghost use Rattle.std.specs.Prelude.{◌≡◌, ◌≢◌, ◌↔◌, ℕ, map, string_bytes, IfSome, IfNone, IsTrue};
+ghost use Rattle.std.specs.Prelude.{◌≡◌, ◌≢◌, ◌↔◌, ◌∷◌, [], ℕ, map, string_bytes, IfSome, IfNone, IsTrue};
 ghost use Rattle.std.specs.Fmt.{decimal};
 ghost use Rattle.split_cli.specs.Asked.{command_shape};
 ghost use Rattle.split_cli.specs.Commands.{IsCommand, IsStepCount, words_of, HaveNoForm};
 ghost use Rattle.split_cli.specs.StepCounts.{BeginsWithCount};
 
-/// The most steps that can be asked for.
+/// The most steps or events that can be asked for.
 pub const STEPS: u64 = 1_000_000_000;
 
 /// A command with the names of its files.
@@ -30,6 +30,13 @@ pub enum Command<'a> {
         hosts: &'a str,
         events: &'a str,
     },
+    /// `drive P H START N`, for at most N events
+    Drive {
+        program: &'a str,
+        hosts: &'a str,
+        start: &'a str,
+        events: u64,
+    },
 }
 
 /// The command that the words ask for, or `None` where they ask for none.
@@ -43,25 +50,53 @@ pub fn command_of(words: &[String]) -> Option<Command<'_>>
             program,
             hosts,
         }),
-        [verb, program, hosts, start, steps] if verb.as_str() == "run" => {
-            let steps = step_count(steps)?;
-            Some(Command::Run {
-                program,
-                hosts,
-                start,
-                steps,
-            })
-        }
         [verb, program, hosts, events] if verb.as_str() == "replay" => Some(Command::Replay {
             program,
             hosts,
             events,
         }),
+        [verb, program, hosts, start, number] => {
+            counted_command(verb, program, hosts, start, number)
+        }
         _ => None,
     }
 }
 
-/// The number of steps that a word writes in decimal digits, without leading zeros, where so many can be asked for.
+/// The command that five words ask for, the last of which is a number.
+fn counted_command<'a>(
+    verb: &str,
+    program: &'a str,
+    hosts: &'a str,
+    start: &'a str,
+    number: &str,
+) -> Option<Command<'a>>
+    ensures command { IfSome result (λ asked. IsCommand (command_shape asked)) }
+    ensures found { IfSome result (λ asked.
+        verb.now ∷ program.now ∷ hosts.now ∷ start.now ∷ number.now ∷ [] ≡ words_of (command_shape asked)) }
+    ensures none { IfNone result (HaveNoForm (verb.now ∷ program.now ∷ hosts.now ∷ start.now ∷ number.now ∷ [])) }
+{
+    let count = step_count(number)?;
+    if verb == "run" {
+        return Some(Command::Run {
+            program,
+            hosts,
+            start,
+            steps: count,
+        });
+    }
+    if verb == "drive" {
+        return Some(Command::Drive {
+            program,
+            hosts,
+            start,
+            events: count,
+        });
+    }
+    None
+}
+
+/// The number of steps or events that a word writes in decimal digits, without leading zeros, where so many can be
+/// asked for.
 fn step_count(word: &str) -> Option<u64>
     ensures count { IfSome result IsStepCount }
     ensures found { IfSome result (λ steps. word.now ≡ decimal steps) }

@@ -1,9 +1,10 @@
+use Rattle.split_cli.proofs.OneDrive.{driven_run}
 use Rattle.split_cli.proofs.OnePlaced.{PlaceLaws, places_once}
 use Rattle.split_cli.proofs.OneSource.{SourceLaws, sources_once}
 use Rattle.split_cli.proofs.OneVerdict.{AllLaws, due_once, answer_once, one_fault_place}
 use Rattle.split_cli.proofs.laws.due_laws.Goals as goal
 
-source_laws : (c : goal.After-run_laws) → SourceLaws
+source_laws : (c : goal.After-step_laws) → SourceLaws
 source_laws c = record {
   lexing = c.lex_laws.ensures;
   grammar = record {
@@ -28,7 +29,7 @@ source_laws c = record {
   };
 }
 
-place_laws : (c : goal.After-run_laws) → PlaceLaws
+place_laws : (c : goal.After-step_laws) → PlaceLaws
 place_laws c = record {
   one_needs = c.need_laws.ensures.one_needs;
   one_plan = c.placement_laws.ensures.one_plan;
@@ -36,7 +37,7 @@ place_laws c = record {
   never_both = c.place_rule_laws.ensures.never_both;
 }
 
-all_laws : (c : goal.After-run_laws) → AllLaws
+all_laws : (c : goal.After-step_laws) → AllLaws
 all_laws c = record {
   sources = source_laws c;
   places = place_laws c;
@@ -44,6 +45,7 @@ all_laws c = record {
     same_runs = c.run_laws.ensures.same_runs;
     one_answer = c.run_laws.ensures.one_answer;
   };
+  steps = c.step_laws.ensures.one;
 }
 
 pub returns-clause-one_source : goal.returns-clause-one_source
@@ -60,3 +62,6 @@ returns-clause-one_answer c = answer_once (all_laws c)
 
 pub returns-clause-one_fault : goal.returns-clause-one_fault
 returns-clause-one_fault c = one_fault_place
+
+pub returns-clause-driven_runs : goal.returns-clause-driven_runs
+returns-clause-driven_runs c = driven_run

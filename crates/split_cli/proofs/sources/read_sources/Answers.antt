@@ -5,6 +5,8 @@ use Rattle.split_cli.specs.SourceShapes.{source_shape}
 use Rattle.split_cli.specs.Sources.{Drafted, HostsRead, Resolved, Labelled, Accepted, AcceptedWith, Sources}
 use Rattle.split_cli.proofs.Stages.{handed_on, then_stops}
 use Rattle.split_cli.proofs.Reading.{after_draft, after_hosts, after_program}
+use Rattle.need_labels.specs.Labelled.{labelled_of}
+use Rattle.split_cli.proofs.ReadLaws.{read_program}
 use Rattle.split_cli.proofs.sources.read_sources.Goals as goal
 
 pub returns-in_err-draft-clause-sources : goal.returns-in_err-draft-clause-sources
@@ -53,3 +55,10 @@ returns-clause-sources c = λ p h loaded_p loaded_h. inl (
     inl (program_tree c.in_ok-program.program, c.in_ok-program.ensures.resolved, c.in_ok-checked.ensures.labelled),
   ),
 )
+
+pub returns-clause-read : goal.returns-clause-read
+returns-clause-read c =
+    read_program c.named_laws.ensures.of_tokens c.in_ok-hosts.hosts (program_tree c.in_ok-program.program)
+    (draft_shape c.in_ok-draft.draft) (labelled_of c.in_ok-checked.checked) c.in_ok-checked.ensures.found
+    c.in_ok-draft.ensures.read c.in_ok-program.ensures.resolved c.in_ok-program.ensures.numbered
+    c.in_ok-program.ensures.sites

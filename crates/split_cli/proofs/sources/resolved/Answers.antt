@@ -23,3 +23,6 @@ returns-in-Err-clause-resolved c =
 pub returns-in-Ok-clause-few : goal.returns-in-Ok-clause-few
 returns-in-Ok-clause-few c =
     c.limit_laws.ensures.sized _ (draft_shape c.args.draft) _ c.requires.sized c.requires.limited c.in-Ok.ensures.found
+
+pub returns-in-Ok-clause-sites : goal.returns-in-Ok-clause-sites
+returns-in-Ok-clause-sites c = c.program_laws.ensures.sites _ _ _ c.in-Ok.ensures.found

@@ -1,8 +1,8 @@
-use Rattle.std.proofs.Common.{arith, sym, ◌∙◌}
+use Rattle.std.proofs.Common.{◌≡◌, [], ◌∷◌, map, arith, sym, ◌∙◌}
 use Rattle.std.specs.Prelude.{string_bytes, codes}
+use Rattle.std.proofs.lemmas.Option.{IfSome_then}
 use Rattle.std.proofs.lemmas.Slice.Eq.{bytes_eq-Decides}
-use Rattle.split_cli.proofs.CommandWords.{three, four, five, three_same, four_same, five_same, no_steps}
-use Rattle.split_cli.proofs.StepCounts.{where_none}
+use Rattle.split_cli.proofs.CommandWords.{three, four, five, three_same, four_same, five_same}
 use Rattle.split_cli.proofs.words.command_of.Goals as goal
 
 pub returns-in-len3-clause-found : goal.returns-in-len3-clause-found
@@ -25,27 +25,22 @@ returns-in-len4-clause-found c =
     ∙ (bytes_eq-Decides c.as_str-then-words-lt5.result.now (codes "replay")).0 (sym c.if-eq-2.ensures))
     c.deref-in-len4.ensures c.deref-in-len4-2.ensures c.deref-in-len4-3.ensures
 
-pub returns-in_ok-steps-in-len5-clause-found : goal.returns-in_ok-steps-in-len5-clause-found
-returns-in_ok-steps-in-len5-clause-found c =
+five_words : (c : goal.After-counted_command) → map string_bytes c.args.words.now
+    ≡ c.deref-in-len5.result.now ∷ c.deref-in-len5-2.result.now ∷ c.deref-in-len5-3.result.now
+    ∷ c.deref-in-len5-4.result.now ∷ c.deref-in-len5-5.result.now ∷ []
+five_words c =
     five_same _ (string_bytes c.verb-item-then-words-lt6.result) (string_bytes c.program-item-then-words-lt6.result)
-    (string_bytes c.hosts-item-then-words-lt6.result) (string_bytes c.start-item.result)
-    (string_bytes c.steps-item.result) _ _ _ _ _
-    (five c.args.words.now c.verb-item-then-words-lt6.result c.program-item-then-words-lt6.result
-    c.hosts-item-then-words-lt6.result c.start-item.result c.steps-item.result (omega arith)
-    c.verb-item-then-words-lt6.is c.program-item-then-words-lt6.is c.hosts-item-then-words-lt6.is c.start-item.is
-    c.steps-item.is)
-    (sym c.as_str-then-words-lt6.ensures.value
-    ∙ (bytes_eq-Decides c.as_str-then-words-lt6.result.now (codes "run")).0 (sym c.if-eq-3.ensures))
-    c.deref-in-len5-2.ensures c.deref-in-len5-3.ensures c.deref-in-len5-4.ensures
-    (sym c.in_ok-steps-in-len5.ensures.found ∙ c.deref-in-len5.ensures)
+    (string_bytes c.hosts-item-then-words-lt6.result) (string_bytes c.start-item.result) (string_bytes c.number-item.result)
+    _ _ _ _ _
+    (five c.args.words.now c.verb-item-then-words-lt6.result c.program-item-then-words-lt6.result c.hosts-item-then-words-lt6.result
+    c.start-item.result c.number-item.result (omega arith) c.verb-item-then-words-lt6.is c.program-item-then-words-lt6.is
+    c.hosts-item-then-words-lt6.is c.start-item.is c.number-item.is)
+    (sym c.deref-in-len5.ensures) c.deref-in-len5-2.ensures c.deref-in-len5-3.ensures c.deref-in-len5-4.ensures
+    c.deref-in-len5-5.ensures
 
-pub returns-in_err-steps-in-len5-clause-none : goal.returns-in_err-steps-in-len5-clause-none
-returns-in_err-steps-in-len5-clause-none c =
-    where_none _ _ (no_steps _ (string_bytes c.verb-item-then-words-lt6.result)
-    (string_bytes c.program-item-then-words-lt6.result) (string_bytes c.hosts-item-then-words-lt6.result)
-    (string_bytes c.start-item.result) (string_bytes c.steps-item.result) c.deref-in-len5.result.now
-    (five c.args.words.now c.verb-item-then-words-lt6.result c.program-item-then-words-lt6.result
-    c.hosts-item-then-words-lt6.result c.start-item.result c.steps-item.result (omega arith)
-    c.verb-item-then-words-lt6.is c.program-item-then-words-lt6.is c.hosts-item-then-words-lt6.is c.start-item.is
-    c.steps-item.is)
-    c.deref-in-len5.ensures c.in_err-steps-in-len5.ensures.none)
+pub returns-in-len5-clause-found : goal.returns-in-len5-clause-found
+returns-in-len5-clause-found c =
+    IfSome_then c.counted_command.result c.counted_command.ensures.found (λ asked is. five_words c ∙ is)
+
+pub returns-in-len5-clause-none : goal.returns-in-len5-clause-none
+returns-in-len5-clause-none c = rw (five_words c) c.counted_command.ensures.none

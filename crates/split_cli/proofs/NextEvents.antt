@@ -1,0 +1,205 @@
+-- Driven worlds: one event more, and that what comes next is never refused.
+use Rattle.std.proofs.Common.{◌≡◌, ◌≢◌, ℕ, zero, suc, ◌+◌, ◌<◌, ◌≤◌, false, List, [], ◌∷◌, ◌++◌, length}
+use Rattle.std.proofs.Common.{Option, Some, None, refl, ap, sym, subst, ◌∙◌, arith, ⊎_elim}
+use Rattle.std.specs.Prelude.{◌↔◌, IsErrOf, Result, Err, ℤ, All, IsSome, IsSomeAnd, IfSome, IsTrue, slice_get}
+use Rattle.std.specs.Prelude.{is_some, if◌then◌else◌}
+use Rattle.std.proofs.lemmas.List.{length-append, length-map}
+use Rattle.std.proofs.lemmas.List.Elements.{All-head}
+use Rattle.std.proofs.lemmas.Nat.Bits.{bit_at-zero}
+use Rattle.js_base.specs.declared.ids.HostId.{HostId}
+use Rattle.js_base.specs.declared.status.Status.{Status}
+use Rattle.js_base.specs.declared.status.Status.TheVariants.{Done}
+use Rattle.event_text.specs.declared.event.Event.{Event}
+use Rattle.event_text.specs.declared.event.Event.TheVariants.{Take, Turn, Act}
+use Rattle.host_decl.specs.Hosts as declared_hosts
+use Rattle.host_code.specs.Code.{CodeShape}
+use Rattle.host_code.specs.Thread.{ThreadShape}
+use Rattle.host_core.specs.declared.host.TheConstants.{MOST_CALLS}
+use Rattle.host_core.specs.Host.{HostShape, HostModel, IsStopped}
+use Rattle.net_world.specs.Flying.{Flight}
+use Rattle.net_world.specs.declared.world.EventError.{EventError}
+use Rattle.net_world.specs.declared.world.EventError.TheVariants as answer
+use Rattle.net_world.specs.World.{WorldShape, IsStep, not_bad, not_there, host_busy, no_such_token, refusal_of}
+use Rattle.net_world.specs.World.{refusal_of_take}
+use Rattle.net_world.specs.World.{refusal_of_turn, mover, misbehaves, is_absent, given, state_at}
+use Rattle.net_world.specs.World.{hosts_before, world_at_start}
+use Rattle.net_world.specs.Fits.{WorldModel, WorldFits, FlightFits, HasOwnToken, host_at, world_of}
+use Rattle.net_world.specs.Steps.{HasMade, HaveMade, IsStuck}
+use Rattle.net_world.specs.Choice.{IsNextEvent}
+use Rattle.split_cli.specs.declared.words.TheConstants.{STEPS}
+use Rattle.split_cli.specs.Driven.{IsDriven, rested, spent, AllObey, LeavesWith, at_rest, unended, HasDriven}
+
+-- ---- one event more
+
+pub driven_more : (code : CodeShape) (world middle after : WorldShape) (events : List Event) (event : Event) →
+    IsDriven code world events middle → IsNextEvent middle (Some event) → IsStep code middle event after →
+    IsDriven code world (events ++ event ∷ []) after
+driven_more code world middle after [] event driven next step =
+    subst (λ (w : WorldShape). IsDriven code w (event ∷ []) after) (sym driven) (next, (after, step, refl))
+driven_more code world middle after (first ∷ events) event driven next step =
+    (driven.0, (driven.1.0, driven.1.1, driven_more code driven.1.0 middle after events event driven.1.2 next step))
+
+-- ---- hosts that all obey
+
+none_absent : (code : CodeShape) (store : List (List ℤ)) (number : ℕ) (rows : List declared_hosts.HostShape)
+    (place : ℕ) → is_absent (slice_get (hosts_before code store 0 number rows) place) ≡ false
+none_absent code store number [] place = refl
+none_absent code store number (row ∷ rows) zero = rw (bit_at-zero number) refl
+none_absent code store number (row ∷ rows) (suc place) = none_absent code store (number + 1) rows place
+
+pub obey_at_start : (code : CodeShape) (rows : List declared_hosts.HostShape) (store : List (List ℤ)) →
+    AllObey (world_at_start code rows 0 store)
+obey_at_start code rows store host = none_absent code store 0 rows host.0
+
+-- what is known of steps
+abbrev pub KeepsObeying : Type 0
+KeepsObeying = (code : CodeShape) (world after : WorldShape) (event : Event) (host : HostId) →
+    IsStep code world event after → misbehaves after host ≡ misbehaves world host
+
+pub obey_after : KeepsObeying → (code : CodeShape) (world after : WorldShape) (event : Event) →
+    IsStep code world event after → AllObey world → AllObey after
+obey_after keeps code world after event step obey host = keeps code world after event host step ∙ obey host
+
+there_among : (hosts : List (Option HostShape)) (place : ℕ) → place < length hosts →
+    is_absent (slice_get hosts place) ≡ false → (host : HostShape) × (given (slice_get hosts place) ≡ Some host)
+there_among [] place within obeys = absurd (omega arith)
+there_among (None ∷ hosts) zero within obeys = let none : ⊥ = cc in absurd none
+there_among (Some host ∷ hosts) zero within obeys = (host, refl)
+there_among (host ∷ hosts) (suc place) within obeys = there_among hosts place (omega arith) obeys
+
+-- ---- what comes next is not refused
+
+runs_through : (running : Option ThreadShape) → IsSome running →
+    (if is_some running then None else Some not_there) ≡ None
+runs_through None some = let none : ⊥ = cc in absurd none
+runs_through (Some thread) some = refl
+
+turn_goes : (host : Option HostShape) → IsSomeAnd host (λ state. IsSome state.running) → refusal_of_turn host ≡ None
+turn_goes None runs = absurd runs
+turn_goes (Some state) runs = runs_through state.running runs
+
+rests_through : (running : Option ThreadShape) → ¬ IsSome running →
+    (if is_some running then Some host_busy else None) ≡ None
+rests_through None rests = refl
+rests_through (Some thread) rests = absurd (rests refl)
+
+take_goes : (found : Option Flight) (flight : Flight) (host : Option HostShape) (state : HostShape) →
+    found ≡ Some flight → host ≡ Some state → ¬ IsSomeAnd host (λ one. IsSome one.running) →
+    refusal_of_take found host ≡ None
+take_goes None flight host state there obeys rests = let none : ⊥ = cc in absurd none
+take_goes (Some other) flight None state there obeys rests = let none : ⊥ = cc in absurd none
+take_goes (Some other) flight (Some one) state there obeys rests = rests_through one.running rests
+
+first_of : (flights : List Flight) → flights ≢ [] → (flight : Flight) × (slice_get flights 0 ≡ Some flight)
+first_of [] some = absurd (some refl)
+first_of (flight ∷ flights) some = (flight, refl)
+
+-- its target is a host of the code
+target_within : (code : CodeShape) (from to : HostId) (flights : List Flight) → flights ≢ [] →
+    All (FlightFits code from to) flights → to.0 < length code.hosts
+target_within code from to [] some all = absurd (some refl)
+target_within code from to (flight ∷ flights) some all =
+    (All-head (FlightFits code from to) flight flights all).target.0
+
+pub next_goes : (code : CodeShape) (world : WorldModel) (event : Event) → WorldFits code world →
+    AllObey (world_of world) → IsNextEvent (world_of world) (Some event) → refusal_of (world_of world) event ≡ None
+next_goes code world (Turn host) fits obey next = turn_goes (state_at (world_of world) host) next.runs
+next_goes code world (Act from to made) fits obey next = absurd next
+next_goes code world (Take from to place) fits obey next =
+    let w = world_of world in
+    let flies = next.1.target.flies in
+    let found = first_of (w.flying from to) flies in
+    let count : length w.hosts ≡ length code.hosts = length-map world.hosts _ ∙ fits.count in
+    let within = target_within code from to (w.flying from to) flies (fits.mail.flying from to) in
+    let there = there_among w.hosts to.0 (omega (arith, count, within)) (obey to) in
+    take_goes (slice_get (w.flying from to) place) found.0 (state_at w to) there.0
+    (ap (λ (k : ℕ). slice_get (w.flying from to) k) next.2 ∙ found.1) there.1 (next.0 to)
+
+pub next_own : (world : WorldShape) (event : Event) → IsNextEvent world (Some event) → HasOwnToken world event
+next_own world (Turn host) next = tt
+next_own world (Take from to place) next = tt
+next_own world (Act from to made) next = absurd next
+
+-- ---- nor is its host stopped
+
+answers_on : (made : ℕ) (host : Option HostModel) → made ≤ STEPS → IfSome host (HasMade made) →
+    ¬ IsSomeAnd host IsStopped
+answers_on made None few has stopped = absurd stopped
+answers_on made (Some host) few has stopped =
+    ⊎_elim (λ (is : IsTrue host.stopped). let answers = has.answers in let none : ⊥ = cc in none)
+    (λ (many : MOST_CALLS ≤ host.calls). let steps = has.steps in let none : ⊥ = omega arith in none) stopped
+
+pub not_stuck : (world : WorldModel) (event : Event) (made : ℕ) → made ≤ STEPS → HaveMade made world.hosts →
+    ¬ IsStuck world event
+not_stuck world event made few have stuck =
+    answers_on made (host_at world (mover event)) few (have (mover event)) stuck.stopped
+
+-- ---- so nothing but memory fails
+
+-- why an event may fail
+pub record Answers (world : WorldModel) (event : Event) (result : Result (Unit {0}) EventError) : Type 0 where
+  pub not_bad : IsErrOf result answer.NotBad ↔ (refusal_of (world_of world) event ≡ Some not_bad)
+  pub not_there : IsErrOf result answer.NotThere ↔ (refusal_of (world_of world) event ≡ Some not_there)
+  pub busy : IsErrOf result answer.HostBusy ↔ (refusal_of (world_of world) event ≡ Some host_busy)
+  pub no_token : (count : ℕ) →
+      IsErrOf result (answer.NoSuchToken count) ↔ (refusal_of (world_of world) event ≡ Some (no_such_token count))
+  pub stopped : IsErrOf result answer.Stopped ↔ IsStuck world event
+
+some_and_none : {X : Type 0} (o : Option X) (x : X) → o ≡ None → ¬ (o ≡ Some x)
+some_and_none o x none some = let never : ⊥ = cc in never
+
+pub only_memory : (world : WorldModel) (event : Event) (result : Result (Unit {0}) EventError) (error : EventError) →
+    Answers world event result → refusal_of (world_of world) event ≡ None → ¬ IsStuck world event →
+    result ≡ Err error → error ≡ answer.OutOfMemory
+only_memory world event result answer.OutOfMemory answers goes free is = refl
+only_memory world event result answer.NotThere answers goes free is =
+    absurd (some_and_none _ not_there goes (answers.not_there.0 is))
+only_memory world event result answer.HostBusy answers goes free is =
+    absurd (some_and_none _ host_busy goes (answers.busy.0 is))
+only_memory world event result (answer.NoSuchToken count) answers goes free is =
+    absurd (some_and_none _ (no_such_token count) goes ((answers.no_token count).0 is))
+only_memory world event result answer.NotBad answers goes free is =
+    absurd (some_and_none _ not_bad goes (answers.not_bad.0 is))
+only_memory world event result answer.Stopped answers goes free is = absurd (free (answers.stopped.0 is))
+
+-- ---- the loop
+
+-- so many events were made, each the one that comes next
+pub record HasGone (code : CodeShape) (first : WorldShape) (made : ℕ) (world : WorldModel) : Type 0 where
+  pub events : List Event
+  pub count : length events ≡ made
+  pub driven : IsDriven code first events (world_of world)
+  pub fits : WorldFits code world
+  pub obey : AllObey (world_of world)
+  pub fresh : HaveMade made world.hosts
+
+pub gone_on : KeepsObeying → (code : CodeShape) (first : WorldShape) (made : ℕ) (world after : WorldModel)
+    (event : Event) → HasGone code first made world →
+    IsNextEvent (world_of world) (Some event) → IsStep code (world_of world) event (world_of after) →
+    WorldFits code after → HaveMade (made + 1) after.hosts → HasGone code first (made + 1) after
+gone_on keeps code first made world after event gone next step fits fresh = record {
+  events = gone.events ++ event ∷ [];
+  count = length-append gone.events (event ∷ []) ∙ ap (λ (n : ℕ). n + 1) gone.count;
+  driven = driven_more code first (world_of world) (world_of after) gone.events event gone.driven next step;
+  fits = fits;
+  obey = obey_after keeps code (world_of world) (world_of after) event step gone.obey;
+  fresh = fresh;
+}
+
+-- a drive that came to rest
+pub rest_at : (code : CodeShape) (first : WorldShape) (most made : ℕ) (world : WorldModel) →
+    HasGone code first made world → made ≤ most → IsNextEvent (world_of world) None →
+    HasDriven code first most (world_of world) (record { made = made; status = Done })
+rest_at code first most made world gone few rest = record {
+  events = gone.events;
+  made = gone.count;
+  ends = rested (omega (arith, few, gone.count)) gone.driven rest;
+}
+
+-- a drive that went as far as it may
+pub ended_at : (code : CodeShape) (first : WorldShape) (most : ℕ) (world : WorldModel) (status : Status) →
+    HasGone code first most world → LeavesWith (world_of world) status →
+    HasDriven code first most (world_of world) (record { made = most; status = status })
+ended_at code first most world _ gone (at_rest rest) = rest_at code first most most world gone (omega arith) rest
+ended_at code first most world _ gone (unended next more) =
+    record { events = gone.events; made = gone.count; ends = spent next gone.count gone.driven more }

@@ -1,0 +1,49 @@
+-- A program that was read and checked can be split, wherever it stands.
+use Rattle.std.proofs.Common.{◌≡◌, List, sym, subst}
+use Rattle.jif_lex.specs.declared.token.Token.{Token}
+use Rattle.jif_lex.specs.TokenLists.{AreTokens}
+use Rattle.jif_grammar.specs.DraftShapes.{DraftShape}
+use Rattle.jif_grammar.specs.Programs as grammar
+use Rattle.jif_resolve.specs.Verdicts.{IsProgramOf}
+use Rattle.jif_tree.specs.Named.{AreNamed}
+use Rattle.jif_tree.specs.Numbering.{CountsFrom, site_numbers}
+use Rattle.jif_tree.specs.Trees.{ProgramTree}
+use Rattle.jif_tree.specs.WellNumbered.{IsWellNumbered}
+use Rattle.host_decl.specs.Hosts.{HostsShape, AreHosts}
+use Rattle.need_labels.specs.Labelled.{Labelled}
+use Rattle.need_labels.specs.Plan.{PlanShape}
+use Rattle.placement.specs.Placing.{HasHosts}
+use Rattle.principals.specs.ActsFor.{Declared}
+use Rattle.split_rules.specs.Splittable.{IsSplittable}
+use Rattle.split_cli.specs.PlacedSources.{labelled_source}
+use Rattle.split_cli.specs.ReadPrograms.{IsReadDraft, IsReadProgram}
+use Rattle.split_cli.proofs.VariableCounts.{variable_count}
+
+-- what is known of the names of a program that was read
+abbrev pub NamedLaw : Type 0
+NamedLaw = (list : List Token) (principals : Declared) (draft : DraftShape) (program : ProgramTree) →
+    AreTokens list → grammar.IsProgramOf list draft → IsProgramOf principals draft program → AreNamed program
+
+-- of a program with the labels that the label check finds, its parts are known by its tree
+pub read_program : NamedLaw → (file : HostsShape) (tree : ProgramTree) (draft : DraftShape) (labelled : Labelled) →
+    labelled ≡ labelled_source (record { file = file; tree = tree }) → IsReadDraft draft →
+    IsProgramOf file.principals draft tree → IsWellNumbered tree → CountsFrom 1 (site_numbers tree) →
+    IsReadProgram labelled
+read_program law file tree draft labelled is read resolved numbered sites =
+    subst IsReadProgram (sym is) (record {
+      numbered = numbered;
+      sites = sites;
+      named = law read.list file.principals draft tree read.tokens read.parsed resolved;
+      var_labels = variable_count file.principals tree;
+    })
+
+pub splittable : (labelled : Labelled) (hosts : HostsShape) (plan : PlanShape) → IsReadProgram labelled →
+    AreHosts hosts → HasHosts hosts plan → IsSplittable labelled hosts plan
+splittable labelled hosts plan read are_hosts has = record {
+  are_hosts = are_hosts;
+  numbered = read.numbered;
+  sites = read.sites;
+  named = read.named;
+  var_labels = read.var_labels;
+  stands = record { fields = has.fields; statements = has.statements };
+}

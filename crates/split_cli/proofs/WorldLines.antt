@@ -1,0 +1,151 @@
+-- What one more line adds to the report of a world.
+use Rattle.std.proofs.Common.{◌≡◌, ℕ, zero, suc, ◌+◌, ◌<◌, List, [], ◌∷◌, ◌++◌, length, get_or, take, map, refl, ap}
+use Rattle.std.proofs.Common.{sym, ◌∙◌, add-one, arith, All, Option, Some, None}
+use Rattle.std.specs.Prelude.{ℤ, pos}
+use Rattle.std.specs.Option.{option_map}
+use Rattle.std.specs.List.{flat_map, range_with_len}
+use Rattle.std.proofs.lemmas.List.{append-nil, append_assoc, flat_map_more, length-take-le, take_more}
+use Rattle.std.proofs.lemmas.List.Concat.{flat_map-append}
+use Rattle.std.proofs.lemmas.List.FromFn.{map-range_with_len_more}
+use Rattle.jif_tree.specs.Store.{element_at, row_of}
+use Rattle.std.proofs.lemmas.List.Elements.{All-nil, All-cons, All-head, All-tail}
+use Rattle.js_base.specs.declared.ids.HostId.{HostId}
+use Rattle.host_code.specs.declared.message.Message.{Message}
+use Rattle.host_code.specs.Messages.{MessageFits}
+use Rattle.host_code.specs.Code.{CodeShape, CodeFieldShape}
+use Rattle.host_core.specs.Host.{HostModel, HostShape, state_of}
+use Rattle.net_world.specs.Fits.{FlightFits, WorldModel, host_at, world_of}
+use Rattle.net_world.specs.Flying.{Flight}
+use Rattle.net_world.specs.World.{WorldShape, state_at}
+use Rattle.net_world.proofs.Present.{present_states}
+use Rattle.split_cli.specs.Drive.{events_line, drive_text}
+use Rattle.split_cli.specs.Text.{line_text, lines_text}
+use Rattle.split_cli.specs.WorldReport.{halted_line, field_line, field_lines, host_lines, flying_line, queue_lines}
+use Rattle.split_cli.specs.WorldReport.{flying_lines, host_line, state_line, elements_of}
+use Rattle.split_cli.specs.Report.{row_line}
+use Rattle.split_cli.proofs.ReportLines.{numbered_more}
+
+-- F gives each element lines, by its number
+numbered_push : {X : Type 0} (F : ℕ → List X → List (List ℕ)) (f : ℕ → X → List (List ℕ)) → ((n : ℕ) → F n [] ≡ []) →
+    ((n : ℕ) (x : X) (xs : List X) → F n (x ∷ xs) ≡ f n x ++ F (n + 1) xs) →
+    (n : ℕ) (xs : List X) (x : X) (place : ℕ) → place ≡ n + length xs → F n (xs ++ x ∷ []) ≡ F n xs ++ f place x
+numbered_push F f nil cons n [] x place is =
+    let same : n ≡ place = omega arith in
+    rw (cons n x [], nil (n + 1), nil n) (append-nil (f n x) ∙ ap (λ m. f m x) same)
+numbered_push F f nil cons n (y ∷ xs) x place is =
+    rw (cons n y (xs ++ x ∷ []), cons n y xs)
+    (ap (λ lines. f n y ++ lines) (numbered_push F f nil cons (n + 1) xs x place (omega arith))
+    ∙ sym (append_assoc (f n y) (F (n + 1) xs) (f place x)))
+
+-- so F of one element more adds its lines
+pub all_numbered_more : {X : Type 0} (F : ℕ → List X → List (List ℕ)) (f : ℕ → X → List (List ℕ)) →
+    ((n : ℕ) → F n [] ≡ []) → ((n : ℕ) (x : X) (xs : List X) → F n (x ∷ xs) ≡ f n x ++ F (n + 1) xs) →
+    (xs : List X) (i : ℕ) (d : X) → i < length xs →
+    lines_text (F 0 (take (i + 1) xs)) ≡ lines_text (F 0 (take i xs)) ++ lines_text (f i (get_or xs i d))
+all_numbered_more F f nil cons xs i d lt =
+    let count = length-take-le i xs (omega arith) in
+    ap (λ front. lines_text (F 0 front)) (take_more xs i d lt)
+    ∙ ap lines_text (numbered_push F f nil cons 0 (take i xs) (get_or xs i d) i (omega arith))
+    ∙ flat_map-append line_text (F 0 (take i xs)) (f i (get_or xs i d))
+
+pub field_lines_more : (w : WorldShape) (fields : List CodeFieldShape) (i : ℕ) (field : CodeFieldShape) →
+    i < length fields → field ≡ get_or fields i field → lines_text (field_lines w 0 (take (i + 1) fields))
+    ≡ lines_text (field_lines w 0 (take i fields)) ++ lines_text (field_line (state_at w field.host) i field)
+field_lines_more w fields i field lt is =
+    all_numbered_more (field_lines w) (λ n one. field_line (state_at w one.host) n one) (λ n. refl) (λ n x xs. refl)
+    fields i field lt
+    ∙ ap (λ f. lines_text (field_lines w 0 (take i fields)) ++ lines_text (field_line (state_at w f.host) i f)) (sym is)
+
+-- the message at a place, whatever stands past the end
+pub message_at : (queue : List Message) (i : ℕ) → i < length queue →
+    (message : Message) × ((d : Message) → get_or queue i d ≡ message)
+message_at [] i lt = absurd (omega arith)
+message_at (message ∷ queue) zero lt = (message, λ d. refl)
+message_at (message ∷ queue) (suc i) lt = message_at queue i (omega arith)
+
+pub queue_lines_more : (code : CodeShape) (from to : ℕ) (queue : List Message) (i : ℕ) (message : Message) →
+    i < length queue → get_or queue i message ≡ message →
+    lines_text (queue_lines code from to 0 (take (i + 1) queue))
+    ≡ lines_text (queue_lines code from to 0 (take i queue)) ++ (flying_line code from to i message ++ 10 ∷ [])
+queue_lines_more code from to queue i message lt is =
+    numbered_more (queue_lines code from to) (flying_line code from to) (λ n. refl) (λ n x xs. refl) queue i message lt
+    ∙ ap (λ m. lines_text (queue_lines code from to 0 (take i queue)) ++ (flying_line code from to i m ++ 10 ∷ [])) is
+
+range_push : (a n j : ℕ) → a + n ≡ j → range_with_len a (suc n) ≡ range_with_len a n ++ j ∷ []
+range_push a zero j is =
+    let same : a ≡ j = omega (arith, is) in
+    ap (λ (k : ℕ). k ∷ []) same
+range_push a (suc n) j is =
+    ap (λ (numbers : List ℕ). a ∷ numbers) (range_push (a + 1) n j (omega (arith, is)))
+
+-- the lines of the numbers below one more
+pub range_more : (g : ℕ → List (List ℕ)) (n : ℕ) → lines_text (flat_map g (range_with_len 0 (n + 1)))
+    ≡ lines_text (flat_map g (range_with_len 0 n)) ++ lines_text (g n)
+range_more g n =
+    rw add-one (ap (λ numbers. lines_text (flat_map g numbers)) (range_push 0 n n (omega arith))
+    ∙ ap lines_text (sym (flat_map_more g [] (range_with_len 0 n) n))
+    ∙ flat_map-append line_text (flat_map g (range_with_len 0 n)) (g n))
+
+-- the parts of a report
+pub drive_parts : (code : CodeShape) (made : ℕ) (w : WorldShape) →
+    drive_text code made w ≡ ((((events_line made ++ 10 ∷ []) ++ (halted_line code w ++ 10 ∷ []))
+    ++ lines_text (field_lines w 0 code.fields)) ++ lines_text (host_lines code w)) ++ lines_text (flying_lines code w)
+drive_parts code made w = simp (flat_map-append, append_assoc)
+
+-- ---- hosts that obey, and those that do not
+
+state_there : (world : WorldModel) (number : HostId) (found : Option HostModel) → found ≡ host_at world number →
+    state_at (world_of world) number ≡ option_map state_of found
+state_there world number found is = present_states world.hosts number ∙ ap (option_map state_of) (sym is)
+
+pub host_shown : (world : WorldModel) (number : HostId) (name other : List ℕ) (host : HostModel) →
+    Some host ≡ host_at world number → name ≡ other →
+    line_text (state_line name (state_of host)) ≡ lines_text (host_line other (state_at (world_of world) number))
+host_shown world number name other host there same =
+    ap (λ (one : List ℕ). line_text (state_line one (state_of host))) same
+    ∙ sym (append-nil (line_text (state_line other (state_of host))))
+    ∙ ap (λ (state : Option HostShape). lines_text (host_line other state))
+    (sym (state_there world number (Some host) there))
+
+pub host_hidden : (world : WorldModel) (number : HostId) (name text : List ℕ) → None ≡ host_at world number →
+    text ≡ text ++ lines_text (host_line name (state_at (world_of world) number))
+host_hidden world number name text none =
+    sym (append-nil text)
+    ∙ ap (λ (state : Option HostShape). text ++ lines_text (host_line name state))
+    (sym (state_there world number None none))
+
+-- ---- messages in flight
+
+pub messages_fit : (code : CodeShape) (from to : HostId) (flights : List Flight) →
+    All (FlightFits code from to) flights → All (MessageFits code) (map (λ flight. flight.message) flights)
+messages_fit code from to [] all = All-nil (MessageFits code)
+messages_fit code from to (flight ∷ flights) all =
+    All-cons (MessageFits code) flight.message (map (λ (one : Flight). one.message) flights)
+    (All-head (FlightFits code from to) flight flights all).message
+    (messages_fit code from to flights (All-tail (FlightFits code from to) flight flights all))
+
+-- ---- fields
+
+pub field_shown : (world : WorldModel) (place : ℕ) (field : CodeFieldShape) (at : HostId) (name : List ℕ) (size : ℕ)
+    (row : List ℤ) (host : HostModel) → Some host ≡ host_at world at → at ≡ field.host → name ≡ field.name →
+    size ≡ field.size → row ≡ elements_of (state_of host) place size →
+    line_text (row_line name row) ≡ lines_text (field_line (state_at (world_of world) field.host) place field)
+field_shown world place field at name size row host there here named sized are =
+    let found : Some host ≡ host_at world field.host =
+    there ∙ ap (λ (one : HostId). host_at world one) here in
+    let elements : row ≡ elements_of (state_of host) place field.size =
+    are ∙ ap (λ (n : ℕ). elements_of (state_of host) place n) sized in
+    ap (λ (one : List ℕ). line_text (row_line one row)) named
+    ∙ ap (λ (one : List ℤ). line_text (row_line field.name one)) elements
+    ∙ sym (append-nil (line_text (row_line field.name (elements_of (state_of host) place field.size))))
+    ∙ ap (λ (state : Option HostShape). lines_text (field_line state place field))
+    (sym (state_there world field.host (Some host) found))
+
+pub one_element : (host : HostModel) (field : ℕ) (index : ℕ) (row next : List ℤ) (value : ℤ) →
+    row ≡ elements_of (state_of host) field index → value ≡ element_at (row_of host.stores.rows field) (pos index) →
+    next ≡ row ++ value ∷ [] → next ≡ elements_of (state_of host) field (index + 1)
+one_element host field index row next value before is more =
+    more ∙ ap (λ (r : List ℤ). r ++ value ∷ []) before
+    ∙ ap (λ (v : ℤ). elements_of (state_of host) field index ++ v ∷ []) is
+    ∙ sym (map-range_with_len_more (λ (k : ℕ). element_at (row_of host.stores.rows field) (pos k)) 0 index index
+    (omega arith))

@@ -1,0 +1,21 @@
+use Rattle.need_labels.specs.Labelled.{labelled_of}
+use Rattle.net_world.specs.Fits.{world_of}
+use Rattle.split_cli.specs.PlacedShapes.{placed_shape}
+use Rattle.split_cli.proofs.DriveDue.{split_hosts, obey_from, report_made}
+use Rattle.split_cli.proofs.commands.drive.driven.Goals as goal
+
+pub start-requires : goal.start-requires
+start-requires c =
+    split_hosts (labelled_of c.args.placed.now.source.checked) c.args.placed.now.needs c.args.placed.now.source.hosts
+    c.args.placed.now.plan c.in_ok-code.code c.in_ok-code.ensures
+
+pub drive-requires-clause-obey : goal.drive-requires-clause-obey
+drive-requires-clause-obey c =
+    obey_from c.in_ok-code.code c.args.placed.now.source.hosts c.args.store.now _ c.in_ok-world.ensures.start
+
+pub returns : goal.returns
+returns c =
+    report_made (placed_shape c.args.placed.now) c.in_ok-code.code
+    (labelled_of c.args.placed.now.source.checked) c.args.store.now c.args.most
+    (world_of c.in_ok-world.world) _ c.in_ok-driven.driven _ c.in_ok-code.ensures c.requires.labelled
+    c.in_ok-world.ensures.start c.in_ok-driven.ensures.driven c.in_ok-text.ensures

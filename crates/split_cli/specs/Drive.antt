@@ -1,0 +1,62 @@
+-- What is due for an accepted program in its places, whose hosts are driven from the starting values of a file.
+use Rattle.std.specs.Prelude.{◌≡◌, ℕ, ◌<◌, ◌≤◌, ◌⊎◌, ℤ, List, ◌∷◌, ◌++◌, codes, length, Ok, Err}
+use Rattle.std.specs.Fmt.{decimal}
+use Rattle.js_base.specs.declared.limits.TheConstants.{SCRIPT_BYTES}
+use Rattle.js_base.specs.declared.status.Status.{Status}
+use Rattle.jif_tree.specs.declared.program.Program.{Program}
+use Rattle.jif_tree.specs.Trees.{program_tree}
+use Rattle.event_text.specs.declared.event.Event.{Event}
+use Rattle.event_text.specs.Start.{start_of}
+use Rattle.host_code.specs.Code.{CodeShape}
+use Rattle.split_rules.specs.SplitCode.{split_code}
+use Rattle.net_world.specs.World.{WorldShape, world_at_start}
+use Rattle.split_cli.specs.Driven.{DrivesTo}
+use Rattle.split_cli.specs.PlacedSources.{PlacedSource, labelled_source}
+use Rattle.split_cli.specs.Straight.{IsStraightThere}
+use Rattle.split_cli.specs.Text.{lines_text}
+use Rattle.split_cli.specs.Verdicts.{VerdictShape, Print, program_not_built, too_long, no_form}
+use Rattle.split_cli.specs.WorldReport.{world_lines}
+
+-- the code of all hosts
+abbrev pub code_of : PlacedSource → CodeShape
+code_of placed = split_code (labelled_source placed.source) placed.needs placed.source.file placed.plan
+
+-- the world before the first event, in which no host misbehaves
+abbrev pub first_world : PlacedSource → List (List ℤ) → WorldShape
+first_world placed values = world_at_start (code_of placed) placed.source.file.hosts 0 values
+
+-- `events M`, the number of events that were made
+abbrev pub events_line : ℕ → List ℕ
+events_line made = codes "events " ++ decimal made
+
+-- that line, and the world that the events left
+abbrev pub drive_text : CodeShape → ℕ → WorldShape → List ℕ
+drive_text code made w = lines_text (events_line made ∷ world_lines code w)
+
+-- the report of at most so many events from these starting values, each the one that comes next
+pub record IsDriveReport (placed : PlacedSource) (values : List (List ℤ)) (most : ℕ) (verdict : VerdictShape) : Type 0
+  where
+    pub events : List Event
+    pub last : WorldShape
+    pub status : Status
+    pub ends : DrivesTo (code_of placed) (first_world placed values) most events last status
+    pub verdict_is : verdict ≡ Print status (drive_text (code_of placed) (length events) last)
+
+-- ---- what is due, where the third file has this name and holds these bytes
+
+pub data DueForHosts (file start : List ℕ) (most : ℕ) (placed : PlacedSource) (program : Program) : VerdictShape →
+    Type 0 where
+  long : SCRIPT_BYTES < length start → DueForHosts file start most placed program (too_long file)
+  bad_line : (line : ℕ) → length start ≤ SCRIPT_BYTES → start_of program.fields.items start ≡ Err line →
+      DueForHosts file start most placed program (no_form file line)
+  driven : (values : List (List ℤ)) (verdict : VerdictShape) → length start ≤ SCRIPT_BYTES →
+      start_of program.fields.items start ≡ Ok values → IsDriveReport placed values most verdict →
+      DueForHosts file start most placed program verdict
+
+-- hosts can't be driven through the program yet, or they are, by all programs with the same tree alike
+abbrev pub DueForDrive : List ℕ → List ℕ → ℕ → PlacedSource → VerdictShape → Type 0
+DueForDrive file start most placed verdict =
+    (¬ IsStraightThere placed × (verdict ≡ program_not_built))
+    ⊎ (IsStraightThere placed
+    × ((program : Program) × (program_tree program ≡ placed.source.tree)
+    × DueForHosts file start most placed program verdict))

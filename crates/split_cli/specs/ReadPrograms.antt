@@ -1,0 +1,23 @@
+-- What is known of a program that was read and checked, for whoever makes its code.
+use Rattle.std.specs.Prelude.{◌≡◌, List, length}
+use Rattle.jif_lex.specs.declared.token.Token.{Token}
+use Rattle.jif_lex.specs.TokenLists.{AreTokens}
+use Rattle.jif_grammar.specs.DraftShapes.{DraftShape}
+use Rattle.jif_grammar.specs.Programs as grammar
+use Rattle.jif_tree.specs.Named.{AreNamed}
+use Rattle.jif_tree.specs.Numbering.{CountsFrom, site_numbers}
+use Rattle.jif_tree.specs.WellNumbered.{IsWellNumbered}
+use Rattle.need_labels.specs.Labelled.{Labelled}
+
+-- the draft was parsed of the tokens of some text
+pub record IsReadDraft (draft : DraftShape) : Type 0 where
+  pub list : List Token
+  pub tokens : AreTokens list
+  pub parsed : grammar.IsProgramOf list draft
+
+-- its statements and sites are numbered, all has names, and each variable has a label
+pub record IsReadProgram (labelled : Labelled) : Type 0 where
+  pub numbered : IsWellNumbered labelled.program
+  pub sites : CountsFrom 1 (site_numbers labelled.program)
+  pub named : AreNamed labelled.program
+  pub var_labels : length labelled.var_labels ≡ length labelled.program.vars

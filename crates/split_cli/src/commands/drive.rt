@@ -1,0 +1,168 @@
+//! The command `drive`.
+
+ghost use Rattle.std.specs.Prelude.{◌≡◌, ◌≤◌, ◌<◌, ◌^◌, ◌+◌, ◌∷◌, [], ℕ, List, IfOk, length};
+ghost use Rattle.js_base.specs.declared.limits.TheConstants.{PROGRAM_BYTES, HOSTS_BYTES, SCRIPT_BYTES};
+ghost use Rattle.jif_tree.specs.Trees.{program_tree};
+ghost use Rattle.jif_tree.specs.Sizes.{IsSized};
+ghost use Rattle.need_labels.specs.Labelled.{labelled_of};
+ghost use Rattle.split_rules.specs.Splittable.{IsSplittable};
+ghost use Rattle.split_cli.specs.declared.words.TheConstants.{STEPS};
+ghost use Rattle.split_cli.specs.Commands as command;
+ghost use Rattle.split_cli.specs.Commands.{IsStepCount};
+ghost use Rattle.split_cli.specs.Drive.{DueForDrive, DueForHosts, IsDriveReport};
+ghost use Rattle.split_cli.specs.Due.{DueForBytes, IsDueForCommand};
+ghost use Rattle.split_cli.specs.Loading.{EndsIn, IsLoaded};
+ghost use Rattle.split_cli.specs.PlacedShapes.{placed_shape};
+ghost use Rattle.split_cli.specs.PlacedSources.{labelled_source};
+ghost use Rattle.split_cli.specs.SourceShapes.{source_shape};
+ghost use Rattle.split_cli.specs.Verdicts.{verdict_shape};
+
+use crate::commands::{host_file, program_file, script_file};
+use crate::driving::drive;
+use crate::load::{Loaded, load_all};
+use crate::placed::{PlacedSource, read_places};
+use crate::stop::Stop;
+use crate::straight::is_straight_there;
+use crate::verdict::Verdict;
+use crate::world_report::drive_text;
+use control_split::emit;
+use event_text::{EventsError, read_start};
+use jif_tree::Store;
+use js_base::{Files, OutOfMemory};
+use net_world::World;
+use std::alloc::Global;
+
+/// What is due for `drive P H START N`.
+pub fn due_for_drive<F: Files>(
+    alloc: Global,
+    program: &str,
+    hosts: &str,
+    start: &str,
+    events: u64,
+    files: &mut F,
+) -> Result<Verdict, Stop>
+    requires { IsStepCount events }
+    ensures due { EndsIn (IsDueForCommand (command.Drive program.now hosts.now start.now events)
+        (record {
+          held = F.held files.old;
+          loads_before = F.loads files.old;
+          loads_after = F.loads files.new;
+          faults_before = F.faults files.old;
+          faults_after = F.faults files.new;
+          failed = F.failed files.new;
+        })) result }
+    ensures loads { F.loads files.new ≤ F.loads files.old + 3 }
+    ensures saves { F.saves files.new ≡ F.saves files.old }
+    ensures held { F.held files.new ≡ F.held files.old }
+{
+    let asked = [program_file(program), host_file(hosts), script_file(start)];
+    let loaded = load_all(alloc, files, &asked)?;
+    let [p, h, s] = loaded.as_slice() else {
+        unreachable!();
+    };
+    due_for_loaded(alloc, start, events, p, h, s)
+}
+
+/// What is due for a program, a host file and a file of starting values of this name that were loaded.
+fn due_for_loaded(
+    alloc: Global,
+    name: &str,
+    most: u64,
+    program: &Loaded,
+    hosts: &Loaded,
+    start: &Loaded,
+) -> Result<Verdict, Stop>
+    requires { most ≤ STEPS }
+    ensures { (names others p h s : List ℕ) →
+        IsLoaded PROGRAM_BYTES p program.now → IsLoaded HOSTS_BYTES h hosts.now →
+        IsLoaded SCRIPT_BYTES s start.now →
+        EndsIn (DueForBytes (command.Drive names others name.now most) (p ∷ h ∷ s ∷ [])) result }
+{
+    let placed = read_places(alloc, program, hosts)?;
+    Ok(drive_from(alloc, name, start, most, &placed)?)
+}
+
+/// What is due for at most so many events from the starting values of a file of this name, for a program in its places
+/// on the hosts that were read.
+fn drive_from(
+    alloc: Global,
+    name: &str,
+    start: &Loaded,
+    most: u64,
+    placed: &PlacedSource,
+) -> Result<Verdict, OutOfMemory>
+    requires most { most ≤ STEPS }
+    requires fields { length placed.now.source.checked.program.fields.items < 2 ^ 32 }
+    requires splittable { IsSplittable (labelled_of placed.now.source.checked) placed.now.source.hosts
+        placed.now.plan }
+    requires sized { IsSized (program_tree placed.now.source.checked.program) }
+    requires labelled { labelled_of placed.now.source.checked ≡ labelled_source (source_shape placed.now.source) }
+    ensures { IfOk result (λ verdict. (s : List ℕ) → IsLoaded SCRIPT_BYTES s start.now →
+        DueForDrive name.now s most (placed_shape placed.now) (verdict_shape verdict)) }
+{
+    if !is_straight_there(&placed.source.checked.program, &placed.plan) {
+        return Verdict::program_not_built(alloc);
+    }
+    hosts_from(alloc, name, start, most, placed)
+}
+
+/// The same where hosts can be driven through the program.
+fn hosts_from(
+    alloc: Global,
+    name: &str,
+    start: &Loaded,
+    most: u64,
+    placed: &PlacedSource,
+) -> Result<Verdict, OutOfMemory>
+    requires most { most ≤ STEPS }
+    requires fields { length placed.now.source.checked.program.fields.items < 2 ^ 32 }
+    requires splittable { IsSplittable (labelled_of placed.now.source.checked) placed.now.source.hosts
+        placed.now.plan }
+    requires sized { IsSized (program_tree placed.now.source.checked.program) }
+    requires labelled { labelled_of placed.now.source.checked ≡ labelled_source (source_shape placed.now.source) }
+    ensures { IfOk result (λ verdict. (s : List ℕ) → IsLoaded SCRIPT_BYTES s start.now →
+        DueForHosts name.now s most (placed_shape placed.now) placed.now.source.checked.program
+        (verdict_shape verdict)) }
+{
+    let Loaded::Bytes(bytes) = start else {
+        return Verdict::too_long(alloc, name);
+    };
+    let store = match read_start(alloc, &placed.source.checked.program, bytes) {
+        Ok(store) => store,
+        Err(EventsError::BadLine(line)) => return Verdict::no_form(alloc, name, line),
+        Err(EventsError::TooLong) => return Verdict::too_long(alloc, name),
+        Err(EventsError::OutOfMemory) => return Err(OutOfMemory),
+    };
+    driven(alloc, placed, &store, most)
+}
+
+/// The report of the hosts of a program in its places, after at most so many events from these starting values.
+fn driven(
+    alloc: Global,
+    placed: &PlacedSource,
+    store: &Store,
+    most: u64,
+) -> Result<Verdict, OutOfMemory>
+    requires most { most ≤ STEPS }
+    requires splittable { IsSplittable (labelled_of placed.now.source.checked) placed.now.source.hosts
+        placed.now.plan }
+    requires sized { IsSized (program_tree placed.now.source.checked.program) }
+    requires labelled { labelled_of placed.now.source.checked ≡ labelled_source (source_shape placed.now.source) }
+    ensures { IfOk result (λ verdict. IsDriveReport (placed_shape placed.now) store.now most (verdict_shape verdict)) }
+{
+    let hosts = &placed.source.hosts;
+    let code = emit(
+        alloc,
+        &placed.source.checked,
+        &placed.needs,
+        hosts,
+        &placed.plan,
+    )?;
+    let mut world = World::start(alloc, &code, hosts, 0, store)?;
+    let driven = drive(&code, &mut world, most)?;
+    let text = drive_text(alloc, &code, driven.made, &world)?;
+    Ok(Verdict::Print {
+        status: driven.status,
+        text,
+    })
+}

@@ -1,0 +1,66 @@
+//! The report of a world, as a text.
+
+ghost use Rattle.std.specs.Prelude.{◌≡◌, ◌++◌, IfOk, OnOk};
+ghost use Rattle.std.specs.String.{string_bytes};
+ghost use Rattle.std.specs.Fmt.{decimal};
+ghost use Rattle.std.specs.Prelude.{codes};
+ghost use Rattle.net_world.specs.Fits.{WorldFits, world_of};
+ghost use Rattle.split_cli.specs.Drive.{drive_text, events_line};
+ghost use Rattle.split_cli.specs.Text.{line_text};
+ghost use Rattle.split_cli.specs.WorldReport.{halted_line};
+
+mod fields;
+mod flying;
+mod hosts;
+
+use fields::push_fields;
+use flying::push_flying;
+use host_code::Code;
+use hosts::push_hosts;
+use js_base::OutOfMemory;
+use net_world::World;
+use std::alloc::Global;
+use std::fmt::Write;
+
+/// The report of a drive of so many events that left this world: their number, whether the program has halted, the
+/// fields, the hosts, and what is in flight.
+#[tactic(auto, using(crate::proofs::WorldLines::drive_parts))]
+pub fn drive_text(
+    alloc: Global,
+    code: &Code,
+    made: u64,
+    world: &World,
+) -> Result<String, OutOfMemory>
+    requires { WorldFits code.now world.now }
+    ensures { IfOk result (λ text. string_bytes text ≡ drive_text code.now made (world_of world.now)) }
+{
+    let mut text = String::new(alloc);
+    push_count(&mut text, made)?;
+    push_halted(&mut text, code, world)?;
+    push_fields(alloc, &mut text, code, world)?;
+    push_hosts(&mut text, code, world)?;
+    push_flying(alloc, &mut text, code, world)?;
+    Ok(text)
+}
+
+/// Adds the line that says how many events were made.
+fn push_count(text: &mut String, made: u64) -> Result<(), OutOfMemory>
+    ensures { OnOk result (string_bytes text.new ≡ string_bytes text.old ++ line_text (events_line made)) }
+{
+    writeln!(text, "events {made}").map_err(|_| OutOfMemory)
+}
+
+/// Adds the line that says whether the program has halted.
+fn push_halted(text: &mut String, code: &Code, world: &World) -> Result<(), OutOfMemory>
+    requires { WorldFits code.now world.now }
+    ensures { OnOk result (
+        string_bytes text.new ≡ string_bytes text.old ++ line_text (halted_line code.now (world_of world.now))) }
+{
+    let line = if world.halted() {
+        "halted yes\n"
+    } else {
+        "halted no\n"
+    };
+    text.push_str(line)?;
+    Ok(())
+}
