@@ -17,17 +17,17 @@ use Rattle.split_cli.specs.StatementLines.{kind_lines}
 
 -- ---- nested blocks, which a statement keeps as rows
 
-row_of_list : {n : _} (row : kind.Row_of-Stmt n) → row_tree row ≡ block_tree (kind.items-the_row-Stmt n row)
+pub row_of_list : {n : _} (row : kind.Row_of-Stmt n) → row_tree row ≡ block_tree (kind.items-the_row-Stmt n row)
 row_of_list kind.end_of-Stmt = refl
 row_of_list (kind.more_of-Stmt id line what rest) = ap (statement_tree what _) (row_of_list rest)
 
 -- the first and the second nested block of a statement
-abbrev first_row : StmtKind → (n : Count) × kind.Row_of-Stmt n
+abbrev pub first_row : StmtKind → (n : Count) × kind.Row_of-Stmt n
 first_row (kind.If' guard m first n second) = (_, first)
 first_row (kind.While' guard m body) = (_, body)
 first_row _ = (_, kind.end_of-Stmt)
 
-abbrev second_row : StmtKind → (n : Count) × kind.Row_of-Stmt n
+abbrev pub second_row : StmtKind → (n : Count) × kind.Row_of-Stmt n
 second_row (kind.If' guard m first n second) = (_, second)
 second_row _ = (_, kind.end_of-Stmt)
 

@@ -1,245 +1,171 @@
 -- From what is due to the headline.
-use Rattle.std.proofs.Common.{◌≡◌, ◌≢◌, ℕ, ◌<◌, ◌≤◌, true, List, [], ◌∷◌, length, refl, sym, ◌∙◌, ap, subst}
-use Rattle.std.proofs.Common.{⊎_elim, Option, Some}
-use Rattle.std.proofs.Common.{Result, Ok, Err, All, arith}
-use Rattle.std.specs.Prelude.{slice_index}
-use Rattle.std.specs.Prelude.{ℤ}
+use Rattle.std.proofs.Common.{◌≡◌, ◌≢◌, ◌≤◌, ◌∙◌, ℕ, suc, List, [], ◌∷◌, map, length, Option, Some, Ok, refl, sym, ap, subst}
+use Rattle.std.proofs.Common.{⊎_elim, inl, arith, take}
+use Rattle.std.specs.Prelude.{ℤ, ◌⊎◌, slice_index, replicate}
 use Rattle.std.specs.List.{AllZip}
-use Rattle.std.proofs.lemmas.List.{length-map, take_all}
-use Rattle.js_base.specs.declared.limits.TheConstants.{SCRIPT_BYTES}
+use Rattle.std.proofs.lemmas.List.{take_all}
 use Rattle.js_base.specs.Sink.{Takes}
+use Rattle.js_base.specs.declared.ids.HostId.{HostId}
+use Rattle.js_base.specs.declared.limits.TheConstants.{SCRIPT_BYTES}
 use Rattle.js_base.specs.declared.status.Status.{Status}
-use Rattle.js_base.specs.declared.status.Status.TheVariants.{Done, NoMemory, SourceRefused, InputRefused}
-use Rattle.host_decl.specs.Hosts.{HostShape, HostsShape, AreHostNames, names_of}
-use Rattle.host_decl.specs.Reading.{ReadsHosts}
+use Rattle.js_base.specs.declared.status.Status.TheVariants.{Done, Spent, SourceRefused, InputRefused, FileFault, Usage}
+use Rattle.host_decl.specs.Hosts.{HostsShape}
+use Rattle.jif_tree.specs.declared.program.Field.{Field}
 use Rattle.jif_tree.specs.declared.program.Program.{Program}
 use Rattle.jif_tree.specs.Store.{starting_values}
-use Rattle.net_world.specs.declared.first.events.Event.{Event}
-use Rattle.net_world.specs.first.Code.{CodeShape}
-use Rattle.net_world.specs.first.Events.{script_of}
-use Rattle.net_world.specs.first.World.{World, Refusal, not_there, host_busy, run, world_at_start, has_halted}
-use Rattle.net_world.specs.first.AllObey.{IsSet, Follows, IsIdle, IsAfter}
-use Rattle.principals.specs.ActsFor.{Declared}
-use Rattle.jif_tree.specs.Trees.{ProgramTree}
-use Rattle.jif_tree.specs.WellNumbered.{IsWellNumbered}
-use Rattle.jif_grammar.specs.DraftShapes.{DraftShape}
-use Rattle.jif_resolve.specs.Verdicts.{IsProgramOf}
+use Rattle.jif_tree.specs.Trees.{FieldTree, ProgramTree, field_tree, program_tree}
+use Rattle.event_text.specs.declared.event.Event.{Event}
+use Rattle.event_text.specs.Lines.{said_lines}
+use Rattle.event_text.specs.Script.{ScriptShape, script_of}
+use Rattle.event_text.specs.Settings.{form_of, settings_in_front, starting_rows, after_settings}
+use Rattle.host_code.specs.Code.{CodeShape}
+use Rattle.host_code.specs.Sound.{IsSoundCode}
+use Rattle.host_core.specs.Host.{HostShape}
+use Rattle.label_lattice.specs.declared.label.Label.{Label}
 use Rattle.need_labels.specs.Labelled as needs
 use Rattle.need_labels.specs.Needs.{NeedsShape}
 use Rattle.need_labels.specs.Plan.{PlanShape}
-use Rattle.place_rules.specs.Allowed.{AllowedShape}
-use Rattle.placement.specs.Placing.{IsPlaced, HasHosts}
-use Rattle.split_cli.specs.Built.{IsBuilt}
-use Rattle.split_cli.specs.Commands.{CommandShape, Replay, words_of}
-use Rattle.split_cli.specs.Verdicts.{VerdictShape, Refuse, Print, event_refused}
+use Rattle.net_world.specs.Choice.{NoneRuns, NothingFlies}
+use Rattle.net_world.specs.World.{WorldShape, IsRun, world_at_start, state_at, has_halted}
+use Rattle.split_rules.specs.SplitCode.{split_code, placed_code_fields}
+use Rattle.simulation.specs.Obeying.{IsSet, Follows}
+use Rattle.split_cli.specs.Commands.{CommandShape, Replay, Drive, IsCommand, IsStepCount, words_of, files_of}
+use Rattle.split_cli.specs.Verdicts.{VerdictShape, Refuse, Print}
 use Rattle.split_cli.specs.Loads.{FilesChange, Told}
-use Rattle.split_cli.specs.Stages.{Outcome, given, stopped, Then, DueThen}
-use Rattle.split_cli.specs.Sources.{Lexed, Parsed, Drafted, HostsRead, Resolved, Labelled, Source, Accepted}
+use Rattle.split_cli.specs.Stages.{Outcome, given, stopped, Then}
+use Rattle.split_cli.specs.Sources.{Lexed, Parsed, Drafted, HostsRead, Resolved, Labelled, Accepted}
 use Rattle.split_cli.specs.Sources.{AcceptedWith, Sources}
-use Rattle.split_cli.specs.PlacedSources.{PlacedSource, AreChosen, OnHosts, PlacedSources, labelled_source}
-use Rattle.split_cli.specs.Replay.{IsCoded, due_after, due_for_script, DueForReplay, not_built, scripted, places_of}
-use Rattle.split_cli.specs.Replay.{main_head}
-use Rattle.split_cli.specs.Due.{DueForBytes, DueForCommand, absent, loaded, Due, no_words, for_command, IsDue}
+use Rattle.split_cli.specs.PlacedSources.{PlacedSource, OnHosts, PlacedSources, labelled_source}
+use Rattle.split_cli.specs.Drive.{code_of, first_world, IsDriveReport, DueForHosts, DueForDrive}
+use Rattle.split_cli.specs.Drive as drive
+use Rattle.split_cli.specs.Driven.{DrivesTo, rested, spent}
+use Rattle.split_cli.specs.Replay.{events_in, DueForEvents, happened, absent, busy, DueForScript, DueForReplay}
+use Rattle.split_cli.specs.Replay as replay
+use Rattle.split_cli.specs.Due.{DueForBytes, DueForCommand, Due, no_words, for_command, IsDue}
+use Rattle.split_cli.specs.Due as due
 use Rattle.split_cli.specs.Answers.{SinkChange, Puts, IsAnswered, AnswersTo}
-use Rattle.split_cli.specs.Faithful.{IsReplayed, IsFaithful, PutsFaithfully}
-use Rattle.split_cli.proofs.Assigning.{only_assigns}
-use Rattle.split_cli.proofs.ReplayDue.{root_among}
+use Rattle.split_cli.specs.Faithful.{IsRunnable, IsFaithfulRun, IsReplayed, IsFaithful, IsDrivenTo, IsFaithfulDrive}
+use Rattle.split_cli.specs.Faithful.{PutsText, PutsFaithfully, PutsDriven}
+use Rattle.split_cli.proofs.OneDrive.{driven_run}
 use Rattle.split_cli.proofs.OneVerdict.{one_command}
+use Rattle.split_cli.proofs.ReplayedEvents.{plain_script}
+use Rattle.split_cli.proofs.SetSources.{ReadingLaws, PlanLaws, SplitLaws, set_there}
 use Rattle.split_cli.proofs.Stages.{stop_with}
 
--- a refusal is no success, and a report is that of a replay
-Says : (program hosts events : List ℕ) → VerdictShape → Type 0
-Says program hosts events (Refuse status line) = status ≢ Done
-Says program hosts events (Print status text) = IsReplayed program hosts events text
+-- ---- hosts that all obey
 
-refused_says : (program hosts events file : List ℕ) (line : ℕ) (refusal : Refusal) →
-    Says program hosts events (event_refused file line refusal)
-unfolding Says
-refused_says program hosts events file line not_there = λ same. cc
-refused_says program hosts events file line host_busy = λ same. cc
+-- the laws of one program in its places
+pub record Laws (tree : Program) (code : CodeShape) (file : HostsShape) (store : List (List ℤ)) (events : List Event)
+    (world : WorldShape) : Type 0 where
+  pub follows : Follows tree code file.hosts store events
+  pub idle : NoneRuns world → NothingFlies world → has_halted code.root world
+  pub ignored : (host : HostId) (state : HostShape) → state_at world host ≡ Some state → state.ignored ≡ 0
 
-run_says : (program hosts events file : List ℕ) (placed : PlacedSource) (tree : Program) (code : CodeShape) →
-    PlacedSources program hosts (given placed) → IsCoded placed tree code → length events ≤ SCRIPT_BYTES →
-    (read : List (ℕ × Event)) → script_of code.hosts events ≡ Ok read → (outcome : Result World (ℕ × Refusal)) →
-    run code (world_at_start code (starting_values tree)) read ≡ outcome →
-    Says program hosts events (due_after file code outcome)
-unfolding Says
-run_says program hosts events file placed tree code accepted coded short read was (Ok w) ran = record {
-  placed = placed;
-  tree = tree;
-  code = code;
-  accepted = accepted;
-  coded = coded;
-  script = read;
-  last = w;
-  short = short;
-  read = was;
-  runs = ran;
-  text_is = refl;
-}
-run_says program hosts events file placed tree code accepted coded short read was (Err refused) ran =
-    refused_says program hosts events file refused.0 refused.1
+abbrev pub ObeyingLaws : Type 0
+ObeyingLaws = (tree : Program) (labelled : needs.Labelled) (need : NeedsShape) (file : HostsShape) (plan : PlanShape)
+    (store : List (List ℤ)) (events : List Event) (world : WorldShape) →
+    IsSet tree labelled need file plan →
+    IsRun (split_code labelled need file plan) (world_at_start (split_code labelled need file plan) file.hosts 0 store)
+    events world → Laws tree (split_code labelled need file plan) file store events world
 
-script_says : (program hosts events file : List ℕ) (placed : PlacedSource) (tree : Program) (code : CodeShape) →
-    PlacedSources program hosts (given placed) → IsCoded placed tree code → length events ≤ SCRIPT_BYTES →
-    (read : Result (List (ℕ × Event)) ℕ) → script_of code.hosts events ≡ read →
-    Says program hosts events (due_for_script file code (world_at_start code (starting_values tree)) read)
-unfolding Says
-script_says program hosts events file placed tree code accepted coded short (Err line) was = λ same. cc
-script_says program hosts events file placed tree code accepted coded short (Ok read) was =
-    run_says program hosts events file placed tree code accepted coded short read was
-    (run code (world_at_start code (starting_values tree)) read) refl
+-- all that is cited
+pub record AllLaws : Type 0 where
+  pub reading : ReadingLaws
+  pub plans : PlanLaws
+  pub splits : SplitLaws
+  pub obeying : ObeyingLaws
 
-replay_says : (file program hosts events : List ℕ) (placed : PlacedSource) (verdict : VerdictShape) →
-    PlacedSources program hosts (given placed) → DueForReplay file events placed verdict →
-    Says program hosts events verdict
-unfolding Says
-replay_says file program hosts events placed _ accepted (not_built none) = λ same. cc
-replay_says file program hosts events placed verdict accepted (scripted tree code _ coded due) =
-    ⊎_elim
-    (λ long. subst (Says program hosts events) (sym long.1) (λ same. cc))
-    (λ short. subst (Says program hosts events) (sym short.1)
-    (script_says program hosts events file placed tree code accepted coded short.0 (script_of code.hosts events) refl))
-    due
-
--- ---- what an accepted program and its hosts keep
-
--- what the places gave
-places_given : (program hosts : List ℕ) (placed : PlacedSource) → PlacedSources program hosts (given placed) →
-    (source : Source) × Sources program hosts (given source) × AreChosen source placed
-places_given program hosts placed accepted =
-    ⊎_elim (λ both. (both.0, both.1, both.2)) (λ no. absurd (let other : given placed ≡ stopped no.0 = no.2 in cc))
-    accepted
-
--- the source of a program with its places
-source_given : (program hosts : List ℕ) (placed : PlacedSource) → PlacedSources program hosts (given placed) →
-    Sources program hosts (given placed.source)
-source_given program hosts placed accepted =
-    let found = places_given program hosts placed accepted in
-    subst (λ (source : Source). Sources program hosts (given source)) (sym found.2.same) found.1
-
-chosen : (program hosts : List ℕ) (placed : PlacedSource) → PlacedSources program hosts (given placed) →
-    AreChosen placed.source placed
-chosen program hosts placed accepted =
-    let found = places_given program hosts placed accepted in
-    subst (λ (source : Source). AreChosen source placed) (sym found.2.same) found.2
-
--- what a draft and the hosts gave
-accepted_of : (program hosts : List ℕ) (source : Source) → Sources program hosts (given source) →
-    (draft : DraftShape) × AcceptedWith hosts draft (given source)
-accepted_of program hosts source accepted =
-    ⊎_elim (λ both. (both.0, both.2)) (λ no. absurd (let other : given source ≡ stopped no.0 = no.2 in cc)) accepted
-
--- what the hosts gave
-with_hosts : (hosts : List ℕ) (draft : DraftShape) (source : Source) → AcceptedWith hosts draft (given source) →
-    (file : HostsShape) × ReadsHosts hosts file × Accepted file draft (given source)
-with_hosts hosts draft source accepted =
-    ⊎_elim (λ both. (both.0, both.1, both.2))
-    (λ no. absurd (let other : given source ≡ stopped no.0 = no.2 in cc)) accepted
-
--- what the names gave
-with_names : (file : HostsShape) (draft : DraftShape) (source : Source) → Accepted file draft (given source) →
-    (tree : ProgramTree) × IsProgramOf file.principals draft tree × (source ≡ record { file = file; tree = tree })
-with_names file draft source accepted =
-    ⊎_elim (λ both. (both.0, both.1, both.2.1))
-    (λ no. absurd (let other : given source ≡ stopped no.0 = no.2 in cc)) accepted
-
-hosts_of : (program hosts : List ℕ) (source : Source) → Sources program hosts (given source) →
-    ReadsHosts hosts source.file
-hosts_of program hosts source accepted =
-    let one = accepted_of program hosts source accepted in
-    let two = with_hosts hosts one.0 source one.1 in
-    let three = with_names two.0 one.0 source two.2 in
-    subst (ReadsHosts hosts) (sym (ap (λ (s : Source). s.file) three.2)) two.1
-
--- the numbers of a resolved program stand for something of the right kind
-abbrev pub NumbersLaw : Type 0
-NumbersLaw = (principals : Declared) (draft : DraftShape) (tree : ProgramTree) →
-    IsProgramOf principals draft tree → IsWellNumbered tree
-
-well_numbered : NumbersLaw → (program hosts : List ℕ) (source : Source) → Sources program hosts (given source) →
-    IsWellNumbered source.tree
-well_numbered numbers program hosts source accepted =
-    let one = accepted_of program hosts source accepted in
-    let two = with_hosts hosts one.0 source one.1 in
-    let three = with_names two.0 one.0 source two.2 in
-    subst IsWellNumbered (sym (ap (λ (s : Source). s.tree) three.2)) (numbers two.0.principals one.0 three.0 three.1)
-
--- the hosts of a host file have names that may stand together
-abbrev pub HostNamesLaw : Type 0
-HostNamesLaw = (bytes : List ℕ) (hosts : HostsShape) → ReadsHosts bytes hosts → AreHostNames (names_of hosts.hosts)
-
--- the hosts of a plan are hosts
-abbrev pub PlanHostsLaw : Type 0
-PlanHostsLaw = (labelled : needs.Labelled) (need : NeedsShape) (file : HostsShape) (allowed : AllowedShape)
-    (plan : PlanShape) → IsPlaced labelled need file allowed plan → HasHosts file plan
-
--- what the premises of the laws ask of an accepted program in its places
-is_set : HostNamesLaw → NumbersLaw → PlanHostsLaw → (program hosts : List ℕ) (placed : PlacedSource) (tree : Program)
-    (code : CodeShape) → PlacedSources program hosts (given placed) → IsCoded placed tree code →
-    IsSet tree placed.source.file code (starting_values tree)
-is_set names numbers plans program hosts placed tree code accepted coded =
-    let source = source_given program hosts placed accepted in
-    let file = names hosts placed.source.file (hosts_of program hosts placed.source source) in
-    let on =
-    plans (labelled_source placed.source) placed.needs placed.source.file placed.allowed placed.plan
-    (chosen program hosts placed accepted).plan in
-    let some : 0 < length placed.source.file.hosts =
-    omega (arith, file.some, length-map placed.source.file.hosts (λ (host : HostShape). host.name)) in
+faithful_run : AllLaws → (program hosts : List ℕ) (placed : PlacedSource) (tree : Program) (start : List (List ℤ))
+    (events : List Event) (last : WorldShape) → IsRunnable program hosts placed tree → IsSoundCode (code_of placed) →
+    IsRun (code_of placed) (first_world placed start) events last → IsFaithfulRun placed tree start events last
+faithful_run laws program hosts placed tree start events last runnable sound ran =
+    let law = laws.obeying tree (labelled_source placed.source) placed.needs placed.source.file placed.plan start events
+    last
+    (set_there laws.reading laws.plans laws.splits program hosts placed runnable.accepted tree runnable.tree_is sound
+    runnable.call_free) ran in
+    let ended : IsRun (code_of placed) (first_world placed start) (take (length events) events) last =
+    subst (λ (es : List Event). IsRun (code_of placed) (first_world placed start) es last)
+    (sym (take_all (length events) events (omega arith))) ran in
     record {
-      assigns = only_assigns tree (subst IsBuilt (sym coded.tree_is) coded.built.program)
-          (subst IsWellNumbered (sym coded.tree_is) (well_numbered numbers program hosts placed.source source));
-      hosts_are = file;
-      places = places_of placed;
-      among = record {
-        root = root_among (length placed.source.file.hosts) placed.plan.statements
-            (main_head placed.source.tree).0 some on.statements;
-        fields = on.fields;
-      };
-      code_is = coded.code_is;
-      rows = rw length-map;
-    }
-
--- the laws of hosts that all obey, of one program
-pub record Laws (tree : Program) (file : HostsShape) (code : CodeShape) (store : List (List ℤ))
-    (events : List (ℕ × Event)) (w : World) : Type 0 where
-  pub follows : Follows tree code store events
-  pub idle : IsIdle w → has_halted w ≡ true
-  pub ignored : All (λ host. host.ignored ≡ 0) w.hosts
-
-abbrev pub AllLaws : Type 0
-AllLaws =
-    (tree : Program) (file : HostsShape) (code : CodeShape) (store : List (List ℤ)) (script : List (ℕ × Event))
-    (w : World) → IsSet tree file code store → run code (world_at_start code store) script ≡ Ok w →
-    Laws tree file code store script w
-
-is_faithful : (program hosts events text : List ℕ) → HostNamesLaw → NumbersLaw → PlanHostsLaw → AllLaws →
-    IsReplayed program hosts events text → IsFaithful program hosts events text
-is_faithful program hosts events text names numbers plans laws replayed =
-    let law =
-    laws replayed.tree replayed.placed.source.file replayed.code (starting_values replayed.tree) replayed.script
-    replayed.last
-    (is_set names numbers plans program hosts replayed.placed replayed.tree replayed.code replayed.accepted
-    replayed.coded)
-    replayed.runs in
-    let ended : IsAfter replayed.code (starting_values replayed.tree) replayed.script (length replayed.script)
-    replayed.last =
-    ap (run replayed.code (world_at_start replayed.code (starting_values replayed.tree)))
-    (take_all (length replayed.script) replayed.script (omega arith)) ∙ replayed.runs in
-    record {
-      replayed = replayed;
       follows = law.follows;
-      steps = slice_index law.follows.steps (length replayed.script);
-      fields = law.follows.fields (length replayed.script) replayed.last (omega arith) ended;
-      at_end = law.follows.halted (length replayed.script) replayed.last (omega arith) ended;
+      steps = slice_index law.follows.steps (length events);
+      fields = law.follows.fields (length events) last (omega arith) ended;
+      at_end = law.follows.halted (length events) last (omega arith) ended;
       idle = law.idle;
       none_ignored = law.ignored;
     }
 
+-- ---- starting values
+
+rows_placed : (labels : List Label) (plan : PlanShape) (number : ℕ) (fields : List FieldTree) →
+    starting_rows (map form_of (placed_code_fields labels plan number fields))
+    ≡ map (λ field. replicate field.size field.first) fields
+rows_placed labels plan number [] = refl
+rows_placed labels plan number (field ∷ fields) =
+    ap (λ rows. replicate field.size field.first ∷ rows) (rows_placed labels plan (suc number) fields)
+
+rows_of_trees : (fields : List Field) →
+    map (λ (tree : FieldTree). replicate tree.size tree.first) (map field_tree fields)
+    ≡ map (λ (field : Field). replicate field.size field.first) fields
+rows_of_trees [] = refl
+rows_of_trees (field ∷ fields) = ap (λ rows. replicate field.size field.first ∷ rows) (rows_of_trees fields)
+
+values_of_text : (placed : PlacedSource) (tree : Program) → program_tree tree ≡ placed.source.tree →
+    starting_rows (map form_of (code_of placed).fields) ≡ starting_values tree
+values_of_text placed tree is =
+    rows_placed (code_of placed).labels placed.plan 0 placed.source.tree.fields
+    ∙ ap (λ (t : ProgramTree). map (λ (field : FieldTree). replicate field.size field.first) t.fields) (sym is)
+    ∙ rows_of_trees tree.fields.items
+
+-- ---- what is reported
+
+is_faithful : AllLaws → (program hosts script text : List ℕ) (replayed : IsReplayed program hosts script text) →
+    IsSoundCode (code_of replayed.placed) → IsFaithful program hosts script text
+is_faithful laws program hosts script text replayed sound =
+    let code = code_of replayed.placed in
+    let settings = settings_in_front (map form_of code.fields) (said_lines script) in
+    record {
+      replayed = replayed;
+      starts = (plain_script code script replayed.said replayed.read).starts
+          ∙ ap (λ (rows : List (List ℤ)). after_settings rows settings)
+          (values_of_text replayed.placed replayed.tree replayed.runnable.tree_is);
+      faithful = faithful_run laws program hosts replayed.placed replayed.tree replayed.said.start
+          (events_in replayed.said.events) replayed.last replayed.runnable sound replayed.runs;
+    }
+
+ends_rested : (code : CodeShape) (world : WorldShape) (most : ℕ) (events : List Event) (last : WorldShape)
+    (status : Status) → DrivesTo code world most events last status → status ≡ Done → NoneRuns last × NothingFlies last
+ends_rested code world most events last _ (rested few driven rest) done = rest
+ends_rested code world most events last _ (spent next all driven more) done = absurd (let no : ⊥ = cc in no)
+
+ends_run : (code : CodeShape) (world : WorldShape) (most : ℕ) (events : List Event) (last : WorldShape)
+    (status : Status) → DrivesTo code world most events last status → IsRun code world events last
+ends_run code world most events last _ (rested few driven rest) = driven_run code world last events driven
+ends_run code world most events last _ (spent next all driven more) = driven_run code world last events driven
+
+is_faithful_drive : AllLaws → (program hosts start : List ℕ) (most : ℕ) (status : Status) (text : List ℕ)
+    (driven : IsDrivenTo program hosts start most status text) → IsSoundCode (code_of driven.placed) →
+    IsFaithfulDrive program hosts start most status text
+is_faithful_drive laws program hosts start most status text driven sound =
+    let code = code_of driven.placed in
+    let first = first_world driven.placed driven.values in
+    let run = faithful_run laws program hosts driven.placed driven.tree driven.values driven.events driven.last
+    driven.runnable sound (ends_run code first most driven.events driven.last status driven.ends) in
+    record {
+      driven = driven;
+      faithful = run;
+      rested = λ done.
+          let rest = ends_rested code first most driven.events driven.last status driven.ends done in
+          run.idle rest.0 rest.1;
+    }
+
 -- ---- what stops a command before its end is no success
 
+abbrev pub IsFailure : Status → Type 0
+IsFailure status = (status ≢ Done) × (status ≢ Spent)
+
 abbrev pub IsRefusal : VerdictShape → Type 0
-IsRefusal verdict = (status : Status) × (line : List ℕ) × (verdict ≡ Refuse status line) × (status ≢ Done)
+IsRefusal verdict = (status : Status) × (line : List ℕ) × (verdict ≡ Refuse status line) × IsFailure status
 
 then_refuses : {X Y : Type 0} (First : Outcome X → Type 0) (Next : X → Outcome Y → Type 0) →
     ((verdict : VerdictShape) → First (stopped verdict) → IsRefusal verdict) →
@@ -252,141 +178,307 @@ then_refuses {X} {Y} First Next first next verdict ends =
     subst IsRefusal is (first no.0 no.1))
     ends
 
+source_refused : (line : List ℕ) (verdict : VerdictShape) → verdict ≡ Refuse SourceRefused line → IsRefusal verdict
+source_refused line verdict is =
+    (SourceRefused, line, is, ((λ same. let no : ⊥ = cc in no), (λ same. let no : ⊥ = cc in no)))
+
+input_refused : (line : List ℕ) (verdict : VerdictShape) → verdict ≡ Refuse InputRefused line → IsRefusal verdict
+input_refused line verdict is =
+    (InputRefused, line, is, ((λ same. let no : ⊥ = cc in no), (λ same. let no : ⊥ = cc in no)))
+
 sources_refuse : (program hosts : List ℕ) (verdict : VerdictShape) → Sources program hosts (stopped verdict) →
     IsRefusal verdict
 sources_refuse program hosts =
     then_refuses (Drafted program) (AcceptedWith hosts)
     (then_refuses (Lexed program) Parsed
-    (λ verdict was. (SourceRefused, _, was.3, λ same. cc))
-    (λ list verdict was. (SourceRefused, _, was.3, λ same. cc)))
+    (λ verdict was. source_refused _ verdict was.3)
+    (λ list verdict was. source_refused _ verdict was.3))
     (λ draft. then_refuses (HostsRead hosts) (λ file. Accepted file draft)
-    (λ verdict was. (InputRefused, _, was.3, λ same. cc))
+    (λ verdict was. input_refused _ verdict was.3)
     (λ file. then_refuses (Resolved file draft) (Labelled file)
-    (λ verdict was. (SourceRefused, _, was.3, λ same. cc))
-    (λ tree verdict was. (SourceRefused, _, was.3, λ same. cc))))
+    (λ verdict was. source_refused _ verdict was.3)
+    (λ tree verdict was. source_refused _ verdict was.3)))
 
 placed_refuse : (program hosts : List ℕ) (verdict : VerdictShape) → PlacedSources program hosts (stopped verdict) →
     IsRefusal verdict
 placed_refuse program hosts =
     then_refuses (Sources program hosts) OnHosts (sources_refuse program hosts)
-    (λ source verdict was. (SourceRefused, _, was.2, λ same. cc))
+    (λ source verdict was. source_refused _ verdict was.2)
 
-refusal_says : (program hosts events : List ℕ) (verdict : VerdictShape) → IsRefusal verdict →
-    Says program hosts events verdict
+-- ---- what a verdict says
+
+-- a refusal is no success, and a report is such a text with its status
+Says : (Status → List ℕ → Type 0) → VerdictShape → Type 0
+Says IsText (Refuse status line) = IsFailure status
+Says IsText (Print status text) = IsText status text
+
+refusal_says : (IsText : Status → List ℕ → Type 0) (verdict : VerdictShape) → IsRefusal verdict → Says IsText verdict
 unfolding Says
-refusal_says program hosts events verdict refusal = subst (Says program hosts events) (sym refusal.2) refusal.3
+refusal_says IsText verdict refusal = subst (Says IsText) (sym refusal.2) refusal.3
 
--- ---- what is due for a replay
+input_fails : IsFailure InputRefused
+input_fails = ((λ same. let no : ⊥ = cc in no), (λ same. let no : ⊥ = cc in no))
 
-bytes_say : (file program hosts events : List ℕ) (verdict : VerdictShape) →
-    DueThen (PlacedSources program hosts) (DueForReplay file events) verdict → Says program hosts events verdict
-bytes_say file program hosts events verdict due =
-    ⊎_elim (λ both. replay_says file program hosts events both.0 verdict both.1 both.2)
-    (λ no. refusal_says program hosts events verdict (placed_refuse program hosts verdict no)) due
+source_fails : IsFailure SourceRefused
+source_fails = ((λ same. let no : ⊥ = cc in no), (λ same. let no : ⊥ = cc in no))
 
--- what the names stand for was replayed to this report
-record IsPrinted (program hosts events : List ℕ) (held : Option (List ℕ → Option (List ℕ))) (text : List ℕ)
-    : Type 0 where
+fault_fails : IsFailure FileFault
+fault_fails = ((λ same. let no : ⊥ = cc in no), (λ same. let no : ⊥ = cc in no))
+
+usage_fails : IsFailure Usage
+usage_fails = ((λ same. let no : ⊥ = cc in no), (λ same. let no : ⊥ = cc in no))
+
+-- ---- a replay
+
+abbrev IsReplayText : List ℕ → List ℕ → List ℕ → Status → List ℕ → Type 0
+IsReplayText program hosts script status text = IsFaithful program hosts script text
+
+-- a script that was read
+record IsRead (script : List ℕ) (placed : PlacedSource) (said : ScriptShape) : Type 0 where
+  short : length script ≤ SCRIPT_BYTES
+  sound : IsSoundCode (code_of placed)
+  read : script_of (code_of placed) script ≡ Ok said
+
+events_say : AllLaws → (file program hosts script : List ℕ) (placed : PlacedSource) (tree : Program)
+    (said : ScriptShape) (verdict : VerdictShape) → IsRunnable program hosts placed tree → IsRead script placed said →
+    DueForEvents file (code_of placed) (first_world placed said.start) said.events verdict →
+    Says (IsReplayText program hosts script) verdict
+unfolding Says
+events_say laws file program hosts script placed tree said _ runnable was (happened last ran) =
+    is_faithful laws program hosts script _ (record {
+      placed = placed;
+      tree = tree;
+      runnable = runnable;
+      said = said;
+      last = last;
+      short = was.short;
+      read = was.read;
+      runs = ran;
+      text_is = refl;
+    }) was.sound
+events_say laws file program hosts script placed tree said _ runnable was (absent line refused) = input_fails
+events_say laws file program hosts script placed tree said _ runnable was (busy line refused) = input_fails
+
+script_says : AllLaws → (file program hosts script : List ℕ) (placed : PlacedSource) (tree : Program)
+    (verdict : VerdictShape) → IsRunnable program hosts placed tree → DueForScript file script placed verdict →
+    Says (IsReplayText program hosts script) verdict
+unfolding Says
+script_says laws file program hosts script placed tree _ runnable (replay.long more) = input_fails
+script_says laws file program hosts script placed tree _ runnable (replay.bad_line line short is) = input_fails
+script_says laws file program hosts script placed tree verdict runnable (replay.read said _ short sound read events) =
+    events_say laws file program hosts script placed tree said verdict runnable
+    (record { short = short; sound = sound; read = read }) events
+
+replay_says : AllLaws → (file program hosts script : List ℕ) (placed : PlacedSource) (verdict : VerdictShape) →
+    PlacedSources program hosts (given placed) → DueForReplay file script placed verdict →
+    Says (IsReplayText program hosts script) verdict
+unfolding Says
+replay_says laws file program hosts script placed verdict accepted ends =
+    ⊎_elim
+    (λ not. subst (Says (IsReplayText program hosts script)) (sym not.1) source_fails)
+    (λ built. script_says laws file program hosts script placed built.1.0 verdict
+    (record { accepted = accepted; tree_is = built.1.1; call_free = built.0 }) built.1.2)
+    ends
+
+-- ---- a drive
+
+abbrev IsDriveText : ℕ → List ℕ → List ℕ → List ℕ → Status → List ℕ → Type 0
+IsDriveText most program hosts start status text = IsFaithfulDrive program hosts start most status text
+
+hosts_say : AllLaws → (file program hosts start : List ℕ) (most : ℕ) (placed : PlacedSource) (tree : Program)
+    (verdict : VerdictShape) → IsRunnable program hosts placed tree → DueForHosts file start most placed tree verdict →
+    Says (IsDriveText most program hosts start) verdict
+unfolding Says
+hosts_say laws file program hosts start most placed tree _ runnable (drive.long more) = input_fails
+hosts_say laws file program hosts start most placed tree _ runnable (drive.bad_line line short is) = input_fails
+hosts_say laws file program hosts start most placed tree verdict runnable (drive.driven values _ short read report) =
+    subst (Says (IsDriveText most program hosts start)) (sym report.verdict_is)
+    (is_faithful_drive laws program hosts start most report.status _ (record {
+      placed = placed;
+      tree = tree;
+      runnable = runnable;
+      values = values;
+      events = report.events;
+      last = report.last;
+      short = short;
+      read = read;
+      ends = report.ends;
+      text_is = refl;
+    }) report.sound)
+
+drive_says : AllLaws → (file program hosts start : List ℕ) (most : ℕ) (placed : PlacedSource)
+    (verdict : VerdictShape) → PlacedSources program hosts (given placed) →
+    DueForDrive file start most placed verdict → Says (IsDriveText most program hosts start) verdict
+unfolding Says
+drive_says laws file program hosts start most placed verdict accepted ends =
+    ⊎_elim
+    (λ not. subst (Says (IsDriveText most program hosts start)) (sym not.1) source_fails)
+    (λ built. hosts_say laws file program hosts start most placed built.1.0 verdict
+    (record { accepted = accepted; tree_is = built.1.1; call_free = built.0 }) built.1.2)
+    ends
+
+-- ---- a command of three files
+
+-- what is reported for a program, a host file and a third file of these bytes, with its status
+abbrev Kind : Type 1
+Kind = List ℕ → List ℕ → List ℕ → Status → List ℕ → Type 0
+
+-- what is due for the bytes of three files is such a report, or a failure
+abbrev SaysOfBytes : Kind → CommandShape → Type 0
+SaysOfBytes Text command = (p h t : List ℕ) (verdict : VerdictShape) → DueForBytes command (p ∷ h ∷ t ∷ []) verdict →
+    Says (Text p h t) verdict
+
+-- what the names stand for has this report
+record IsPrinted (Text : Kind) (program hosts third : List ℕ) (held : Option (List ℕ → Option (List ℕ)))
+    (status : Status) (text : List ℕ) : Type 0 where
   program_bytes : List ℕ
   hosts_bytes : List ℕ
-  events_bytes : List ℕ
+  third_bytes : List ℕ
   program_told : Told held program (Some program_bytes)
   hosts_told : Told held hosts (Some hosts_bytes)
-  events_told : Told held events (Some events_bytes)
-  replayed : IsReplayed program_bytes hosts_bytes events_bytes text
+  third_told : Told held third (Some third_bytes)
+  is : Text program_bytes hosts_bytes third_bytes status text
 
--- for the names: a refusal is no success, and a report is that of a replay of their files
-SaysOfFiles : (program hosts events : List ℕ) → Option (List ℕ → Option (List ℕ)) → VerdictShape → Type 0
-SaysOfFiles program hosts events held (Refuse status line) = status ≢ Done
-SaysOfFiles program hosts events held (Print status text) = IsPrinted program hosts events held text
+-- for the names: a refusal is no success, and a report is one of their files
+SaysOfFiles : (Text : Kind) (program hosts third : List ℕ) → Option (List ℕ → Option (List ℕ)) → VerdictShape → Type 0
+SaysOfFiles Text program hosts third held (Refuse status line) = IsFailure status
+SaysOfFiles Text program hosts third held (Print status text) = IsPrinted Text program hosts third held status text
 
-printed_says : (program hosts events : List ℕ) (held : Option (List ℕ → Option (List ℕ))) (p h e : List ℕ)
-    (verdict : VerdictShape) → Told held program (Some p) → Told held hosts (Some h) → Told held events (Some e) →
-    Says p h e verdict → SaysOfFiles program hosts events held verdict
+printed_says : (Text : Kind) (program hosts third : List ℕ) (held : Option (List ℕ → Option (List ℕ)))
+    (p h t : List ℕ) (verdict : VerdictShape) → Told held program (Some p) → Told held hosts (Some h) →
+    Told held third (Some t) → Says (Text p h t) verdict → SaysOfFiles Text program hosts third held verdict
 unfolding Says SaysOfFiles
-printed_says program hosts events held p h e (Refuse status line) told_p told_h told_e says = says
-printed_says program hosts events held p h e (Print status text) told_p told_h told_e says = record {
+printed_says Text program hosts third held p h t (Refuse status line) told_p told_h told_t says = says
+printed_says Text program hosts third held p h t (Print status text) told_p told_h told_t says = record {
   program_bytes = p;
   hosts_bytes = h;
-  events_bytes = e;
+  third_bytes = t;
   program_told = told_p;
   hosts_told = told_h;
-  events_told = told_e;
-  replayed = says;
+  third_told = told_t;
+  is = says;
 }
 
-files_say : (program hosts events : List ℕ) (held : Option (List ℕ → Option (List ℕ))) (bytes : List (List ℕ))
+files_say : (Text : Kind) (command : CommandShape) (program hosts third : List ℕ)
+    (held : Option (List ℕ → Option (List ℕ))) → SaysOfBytes Text command → (bytes : List (List ℕ))
     (verdict : VerdictShape) →
-    AllZip (λ file content. Told held file (Some content)) (program ∷ hosts ∷ events ∷ []) bytes →
-    DueForBytes (Replay program hosts events) bytes verdict → SaysOfFiles program hosts events held verdict
-files_say program hosts events held [] verdict told due = absurd due
-files_say program hosts events held (p ∷ []) verdict told due = absurd due
-files_say program hosts events held (p ∷ h ∷ []) verdict told due = absurd due
-files_say program hosts events held (p ∷ h ∷ e ∷ []) verdict told due =
-    printed_says program hosts events held p h e verdict told.0 told.1.0 told.1.1.0 (bytes_say events p h e verdict due)
-files_say program hosts events held (p ∷ h ∷ e ∷ x ∷ more) verdict told due = absurd due
+    AllZip (λ file content. Told held file (Some content)) (program ∷ hosts ∷ third ∷ []) bytes →
+    DueForBytes command bytes verdict → SaysOfFiles Text program hosts third held verdict
+files_say Text command program hosts third held says [] verdict told ends = absurd told
+files_say Text command program hosts third held says (p ∷ []) verdict told ends = absurd told.1
+files_say Text command program hosts third held says (p ∷ h ∷ []) verdict told ends = absurd told.1.1
+files_say Text command program hosts third held says (p ∷ h ∷ t ∷ []) verdict told ends =
+    printed_says Text program hosts third held p h t verdict told.0 told.1.0 told.1.1.0 (says p h t verdict ends)
+files_say Text command program hosts third held says (p ∷ h ∷ t ∷ x ∷ more) verdict told ends = absurd told.1.1.1
 
-command_says : (program hosts events : List ℕ) (held : Option (List ℕ → Option (List ℕ))) (number : ℕ)
-    (verdict : VerdictShape) → DueForCommand held (Replay program hosts events) number verdict →
-    SaysOfFiles program hosts events held verdict
+command_says : (Text : Kind) (command : CommandShape) (program hosts third : List ℕ)
+    (held : Option (List ℕ → Option (List ℕ))) → files_of command ≡ program ∷ hosts ∷ third ∷ [] →
+    SaysOfBytes Text command → (number : ℕ) (verdict : VerdictShape) → DueForCommand held command number verdict →
+    SaysOfFiles Text program hosts third held verdict
 unfolding SaysOfFiles
-command_says program hosts events held _ _ (absent place file first) = λ same. cc
-command_says program hosts events held _ verdict (loaded _ due) =
-    files_say program hosts events held due.bytes verdict due.told due.due
+command_says Text command program hosts third held files says _ _ (due.absent place file first) = input_fails
+command_says Text command program hosts third held files says _ verdict (due.loaded _ ends) =
+    files_say Text command program hosts third held says ends.bytes verdict
+    (subst (λ (names : List (List ℕ)). AllZip (λ file content. Told held file (Some content)) names ends.bytes) files
+    ends.told)
+    ends.due
 
-words_say : (program hosts events : List ℕ) (words : List (List ℕ)) (held : Option (List ℕ → Option (List ℕ)))
-    (number : ℕ) (verdict : VerdictShape) → words ≡ words_of (Replay program hosts events) →
-    Due words held number verdict → SaysOfFiles program hosts events held verdict
+words_say : (Text : Kind) (command : CommandShape) (program hosts third : List ℕ) (words : List (List ℕ))
+    (held : Option (List ℕ → Option (List ℕ))) → IsCommand command → files_of command ≡ program ∷ hosts ∷ third ∷ [] →
+    SaysOfBytes Text command → (number : ℕ) (verdict : VerdictShape) → words ≡ words_of command →
+    Due words held number verdict → SaysOfFiles Text program hosts third held verdict
 unfolding SaysOfFiles
-words_say program hosts events words held _ _ asked (no_words none) = λ same. cc
-words_say program hosts events words held number verdict asked (for_command command _ _ is also due) =
-    command_says program hosts events held number verdict
+words_say Text command program hosts third words held is files says _ _ asked (no_words none) = usage_fails
+words_say Text command program hosts third words held is files says number verdict asked
+    (for_command other _ _ is_too also ends) =
+    command_says Text command program hosts third held files says number verdict
     (subst (λ (c : CommandShape). DueForCommand held c number verdict)
-    (one_command command (Replay program hosts events) is tt (sym also ∙ asked)) due)
+    (one_command other command is_too is (sym also ∙ asked)) ends)
 
-due_says : (program hosts events : List ℕ) (words : List (List ℕ)) (files : FilesChange) (verdict : VerdictShape) →
-    words ≡ words_of (Replay program hosts events) → IsDue words files verdict →
-    SaysOfFiles program hosts events files.held verdict
+due_says : (Text : Kind) (command : CommandShape) (program hosts third : List ℕ) (words : List (List ℕ))
+    (files : FilesChange) (verdict : VerdictShape) → IsCommand command →
+    files_of command ≡ program ∷ hosts ∷ third ∷ [] → SaysOfBytes Text command → words ≡ words_of command →
+    IsDue words files verdict → SaysOfFiles Text program hosts third files.held verdict
 unfolding SaysOfFiles
-due_says program hosts events words files verdict asked due =
+due_says Text command program hosts third words files verdict is names says asked ends =
     ⊎_elim
-    (λ whole. words_say program hosts events words files.held whole.0 verdict asked whole.1)
-    (λ fault. subst (SaysOfFiles program hosts events files.held) (sym fault.3.verdict_is) (λ same. cc))
-    due
+    (λ whole. words_say Text command program hosts third words files.held is names says whole.0 verdict asked whole.1)
+    (λ fault. subst (SaysOfFiles Text program hosts third files.held) (sym fault.3.verdict_is) fault_fails)
+    ends
 
--- an answer that all went well puts the text
-puts_text : (text : List ℕ) (status : Status) (sink : SinkChange) → Puts text status Done sink →
-    Takes text sink.taken_before sink.taken_after × (Done ≡ status)
-puts_text text status sink puts = ⊎_elim (λ put. (put.1, put.0)) (λ fault. absurd (let no = fault.0 in cc)) puts
+-- ---- the answer
 
-verdict_done : (names : HostNamesLaw) (numbers : NumbersLaw) (plans : PlanHostsLaw) (laws : AllLaws) (program hosts events : List ℕ)
-    (held : Option (List ℕ → Option (List ℕ))) (out err : SinkChange) (verdict : VerdictShape) →
-    SaysOfFiles program hosts events held verdict → IsAnswered verdict Done out err →
-    PutsFaithfully program hosts events held out.taken_before out.taken_after
+abbrev IsSuccess : Status → Type 0
+IsSuccess status = (status ≡ Done) ⊎ (status ≡ Spent)
+
+never_both : (status : Status) → IsFailure status → ¬ IsSuccess status
+never_both status fails success = ⊎_elim (λ done. fails.0 done) (λ spent. fails.1 spent) success
+
+-- an answer that went well puts the text
+puts_text : (text : List ℕ) (status answer : Status) (sink : SinkChange) → IsSuccess answer →
+    Puts text status answer sink → (answer ≡ status) × Takes text sink.taken_before sink.taken_after
+puts_text text status answer sink success puts =
+    ⊎_elim (λ put. (put.0, put.1))
+    (λ fault. absurd (⊎_elim (λ done. let out = fault.0 in let no : ⊥ = cc in no)
+    (λ spent. let out = fault.0 in let no : ⊥ = cc in no) success))
+    puts
+
+verdict_put : (Text : Kind) (program hosts third : List ℕ) (held : Option (List ℕ → Option (List ℕ)))
+    (answer : Status) (out err : SinkChange) (verdict : VerdictShape) → IsSuccess answer →
+    SaysOfFiles Text program hosts third held verdict → IsAnswered verdict answer out err →
+    PutsText (λ p h t text. Text p h t answer text) program hosts third held out.taken_before out.taken_after
 unfolding SaysOfFiles
-verdict_done names numbers plans laws program hosts events held out err (Refuse status line) says answered =
-    absurd (says (sym (puts_text line status err answered.1).1))
-verdict_done names numbers plans laws program hosts events held out err (Print status text) says answered = record {
-  program_bytes = says.program_bytes;
-  hosts_bytes = says.hosts_bytes;
-  events_bytes = says.events_bytes;
-  program_told = says.program_told;
-  hosts_told = says.hosts_told;
-  events_told = says.events_told;
-  text = text;
-  faithful = is_faithful says.program_bytes says.hosts_bytes says.events_bytes text names numbers plans laws says.replayed;
-  put = (puts_text text status out answered.1).0;
-}
+verdict_put Text program hosts third held answer out err (Refuse status line) success says answered =
+    absurd (never_both status says
+    (subst IsSuccess (puts_text line status answer err success answered.1).0 success))
+verdict_put Text program hosts third held answer out err (Print status text) success says answered =
+    let put = puts_text text status answer out success answered.1 in
+    record {
+      program_bytes = says.program_bytes;
+      hosts_bytes = says.hosts_bytes;
+      third_bytes = says.third_bytes;
+      program_told = says.program_told;
+      hosts_told = says.hosts_told;
+      third_told = says.third_told;
+      text = text;
+      is = subst (λ (s : Status). Text says.program_bytes says.hosts_bytes says.third_bytes s text) (sym put.0) says.is;
+      put = put.1;
+    }
 
--- the headline, from the answer
-pub done_is_faithful : (names : HostNamesLaw) (numbers : NumbersLaw) (plans : PlanHostsLaw) (laws : AllLaws) (words : List (List ℕ))
-    (files : FilesChange) (answer : Status) (out err : SinkChange) (program hosts events : List ℕ) →
-    AnswersTo words files answer out err → words ≡ words_of (Replay program hosts events) → answer ≡ Done →
-    PutsFaithfully program hosts events files.held out.taken_before out.taken_after
-done_is_faithful names numbers plans laws words files answer out err program hosts events answers asked done =
+answer_put : (Text : Kind) (command : CommandShape) (program hosts third : List ℕ) (words : List (List ℕ))
+    (files : FilesChange) (answer : Status) (out err : SinkChange) → IsCommand command →
+    files_of command ≡ program ∷ hosts ∷ third ∷ [] → SaysOfBytes Text command →
+    AnswersTo words files answer out err → words ≡ words_of command → IsSuccess answer →
+    PutsText (λ p h t text. Text p h t answer text) program hosts third files.held out.taken_before out.taken_after
+answer_put Text command program hosts third words files answer out err is names says answers asked success =
     ⊎_elim
-    (λ memory. absurd (let no : NoMemory ≡ Done = sym memory.0 ∙ done in cc))
-    (λ due. verdict_done names numbers plans laws program hosts events files.held out err due.0
-    (due_says program hosts events words files due.0 asked due.1)
-    (subst (λ (s : Status). IsAnswered due.0 s out err) done due.2))
+    (λ memory. absurd (⊎_elim (λ done. let out_of = memory.0 in let no : ⊥ = cc in no)
+    (λ spent. let out_of = memory.0 in let no : ⊥ = cc in no) success))
+    (λ whole. verdict_put Text program hosts third files.held answer out err whole.0 success
+    (due_says Text command program hosts third words files whole.0 is names says asked whole.1) whole.2)
     answers
+
+-- ---- the headline, from the answer
+
+pub replay_is_faithful : AllLaws → (words : List (List ℕ)) (files : FilesChange) (answer : Status)
+    (out err : SinkChange) (program hosts events : List ℕ) → AnswersTo words files answer out err →
+    words ≡ words_of (Replay program hosts events) → answer ≡ Done →
+    PutsFaithfully program hosts events files.held out.taken_before out.taken_after
+replay_is_faithful laws words files answer out err program hosts events answers asked done =
+    answer_put IsReplayText (Replay program hosts events) program hosts events words files answer out err tt refl
+    (λ p h e verdict ends. ⊎_elim
+    (λ both. replay_says laws events p h e both.0 verdict both.1 both.2)
+    (λ no. refusal_says (IsReplayText p h e) verdict (placed_refuse p h verdict no)) ends)
+    answers asked (inl done)
+
+pub drive_is_faithful : AllLaws → (words : List (List ℕ)) (files : FilesChange) (answer : Status)
+    (out err : SinkChange) (program hosts start : List ℕ) (most : ℕ) → AnswersTo words files answer out err →
+    IsStepCount most → words ≡ words_of (Drive program hosts start most) → (answer ≡ Done) ⊎ (answer ≡ Spent) →
+    PutsDriven program hosts start most answer files.held out.taken_before out.taken_after
+drive_is_faithful laws words files answer out err program hosts start most answers few asked success =
+    answer_put (IsDriveText most) (Drive program hosts start most) program hosts start words files answer out err few
+    refl
+    (λ p h s verdict ends. ⊎_elim
+    (λ both. drive_says laws start p h s most both.0 verdict both.1 both.2)
+    (λ no. refusal_says (IsDriveText most p h s) verdict (placed_refuse p h verdict no)) ends)
+    answers asked success

@@ -19,9 +19,9 @@ use Rattle.split_cli.specs.Replay.{DueForReplay}
 use Rattle.split_cli.specs.Drive.{DueForDrive}
 use Rattle.split_cli.specs.Due.{DueForBytes, DueForFiles, DueForCommand, absent, loaded, Due, no_words, for_command}
 use Rattle.split_cli.specs.Due.{IsDue}
-use Rattle.split_cli.proofs.OneDrive.{OneStep, drive_once}
+use Rattle.split_cli.proofs.OneDrive.{drive_once}
 use Rattle.split_cli.proofs.OnePlaced.{PlaceLaws, places_once}
-use Rattle.split_cli.proofs.OneReplay.{replay_once}
+use Rattle.split_cli.proofs.OneReplay.{StepLaws, replay_once}
 use Rattle.split_cli.proofs.OneRun.{RunLaws, run_once}
 use Rattle.split_cli.proofs.OneSource.{SourceLaws, sources_once}
 use Rattle.split_cli.proofs.Places.{same_place, same_here, of_front, of_all}
@@ -32,7 +32,7 @@ pub record AllLaws : Type 0 where
   pub sources : SourceLaws
   pub places : PlaceLaws
   pub runs : RunLaws
-  pub steps : OneStep
+  pub steps : StepLaws
 
 -- ---- what is due for the bytes of all files
 
@@ -46,11 +46,11 @@ bytes_once laws (Run program hosts start steps) (p ∷ h ∷ s ∷ []) first sec
     (sources_once laws.sources p h) (λ source was. run_once laws.runs start s steps source.tree first second) one two
 bytes_once laws (Replay program hosts events) (p ∷ h ∷ e ∷ []) first second one two =
     one_due (PlacedSources p h) (DueForReplay events e) first second
-    (places_once laws.sources laws.places p h) (λ placed was. replay_once events e placed first second) one two
+    (places_once laws.sources laws.places p h) (λ placed was. replay_once laws.steps events e placed first second) one two
 bytes_once laws (Drive program hosts start events) (p ∷ h ∷ s ∷ []) first second one two =
     one_due (PlacedSources p h) (DueForDrive start s events) first second
     (places_once laws.sources laws.places p h)
-    (λ placed was. drive_once laws.steps start s events placed first second) one two
+    (λ placed was. drive_once laws.steps.one start s events placed first second) one two
 bytes_once laws (Check program hosts) [] first second one two = absurd one
 bytes_once laws (Check program hosts) (p ∷ []) first second one two = absurd one
 bytes_once laws (Check program hosts) (p ∷ h ∷ s ∷ more) first second one two = absurd one

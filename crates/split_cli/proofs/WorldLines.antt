@@ -19,6 +19,7 @@ use Rattle.net_world.specs.Flying.{Flight}
 use Rattle.net_world.specs.World.{WorldShape, state_at}
 use Rattle.net_world.proofs.Present.{present_states}
 use Rattle.split_cli.specs.Drive.{events_line, drive_text}
+use Rattle.split_cli.specs.Replay.{replay_text}
 use Rattle.split_cli.specs.Text.{line_text, lines_text}
 use Rattle.split_cli.specs.WorldReport.{halted_line, field_line, field_lines, host_lines, flying_line, queue_lines}
 use Rattle.split_cli.specs.WorldReport.{flying_lines, host_line, state_line, elements_of}
@@ -91,6 +92,11 @@ pub drive_parts : (code : CodeShape) (made : ℕ) (w : WorldShape) →
     drive_text code made w ≡ ((((events_line made ++ 10 ∷ []) ++ (halted_line code w ++ 10 ∷ []))
     ++ lines_text (field_lines w 0 code.fields)) ++ lines_text (host_lines code w)) ++ lines_text (flying_lines code w)
 drive_parts code made w = simp (flat_map-append, append_assoc)
+
+pub replay_parts : (code : CodeShape) (w : WorldShape) →
+    replay_text code w ≡ (((halted_line code w ++ 10 ∷ []) ++ lines_text (field_lines w 0 code.fields))
+    ++ lines_text (host_lines code w)) ++ lines_text (flying_lines code w)
+replay_parts code w = simp (flat_map-append, append_assoc)
 
 -- ---- hosts that obey, and those that do not
 

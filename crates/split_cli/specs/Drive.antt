@@ -8,11 +8,12 @@ use Rattle.jif_tree.specs.Trees.{program_tree}
 use Rattle.event_text.specs.declared.event.Event.{Event}
 use Rattle.event_text.specs.Start.{start_of}
 use Rattle.host_code.specs.Code.{CodeShape}
+use Rattle.host_code.specs.Sound.{IsSoundCode}
 use Rattle.split_rules.specs.SplitCode.{split_code}
 use Rattle.net_world.specs.World.{WorldShape, world_at_start}
+use Rattle.split_cli.specs.CallFree.{IsCallFreeProgram}
 use Rattle.split_cli.specs.Driven.{DrivesTo}
 use Rattle.split_cli.specs.PlacedSources.{PlacedSource, labelled_source}
-use Rattle.split_cli.specs.Straight.{IsStraightThere}
 use Rattle.split_cli.specs.Text.{lines_text}
 use Rattle.split_cli.specs.Verdicts.{VerdictShape, Print, program_not_built, too_long, no_form}
 use Rattle.split_cli.specs.WorldReport.{world_lines}
@@ -39,6 +40,7 @@ pub record IsDriveReport (placed : PlacedSource) (values : List (List ℤ)) (mos
     pub events : List Event
     pub last : WorldShape
     pub status : Status
+    pub sound : IsSoundCode (code_of placed)
     pub ends : DrivesTo (code_of placed) (first_world placed values) most events last status
     pub verdict_is : verdict ≡ Print status (drive_text (code_of placed) (length events) last)
 
@@ -56,7 +58,7 @@ pub data DueForHosts (file start : List ℕ) (most : ℕ) (placed : PlacedSource
 -- hosts can't be driven through the program yet, or they are, by all programs with the same tree alike
 abbrev pub DueForDrive : List ℕ → List ℕ → ℕ → PlacedSource → VerdictShape → Type 0
 DueForDrive file start most placed verdict =
-    (¬ IsStraightThere placed × (verdict ≡ program_not_built))
-    ⊎ (IsStraightThere placed
+    (¬ IsCallFreeProgram placed.source.tree × (verdict ≡ program_not_built))
+    ⊎ (IsCallFreeProgram placed.source.tree
     × ((program : Program) × (program_tree program ≡ placed.source.tree)
     × DueForHosts file start most placed program verdict))

@@ -1,59 +1,119 @@
--- The headline for hosts that all obey: the report of a replay is that of a world whose fields follow the plain run.
-use Rattle.std.specs.Prelude.{◌≡◌, ℕ, ◌≤◌, true, List, length, All, Option, Some, Ok}
+-- The headline for hosts that all obey: what is reported of them is a world whose fields follow the plain run.
+use Rattle.std.specs.Prelude.{◌≡◌, ℕ, ◌≤◌, ℤ, List, length, map, Option, Some, Ok}
+use Rattle.js_base.specs.declared.ids.HostId.{HostId}
 use Rattle.js_base.specs.declared.limits.TheConstants.{SCRIPT_BYTES}
+use Rattle.js_base.specs.declared.status.Status.{Status}
+use Rattle.js_base.specs.declared.status.Status.TheVariants.{Done}
 use Rattle.js_base.specs.Sink.{Takes}
 use Rattle.jif_tree.specs.declared.program.Program.{Program}
 use Rattle.jif_tree.specs.Store.{starting_values}
 use Rattle.jif_tree.specs.SourceRun.{prefix, HasLength}
-use Rattle.net_world.specs.declared.first.events.Event.{Event}
-use Rattle.net_world.specs.first.Code.{CodeShape}
-use Rattle.net_world.specs.first.Events.{script_of}
-use Rattle.net_world.specs.first.World.{World, run, world_at_start, has_halted}
-use Rattle.net_world.specs.first.AllObey.{FieldsAre, Follows, IsIdle}
+use Rattle.jif_tree.specs.Trees.{program_tree}
+use Rattle.event_text.specs.declared.event.Event.{Event}
+use Rattle.event_text.specs.Lines.{said_lines}
+use Rattle.event_text.specs.Script.{ScriptShape, script_of}
+use Rattle.event_text.specs.Settings.{form_of, settings_in_front, after_settings}
+use Rattle.event_text.specs.Start.{start_of}
+use Rattle.host_core.specs.Host.{HostShape}
+use Rattle.net_world.specs.Choice.{NoneRuns, NothingFlies}
+use Rattle.net_world.specs.World.{WorldShape, IsRun, state_at, has_halted}
+use Rattle.simulation.specs.Obeying.{FieldsAre, Follows}
+use Rattle.split_cli.specs.CallFree.{IsCallFreeProgram}
+use Rattle.split_cli.specs.Drive.{code_of, first_world, drive_text}
+use Rattle.split_cli.specs.Driven.{DrivesTo}
 use Rattle.split_cli.specs.Loads.{Told}
-use Rattle.split_cli.specs.Replay.{IsCoded}
-use Rattle.split_cli.specs.Report.{report}
 use Rattle.split_cli.specs.PlacedSources.{PlacedSource, PlacedSources}
+use Rattle.split_cli.specs.Replay.{events_in, replay_text}
 use Rattle.split_cli.specs.Stages.{given}
 
+-- What a program and a host file of these bytes say and what is chosen for it, with the program as a tree, whose hosts
+-- can run it.
+pub record IsRunnable (program hosts : List ℕ) (placed : PlacedSource) (tree : Program) : Type 0 where
+  pub accepted : PlacedSources program hosts (given placed)
+  pub tree_is : program_tree tree ≡ placed.source.tree
+  pub call_free : IsCallFreeProgram placed.source.tree
+
+-- From these starting values on events left this world, and the hosts followed the plain run, at every moment.
+pub record IsFaithfulRun (placed : PlacedSource) (tree : Program) (start : List (List ℤ)) (events : List Event)
+    (last : WorldShape) : Type 0 where
+  pub follows : Follows tree (code_of placed) placed.source.file.hosts start events
+  -- the fields of the last world are those after so many steps of the plain run, and at its end once it has halted
+  pub steps : ℕ
+  pub fields : FieldsAre (code_of placed) last (prefix tree start steps).store
+  pub at_end : has_halted (code_of placed).root last → HasLength tree start steps
+  -- where nothing moves any more the program has halted, and no message was ignored
+  pub idle : NoneRuns last → NothingFlies last → has_halted (code_of placed).root last
+  pub none_ignored : (host : HostId) (state : HostShape) → state_at last host ≡ Some state → state.ignored ≡ 0
+
+-- ---- replays
+
 -- A program, a host file and a script of events of these bytes were replayed, to this report.
-pub record IsReplayed (program hosts events : List ℕ) (text : List ℕ) : Type 0 where
-  -- what the two files say and what is chosen for it, the program as a tree, and its code on the hosts
+pub record IsReplayed (program hosts script : List ℕ) (text : List ℕ) : Type 0 where
   pub placed : PlacedSource
   pub tree : Program
-  pub code : CodeShape
-  pub accepted : PlacedSources program hosts (given placed)
-  pub coded : IsCoded placed tree code
-  -- the events of the script, and the world that they lead to from the start
-  pub script : List (ℕ × Event)
-  pub last : World
-  pub short : length events ≤ SCRIPT_BYTES
-  pub read : script_of code.hosts events ≡ Ok script
-  pub runs : run code (world_at_start code (starting_values tree)) script ≡ Ok last
-  pub text_is : text ≡ report code last
+  pub runnable : IsRunnable program hosts placed tree
+  -- the starting values and the events of the script, and the world that they lead to
+  pub said : ScriptShape
+  pub last : WorldShape
+  pub short : length script ≤ SCRIPT_BYTES
+  pub read : script_of (code_of placed) script ≡ Ok said
+  pub runs : IsRun (code_of placed) (first_world placed said.start) (events_in said.events) last
+  pub text_is : text ≡ replay_text (code_of placed) last
 
--- The replay follows the plain run of its program, at every moment of the script.
-pub record IsFaithful (program hosts events : List ℕ) (text : List ℕ) : Type 0 where
-  pub replayed : IsReplayed program hosts events text
-  pub follows : Follows replayed.tree replayed.code (starting_values replayed.tree) replayed.script
-  -- the fields of the report are those after so many steps of the plain run, and at its end once it says `halted yes`
-  pub steps : ℕ
-  pub fields : FieldsAre replayed.code replayed.last (prefix replayed.tree (starting_values replayed.tree) steps).store
-  pub at_end : has_halted replayed.last ≡ true → HasLength replayed.tree (starting_values replayed.tree) steps
-  -- where nothing moves any more the program has halted, and no message was ignored
-  pub idle : IsIdle replayed.last → has_halted replayed.last ≡ true
-  pub none_ignored : All (λ host. host.ignored ≡ 0) replayed.last.hosts
+-- The replay follows the plain run of its program.
+pub record IsFaithful (program hosts script : List ℕ) (text : List ℕ) : Type 0 where
+  pub replayed : IsReplayed program hosts script text
+  -- the fields start with the values of the program's text, but for what the script sets
+  pub starts : replayed.said.start ≡ after_settings (starting_values replayed.tree)
+      (settings_in_front (map form_of (code_of replayed.placed).fields) (said_lines script))
+  pub faithful : IsFaithfulRun replayed.placed replayed.tree replayed.said.start (events_in replayed.said.events)
+      replayed.last
 
--- what was put is the faithful report of a replay of what the three files hold
-pub record PutsFaithfully
-    (program hosts events : List ℕ) (held : Option (List ℕ → Option (List ℕ))) (before after : Option (List ℕ))
-    : Type 0 where
+-- ---- drives
+
+-- The hosts of a program and a host file of these bytes were driven from the starting values of a file, to this status
+-- and this report.
+pub record IsDrivenTo (program hosts start : List ℕ) (most : ℕ) (status : Status) (text : List ℕ) : Type 0 where
+  pub placed : PlacedSource
+  pub tree : Program
+  pub runnable : IsRunnable program hosts placed tree
+  pub values : List (List ℤ)
+  pub events : List Event
+  pub last : WorldShape
+  pub short : length start ≤ SCRIPT_BYTES
+  pub read : start_of tree.fields.items start ≡ Ok values
+  pub ends : DrivesTo (code_of placed) (first_world placed values) most events last status
+  pub text_is : text ≡ drive_text (code_of placed) (length events) last
+
+-- The drive follows the plain run of its program from these starting values, and where it came to rest the program has
+-- halted.
+pub record IsFaithfulDrive (program hosts start : List ℕ) (most : ℕ) (status : Status) (text : List ℕ) : Type 0 where
+  pub driven : IsDrivenTo program hosts start most status text
+  pub faithful : IsFaithfulRun driven.placed driven.tree driven.values driven.events driven.last
+  pub rested : status ≡ Done → has_halted (code_of driven.placed).root driven.last
+
+-- ---- what is put
+
+-- what was put is a text of this kind for what the three files hold
+pub record PutsText (IsText : (program hosts third text : List ℕ) → Type 0) (program hosts third : List ℕ)
+    (held : Option (List ℕ → Option (List ℕ))) (before after : Option (List ℕ)) : Type 0 where
   pub program_bytes : List ℕ
   pub hosts_bytes : List ℕ
-  pub events_bytes : List ℕ
+  pub third_bytes : List ℕ
   pub program_told : Told held program (Some program_bytes)
   pub hosts_told : Told held hosts (Some hosts_bytes)
-  pub events_told : Told held events (Some events_bytes)
+  pub third_told : Told held third (Some third_bytes)
   pub text : List ℕ
-  pub faithful : IsFaithful program_bytes hosts_bytes events_bytes text
+  pub is : IsText program_bytes hosts_bytes third_bytes text
   pub put : Takes text before after
+
+-- the faithful report of a replay
+abbrev pub PutsFaithfully : (program hosts events : List ℕ) → Option (List ℕ → Option (List ℕ)) →
+    (before after : Option (List ℕ)) → Type 0
+PutsFaithfully program hosts events held before after = PutsText IsFaithful program hosts events held before after
+
+-- the faithful report of a drive that ended with this status
+abbrev pub PutsDriven : (program hosts start : List ℕ) (most : ℕ) (status : Status) →
+    Option (List ℕ → Option (List ℕ)) → (before after : Option (List ℕ)) → Type 0
+PutsDriven program hosts start most status held before after =
+    PutsText (λ p h s text. IsFaithfulDrive p h s most status text) program hosts start held before after

@@ -1,6 +1,6 @@
 pub mod Answers
 pub mod Asked
-pub mod Built
+pub mod CallFree
 pub mod Check
 pub mod Commands
 pub mod Drive
@@ -21,7 +21,6 @@ pub mod Sources
 pub mod Stages
 pub mod StatementLines
 pub mod StepCounts
-pub mod Straight
 pub mod Text
 pub mod Verdicts
 pub mod WorldReport

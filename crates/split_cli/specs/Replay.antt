@@ -1,73 +1,70 @@
--- What is due for a replay of an accepted program in its places on its hosts.
-use Rattle.std.specs.Prelude.{◌≡◌, ℕ, ◌<◌, ◌≤◌, ◌⊎◌, ℤ, List, All, length, Result, Ok, Err, slice_get, unwrap_or}
-use Rattle.std.specs.Option.{option_map}
-use Rattle.js_base.specs.declared.ids.HostId.{HostId}
-use Rattle.js_base.specs.declared.ids.StmtId.{StmtId}
+-- What is due for an accepted program in its places, whose hosts make the events of a script happen.
+use Rattle.std.specs.Prelude.{◌≡◌, ℕ, ◌<◌, ◌≤◌, ◌⊎◌, List, [], ◌∷◌, map, length, Some, Ok, Err}
 use Rattle.js_base.specs.declared.limits.TheConstants.{SCRIPT_BYTES}
 use Rattle.js_base.specs.declared.status.Status.TheVariants.{Done}
 use Rattle.jif_tree.specs.declared.program.Program.{Program}
-use Rattle.jif_tree.specs.Trees.{ProgramTree, program_tree}
-use Rattle.jif_tree.specs.Store.{starting_values}
-use Rattle.need_labels.specs.Plan.{PlanShape, statement_host}
-use Rattle.net_world.specs.declared.first.events.Event.{Event}
-use Rattle.net_world.specs.first.Code.{CodeShape}
-use Rattle.net_world.specs.first.FirstCode.{Places, IsCodeOf}
-use Rattle.net_world.specs.first.Events.{script_of}
-use Rattle.net_world.specs.first.World.{World, Refusal, run, world_at_start}
-use Rattle.split_cli.specs.Built.{IsBuilt}
-use Rattle.split_cli.specs.Report.{report}
+use Rattle.jif_tree.specs.Trees.{program_tree}
+use Rattle.event_text.specs.declared.event.Event.{Event}
+use Rattle.event_text.specs.declared.event.Event.TheVariants.{Act}
+use Rattle.event_text.specs.Script.{ScriptShape, script_of}
+use Rattle.host_code.specs.Code.{CodeShape}
+use Rattle.host_code.specs.Sound.{IsSoundCode}
+use Rattle.net_world.specs.World.{WorldShape, Refusal, not_there, host_busy, refusal_of, IsStep, IsRun}
+use Rattle.split_cli.specs.CallFree.{IsCallFreeProgram}
+use Rattle.split_cli.specs.Drive.{code_of, first_world}
 use Rattle.split_cli.specs.PlacedSources.{PlacedSource}
-use Rattle.split_cli.specs.Verdicts.{VerdictShape, Print, program_not_built, too_long, no_form, event_refused}
+use Rattle.split_cli.specs.Text.{lines_text}
+use Rattle.split_cli.specs.Verdicts.{VerdictShape, Print, program_not_built, too_long, no_form, event_not_there}
+use Rattle.split_cli.specs.Verdicts.{event_host_busy}
+use Rattle.split_cli.specs.WorldReport.{world_lines}
 
--- the head of `main`
-abbrev pub main_head : ProgramTree → StmtId
-main_head tree =
-    unwrap_or (option_map (λ method. method.head) (slice_get tree.methods tree.main.0)) (record { 0 = 0 })
+-- events that stand on the lines of a script, each with the number of its line
+abbrev pub events_in : List (ℕ × Event) → List Event
+events_in said = map (λ one. one.1) said
 
--- the home of `main`, on which its head stands
-abbrev pub home_of : ProgramTree → PlanShape → HostId
-home_of tree plan = statement_host plan (main_head tree)
+-- the first event that is refused stands on this line, and those before it happen
+abbrev pub IsRefusedAt : CodeShape → WorldShape → List (ℕ × Event) → ℕ → Refusal → Type 0
+IsRefusedAt code world [] line why = ⊥
+IsRefusedAt code world (one ∷ said) line why =
+    ((one.0 ≡ line) × (refusal_of world one.1 ≡ Some why))
+    ⊎ ((next : WorldShape) × IsStep code world one.1 next × IsRefusedAt code next said line why)
 
--- the root host
-abbrev pub root_of : PlacedSource → HostId
-root_of placed = home_of placed.source.tree placed.plan
+-- what is said of a world at the end of a replay
+abbrev pub replay_text : CodeShape → WorldShape → List ℕ
+replay_text code world = lines_text (world_lines code world)
 
--- hosts can run the program in its places so far: all statements are on the root host
-pub record IsBuiltThere (placed : PlacedSource) : Type 0 where
-  pub program : IsBuilt placed.source.tree
-  pub together : All (λ host. host ≡ root_of placed) placed.plan.statements
-
--- where the code of such a program stands
-abbrev pub places_of : PlacedSource → Places
-places_of placed = record { root = root_of placed; fields = placed.plan.fields }
-
--- the program is that of the source, and this is its code in its places
-pub record IsCoded (placed : PlacedSource) (program : Program) (code : CodeShape) : Type 0 where
-  pub tree_is : program_tree program ≡ placed.source.tree
-  pub built : IsBuiltThere placed
-  pub code_is : IsCodeOf program placed.source.file (places_of placed) code
-
--- ---- scripts
-
--- what is due for the script of events of a code
-abbrev pub due_after : List ℕ → CodeShape → Result World (ℕ × Refusal) → VerdictShape
-due_after file code (Ok w) = Print Done (report code w)
-due_after file code (Err refused) = event_refused file refused.0 refused.1
-
-abbrev pub due_for_script : List ℕ → CodeShape → World → Result (List (ℕ × Event)) ℕ → VerdictShape
-due_for_script file code w (Err line) = no_form file line
-due_for_script file code w (Ok script) = due_after file code (run code w script)
-
--- the script is too long, or is read and run from these starting values
-abbrev pub DueForScript : List ℕ → CodeShape → List (List ℤ) → List ℕ → VerdictShape → Type 0
-DueForScript file code values events verdict =
-    ((SCRIPT_BYTES < length events) × (verdict ≡ too_long file))
-    ⊎ ((length events ≤ SCRIPT_BYTES)
-    × (verdict ≡ due_for_script file code (world_at_start code values) (script_of code.hosts events)))
+-- Events happen one after the other, and the report is that of the world that they leave; or the first is refused that
+-- is not there, or whose host is busy.
+pub data DueForEvents (file : List ℕ) (code : CodeShape) (world : WorldShape) (said : List (ℕ × Event)) :
+    VerdictShape → Type 0 where
+  happened : (last : WorldShape) → IsRun code world (events_in said) last →
+      DueForEvents file code world said (Print Done (replay_text code last))
+  absent : (line : ℕ) → IsRefusedAt code world said line not_there →
+      DueForEvents file code world said (event_not_there file line)
+  busy : (line : ℕ) → IsRefusedAt code world said line host_busy →
+      DueForEvents file code world said (event_host_busy file line)
 
 -- ---- what is due, where the third file has this name and holds these bytes
 
-pub data DueForReplay (file events : List ℕ) (placed : PlacedSource) : VerdictShape → Type 0 where
-  not_built : ¬ IsBuiltThere placed → DueForReplay file events placed program_not_built
-  scripted : (program : Program) (code : CodeShape) (verdict : VerdictShape) → IsCoded placed program code →
-      DueForScript file code (starting_values program) events verdict → DueForReplay file events placed verdict
+pub data DueForScript (file script : List ℕ) (placed : PlacedSource) : VerdictShape → Type 0 where
+  long : SCRIPT_BYTES < length script → DueForScript file script placed (too_long file)
+  bad_line : (line : ℕ) → length script ≤ SCRIPT_BYTES → script_of (code_of placed) script ≡ Err line →
+      DueForScript file script placed (no_form file line)
+  read : (said : ScriptShape) (verdict : VerdictShape) → length script ≤ SCRIPT_BYTES →
+      IsSoundCode (code_of placed) → script_of (code_of placed) script ≡ Ok said →
+      DueForEvents file (code_of placed) (first_world placed said.start) said.events verdict →
+      DueForScript file script placed verdict
+
+-- hosts can't run the program yet, or they make the script happen; the tree is that of some program
+abbrev pub DueForReplay : List ℕ → List ℕ → PlacedSource → VerdictShape → Type 0
+DueForReplay file script placed verdict =
+    (¬ IsCallFreeProgram placed.source.tree × (verdict ≡ program_not_built))
+    ⊎ (IsCallFreeProgram placed.source.tree
+    × ((program : Program) × (program_tree program ≡ placed.source.tree) × DueForScript file script placed verdict))
+
+-- ---- in the program
+
+-- no host misbehaves in the event
+abbrev pub IsObeying : Event → Type 0
+IsObeying (Act from to made) = ⊥
+IsObeying other = Unit {0}

@@ -28,7 +28,6 @@ use Rattle.jif_tree.specs.Numbering.{statement_lines}
 use Rattle.jif_tree.specs.Trees.{ProgramTree}
 use Rattle.place_rules.specs.declared.place_error.PlaceError.{PlaceError}
 use Rattle.place_rules.specs.declared.place_error.PlaceError.TheVariants as place
-use Rattle.net_world.specs.first.World.{Refusal, not_there, host_busy}
 use Rattle.split_cli.specs.declared.verdict.Verdict as verdict
 use Rattle.split_cli.specs.declared.verdict.Verdict.TheVariants as variants
 
@@ -187,6 +186,10 @@ at_file_line file line text =
 abbrev pub no_form : List ℕ → ℕ → VerdictShape
 no_form file line = at_file_line file line (codes "no form")
 
-abbrev pub event_refused : List ℕ → ℕ → Refusal → VerdictShape
-event_refused file line not_there = at_file_line file line (codes "not there")
-event_refused file line host_busy = at_file_line file line (codes "host busy")
+-- there is no such event as a line says
+abbrev pub event_not_there : List ℕ → ℕ → VerdictShape
+event_not_there file line = at_file_line file line (codes "not there")
+
+-- its host runs a thread, and takes no message meanwhile
+abbrev pub event_host_busy : List ℕ → ℕ → VerdictShape
+event_host_busy file line = at_file_line file line (codes "host busy")

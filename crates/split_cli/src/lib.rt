@@ -1,20 +1,19 @@
 //! The program `jifsplit`, from words and files to what it puts out.
 #![tactic(auto)]
 
-mod built;
+mod call_free;
 mod commands;
 mod driving;
-mod first_code;
 mod laws;
 mod load;
 mod place_lines;
 mod placed;
-mod report;
+mod placed_code;
+mod replaying;
 mod row_line;
 mod sources;
 mod statement_lines;
 mod stop;
-mod straight;
 mod top;
 mod verdict;
 mod words;

@@ -1,12 +1,12 @@
 //! The top call, from words and files to a status and what is put out.
 
-ghost use Rattle.std.specs.Prelude.{◌≡◌, ◌≤◌, ◌+◌, ℕ, List, length, map, string_bytes, IfOk, OnOk, IsErrOf};
+ghost use Rattle.std.specs.Prelude.{◌≡◌, ◌≤◌, ◌+◌, ◌⊎◌, ℕ, List, length, map, string_bytes, IfOk, OnOk, IsErrOf};
 ghost use Rattle.js_base.specs.Sink.{TakesFront};
 ghost use Rattle.split_cli.specs.Answers.{AnswersTo};
 ghost use Rattle.split_cli.specs.Commands as command;
 ghost use Rattle.split_cli.specs.Asked.{command_shape};
 ghost use Rattle.split_cli.specs.Due.{IsDue, IsDueForCommand};
-ghost use Rattle.split_cli.specs.Faithful.{PutsFaithfully};
+ghost use Rattle.split_cli.specs.Faithful.{PutsDriven, PutsFaithfully};
 ghost use Rattle.split_cli.specs.Verdicts.{verdict_shape, no_memory_line};
 
 use crate::commands::check::due_for_check;
@@ -17,10 +17,13 @@ use crate::stop::Stop;
 use crate::verdict::Verdict;
 use crate::words::{Command, command_of};
 use host_decl::host_file_laws;
-use jif_resolve::program_laws;
+use jif_parse::named_laws;
+use jif_resolve::{labelling_laws, limit_laws, program_laws};
 use js_base::{Files, OutOfMemory, PutError, Sink, Status};
-use net_world::first::laws::all_obey_laws;
+use need_labels::need_laws;
 use placement::placement_laws;
+use simulation::obeying_laws;
+use split_rules::{asking_laws, trust_laws};
 use std::alloc::Global;
 
 /// Runs `jifsplit` on the words after its name.
@@ -74,6 +77,11 @@ pub fn jifsplit<F: Files, S: Sink, E: Sink>(
     ensures headline { (program hosts events : List ℕ) →
         map string_bytes words.now ≡ command.words_of (command.Replay program hosts events) → result ≡ Status.Done →
         PutsFaithfully program hosts events (F.held files.old) (S.taken out.old) (S.taken out.new) }
+    // So it is where hosts were driven, to their rest or by all their events. At rest the program has halted.
+    ensures driven { (program hosts start : List ℕ) (events : ℕ) → command.IsStepCount events →
+        map string_bytes words.now ≡ command.words_of (command.Drive program hosts start events) →
+        (result ≡ Status.Done) ⊎ (result ≡ Status.Spent) →
+        PutsDriven program hosts start events result (F.held files.old) (S.taken out.old) (S.taken out.new) }
     // Whatever it answers, it asks for no more loads than its words name files, saves nothing, and leaves what is held.
     ensures loads { (asked : command.CommandShape) → command.IsCommand asked →
         map string_bytes words.now ≡ command.words_of asked →
@@ -83,9 +91,15 @@ pub fn jifsplit<F: Files, S: Sink, E: Sink>(
     ensures held { F.held files.new ≡ F.held files.old }
 {
     host_file_laws();
+    named_laws();
+    limit_laws();
     program_laws();
-    all_obey_laws();
+    labelling_laws();
+    need_laws();
     placement_laws();
+    trust_laws();
+    asking_laws();
+    obeying_laws();
     answered(alloc, words, files, out, err)
 }
 

@@ -33,7 +33,6 @@ pub enum Verdict {
 impl Verdict {
     ghost use Rattle.split_cli.specs.Verdicts.{verdict_shape};
     ghost use Rattle.host_decl.specs.Refusal.{refusal_shape};
-    ghost use Rattle.net_world.specs.first.World.{not_there, host_busy};
 
     /// A refusal whose line says this after the program's name.
     fn refusal(alloc: Global, status: Status, text: &str) -> Result<Verdict, OutOfMemory>
@@ -190,14 +189,14 @@ impl Verdict {
 
     /// There is no such event as a line of a script says.
     pub fn not_there(alloc: Global, file: &str, line: u32) -> Result<Verdict, OutOfMemory>
-        ensures { IfOk result (λ verdict. verdict_shape verdict ≡ verdicts.event_refused file.now line not_there) }
+        ensures { IfOk result (λ verdict. verdict_shape verdict ≡ verdicts.event_not_there file.now line) }
     {
         Verdict::at_line(alloc, file, line, "not there")
     }
 
     /// The host of an event runs a thread.
     pub fn host_busy(alloc: Global, file: &str, line: u32) -> Result<Verdict, OutOfMemory>
-        ensures { IfOk result (λ verdict. verdict_shape verdict ≡ verdicts.event_refused file.now line host_busy) }
+        ensures { IfOk result (λ verdict. verdict_shape verdict ≡ verdicts.event_host_busy file.now line) }
     {
         Verdict::at_line(alloc, file, line, "host busy")
     }

@@ -6,6 +6,7 @@ ghost use Rattle.std.specs.Fmt.{decimal};
 ghost use Rattle.std.specs.Prelude.{codes};
 ghost use Rattle.net_world.specs.Fits.{WorldFits, world_of};
 ghost use Rattle.split_cli.specs.Drive.{drive_text, events_line};
+ghost use Rattle.split_cli.specs.Replay.{replay_text};
 ghost use Rattle.split_cli.specs.Text.{line_text};
 ghost use Rattle.split_cli.specs.WorldReport.{halted_line};
 
@@ -36,6 +37,21 @@ pub fn drive_text(
 {
     let mut text = String::new(alloc);
     push_count(&mut text, made)?;
+    push_halted(&mut text, code, world)?;
+    push_fields(alloc, &mut text, code, world)?;
+    push_hosts(&mut text, code, world)?;
+    push_flying(alloc, &mut text, code, world)?;
+    Ok(text)
+}
+
+/// The report of a replay that left this world: whether the program has halted, the fields, the hosts, and what is in
+/// flight.
+#[tactic(auto, using(crate::proofs::WorldLines::replay_parts))]
+pub fn replay_text(alloc: Global, code: &Code, world: &World) -> Result<String, OutOfMemory>
+    requires { WorldFits code.now world.now }
+    ensures { IfOk result (λ text. string_bytes text ≡ replay_text code.now (world_of world.now)) }
+{
+    let mut text = String::new(alloc);
     push_halted(&mut text, code, world)?;
     push_fields(alloc, &mut text, code, world)?;
     push_hosts(&mut text, code, world)?;

@@ -17,15 +17,15 @@ ghost use Rattle.split_cli.specs.PlacedSources.{labelled_source};
 ghost use Rattle.split_cli.specs.SourceShapes.{source_shape};
 ghost use Rattle.split_cli.specs.Verdicts.{verdict_shape};
 
+use crate::call_free::is_call_free;
 use crate::commands::{host_file, program_file, script_file};
 use crate::driving::drive;
 use crate::load::{Loaded, load_all};
 use crate::placed::{PlacedSource, read_places};
+use crate::placed_code::code_of;
 use crate::stop::Stop;
-use crate::straight::is_straight_there;
 use crate::verdict::Verdict;
 use crate::world_report::drive_text;
-use control_split::emit;
 use event_text::{EventsError, read_start};
 use jif_tree::Store;
 use js_base::{Files, OutOfMemory};
@@ -100,7 +100,7 @@ fn drive_from(
     ensures { IfOk result (λ verdict. (s : List ℕ) → IsLoaded SCRIPT_BYTES s start.now →
         DueForDrive name.now s most (placed_shape placed.now) (verdict_shape verdict)) }
 {
-    if !is_straight_there(&placed.source.checked.program, &placed.plan) {
+    if !is_call_free(&placed.source.checked.program) {
         return Verdict::program_not_built(alloc);
     }
     hosts_from(alloc, name, start, most, placed)
@@ -150,15 +150,8 @@ fn driven(
     requires labelled { labelled_of placed.now.source.checked ≡ labelled_source (source_shape placed.now.source) }
     ensures { IfOk result (λ verdict. IsDriveReport (placed_shape placed.now) store.now most (verdict_shape verdict)) }
 {
-    let hosts = &placed.source.hosts;
-    let code = emit(
-        alloc,
-        &placed.source.checked,
-        &placed.needs,
-        hosts,
-        &placed.plan,
-    )?;
-    let mut world = World::start(alloc, &code, hosts, 0, store)?;
+    let code = code_of(alloc, placed)?;
+    let mut world = World::start(alloc, &code, &placed.source.hosts, 0, store)?;
     let driven = drive(&code, &mut world, most)?;
     let text = drive_text(alloc, &code, driven.made, &world)?;
     Ok(Verdict::Print {

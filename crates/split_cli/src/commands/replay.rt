@@ -1,32 +1,35 @@
 //! The command `replay`.
 
-ghost use Rattle.std.specs.Prelude.{◌≡◌, ◌≤◌, ◌<◌, ◌^◌, ◌+◌, ◌∷◌, [], ℕ, List, IfOk, length};
+ghost use Rattle.std.specs.Prelude.{◌≡◌, ◌≤◌, ◌+◌, ◌∷◌, [], ℕ, List, All, IfOk, length, Ok};
 ghost use Rattle.js_base.specs.declared.limits.TheConstants.{PROGRAM_BYTES, HOSTS_BYTES, SCRIPT_BYTES};
-ghost use Rattle.jif_tree.specs.Limits.{IsWithinLimits};
-ghost use Rattle.jif_tree.specs.Store.{starting_values};
 ghost use Rattle.jif_tree.specs.Trees.{program_tree};
-ghost use Rattle.jif_tree.specs.WellNumbered.{IsWellNumbered};
-ghost use Rattle.placement.specs.Placing.{HasHosts};
+ghost use Rattle.jif_tree.specs.Sizes.{IsSized};
+ghost use Rattle.need_labels.specs.Labelled.{labelled_of};
+ghost use Rattle.net_world.specs.Fits.{WorldFits, world_of};
+ghost use Rattle.net_world.specs.Steps.{HaveMade};
+ghost use Rattle.split_rules.specs.Splittable.{IsSplittable};
 ghost use Rattle.split_cli.specs.Commands as command;
 ghost use Rattle.split_cli.specs.Due.{DueForBytes, IsDueForCommand};
 ghost use Rattle.split_cli.specs.Loading.{EndsIn, IsLoaded};
-ghost use Rattle.split_cli.specs.Replay.{DueForReplay, DueForScript};
+ghost use Rattle.split_cli.specs.Replay.{DueForEvents, DueForReplay, DueForScript, IsObeying};
 ghost use Rattle.split_cli.specs.PlacedShapes.{placed_shape};
+ghost use Rattle.split_cli.specs.PlacedSources.{labelled_source};
+ghost use Rattle.split_cli.specs.SourceShapes.{source_shape};
 ghost use Rattle.split_cli.specs.Verdicts.{verdict_shape};
 
-use crate::built::{is_built_there, root_of};
+use crate::call_free::is_call_free;
 use crate::commands::{host_file, program_file, script_file};
-use crate::first_code::code_of;
 use crate::load::{Loaded, load_all};
 use crate::placed::{PlacedSource, read_places};
-use crate::report::report_text;
+use crate::placed_code::code_of;
+use crate::replaying::{ReplayError, replay};
 use crate::stop::Stop;
 use crate::verdict::Verdict;
-use jif_tree::{Program, Store};
+use crate::world_report::replay_text;
+use event_text::{Event, EventsError, read_events};
+use host_code::Code;
 use js_base::{Files, OutOfMemory, Status};
-use net_world::first::code::Code;
-use net_world::first::events::{EventsError, read_events};
-use net_world::first::world::{EventError, World};
+use net_world::World;
 use std::alloc::Global;
 
 /// What is due for `replay P H EVENTS`.
@@ -82,58 +85,73 @@ fn replay_from(
     events: &Loaded,
     placed: &PlacedSource,
 ) -> Result<Verdict, OutOfMemory>
-    requires limits { IsWithinLimits (program_tree placed.now.source.checked.program) }
-    requires numbered { IsWellNumbered (program_tree placed.now.source.checked.program) }
-    requires each { length placed.now.plan.fields ≡ length placed.now.source.checked.program.fields.items }
-    requires hosts { HasHosts placed.now.source.hosts placed.now.plan }
+    requires splittable { IsSplittable (labelled_of placed.now.source.checked) placed.now.source.hosts
+        placed.now.plan }
+    requires sized { IsSized (program_tree placed.now.source.checked.program) }
+    requires labelled { labelled_of placed.now.source.checked ≡ labelled_source (source_shape placed.now.source) }
     ensures { IfOk result (λ verdict. (e : List ℕ) → IsLoaded SCRIPT_BYTES e events.now →
         DueForReplay name.now e (placed_shape placed.now) (verdict_shape verdict)) }
 {
-    let program = &placed.source.checked.program;
-    if !is_built_there(program, &placed.plan) {
+    if !is_call_free(&placed.source.checked.program) {
         return Verdict::program_not_built(alloc);
     }
-    let hosts = placed.source.hosts.hosts();
-    let root = root_of(program, &placed.plan);
-    let code = code_of(alloc, program, hosts, root, placed.plan.fields())?;
     match events {
-        Loaded::Bytes(bytes) => replayed(alloc, name, program, &code, bytes),
+        Loaded::Bytes(bytes) => scripted(alloc, name, placed, bytes),
         Loaded::TooLong => Verdict::too_long(alloc, name),
     }
 }
 
-/// What is due for a script of events of this name.
-fn replayed(
+/// What is due for a script of events of this name that is not too long, where hosts can run the program.
+fn scripted(
     alloc: Global,
     name: &str,
-    program: &Program,
-    code: &Code,
+    placed: &PlacedSource,
     events: &[u8],
 ) -> Result<Verdict, OutOfMemory>
-    requires { length code.now.fields < 2 ^ 32 }
+    requires splittable { IsSplittable (labelled_of placed.now.source.checked) placed.now.source.hosts
+        placed.now.plan }
+    requires sized { IsSized (program_tree placed.now.source.checked.program) }
+    requires labelled { labelled_of placed.now.source.checked ≡ labelled_source (source_shape placed.now.source) }
     ensures { IfOk result (λ verdict.
-        DueForScript name.now code.now (starting_values program.now) events.now (verdict_shape verdict)) }
+        DueForScript name.now events.now (placed_shape placed.now) (verdict_shape verdict)) }
 {
-    let script = match read_events(alloc, code, events) {
+    let code = code_of(alloc, placed)?;
+    let script = match read_events(alloc, &code, events) {
         Ok(script) => script,
         Err(EventsError::BadLine(line)) => return Verdict::no_form(alloc, name, line),
         Err(EventsError::TooLong) => return Verdict::too_long(alloc, name),
         Err(EventsError::OutOfMemory) => return Err(OutOfMemory),
     };
-    let store = Store::starting(alloc, program)?;
-    let mut world = World::start(alloc, code, &store)?;
-    match world.run(code, script.events()) {
+    let store = script.start();
+    let world = World::start(alloc, &code, &placed.source.hosts, 0, store)?;
+    replayed(alloc, name, &code, world, script.events())
+}
+
+/// What is due for the events of a script of this name, from a world that has just started.
+fn replayed(
+    alloc: Global,
+    name: &str,
+    code: &Code,
+    from: World,
+    events: &[(u32, Event)],
+) -> Result<Verdict, OutOfMemory>
+    requires fits { WorldFits code.now from }
+    requires fresh { HaveMade 0 from.hosts }
+    requires obeying { All (λ one. IsObeying one.1) events.now }
+    ensures { IfOk result (λ verdict.
+        DueForEvents name.now code.now (world_of from) events.now (verdict_shape verdict)) }
+{
+    let mut world = from;
+    match replay(code, &mut world, events) {
         Ok(()) => {
-            let text = report_text(alloc, code, &world)?;
+            let text = replay_text(alloc, code, &world)?;
             Ok(Verdict::Print {
                 status: Status::Done,
                 text,
             })
         }
-        Err((line, EventError::NotThere)) => Verdict::not_there(alloc, name, line),
-        Err((line, EventError::HostBusy)) => Verdict::host_busy(alloc, name, line),
-        Err((_, EventError::OutOfMemory)) => Err(OutOfMemory),
-        // No host of a world that has just started is stopped.
-        Err((_, EventError::Stopped)) => unreachable!(),
+        Err(ReplayError::NotThere(line)) => Verdict::not_there(alloc, name, line),
+        Err(ReplayError::HostBusy(line)) => Verdict::host_busy(alloc, name, line),
+        Err(ReplayError::OutOfMemory) => Err(OutOfMemory),
     }
 }

@@ -45,7 +45,7 @@ all_laws c = record {
     same_runs = c.run_laws.ensures.same_runs;
     one_answer = c.run_laws.ensures.one_answer;
   };
-  steps = c.step_laws.ensures.one;
+  steps = record { one = c.step_laws.ensures.one; not_refused = c.step_laws.ensures.not_refused };
 }
 
 pub returns-clause-one_source : goal.returns-clause-one_source

@@ -1,13 +1,36 @@
-use Rattle.split_cli.proofs.Faithful.{done_is_faithful}
+use Rattle.split_cli.proofs.Faithful.{AllLaws, replay_is_faithful, drive_is_faithful}
 use Rattle.split_cli.proofs.top.jifsplit.Goals as goal
+
+all_laws : (g : _) (c : goal.After-answered g) → AllLaws
+all_laws g c = record {
+  reading = record {
+    hosts = c.host_file_laws.ensures.sound;
+    named = c.named_laws.ensures.of_text;
+    limited = c.limit_laws.ensures.limited;
+    statements = c.program_laws.ensures.statements;
+    sites = c.program_laws.ensures.sites;
+    numbered = c.program_laws.ensures.well_numbered;
+    labelled = c.labelling_laws.ensures.labelled;
+    guards = c.labelling_laws.ensures.guards;
+  };
+  plans = record {
+    lengths = c.need_laws.ensures.lengths;
+    allowed = c.placement_laws.ensures.allowed;
+    hosts = c.placement_laws.ensures.hosts;
+  };
+  splits = record { typable = c.trust_laws.ensures.typable; granted = c.asking_laws.ensures.granted };
+  obeying = λ tree labelled need file plan store events world set ran. record {
+    follows = c.obeying_laws.ensures.follows tree labelled need file plan store events world set ran;
+    idle = c.obeying_laws.ensures.idle tree labelled need file plan store events world set ran;
+    ignored = λ host state is.
+        c.obeying_laws.ensures.ignored tree labelled need file plan store events world host state set ran is;
+  };
+}
 
 pub returns-clause-headline : goal.returns-clause-headline
 returns-clause-headline g c = λ program hosts events asked done.
-    done_is_faithful (λ bytes file reads. (c.host_file_laws.ensures.sound bytes file reads).names)
-    c.program_laws.ensures.well_numbered c.placement_laws.ensures.hosts
-    (λ tree file code store script w set ran. record {
-      follows = c.all_obey_laws.ensures.follows tree file code store script w set ran;
-      idle = c.all_obey_laws.ensures.idle tree file code store script w set ran;
-      ignored = c.all_obey_laws.ensures.ignored tree file code store script w set ran;
-    })
-    _ _ _ _ _ program hosts events c.answered.ensures.answer asked done
+    replay_is_faithful (all_laws g c) _ _ _ _ _ program hosts events c.answered.ensures.answer asked done
+
+pub returns-clause-driven : goal.returns-clause-driven
+returns-clause-driven g c = λ program hosts start events few asked success.
+    drive_is_faithful (all_laws g c) _ _ _ _ _ program hosts start events c.answered.ensures.answer few asked success

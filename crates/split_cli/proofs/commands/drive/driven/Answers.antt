@@ -1,13 +1,10 @@
-use Rattle.need_labels.specs.Labelled.{labelled_of}
 use Rattle.net_world.specs.Fits.{world_of}
 use Rattle.split_cli.specs.PlacedShapes.{placed_shape}
-use Rattle.split_cli.proofs.DriveDue.{split_hosts, obey_from, report_made}
+use Rattle.split_cli.proofs.DriveDue.{code_hosts, obey_from, report_made}
 use Rattle.split_cli.proofs.commands.drive.driven.Goals as goal
 
 pub start-requires : goal.start-requires
-start-requires c =
-    split_hosts (labelled_of c.args.placed.now.source.checked) c.args.placed.now.needs c.args.placed.now.source.hosts
-    c.args.placed.now.plan c.in_ok-code.code c.in_ok-code.ensures
+start-requires c = code_hosts (placed_shape c.args.placed.now) c.in_ok-code.code c.in_ok-code.ensures.code
 
 pub drive-requires-clause-obey : goal.drive-requires-clause-obey
 drive-requires-clause-obey c =
@@ -15,7 +12,6 @@ drive-requires-clause-obey c =
 
 pub returns : goal.returns
 returns c =
-    report_made (placed_shape c.args.placed.now) c.in_ok-code.code
-    (labelled_of c.args.placed.now.source.checked) c.args.store.now c.args.most
-    (world_of c.in_ok-world.world) _ c.in_ok-driven.driven _ c.in_ok-code.ensures c.requires.labelled
+    report_made (placed_shape c.args.placed.now) c.in_ok-code.code c.args.store.now c.args.most
+    (world_of c.in_ok-world.world) _ c.in_ok-driven.driven _ c.in_ok-code.ensures.code c.in_ok-code.ensures.sound
     c.in_ok-world.ensures.start c.in_ok-driven.ensures.driven c.in_ok-text.ensures

@@ -1,0 +1,272 @@
+-- What the laws of hosts that all obey ask of an accepted program in its places.
+use Rattle.std.proofs.Common.{◌≡◌, ◌∙◌, ℕ, ◌≤◌, List, [], ◌∷◌, length, Option, Some, None}
+use Rattle.std.proofs.Common.{refl, sym, subst, arith, ⊎_elim, slice_get}
+use Rattle.std.specs.List.{AllZip, zip}
+use Rattle.std.specs.Option.{IsSomeAnd}
+use Rattle.std.proofs.lemmas.List.Elements.{recursion_from_All}
+use Rattle.js_base.specs.declared.ids.HostId.{HostId}
+use Rattle.js_base.specs.declared.limits.TheConstants.{PROGRAM_BYTES}
+use Rattle.principals.specs.ActsFor.{Declared, IsDeclared}
+use Rattle.jif_lex.specs.declared.token.Token.{Token}
+use Rattle.jif_lex.specs.Tokens.{ReadsAs, tokens}
+use Rattle.label_lattice.specs.declared.label.Label.{Label}
+use Rattle.label_lattice.specs.Label.{IsTrustedBy}
+use Rattle.host_decl.specs.Hosts.{HostShape, HostsShape, AreHosts}
+use Rattle.host_decl.specs.Reading.{ReadsHosts}
+use Rattle.host_code.specs.Sound.{IsSoundCode}
+use Rattle.jif_tree.specs.declared.program.Program.{Program}
+use Rattle.jif_tree.specs.GuardLabels.{AreAllGuardsLabelled}
+use Rattle.jif_tree.specs.LabelRules.{declared_labels, IsWellLabelled}
+use Rattle.jif_tree.specs.Labelling.{AreLabelledMethods}
+use Rattle.jif_tree.specs.Named.{AreNamed}
+use Rattle.jif_tree.specs.Numbering.{CountsFrom, statement_numbers, site_numbers}
+use Rattle.jif_tree.specs.Trees.{MethodTree, ProgramTree, program_tree}
+use Rattle.jif_tree.specs.WellNumbered.{IsWellNumbered}
+use Rattle.jif_grammar.specs.DraftShapes.{DraftShape}
+use Rattle.jif_grammar.specs.Programs as grammar
+use Rattle.jif_resolve.specs.Sizes.{IsLimited}
+use Rattle.jif_resolve.specs.Verdicts.{IsProgramOf}
+use Rattle.need_labels.specs.Labelled as needs
+use Rattle.need_labels.specs.Needs.{NeedsShape, AreNeedsOf}
+use Rattle.need_labels.specs.Plan.{PlanShape}
+use Rattle.place_rules.specs.Allowed.{AllowedShape}
+use Rattle.place_rules.specs.PlaceRules.{HoldsOn, MayHoldStatement}
+use Rattle.placement.specs.Placing.{IsPlaced, IsAllowedPlan, HasHosts}
+use Rattle.msg_cost.specs.Moves.{planned_of}
+use Rattle.split_rules.specs.Allowed.{IsTrustedHost, IsAllowed}
+use Rattle.split_rules.specs.Asking.{AreGranted}
+use Rattle.split_rules.specs.Held.{IsHeld}
+use Rattle.split_rules.specs.SplitCode.{split_code}
+use Rattle.split_rules.specs.Splittable.{IsSplittable}
+use Rattle.split_rules.specs.Typable.{IsTypable}
+use Rattle.simulation.specs.Obeying.{IsSet}
+use Rattle.simulation.specs.Programs.{IsCallFree}
+use Rattle.split_cli.specs.CallFree.{IsCallFreeProgram}
+use Rattle.split_cli.specs.PlacedSources.{PlacedSource, AreChosen, PlacedSources, labelled_source}
+use Rattle.split_cli.specs.Sources.{Source, Accepted, AcceptedWith, Drafted, Sources}
+use Rattle.split_cli.specs.Stages.{given, stopped}
+use Rattle.split_cli.proofs.ReadLaws.{splittable}
+use Rattle.split_cli.proofs.VariableCounts.{variable_count}
+
+-- ---- the laws of the crates below
+
+pub record ReadingLaws : Type 0 where
+  pub hosts : (bytes : List ℕ) (file : HostsShape) → ReadsHosts bytes file → AreHosts file
+  pub named : (text : List ℕ) (list : List Token) (principals : Declared) (draft : DraftShape) (program : ProgramTree) →
+      length text ≤ PROGRAM_BYTES → ReadsAs text (tokens list) → grammar.IsProgramOf list draft →
+      IsProgramOf principals draft program → AreNamed program
+  pub limited : (list : List Token) (draft : DraftShape) → grammar.IsProgramOf list draft → IsLimited draft
+  pub statements : (principals : Declared) (draft : DraftShape) (tree : ProgramTree) →
+      IsProgramOf principals draft tree → CountsFrom 0 (statement_numbers tree)
+  pub sites : (principals : Declared) (draft : DraftShape) (tree : ProgramTree) →
+      IsProgramOf principals draft tree → CountsFrom 1 (site_numbers tree)
+  pub numbered : (principals : Declared) (draft : DraftShape) (tree : ProgramTree) →
+      IsProgramOf principals draft tree → IsWellNumbered tree
+  pub labelled : (principals : Declared) (draft : DraftShape) (tree : ProgramTree) →
+      IsDeclared principals → IsLimited draft → IsProgramOf principals draft tree →
+      AreLabelledMethods principals tree (declared_labels tree) tree.methods
+  pub guards : (principals : Declared) (draft : DraftShape) (tree : ProgramTree) →
+      IsProgramOf principals draft tree → AreAllGuardsLabelled principals tree (declared_labels tree) tree.methods
+
+pub record PlanLaws : Type 0 where
+  pub lengths : (principals : Declared) (labelled : needs.Labelled) (need : NeedsShape) →
+      AreNeedsOf principals labelled need →
+      (length need.used ≡ length (statement_numbers labelled.program))
+      × (length need.need ≡ length (statement_numbers labelled.program))
+      × (length need.loc ≡ length labelled.program.fields)
+      × (length need.readers ≡ length labelled.program.vars)
+  pub allowed : (labelled : needs.Labelled) (need : NeedsShape) (hosts : HostsShape) (allowed : AllowedShape)
+      (plan : PlanShape) → IsPlaced labelled need hosts allowed plan → IsAllowedPlan labelled need hosts plan
+  pub hosts : (labelled : needs.Labelled) (need : NeedsShape) (hosts : HostsShape) (allowed : AllowedShape)
+      (plan : PlanShape) → IsPlaced labelled need hosts allowed plan → HasHosts hosts plan
+
+pub record SplitLaws : Type 0 where
+  pub typable : (labelled : needs.Labelled) (need : NeedsShape) (hosts : HostsShape) (plan : PlanShape) →
+      IsAllowed labelled need hosts plan → IsTypable (planned_of labelled need hosts plan)
+  pub granted : (labelled : needs.Labelled) (need : NeedsShape) (hosts : HostsShape) (plan : PlanShape) →
+      IsSplittable labelled hosts plan → IsAllowed labelled need hosts plan → IsHeld labelled need hosts plan →
+      AreGranted (split_code labelled need hosts plan)
+
+-- ---- what the stages gave
+
+-- what is known of a source by its two files
+pub record IsReadSource (program hosts : List ℕ) (source : Source) : Type 0 where
+  pub list : List Token
+  pub few : length program ≤ PROGRAM_BYTES
+  pub read : ReadsAs program (tokens list)
+  pub draft : DraftShape
+  pub parsed : grammar.IsProgramOf list draft
+  pub file : ReadsHosts hosts source.file
+  pub resolved : IsProgramOf source.file.principals draft source.tree
+  pub labels : IsWellLabelled source.file.principals source.tree
+
+-- what the places gave
+places_given : (program hosts : List ℕ) (placed : PlacedSource) → PlacedSources program hosts (given placed) →
+    (source : Source) × Sources program hosts (given source) × AreChosen source placed
+places_given program hosts placed accepted =
+    ⊎_elim (λ both. (both.0, both.1, both.2)) (λ no. absurd (let other : given placed ≡ stopped no.0 = no.2 in cc))
+    accepted
+
+-- the source of a program with its places
+pub source_given : (program hosts : List ℕ) (placed : PlacedSource) → PlacedSources program hosts (given placed) →
+    Sources program hosts (given placed.source)
+source_given program hosts placed accepted =
+    let found = places_given program hosts placed accepted in
+    subst (λ (source : Source). Sources program hosts (given source)) (sym found.2.same) found.1
+
+pub chosen : (program hosts : List ℕ) (placed : PlacedSource) → PlacedSources program hosts (given placed) →
+    AreChosen placed.source placed
+chosen program hosts placed accepted =
+    let found = places_given program hosts placed accepted in
+    subst (λ (source : Source). AreChosen source placed) (sym found.2.same) found.2
+
+-- what a draft and the hosts gave
+accepted_of : (program hosts : List ℕ) (source : Source) → Sources program hosts (given source) →
+    (draft : DraftShape) × Drafted program (given draft) × AcceptedWith hosts draft (given source)
+accepted_of program hosts source accepted =
+    ⊎_elim (λ both. (both.0, both.1, both.2)) (λ no. absurd (let other : given source ≡ stopped no.0 = no.2 in cc))
+    accepted
+
+-- what the tokens gave
+with_tokens : (program : List ℕ) (draft : DraftShape) → Drafted program (given draft) →
+    (list : List Token) × (length program ≤ PROGRAM_BYTES) × ReadsAs program (tokens list)
+    × grammar.IsProgramOf list draft
+with_tokens program draft drafted =
+    ⊎_elim (λ both. (both.0, both.1.0, both.1.1, both.2))
+    (λ no. absurd (let other : given draft ≡ stopped no.0 = no.2 in cc)) drafted
+
+-- what the hosts gave
+with_hosts : (hosts : List ℕ) (draft : DraftShape) (source : Source) → AcceptedWith hosts draft (given source) →
+    (file : HostsShape) × ReadsHosts hosts file × Accepted file draft (given source)
+with_hosts hosts draft source accepted =
+    ⊎_elim (λ both. (both.0, both.1, both.2))
+    (λ no. absurd (let other : given source ≡ stopped no.0 = no.2 in cc)) accepted
+
+-- what the names gave
+with_names : (file : HostsShape) (draft : DraftShape) (source : Source) → Accepted file draft (given source) →
+    (tree : ProgramTree) × IsProgramOf file.principals draft tree × IsWellLabelled file.principals tree
+    × (source ≡ record { file = file; tree = tree })
+with_names file draft source accepted =
+    ⊎_elim (λ both. (both.0, both.1, both.2.0, both.2.1))
+    (λ no. absurd (let other : given source ≡ stopped no.0 = no.2 in cc)) accepted
+
+pub read_source : (program hosts : List ℕ) (source : Source) → Sources program hosts (given source) →
+    IsReadSource program hosts source
+read_source program hosts source accepted =
+    let drafted = accepted_of program hosts source accepted in
+    let lexed = with_tokens program drafted.0 drafted.1 in
+    let hosts_were = with_hosts hosts drafted.0 source drafted.2 in
+    let named = with_names hosts_were.0 drafted.0 source hosts_were.2 in
+    subst (IsReadSource program hosts) (sym named.3) (record {
+      list = lexed.0;
+      few = lexed.1;
+      read = lexed.2;
+      draft = drafted.0;
+      parsed = lexed.3;
+      file = hosts_were.1;
+      resolved = named.1;
+      labels = named.2;
+    })
+
+-- ---- the plan
+
+trusted_row : (used : Label) (need : ℕ) (found : Option HostShape) → IsSomeAnd found (MayHoldStatement (used, need)) →
+    IsSomeAnd found (λ row. IsTrustedBy row.label need)
+trusted_row used need None holds = absurd holds
+trusted_row used need (Some row) holds = holds.1
+
+-- whoever holds a statement is trusted for it
+trusted_from : (hosts : HostsShape) (used : List Label) (need : List ℕ) (places : List HostId) →
+    length used ≡ length need →
+    AllZip (λ one host. HoldsOn (MayHoldStatement one) hosts.hosts host.0) (zip used need) places →
+    AllZip (IsTrustedHost hosts) need places
+trusted_from hosts [] [] [] same all = tt
+trusted_from hosts [] [] (host ∷ places) same all = absurd all
+trusted_from hosts [] (n ∷ need) places same all = absurd (omega (arith, same))
+trusted_from hosts (u ∷ used) [] places same all = absurd (omega (arith, same))
+trusted_from hosts (u ∷ used) (n ∷ need) [] same all = absurd all
+trusted_from hosts (u ∷ used) (n ∷ need) (host ∷ places) same all = (
+  trusted_row u n (slice_get hosts.hosts host.0) all.0,
+  trusted_from hosts used need places (omega (arith, same)) all.1,
+)
+
+-- ---- the whole
+
+module _ (sources : ReadingLaws) (plans : PlanLaws) (splits : SplitLaws) (program hosts : List ℕ) (placed : PlacedSource)
+    (accepted : PlacedSources program hosts (given placed)) where
+  read : IsReadSource program hosts placed.source
+  read = read_source program hosts placed.source (source_given program hosts placed accepted)
+
+  choice : AreChosen placed.source placed
+  choice = chosen program hosts placed accepted
+
+  held : IsAllowedPlan (labelled_source placed.source) placed.needs placed.source.file placed.plan
+  held =
+      plans.allowed (labelled_source placed.source) placed.needs placed.source.file placed.allowed placed.plan choice.plan
+
+  counts : (length placed.needs.used ≡ length (statement_numbers placed.source.tree))
+      × (length placed.needs.need ≡ length (statement_numbers placed.source.tree))
+      × (length placed.needs.loc ≡ length placed.source.tree.fields)
+      × (length placed.needs.readers ≡ length placed.source.tree.vars)
+  counts = plans.lengths placed.source.file.principals (labelled_source placed.source) placed.needs choice.needs
+
+  are_hosts : AreHosts placed.source.file
+  are_hosts = sources.hosts hosts placed.source.file read.file
+
+  statements : CountsFrom 0 (statement_numbers placed.source.tree)
+  statements = sources.statements placed.source.file.principals read.draft placed.source.tree read.resolved
+
+  numbered : IsWellNumbered placed.source.tree
+  numbered = sources.numbered placed.source.file.principals read.draft placed.source.tree read.resolved
+
+  splits_there : IsSplittable (labelled_source placed.source) placed.source.file placed.plan
+  splits_there =
+      splittable (labelled_source placed.source) placed.source.file placed.plan (record {
+        numbered = numbered;
+        sites = sources.sites placed.source.file.principals read.draft placed.source.tree read.resolved;
+        named = sources.named program read.list placed.source.file.principals read.draft placed.source.tree read.few
+            read.read read.parsed read.resolved;
+        var_labels = variable_count placed.source.file.principals placed.source.tree;
+      }) are_hosts
+      (plans.hosts (labelled_source placed.source) placed.needs placed.source.file placed.allowed placed.plan choice.plan)
+
+  trusted : AllZip (IsTrustedHost placed.source.file) placed.needs.need placed.plan.statements
+  trusted =
+      trusted_from placed.source.file placed.needs.used placed.needs.need placed.plan.statements
+      (counts.0 ∙ sym counts.1) held.statements
+
+  allowed : IsAllowed (labelled_source placed.source) placed.needs placed.source.file placed.plan
+  allowed = record {
+    numbered = numbered;
+    statements = statements;
+    well_labelled = read.labels;
+    var_labels = refl;
+    methods = sources.labelled placed.source.file.principals read.draft placed.source.tree are_hosts.declared
+        (sources.limited read.list read.draft read.parsed) read.resolved;
+    needs_of = choice.needs;
+    trusted = trusted;
+  }
+
+  seen : IsHeld (labelled_source placed.source) placed.needs placed.source.file placed.plan
+  seen = record {
+    pc = refl;
+    guards = sources.guards placed.source.file.principals read.draft placed.source.tree read.resolved;
+    fields = held.fields;
+    statements = held.statements;
+  }
+
+  -- hosts that all obey follow the plain run of the program
+  pub set_there : (tree : Program) → program_tree tree ≡ placed.source.tree →
+      IsSoundCode (split_code (labelled_source placed.source) placed.needs placed.source.file placed.plan) →
+      IsCallFreeProgram placed.source.tree →
+      IsSet tree (labelled_source placed.source) placed.needs placed.source.file placed.plan
+  set_there tree is sound free = record {
+    is = is;
+    splittable = splits_there;
+    needs_of = choice.needs;
+    typable = splits.typable (labelled_source placed.source) placed.needs placed.source.file placed.plan allowed;
+    sound = sound;
+    granted = splits.granted (labelled_source placed.source) placed.needs placed.source.file placed.plan splits_there
+        allowed seen;
+    call_free = recursion_from_All (λ (method : MethodTree). IsCallFree method.body) placed.source.tree.methods free;
+  }
