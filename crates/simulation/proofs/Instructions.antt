@@ -1,9 +1,8 @@
 -- What the instructions of a host make of what is still to be done, by the laws of their positions.
-use Rattle.std.proofs.Common.{◌≡◌, ◌∙◌, ℕ, suc, ◌+◌, inl, inr, true, List, [], ◌∷◌, ◌++◌, map, length}
+use Rattle.std.proofs.Common.{◌≡◌, ◌∙◌, ℕ, suc, ◌+◌, true, List, [], ◌∷◌, ◌++◌, map, length}
 use Rattle.std.proofs.Common.{refl, ap, sym, subst, arith, append-nil}
-use Rattle.std.specs.Prelude.{ℤ, pos, nat_eq}
+use Rattle.std.specs.Prelude.{ℤ, pos}
 use Rattle.std.specs.List.{AllByRecursion}
-use Rattle.std.proofs.lemmas.Bool.Decides.{eqb_tells}
 use Rattle.std.proofs.lemmas.List.{map-append}
 use Rattle.js_base.specs.declared.ids.HostId.{HostId}
 use Rattle.js_base.specs.declared.ids.FieldId.{FieldId}
@@ -36,9 +35,9 @@ use Rattle.split_rules.specs.Positions.{forwards_of, all_due, statements_of}
 use Rattle.split_rules.specs.Typing.{Reads, Sets, Stores, IsValue, Follows}
 use Rattle.split_rules.proofs.TypedValues.{reads_many}
 use Rattle.simulation.proofs.KnownReaders.{IsReader, AreReaders}
-use Rattle.simulation.proofs.TreeValues.{tree_value, value_is, read_value, value_there, all_left, all_right, all_both}
-use Rattle.simulation.proofs.TreeValues.{AreSame}
 use Rattle.simulation.proofs.Simulates.{Split, place_of, alone, due_of, chain_due, IsLeft, IsAt}
+use Rattle.simulation.proofs.TreeValues.{tree_value, value_is, read_value, value_there, AreSame}
+use Rattle.simulation.proofs.Basics.{all_both, all_left, all_map, all_right, told_equal}
 
 -- the next instruction
 pub next_place : (split : Split) (host : HostId) (thread : ThreadShape) →
@@ -51,14 +50,6 @@ next_place split host thread = ap (place_of split host) (omega arith)
 abbrev pub Agrees : Split → Configuration → HostId → (VarId → ℤ) → Type 0
 Agrees split c host variables = (x : VarId) → reads_on split.planned x host.0 ≡ true →
     variables x ≡ source.variable c.calls 0 x.0
-
-all_map : {X : Type 0} (P Q : X → Type 0) → ((x : X) → P x → Q x) → (xs : List X) → AllByRecursion P xs →
-    AllByRecursion Q xs
-all_map P Q make [] all = tt
-all_map P Q make (x ∷ xs) all = (make x all.0, all_map P Q make xs all.1)
-
-pub told_equal : (a b : ℕ) → nat_eq a b ≡ true → a ≡ b
-told_equal a b told = elim (eqb_tells a b) [ inl same ↦ same.1 | inr apart ↦ absurd (cc (apart.0, told)) ]
 
 pub same_values : (split : Split) (c : Configuration) (host : HostId) (variables : VarId → ℤ) →
     Agrees split c host variables → (statement : BlockTree) → is_on split.planned host statement ≡ true →

@@ -23,7 +23,7 @@ use Rattle.msg_cost.specs.Moves.{PlannedShape}
 use Rattle.msg_cost.specs.Terms.{reads_on}
 use Rattle.split_rules.proofs.NumberedLists.{number_there}
 use Rattle.simulation.specs.Programs.{IsCallFree}
-use Rattle.simulation.proofs.TreeValues.{all_left, all_right, all_both}
+use Rattle.simulation.proofs.Basics.{all_both, all_left, all_right}
 
 -- ---- readers
 
@@ -97,11 +97,6 @@ reads_in one x (first ∷ uses) (inr more) reads =
     behind_first first one.id others (list_any (λ read. nat_eq read.0 x.0) first.reads) (reads_in one x uses more reads)
 
 -- ---- expressions
-
-all_map : {X : Type 0} (P Q : X → Type 0) → ((x : X) → P x → Q x) → (xs : List X) → AllByRecursion P xs →
-    AllByRecursion Q xs
-all_map P Q make [] all = tt
-all_map P Q make (x ∷ xs) all = (make x all.0, all_map P Q make xs all.1)
 
 -- every variable that an expression reads is there
 variables_there : (program : ProgramTree) (method : MethodId) (e : ExprTree) → IsExprIn program method e →

@@ -1,3 +1,4 @@
+pub mod Basics
 pub mod TreeValues
 pub mod PlainCode
 pub mod KnownReaders

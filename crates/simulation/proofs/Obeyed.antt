@@ -2,9 +2,7 @@
 use Rattle.std.proofs.Common.{◌≡◌, ℕ, suc, ◌<◌, inl, inr, List, Some, refl}
 use Rattle.std.proofs.Common.{subst, arith}
 use Rattle.std.specs.Prelude.{ℤ}
-use Rattle.std.specs.List.{AllByRecursion}
-use Rattle.std.proofs.Common.{[], ◌∷◌, zero, Some}
-use Rattle.std.specs.Prelude.{slice_get}
+use Rattle.std.proofs.Common.{Some}
 use Rattle.std.proofs.lemmas.List.{length-map}
 use Rattle.std.proofs.lemmas.Bool.{cases_eq}
 use Rattle.js_base.specs.declared.ids.HostId.{HostId}
@@ -35,14 +33,9 @@ use Rattle.simulation.proofs.Simulates.{Split, Simulates}
 use Rattle.simulation.proofs.Starts.{simulates_at_start}
 use Rattle.simulation.proofs.Events.{event_kept, halted_at_end, idle_halted}
 use Rattle.simulation.proofs.Tracks.{IsKept, Tracks, track, track_end}
+use Rattle.simulation.proofs.Basics.{all_at}
 
 -- ---- a split program
-
-pub all_at : {X : Type 0} (P : X → Type 0) (xs : List X) (place : ℕ) (x : X) → AllByRecursion P xs →
-    slice_get xs place ≡ Some x → P x
-all_at P [] place x all is = absurd (cc)
-all_at P (first ∷ xs) zero x all is = let same : first ≡ x = cc in subst P same all.0
-all_at P (first ∷ xs) (suc place) x all is = all_at P xs place x all.1 is
 
 -- a typed code of a program that is set
 unfoldable typed_split : (program : Program) (labelled : Labelled) (needs : NeedsShape) (hosts : HostsShape)

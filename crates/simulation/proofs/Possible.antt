@@ -36,9 +36,7 @@ use Rattle.simulation.proofs.Simulates.{goes, returns, halted, IsIdle, AreIdle, 
 use Rattle.simulation.proofs.Moved.{same_id, none_taken, the_one, own_cell}
 use Rattle.simulation.proofs.Pops.{top_of, top_on_stack}
 use Rattle.simulation.proofs.Takes.{may_here, awaited_first}
-
-some_same : {X : Type 0} (o : Option X) (x y : X) → o ≡ Some x → o ≡ Some y → x ≡ y
-some_same o x y first second = let both : Some x ≡ Some y = sym first ∙ second in cc
+use Rattle.simulation.proofs.Basics.{none_there, some_same}
 
 -- ---- checks that pass
 
@@ -217,15 +215,12 @@ runs_there : (o : Option HostShape) → IsSomeAnd o (λ state. IsSome state.runn
 runs_there None is = absurd is
 runs_there (Some state) is = (state, refl, is)
 
-no_thread : {X : Type 0} (o : Option X) → o ≡ None → IsSome o → ⊥
-no_thread {X = X} o none some = let both : IsSome {T = X} None = subst IsSome none some in cc
-
 -- a thread runs nowhere but on the holder
 runs_only : (world : WorldShape) (holder : Holder) → AreIdle holder world → (host : HostId) → IsIdle holder host →
     Runs world host → ⊥
 runs_only world holder idle host rests running =
     let there = runs_there (state_at world host) running in
-    no_thread there.0.running (idle host there.0 there.1 rests).0 there.2
+    none_there there.0.running (idle host there.0 there.1 rests).0 there.2
 
 -- nor on a holder that waits
 runs_not : (world : WorldShape) (host holder : HostId) (state : HostShape) → state_at world holder ≡ Some state →
@@ -234,7 +229,7 @@ runs_not world host holder state obeys rests same running =
     let one : host ≡ holder = same_id host holder same in
     let there = runs_there (state_at world host) running in
     let is = some_same (state_at world holder) there.0 state (ap (state_at world) (sym one) ∙ there.1) obeys in
-    no_thread there.0.running (ap (λ (s : HostShape). s.running) is ∙ rests) there.2
+    none_there there.0.running (ap (λ (s : HostShape). s.running) is ∙ rests) there.2
 
 -- where a thread runs the holder runs it
 running_holder : (split : Split) (c : Configuration) (world : WorldShape) (chain : List StackEntry) (out : List Forward)

@@ -40,6 +40,7 @@ use Rattle.simulation.proofs.Simulates.{Split, place_of, due_at, chain_due, AreS
 use Rattle.simulation.proofs.Transfers.{AreStatements, one_more}
 use Rattle.simulation.proofs.Moved.{same_id}
 use Rattle.simulation.proofs.Pops.{own_stack, other_stack}
+use Rattle.simulation.proofs.Basics.{some_same}
 
 all_there : {X : Type 0} (P : X → Type 0) (xs : List X) (i : ℕ) (x : X) → All P xs → slice_get xs i ≡ Some x → P x
 all_there P xs i x all there =
@@ -234,9 +235,6 @@ last_entry code store key = record {
   frame = main_frame;
   kept = last_token code.root;
 }
-
-some_same : {X : Type 0} (o : Option X) (x y : X) → o ≡ Some x → o ≡ Some y → x ≡ y
-some_same o x y first second = let both : Some x ≡ Some y = sym first ∙ second in cc
 
 stacks_at_start : (split : Split) (store : List (List ℤ)) (rows : List declared_hosts.HostShape) (entry : Entry) →
     entry_at split.code split.code.main ≡ Some entry → (key : List ℕ) →

@@ -38,6 +38,7 @@ use Rattle.simulation.proofs.Rows.{fields_same, fields_written, row_there}
 use Rattle.simulation.proofs.Kept.{orderly_moved, NoneHalted, none_halted_moved, stacks_moved, idle_moved}
 use Rattle.simulation.proofs.Kept.{agree_same, agree_forwarded, call_kept, sent_kept}
 use Rattle.simulation.proofs.Pops.{own_stack, other_stack, top_on_stack, pushed_chain, Ended, Continued, popped}
+use Rattle.simulation.proofs.Basics.{some_same}
 
 -- a message that passes does what it is for
 passing : (split : Split) (state : HostShape) (from : HostId) (m : Message) (outcome : Outcome) →
@@ -412,9 +413,6 @@ token_returns split c world after sim from to idle none_halted is_chain back old
     outcome label done leaves more.is_chain (subst (λ out. Agree split c out world) back.none_out sim.agree) tt more.at
 
 -- ---- events
-
-some_same : {X : Type 0} (o : Option X) (x y : X) → o ≡ Some x → o ≡ Some y → x ≡ y
-some_same o x y first second = let both : Some x ≡ Some y = sym first ∙ second in cc
 
 -- the event takes the one message in flight
 take_at : (split : Split) (world after : WorldShape) (from to from' to' : HostId) (place : ℕ) → from ≡ from' →

@@ -33,10 +33,11 @@ use Rattle.split_rules.specs.Positions.{number_of, statement_due, is_on, calm, n
 use Rattle.split_rules.specs.Positions.{forwards_of, all_due, statements_of}
 use Rattle.split_rules.specs.Typing.{EntryIs, Cuts, Branches, Divides, Ends, IsCalm}
 use Rattle.simulation.proofs.KnownReaders.{AreReaders}
-use Rattle.simulation.proofs.TreeValues.{read_value, all_both}
 use Rattle.simulation.proofs.Simulates.{Split, place_of, alone, due_of, due_at, chain_due, IsChain, IsLeft, IsAt}
 use Rattle.simulation.proofs.Instructions.{next_place, front_of, busy, stepped, cleared, only_value, same_values}
 use Rattle.simulation.proofs.Instructions.{Agrees}
+use Rattle.simulation.proofs.TreeValues.{read_value}
+use Rattle.simulation.proofs.Basics.{all_both}
 
 -- ---- entries
 

@@ -20,6 +20,7 @@ use Rattle.host_core.specs.Values.{temporary_at, values_after, first_of_values, 
 use Rattle.split_rules.specs.Expressions.{reads_in, nodes_of}
 use Rattle.split_rules.specs.Positions.{FieldRead, field_reads}
 use Rattle.split_rules.proofs.TypedValues.{reads_many}
+use Rattle.simulation.proofs.Basics.{all_left, all_right}
 
 -- ---- values of trees
 
@@ -102,21 +103,6 @@ holds_own before (value ∷ values) =
     (at_seam before value values, holds_from (before ++ value ∷ values) values _ _ (long_push before value) all)
 
 -- ---- variables
-
-pub all_left : {X : Type 0} (P : X → Type 0) (one other : List X) → AllByRecursion P (one ++ other) →
-    AllByRecursion P one
-all_left P [] other all = tt
-all_left P (x ∷ one) other all = (all.0, all_left P one other all.1)
-
-pub all_right : {X : Type 0} (P : X → Type 0) (one other : List X) → AllByRecursion P (one ++ other) →
-    AllByRecursion P other
-all_right P [] other all = all
-all_right P (x ∷ one) other all = all_right P one other all.1
-
-pub all_both : {X : Type 0} (P : X → Type 0) (one other : List X) → AllByRecursion P one → AllByRecursion P other →
-    AllByRecursion P (one ++ other)
-all_both P [] other first second = second
-all_both P (x ∷ one) other first second = (first.0, all_both P one other first.1 second)
 
 -- the variables of an expression have their values
 abbrev pub AreSame : (ℕ → ℤ) → (VarId → ℤ) → ExprTree → Type 0
