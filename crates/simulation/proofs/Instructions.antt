@@ -16,7 +16,7 @@ use Rattle.jif_tree.specs.SourceRun.{Configuration, IsAtEnd, step, executed, ope
 use Rattle.jif_tree.specs.Store.{element_at, row_of, store_after_write}
 use Rattle.jif_tree.specs.Trees.{ExprTree, number, local, scalar, element, inverted, negated, binary, declassified}
 use Rattle.jif_tree.specs.Trees.{endorsed, Heading, BlockTree, done, set_local, set_field, set_element, branch, loop}
-use Rattle.jif_tree.specs.Trees.{call, give_back, statement_tree, expr_tree}
+use Rattle.jif_tree.specs.Trees.{statement_tree, expr_tree}
 use Rattle.ics_stack.specs.declared.stack.StackEntry.{StackEntry}
 use Rattle.host_code.specs.declared.code_expr.Node.{Node}
 use Rattle.host_code.specs.declared.instruction.Op.TheVariants as op
@@ -88,8 +88,7 @@ index_readers planned (set_element heading field index value rest) readers =
     all_both _ (field_reads index) (field_reads value) (reads_inside _ index readers.0) (reads_inside _ value readers.1)
 index_readers planned (branch heading guard first second rest) readers = reads_inside _ guard readers.0
 index_readers planned (loop heading guard inner rest) readers = reads_inside _ guard readers.0
-index_readers planned (call heading site method arguments into rest) readers = tt
-index_readers planned (give_back heading value rest) readers = reads_inside _ value readers.0
+index_readers planned _ readers = absurd readers
 
 -- ---- what comes first
 

@@ -31,7 +31,12 @@ use Rattle.split_rules.specs.Positions as positions
 use Rattle.split_rules.specs.Positions.{Position, Due, FieldRead, Forward, Entrance, field_reads, own_reads, reads_due}
 use Rattle.split_rules.specs.Positions.{number_of, statement_due, is_on, calm, no_call, with_reads, with_forwards}
 use Rattle.split_rules.specs.Positions.{forwards_of, all_due, statements_of}
-use Rattle.split_rules.specs.Typing.{EntryIs, Cuts, Branches, Divides, Ends, IsCalm}
+use Rattle.split_rules.specs.Typing.{EntryIs, Cuts, Branches, Divides, Ends, IsCalm, Frames, GivesBack, Argues, Enters}
+use Rattle.split_rules.specs.TypedCode.{IsTypedOp}
+use Rattle.split_rules.specs.Positions.{Argument, arguing}
+use Rattle.js_base.specs.declared.ids.SiteId.{SiteId}
+use Rattle.host_code.specs.declared.instruction.Op.{Op}
+use Rattle.std.specs.Prelude.{⊤}
 use Rattle.simulation.proofs.KnownReaders.{AreReaders}
 use Rattle.simulation.proofs.Simulates.{Split, place_of, alone, due_of, due_at, chain_due, IsChain, IsLeft, IsAt}
 use Rattle.simulation.proofs.Instructions.{next_place, front_of, busy, stepped, cleared, only_value, same_values}
@@ -214,9 +219,8 @@ readers_apart planned (kind.If' guard m first n second) heading rest readers =
     record { own = (readers.0, readers.1, readers.2, tt); behind = readers.3 }
 readers_apart planned (kind.While' guard m body) heading rest readers =
     record { own = (readers.0, readers.1, tt); behind = readers.2 }
-readers_apart planned (kind.Call site method args into) heading rest readers =
-    record { own = (readers.0, tt); behind = readers.1 }
-readers_apart planned (kind.Return value) heading rest readers = record { own = (readers.0, tt); behind = readers.1 }
+readers_apart planned (kind.Call site method args into) heading rest readers = absurd readers
+readers_apart planned (kind.Return value) heading rest readers = absurd readers
 
 -- the statements of a block, with what is known of them
 pub record AreStatements (planned : PlannedShape) (block : BlockTree) (statements : List Stmt) : Type 0 where
@@ -409,3 +413,56 @@ branch_at split c chain out host thread variables agrees at guard target law =
           (int_eq value (pos 0)) at (next_place split host thread) refl parts.next_is parts.target_is parts.taken_due
           parts.skipped_due parts.taken_readers parts.skipped_readers (ap (λ (k : Configuration). k.pending) steps);
     }
+
+-- ---- instructions for calls
+
+-- an instruction that is not for calls
+abbrev pub IsPlain : Op → Type 0
+IsPlain (op.Frame site) = ⊥
+IsPlain (op.Arg x value) = ⊥
+IsPlain (op.Pass x to) = ⊥
+IsPlain (op.Call there on) = ⊥
+IsPlain (op.Ret x value) = ⊥
+IsPlain other = ⊤
+
+no_frame : (planned : PlannedShape) (here : Position) (what : StmtKind) (heading : Heading) (site : SiteId)
+    (next : Position) → AreReaders planned (statement_tree what heading done) →
+    Frames planned here (positions.run (statement_tree what heading done)) site next → ⊥
+no_frame planned here (kind.Call own method args into) heading site next readers law = readers
+no_frame planned here _ heading site next readers law = law
+
+no_return : (planned : PlannedShape) (here : Position) (what : StmtKind) (heading : Heading) (nodes : List Node) →
+    AreReaders planned (statement_tree what heading done) →
+    GivesBack here (positions.run (statement_tree what heading done)) nodes → ⊥
+no_return planned here (kind.Return value) heading nodes readers law = readers
+no_return planned here _ heading nodes readers law = law
+
+not_arguing : (here : Position) (statement : BlockTree) (set left : List Argument) → here.calling ≡ no_call →
+    here.calling ≡ arguing statement set left → ⊥
+not_arguing here statement set left none some = cc
+
+-- where no call is due and none is made, no instruction for calls stands
+pub is_plain : (split : Split) (c : Configuration) (chain : List StackEntry) (out : List Forward) (host : HostId)
+    (thread : ThreadShape) → IsAt split c chain out host thread → (what : Op) →
+    IsTypedOp split.planned split.table host thread.at what → IsPlain what
+is_plain split c chain out host thread at (op.Frame site) law =
+    let here = place_of split host thread.at in
+    let front = front_of split c here (chain_due split chain) law.0 law.1 law.2.due at.left in
+    let heading : Heading = record { id = front.statement.id; line = front.statement.line } in
+    no_frame split.planned here front.statement.kind heading site _ front.own
+    (subst (λ first. Frames split.planned here first site (place_of split host (suc thread.at))) front.is law.4)
+is_plain split c chain out host thread at (op.Arg x nodes) law =
+    subst (λ calling. Argues split.planned host (place_of split host thread.at) calling x nodes
+    (place_of split host (suc thread.at))) at.calling law
+is_plain split c chain out host thread at (op.Pass x to) law =
+    not_arguing (place_of split host thread.at) law.0 law.1 law.2 at.calling law.3
+is_plain split c chain out host thread at (op.Call there on) law =
+    subst (λ calling. Enters split.planned split.table.entries (place_of split host thread.at) calling there.0) at.calling
+    law
+is_plain split c chain out host thread at (op.Ret x nodes) law =
+    let here = place_of split host thread.at in
+    let front = front_of split c here (chain_due split chain) law.0 [] law.2.due at.left in
+    let heading : Heading = record { id = front.statement.id; line = front.statement.line } in
+    no_return split.planned here front.statement.kind heading nodes front.own
+    (subst (λ first. GivesBack here first nodes) front.is law.4)
+is_plain split c chain out host thread at _ law = tt

@@ -38,12 +38,11 @@ use Rattle.split_rules.specs.TypedCode.{IsTypedOp}
 use Rattle.net_world.specs.World as world_steps
 use Rattle.net_world.specs.World.{WorldShape}
 use Rattle.simulation.specs.Obeying.{FieldsAre}
-use Rattle.simulation.proofs.PlainCode.{IsPlain}
 use Rattle.simulation.proofs.Simulates as simulates
 use Rattle.simulation.proofs.Simulates.{Split, place_of, IsChain, on_stack, IsAt, IsFieldOn, AreSent, Agree, runs, goes, returns}
 use Rattle.simulation.proofs.Simulates.{AreIdle, halted, Simulates, Goes}
 use Rattle.simulation.proofs.Instructions.{Agrees, read_at, let_at, put_at, send_at}
-use Rattle.simulation.proofs.Transfers.{push_at, push_calm, go_at, back_at, branch_at}
+use Rattle.simulation.proofs.Transfers.{push_at, push_calm, go_at, back_at, branch_at, IsPlain, is_plain}
 use Rattle.simulation.proofs.Moved.{same_id, mover_state, moved_silent}
 use Rattle.simulation.proofs.Rows.{fields_same, fields_written, row_there}
 use Rattle.simulation.proofs.Kept.{orderly_moved, stacks_moved, idle_moved, agree_same, agree_set, call_kept, call_set}
@@ -523,7 +522,8 @@ turn_found split c world after host t within None is labels running = stays spli
 turn_found split c world after host t within (Some there) is labels running =
     let at = t.run.thread.at in
     let token = top_of split t.chain t.is_chain in
-    operation split c world after host t there.label _ labels there.op (split.plain host at there is)
+    operation split c world after host t there.label _ labels there.op (is_plain split c t.chain t.out host t.run.thread t.run.at
+    there.op (split.typed.instructions host at there is).1)
     (split.typed.instructions host at there is).1 (split.granted host at there is)
     ((split.sound.parts host within).instructions at there is).operation token.0 token.1 running.0 running.1 running.2
 

@@ -1,13 +1,13 @@
 -- What hosts that all obey promise together, where they run the code of a split program: their fields follow the plain
 -- run of the program.
-use Rattle.std.specs.Prelude.{◌≡◌, ℕ, ◌+◌, ◌≤◌, ℤ, List, length, take, Some, slice_get, slice_index}
-use Rattle.std.specs.List.{AllByRecursion}
+use Rattle.std.specs.Prelude.{◌≡◌, ℕ, ◌+◌, ◌≤◌, ℤ, List, length, take, Some, slice_get, slice_index, IsSomeAnd}
 use Rattle.std.specs.List.Sorted.{IsNonDecreasing}
 use Rattle.host_decl.specs.Hosts as declared_hosts
 use Rattle.host_decl.specs.Hosts.{HostsShape}
 use Rattle.jif_tree.specs.declared.program.Program.{Program}
 use Rattle.jif_tree.specs.Store.{row_of}
 use Rattle.jif_tree.specs.SourceRun.{prefix, HasLength}
+use Rattle.jif_tree.specs.LabelRules.{method_at}
 use Rattle.jif_tree.specs.Trees.{program_tree}
 use Rattle.host_code.specs.Code.{CodeShape, CodeFieldShape}
 use Rattle.host_code.specs.Sound.{IsSoundCode}
@@ -24,7 +24,7 @@ use Rattle.split_rules.specs.Typable.{IsTypable}
 use Rattle.net_world.specs.World.{WorldShape, IsRun, world_at_start, state_at, has_halted}
 use Rattle.simulation.specs.Programs.{IsCallFree}
 
--- A program without calls, its needs, and a plan by which it can be split, so that hosts are trusted for what their
+-- A program whose `main` calls nothing, its needs, and a plan by which it can be split, so that hosts are trusted for what their
 -- statements start and grant each other's requests.
 pub record IsSet (program : Program) (labelled : Labelled) (needs : NeedsShape) (hosts : HostsShape) (plan : PlanShape)
     : Type 0 where
@@ -34,7 +34,7 @@ pub record IsSet (program : Program) (labelled : Labelled) (needs : NeedsShape) 
   pub typable : IsTypable (planned_of labelled needs hosts plan)
   pub sound : IsSoundCode (split_code labelled needs hosts plan)
   pub granted : AreGranted (split_code labelled needs hosts plan)
-  pub call_free : AllByRecursion (λ method. IsCallFree method.body) labelled.program.methods
+  pub call_free : IsSomeAnd (method_at labelled.program labelled.program.main) (λ main. IsCallFree main.body)
 
 -- each field has on its host what the store has
 abbrev pub FieldsAre : CodeShape → WorldShape → List (List ℤ) → Type 0
