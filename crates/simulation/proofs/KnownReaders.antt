@@ -81,7 +81,8 @@ reads_in : (one : StatementUse) (x : VarId) (uses : List StatementUse) → IsIn 
 reads_in one x [] is_in reads = absurd is_in
 reads_in one x (first ∷ uses) (inl same) reads =
     let own : list_any (λ read. nat_eq read.0 x.0) first.reads ≡ true =
-    any_in (λ read. nat_eq read.0 x.0) x first.reads (subst (λ (other : StatementUse). IsIn x other.reads) (sym same) reads)
+    any_in (λ read. nat_eq read.0 x.0) x first.reads
+    (subst (λ (other : StatementUse). IsIn x other.reads) (sym same) reads)
     (eq-eqb x.0 x.0 refl) in
     taken_first (list_any (λ read. nat_eq read.0 x.0) first.reads) own
   where

@@ -114,7 +114,8 @@ module _ (split : Split) (store : List (List ℤ)) (hosts : HostsShape)
 
   at_end : (n : ℕ) × Stands split store world n
   at_end =
-      track_end split.code (Stands split store) (world_at_start split.code hosts.hosts 0 store) world 0 events tracked ran
+      track_end split.code (Stands split store) (world_at_start split.code hosts.hosts 0 store) world 0 events tracked
+      ran
 
   pub follows : Follows split.program split.code hosts.hosts store events
   follows = record {

@@ -31,7 +31,8 @@ use Rattle.net_world.specs.Fits.{ShapeFits}
 use Rattle.net_world.proofs.Fitting.{flight_fits}
 use Rattle.simulation.proofs.Transfers.{IsPlain, is_plain}
 use Rattle.simulation.proofs.Simulates as simulates
-use Rattle.simulation.proofs.Simulates.{Split, IsChain, only, on_stack, IsRequest, IsAnswer, Holder, runs, asked, answered}
+use Rattle.simulation.proofs.Simulates.{Split, IsChain, only, on_stack, IsRequest, IsAnswer, Holder, runs, asked}
+use Rattle.simulation.proofs.Simulates.{answered}
 use Rattle.simulation.proofs.Simulates.{goes, returns, halted, IsIdle, AreIdle, Stands, IsOrderly, AreStacks, Simulates}
 use Rattle.simulation.proofs.Moved.{same_id, none_taken, the_one, own_cell}
 use Rattle.simulation.proofs.Pops.{top_of, top_on_stack}
@@ -196,7 +197,8 @@ happens split c world sim fits (goes from to) stands idle event is =
     let target = target_there split world from to going.flight fits sim.orderly going.flying in
     let one = take_possible split world from to going.flight target.0 target.1 (idle to target.0 target.1 tt).0
     going.flying (subst (Passes split.code target.0 from) (sym going.message)
-    (may_here split target.0 to (ask.Enter (record { 0 = going.number })) from (sim.orderly.numbers to target.0 target.1) going.may)) in
+    (may_here split target.0 to (ask.Enter (record { 0 = going.number })) from
+    (sim.orderly.numbers to target.0 target.1) going.may)) in
     (one.0, subst (λ e. IsStep split.code world e one.0) same one.1)
 happens split c world sim fits (returns from to) stands idle event is =
     let same : Take from to 0 ≡ event = cc in

@@ -70,8 +70,8 @@ abbrev pub chain_due : Split → List StackEntry → List Due
 chain_due split [] = []
 chain_due split (entry ∷ chain) = due_at (slice_get split.table.entries entry.entry.0) ++ chain_due split chain
 
--- The last of them ends the program, on the root. Each of the others stands on the host of its token, and has the token of the next
--- kept with it.
+-- The last of them ends the program, on the root. Each of the others stands on the host of its token, and has the
+-- token of the next kept with it.
 abbrev pub IsChain : Split → List StackEntry → Type 0
 IsChain split [] = ⊥
 IsChain split (entry ∷ []) = (entry.entry ≡ halt) × (entry.token.host ≡ split.code.root)

@@ -13,7 +13,8 @@ use Rattle.jif_tree.specs.declared.program.StmtKind.{StmtKind}
 use Rattle.jif_tree.specs.declared.program.StmtKind as kind
 use Rattle.jif_tree.specs.Operators.{is_true}
 use Rattle.jif_tree.specs.SourceRun as source
-use Rattle.jif_tree.specs.SourceRun.{Configuration, IsAtEnd, step, executed, operands, value_of, calls_after, after_item}
+use Rattle.jif_tree.specs.SourceRun.{Configuration, IsAtEnd, step, executed, operands, value_of, calls_after}
+use Rattle.jif_tree.specs.SourceRun.{after_item}
 use Rattle.jif_tree.specs.Trees.{Heading, BlockTree, done, branch, loop, statement_tree, row_tree, expr_tree}
 use Rattle.capability.specs.declared.token.Token.{Token}
 use Rattle.ics_stack.specs.declared.stack.StackEntry.{StackEntry}
@@ -57,7 +58,8 @@ entrance_due split number position need is = ap due_at is
 -- an entry is pushed, on this host or on another
 pub push_at : (split : Split) (c : Configuration) (chain : List StackEntry) (out : List Forward) (host : HostId)
     (thread : ThreadShape) → IsAt split c chain out host thread → (entry : EntryId) →
-    Cuts split.planned split.table.entries (place_of split host thread.at) entry.0 (place_of split host (suc thread.at)) →
+    Cuts split.planned split.table.entries (place_of split host thread.at) entry.0
+    (place_of split host (suc thread.at)) →
     (pushed : StackEntry) → pushed.entry ≡ entry →
     IsAt split c (pushed ∷ chain) [] host (with_token (Some pushed.token) (after_step thread))
 push_at split c chain out host thread at entry law pushed is =
@@ -86,7 +88,8 @@ push_at split c chain out host thread at entry law pushed is =
 
 pub push_calm : (split : Split) (c : Configuration) (chain : List StackEntry) (out : List Forward) (host : HostId)
     (thread : ThreadShape) → IsAt split c chain out host thread → (entry : EntryId) →
-    Cuts split.planned split.table.entries (place_of split host thread.at) entry.0 (place_of split host (suc thread.at)) →
+    Cuts split.planned split.table.entries (place_of split host thread.at) entry.0
+    (place_of split host (suc thread.at)) →
     out ≡ []
 push_calm split c chain out host thread at entry law =
     calm_out (place_of split host thread.at) out at.forwards law.is_calm
@@ -111,7 +114,13 @@ placed split entry there apart is = at_number entry.0 (λ same. apart (ap make s
     at_number zero none found = absurd (none refl)
     at_number (suc number) none found =
         let typed = split.typed.entries number there found in
-        record { position = typed.position; need = there.need; is = typed.is; is_calm = typed.is_calm; stands = typed.stands }
+        record {
+          position = typed.position;
+          need = there.need;
+          is = typed.is;
+          is_calm = typed.is_calm;
+          stands = typed.stands;
+        }
 
 -- a thread starts at an entry
 starts_at : (split : Split) (c : Configuration) (chain : List StackEntry) (number : ℕ) (there : Entry) (token : Token) →
@@ -129,11 +138,13 @@ starts_at split c chain number there token is held left =
       left = subst (λ list. IsLeft split c (list ++ chain_due split chain)) due left;
       calling = ap (λ (p : Position). p.calling) calm_there;
       forwards = ap (λ (p : Position). p.forwards) calm_there;
-      temporaries = sym (ap (λ (p : Position). map (read_value c.store (source.variable c.calls 0)) p.reads) calm_there);
+      temporaries = sym (ap (λ (p : Position). map (read_value c.store (source.variable c.calls 0)) p.reads)
+          calm_there);
     }
 
 -- the thread is handed over at an entry
-pub record HandsOver (split : Split) (c : Configuration) (chain : List StackEntry) (out : List Forward) (entry : EntryId)
+pub record HandsOver (split : Split) (c : Configuration) (chain : List StackEntry) (out : List Forward)
+    (entry : EntryId)
     (token : Token) : Type 0 where
   pub none_out : out ≡ []
   pub at : (there : Entry) → entry_at split.code entry ≡ Some there →
@@ -150,7 +161,8 @@ go_at split c chain out host thread at entry on apart law token held =
       at = λ there is.
           let is_placed = placed split entry there apart is in
           starts_at split c chain entry.0 there token is_placed (sym held ∙ at.held)
-          (subst (λ list. IsLeft split c (list ++ chain_due split chain)) (sym (entrance_due split entry.0 here _ law.1))
+          (subst (λ list. IsLeft split c (list ++ chain_due split chain))
+          (sym (entrance_due split entry.0 here _ law.1))
           at.left);
     }
 
@@ -298,7 +310,8 @@ divided : (split : Split) (c : Configuration) (host : HostId) (thread : ThreadSh
     AllByRecursion (λ one. AreReaders split.planned (alone one)) behind →
     Branches here (positions.run (statement_tree what heading done)) others nodes next target →
     Divided split c statement behind what next target rest (value_of_nodes variables thread.temporaries nodes)
-divided split c host thread variables agrees here holds statement behind (kind.If' guard m first n second) heading others
+divided split c host thread variables agrees here holds statement behind (kind.If' guard m first n second) heading
+    others
     rest nodes next target on_host readers own own_is due all law =
     let P = AreReaders split.planned in
     let block = branch heading (expr_tree guard) (row_tree first) (row_tree second) done in
@@ -373,12 +386,14 @@ at_either : (split : Split) (c after : Configuration) (chain : List StackEntry) 
     AllByRecursion (λ one. AreReaders split.planned (alone one)) skipped →
     after.pending ≡ map (source.run 0) (if b then skipped else taken) →
     IsAt split after chain [] host (if b then record (after_clearing thread) { at = target } else after_clearing thread)
-at_either split c after chain out host thread target taken skipped next aim true at is there calm_next calm_aim one two readers
+at_either split c after chain out host thread target taken skipped next aim true at is there calm_next calm_aim one
+    two readers
     others pending =
     cleared split c after chain out [] host thread skipped aim at target there pending two others
     (ap (λ (p : Position). p.calling) calm_aim) (ap (λ (p : Position). p.forwards) calm_aim)
     (ap (λ (p : Position). p.reads) calm_aim)
-at_either split c after chain out host thread target taken skipped next aim false at is there calm_next calm_aim one two readers
+at_either split c after chain out host thread target taken skipped next aim false at is there calm_next calm_aim one
+    two readers
     others pending =
     cleared split c after chain out [] host thread taken next at (thread.at + 1) is pending one readers
     (ap (λ (p : Position). p.calling) calm_next) (ap (λ (p : Position). p.forwards) calm_next)
@@ -402,7 +417,8 @@ branch_at split c chain out host thread variables agrees at guard target law =
     let parts = divided split c host thread variables agrees here at.temporaries front.statement front.behind
     front.statement.kind heading law.1 (chain_due split chain) guard next aim on_host front.own front.own refl front.due
     front.readers branches in
-    let steps = stepped split c front.statement (map (source.run 0) front.behind) front.statement.kind front.pending refl
+    let steps = stepped split c front.statement (map (source.run 0) front.behind) front.statement.kind front.pending
+    refl
     ∙ parts.steps in
     record {
       busy = busy c (source.run 0 front.statement) (map (source.run 0) front.behind) front.pending;
@@ -457,7 +473,8 @@ is_plain split c chain out host thread at (op.Arg x nodes) law =
 is_plain split c chain out host thread at (op.Pass x to) law =
     not_arguing (place_of split host thread.at) law.0 law.1 law.2 at.calling law.3
 is_plain split c chain out host thread at (op.Call there on) law =
-    subst (λ calling. Enters split.planned split.table.entries (place_of split host thread.at) calling there.0) at.calling
+    subst (λ calling. Enters split.planned split.table.entries (place_of split host thread.at) calling there.0)
+    at.calling
     law
 is_plain split c chain out host thread at (op.Ret x nodes) law =
     let here = place_of split host thread.at in

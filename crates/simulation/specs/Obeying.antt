@@ -24,7 +24,8 @@ use Rattle.split_rules.specs.Typable.{IsTypable}
 use Rattle.net_world.specs.World.{WorldShape, IsRun, world_at_start, state_at, has_halted}
 use Rattle.simulation.specs.Programs.{IsCallFree}
 
--- A program whose `main` calls nothing, its needs, and a plan by which it can be split, so that hosts are trusted for what their
+-- A program whose `main` calls nothing, its needs, and a plan by which it can be split, so that hosts are trusted
+-- for what their
 -- statements start and grant each other's requests.
 pub record IsSet (program : Program) (labelled : Labelled) (needs : NeedsShape) (hosts : HostsShape) (plan : PlanShape)
     : Type 0 where
