@@ -89,9 +89,16 @@ kept split store world after n event stands step =
     let fits = shape_step split.code world after event split.sound stands.fits
     (own_tokens split (prefix split.program store n) world after event stands.simulates step) step in
     elim (event_kept split (prefix split.program store n) world after event stands.simulates step) [
-      | inl same ↦ (n, omega arith, record { simulates = same; not_before = stands.not_before; fits = fits })
+      | inl same ↦ (
+        n,
+        omega arith,
+        omega arith,
+        record
+            { simulates = same; not_before = stands.not_before; fits = fits },
+      )
       | inr next ↦ (
         suc n,
+        omega arith,
         omega arith,
         record {
           simulates = next.1;
@@ -123,6 +130,7 @@ module _ (split : Split) (store : List (List ℤ)) (hosts : HostsShape)
     moments = tracked.moments;
     first = tracked.first;
     rising = tracked.rising;
+    close = tracked.close;
     fields = λ moment after within is. (tracked.holds moment after within is).simulates.fields;
     halted = λ moment after within is halts.
         let stands = tracked.holds moment after within is in

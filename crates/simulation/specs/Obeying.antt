@@ -1,6 +1,6 @@
 -- What hosts that all obey promise together, where they run the code of a split program: their fields follow the plain
 -- run of the program.
-use Rattle.std.specs.Prelude.{◌≡◌, ℕ, ◌+◌, ◌≤◌, ℤ, List, length, take, Some, slice_get, slice_index, IsSomeAnd}
+use Rattle.std.specs.Prelude.{◌≡◌, ℕ, ◌+◌, ◌<◌, ◌≤◌, ℤ, List, length, take, Some, slice_get, slice_index, IsSomeAnd}
 use Rattle.std.specs.List.Sorted.{IsNonDecreasing}
 use Rattle.host_decl.specs.Hosts as declared_hosts
 use Rattle.host_decl.specs.Hosts.{HostsShape}
@@ -48,8 +48,9 @@ abbrev pub IsAfter : CodeShape → List declared_hosts.HostShape → List (List 
 IsAfter code rows store events moment world =
     IsRun code (world_at_start code rows 0 store) (take moment events) world
 
--- There is for each moment, from before the first event to after the last, a number of steps of the plain run, none
--- less than the one before. The fields at that moment are those after so many steps, and where the program has halted
+-- There is for each moment, from before the first event to after the last, a number of steps of the plain run: that of
+-- the moment before, or one more. The fields at that moment are those after so many steps, and where the program has
+-- halted
 -- so many steps are the whole run.
 pub record Follows (program : Program) (code : CodeShape) (rows : List declared_hosts.HostShape)
     (store : List (List ℤ)) (events : List Event) : Type 0 where
@@ -57,6 +58,7 @@ pub record Follows (program : Program) (code : CodeShape) (rows : List declared_
   pub moments : length steps ≡ length events + 1
   pub first : slice_index steps 0 ≡ 0
   pub rising : IsNonDecreasing steps
+  pub close : (moment : ℕ) → moment < length events → slice_index steps (moment + 1) ≤ slice_index steps moment + 1
   pub fields : (moment : ℕ) (world : WorldShape) → moment ≤ length events →
       IsAfter code rows store events moment world →
       FieldsAre code world (prefix program store (slice_index steps moment)).store
