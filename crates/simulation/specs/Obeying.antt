@@ -24,9 +24,8 @@ use Rattle.split_rules.specs.Typable.{IsTypable}
 use Rattle.net_world.specs.World.{WorldShape, IsRun, world_at_start, state_at, has_halted}
 use Rattle.simulation.specs.Programs.{IsCallFree}
 
--- A program whose `main` calls nothing, its needs, and a plan by which it can be split, so that hosts are trusted
--- for what their
--- statements start and grant each other's requests.
+-- A program whose `main` calls nothing, its needs, and a plan by which it can be split, so that hosts are trusted for
+-- what their statements start and grant each other's requests.
 pub record IsSet (program : Program) (labelled : Labelled) (needs : NeedsShape) (hosts : HostsShape) (plan : PlanShape)
     : Type 0 where
   pub is : program_tree program ≡ labelled.program
@@ -50,8 +49,7 @@ IsAfter code rows store events moment world =
 
 -- There is for each moment, from before the first event to after the last, a number of steps of the plain run: that of
 -- the moment before, or one more. The fields at that moment are those after so many steps, and where the program has
--- halted
--- so many steps are the whole run.
+-- halted so many steps are the whole run.
 pub record Follows (program : Program) (code : CodeShape) (rows : List declared_hosts.HostShape)
     (store : List (List ℤ)) (events : List Event) : Type 0 where
   pub steps : List ℕ
