@@ -1,6 +1,6 @@
 -- Facts on lists and options that several proofs need.
-use Rattle.std.proofs.Common.{◌≡◌, ◌∙◌, ℕ, zero, suc, List, [], ◌∷◌, Option, Some, None, sym, subst, true, inl, inr}
-use Rattle.std.specs.Prelude.{IsSome, nat_eq, slice_get}
+use Rattle.std.proofs.Common.{◌≡◌, ◌∙◌, ℕ, List, [], ◌∷◌, Option, Some, None, sym, subst, true, inl, inr}
+use Rattle.std.specs.Prelude.{IsSome, nat_eq}
 use Rattle.std.specs.List.{AllByRecursion}
 use Rattle.std.proofs.lemmas.Bool.Decides.{eqb_tells}
 use Rattle.std.proofs.Common.{◌++◌}
@@ -35,9 +35,3 @@ pub all_both : {X : Type 0} (P : X → Type 0) (one other : List X) → AllByRec
     AllByRecursion P (one ++ other)
 all_both P [] other first second = second
 all_both P (x ∷ one) other first second = (first.0, all_both P one other first.1 second)
-
-pub all_at : {X : Type 0} (P : X → Type 0) (xs : List X) (place : ℕ) (x : X) → AllByRecursion P xs →
-    slice_get xs place ≡ Some x → P x
-all_at P [] place x all is = absurd (cc)
-all_at P (first ∷ xs) zero x all is = let same : first ≡ x = cc in subst P same all.0
-all_at P (first ∷ xs) (suc place) x all is = all_at P xs place x all.1 is

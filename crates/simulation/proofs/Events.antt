@@ -14,7 +14,8 @@ use Rattle.net_world.specs.Choice.{NoneRuns, NothingFlies}
 use Rattle.net_world.specs.Flying.{Flight, Flying}
 use Rattle.net_world.specs.World.{WorldShape, IsStep, IsTurnStep, IsTakeStep, state_at, after_step, has_halted}
 use Rattle.split_rules.specs.Positions.{Forward}
-use Rattle.simulation.proofs.Simulates.{Split, only, Holder, runs, asked, answered, goes, returns, halted, IsIdle, Stands}
+use Rattle.simulation.proofs.Simulates.{Split, only, Holder, runs, asked, answered, goes, returns, halted, IsIdle}
+use Rattle.simulation.proofs.Simulates.{Stands}
 use Rattle.simulation.proofs.Simulates.{AreIdle, GoesOn, Simulates, Goes}
 use Rattle.simulation.proofs.Moved.{same_id, none_taken, own_cell}
 use Rattle.simulation.proofs.Turns.{holder_turn}
@@ -124,7 +125,8 @@ ended : (split : Split) (c : Configuration) (world : WorldShape) (chain : List S
     IsAtEnd c
 ended split c world chain out (runs holder) stands none halts = absurd (still world split.code.root none halts)
 ended split c world chain out (asked holder owner) stands none halts = absurd (still world split.code.root none halts)
-ended split c world chain out (answered holder owner) stands none halts = absurd (still world split.code.root none halts)
+ended split c world chain out (answered holder owner) stands none halts = absurd
+    (still world split.code.root none halts)
 ended split c world chain out (goes from to) stands none halts = absurd (still world split.code.root none halts)
 ended split c world chain out (returns from to) stands none halts = absurd (still world split.code.root none halts)
 ended split c world chain out halted stands none halts = stands.ends

@@ -12,11 +12,12 @@ use Rattle.jif_tree.specs.declared.program.StmtKind.{StmtKind}
 use Rattle.jif_tree.specs.declared.program.StmtKind as kind
 use Rattle.jif_tree.specs.declared.program.Expr.{Expr}
 use Rattle.jif_tree.specs.SourceRun as source
-use Rattle.jif_tree.specs.SourceRun.{Configuration, IsAtEnd, step, executed, operands, value_of, calls_after, after_item}
+use Rattle.jif_tree.specs.SourceRun.{Configuration, IsAtEnd, step, executed, operands, value_of, calls_after}
+use Rattle.jif_tree.specs.SourceRun.{after_item}
 use Rattle.jif_tree.specs.Store.{element_at, row_of, store_after_write}
 use Rattle.jif_tree.specs.Trees.{ExprTree, number, local, scalar, element, inverted, negated, binary, declassified}
 use Rattle.jif_tree.specs.Trees.{endorsed, Heading, BlockTree, done, set_local, set_field, set_element, branch, loop}
-use Rattle.jif_tree.specs.Trees.{call, give_back, statement_tree, expr_tree}
+use Rattle.jif_tree.specs.Trees.{statement_tree, expr_tree}
 use Rattle.ics_stack.specs.declared.stack.StackEntry.{StackEntry}
 use Rattle.host_code.specs.declared.code_expr.Node.{Node}
 use Rattle.host_code.specs.declared.instruction.Op.TheVariants as op
@@ -88,8 +89,7 @@ index_readers planned (set_element heading field index value rest) readers =
     all_both _ (field_reads index) (field_reads value) (reads_inside _ index readers.0) (reads_inside _ value readers.1)
 index_readers planned (branch heading guard first second rest) readers = reads_inside _ guard readers.0
 index_readers planned (loop heading guard inner rest) readers = reads_inside _ guard readers.0
-index_readers planned (call heading site method arguments into rest) readers = tt
-index_readers planned (give_back heading value rest) readers = reads_inside _ value readers.0
+index_readers planned _ readers = absurd readers
 
 -- ---- what comes first
 
@@ -117,7 +117,8 @@ first_of split c first others (statement ∷ behind) pending due readers = recor
 }
 
 -- what is due first at a position, and what is behind that
-pub front_of : (split : Split) (c : Configuration) (here : Position) (rest : List Due) (first : Due) (others : List Due) →
+pub front_of : (split : Split) (c : Configuration) (here : Position) (rest : List Due) (first : Due)
+    (others : List Due) →
     here.due ≡ first ∷ others → IsLeft split c (here.due ++ rest) → IsFirst split c first (others ++ rest)
 front_of split c here rest first others due left =
     first_of split c first (others ++ rest) left.left left.pending
@@ -172,7 +173,8 @@ read_at split c chain out host thread variables agrees at field index law =
     record {
       frame = at.frame;
       held = at.held;
-      left = subst (λ due. IsLeft split c (due ++ chain_due split chain)) (sym (ap (λ (p : Position). p.due) goes)) at.left;
+      left = subst (λ due. IsLeft split c (due ++ chain_due split chain)) (sym (ap (λ (p : Position). p.due) goes))
+          at.left;
       calling = ap (λ (p : Position). p.calling) goes ∙ at.calling;
       forwards = ap (λ (p : Position). p.forwards) goes ∙ at.forwards;
       temporaries =
@@ -183,7 +185,8 @@ read_at split c chain out host thread variables agrees at field index law =
     }
 
 -- the thread behind an instruction that drops its temporaries
-pub cleared : (split : Split) (c after : Configuration) (chain : List StackEntry) (out now : List Forward) (host : HostId)
+pub cleared : (split : Split) (c after : Configuration) (chain : List StackEntry) (out now : List Forward)
+    (host : HostId)
     (thread : ThreadShape) (behind : List Stmt) (next : Position) → IsAt split c chain out host thread →
     (at : ℕ) → place_of split host at ≡ next → after.pending ≡ map (source.run 0) behind →
     next.due ++ chain_due split chain ≡ map due_of behind →
@@ -247,7 +250,8 @@ assigns_local split c host variables agrees here (kind.Let y value) heading x no
   value = value;
   is = ap (λ z. kind.Let z value) sets.0;
   is_value = sets.1;
-  same = same_values split c host variables agrees (set_local heading y (expr_tree value) done) on_host (expr_tree value)
+  same = same_values split c host variables agrees (set_local heading y (expr_tree value) done) on_host
+      (expr_tree value)
       readers.0;
 }
 assigns_local split c host variables agrees here _ heading x nodes on_host readers sets = absurd sets
@@ -260,7 +264,8 @@ pub record SetsLocal (split : Split) (c : Configuration) (chain : List StackEntr
   pub store : (step split.program c).store ≡ c.store
   pub calls : (step split.program c).calls ≡ calls_after c.calls 0 x.0 value
   pub source : BlockTree
-  pub at : IsAt split (step split.program c) chain (forwards_of split.planned host source x) host (after_clearing thread)
+  pub at : IsAt split (step split.program c) chain (forwards_of split.planned host source x) host
+      (after_clearing thread)
 
 pub let_at : (split : Split) (c : Configuration) (chain : List StackEntry) (out : List Forward) (host : HostId)
     (thread : ThreadShape) (variables : VarId → ℤ) → Agrees split c host variables →
@@ -393,7 +398,8 @@ pub send_at : (split : Split) (c : Configuration) (chain : List StackEntry) (out
     (place_of split host (suc thread.at)) → SendsNext split c chain out host thread x to
 send_at split c chain out host thread at x to law =
     let here = place_of split host thread.at in
-    let goes : place_of split host (thread.at + 1) ≡ with_forwards here law.1.1 = next_place split host thread ∙ law.1.4 in
+    let goes : place_of split host (thread.at + 1) ≡ with_forwards here law.1.1 = next_place split host thread
+    ∙ law.1.4 in
     record {
       source = law.1.0;
       left = law.1.1;

@@ -63,7 +63,8 @@ pub fields_moved : (code : CodeShape) (world after : WorldShape) (host : HostId)
     ((number : ℕ) (field : CodeFieldShape) → slice_get code.fields number ≡ Some field → field.host.0 ≢ host.0 →
     row_of now number ≡ row_of store number) →
     FieldsAre code after now
-fields_moved code world after host old state flying store now fields obeys moved own others number field there is obeyed =
+fields_moved code world after host old state flying store now fields obeys moved own others number field there is
+    obeyed =
     elim (either world after host old state flying obeys moved field.host there obeyed) [
       | inl mover ↦
           ap (λ (s : HostShape). row_of s.rows number) mover.is

@@ -269,7 +269,8 @@ started split store rows hosts (Some entry) is on_root =
     let many : length rows ≡ length code.hosts = sym (length-map rows named_host) ∙ ap length hosts in
     let entries_fit : EntryFits code entry = all_there (EntryFits code) code.entries code.main.0 entry
     split.sound.entries is in
-    let within : root.0 < length code.hosts = subst (λ (h : HostId). h.0 < length code.hosts) on_root entries_fit.host in
+    let within : root.0 < length code.hosts = subst (λ (h : HostId). h.0 < length code.hosts) on_root entries_fit.host
+    in
     let there = there_within code store 0 rows root.0 (omega arith) in
     let start = starts code store rows root there.0 there.1 in
     let state = root_state code store start.key root entry in

@@ -111,7 +111,8 @@ AreSame values variables e = AllByRecursion (λ x. variables x ≡ values x.0) (
 same_left : (values : ℕ → ℤ) (variables : VarId → ℤ) (left right : ExprTree) →
     AllByRecursion (λ x. variables x ≡ values x.0) (variables_in left ++ variables_in right) →
     AreSame values variables left
-same_left values variables left right = all_left (λ x. variables x ≡ values x.0) (variables_in left) (variables_in right)
+same_left values variables left right = all_left (λ x. variables x ≡ values x.0) (variables_in left)
+    (variables_in right)
 
 same_right : (values : ℕ → ℤ) (variables : VarId → ℤ) (left right : ExprTree) →
     AllByRecursion (λ x. variables x ≡ values x.0) (variables_in left ++ variables_in right) →
@@ -153,7 +154,8 @@ after_nodes store values variables temporaries first (negated operand) same hold
 after_nodes store values variables temporaries first (binary operator left right) same holds nodes stack =
     let reads = map (read_value store values) (field_reads left) in
     let others = map (read_value store values) (field_reads right) in
-    let apart = subst (Holds temporaries first) (map-append (read_value store values) (field_reads left) (field_reads right))
+    let apart = subst (Holds temporaries first)
+    (map-append (read_value store values) (field_reads left) (field_reads right))
     holds in
     let parts = holds_parts temporaries first reads others apart in
     let many : first + length reads ≡ first + reads_in left =
@@ -166,7 +168,8 @@ after_nodes store values variables temporaries first (binary operator left right
     ∙ append_assoc one other (node.Binary operator ∷ nodes))
     ∙ after_nodes store values variables temporaries first left (same_left values variables left right same) parts.front
     (other ++ node.Binary operator ∷ nodes) stack
-    ∙ after_nodes store values variables temporaries (first + reads_in left) right (same_right values variables left right same) behind
+    ∙ after_nodes store values variables temporaries (first + reads_in left) right
+    (same_right values variables left right same) behind
     (node.Binary operator ∷ nodes) (tree_value store values left ∷ stack)
 after_nodes store values variables temporaries first (declassified operand label) same holds nodes stack =
     after_nodes store values variables temporaries first operand same holds nodes stack
