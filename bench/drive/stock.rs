@@ -1,4 +1,4 @@
-//! A drive in stock Rust: drive ROUNDS runs the code that a loop of two hosts is split into, event by event, until
+//! A drive in stock Rust: drive LIMIT runs the code that a loop of two hosts is split into, event by event, until
 //! nothing happens any more, and prints what `jifsplit drive` prints of the events and the fields.
 
 mod code;
@@ -30,8 +30,8 @@ fn entry(host: HostId, at: u32) -> Entry {
     Entry { host, at, label: 0, need: 0 }
 }
 
-/// The code of `while (n < ROUNDS) { s = s + n; n = n + 1; }`, where `s` and the first statement of the body are lent to
-/// host B: entry 2 is the head, 3 the return point, and 4 the segment on B.
+/// The code of `while (n < LIMIT) { s = s + n; n = n + 1; }`, where the first statement of the body is lent to host B.
+/// Entry 2 is the head, 3 the return point, and 4 the segment on B. Fields start with 1 in this world.
 fn split_loop(rounds: i64) -> Code {
     let first = vec![
         Op::Read(N, number(0)),
