@@ -57,6 +57,10 @@ fn refuses_words_without_form(rt: HostRuntime) -> Result<(), Fail> {
         "run P H E 7x",
         "run P H E 1000000001",
         "run P H E 18446744073709551617",
+        "drive P H E",
+        "drive P H E 0",
+        "drive P H E 1x",
+        "drive P H E 1000000001",
     ];
     for words in cases {
         let ended = call(

@@ -14,17 +14,13 @@ use Rattle.net_world.specs.Choice.{NoneRuns, NothingFlies}
 use Rattle.net_world.specs.Flying.{Flight, Flying}
 use Rattle.net_world.specs.World.{WorldShape, IsStep, IsTurnStep, IsTakeStep, state_at, after_step, has_halted}
 use Rattle.split_rules.specs.Positions.{Forward}
-use Rattle.simulation.proofs.Simulates.{Split, only, Holder, runs, asked, answered, goes, returns, halted, IsIdle, Stands}
+use Rattle.simulation.proofs.Simulates.{Split, only, Holder, runs, asked, answered, goes, returns, halted, IsIdle}
+use Rattle.simulation.proofs.Simulates.{Stands}
 use Rattle.simulation.proofs.Simulates.{AreIdle, GoesOn, Simulates, Goes}
 use Rattle.simulation.proofs.Moved.{same_id, none_taken, own_cell}
 use Rattle.simulation.proofs.Turns.{holder_turn}
 use Rattle.simulation.proofs.Takes.{asked_taken, answered_taken, going_taken, returning_taken}
-
-some_same : {X : Type 0} (o : Option X) (x y : X) → o ≡ Some x → o ≡ Some y → x ≡ y
-some_same o x y first second = let both : Some x ≡ Some y = sym first ∙ second in cc
-
-no_thread : {X : Type 0} (o : Option X) → o ≡ None → IsSome o → ⊥
-no_thread {X = X} o none some = let both : IsSome {T = X} None = subst IsSome none some in cc
+use Rattle.simulation.proofs.Basics.{none_there, some_same}
 
 -- ---- turns
 
@@ -32,7 +28,7 @@ no_thread {X = X} o none some = let both : IsSome {T = X} None = subst IsSome no
 idle_turn : (split : Split) (world after : WorldShape) (holder : Holder) → AreIdle holder world → (host : HostId) →
     IsIdle holder host → IsTurnStep split.code world host after → ⊥
 idle_turn split world after holder idle host rests step =
-    no_thread step.state.running (idle host step.state step.obeys rests).0 step.runs
+    none_there step.state.running (idle host step.state step.obeys rests).0 step.runs
 
 -- nor does one that waits
 waiting_turn : (split : Split) (world after : WorldShape) (host holder : HostId) (state : HostShape) →
@@ -41,7 +37,7 @@ waiting_turn : (split : Split) (world after : WorldShape) (host holder : HostId)
 waiting_turn split world after host holder state there rests same step =
     let one : host ≡ holder = same_id host holder same in
     let is = some_same (state_at world holder) step.state state (ap (state_at world) (sym one) ∙ step.obeys) there in
-    no_thread step.state.running (ap (λ (s : HostShape). s.running) is ∙ rests) step.runs
+    none_there step.state.running (ap (λ (s : HostShape). s.running) is ∙ rests) step.runs
 
 turned : (split : Split) (c : Configuration) (world after : WorldShape) (sim : Simulates split c world)
     (holder : Holder) → sim.holder ≡ holder → Stands split c sim.chain sim.out world holder → AreIdle holder world →
@@ -129,7 +125,8 @@ ended : (split : Split) (c : Configuration) (world : WorldShape) (chain : List S
     IsAtEnd c
 ended split c world chain out (runs holder) stands none halts = absurd (still world split.code.root none halts)
 ended split c world chain out (asked holder owner) stands none halts = absurd (still world split.code.root none halts)
-ended split c world chain out (answered holder owner) stands none halts = absurd (still world split.code.root none halts)
+ended split c world chain out (answered holder owner) stands none halts = absurd
+    (still world split.code.root none halts)
 ended split c world chain out (goes from to) stands none halts = absurd (still world split.code.root none halts)
 ended split c world chain out (returns from to) stands none halts = absurd (still world split.code.root none halts)
 ended split c world chain out halted stands none halts = stands.ends

@@ -1,9 +1,8 @@
 -- What the instructions of a host make of what is still to be done, by the laws of their positions.
-use Rattle.std.proofs.Common.{◌≡◌, ◌∙◌, ℕ, suc, ◌+◌, inl, inr, true, List, [], ◌∷◌, ◌++◌, map, length}
+use Rattle.std.proofs.Common.{◌≡◌, ◌∙◌, ℕ, suc, ◌+◌, true, List, [], ◌∷◌, ◌++◌, map, length}
 use Rattle.std.proofs.Common.{refl, ap, sym, subst, arith, append-nil}
-use Rattle.std.specs.Prelude.{ℤ, pos, nat_eq}
+use Rattle.std.specs.Prelude.{ℤ, pos}
 use Rattle.std.specs.List.{AllByRecursion}
-use Rattle.std.proofs.lemmas.Bool.Decides.{eqb_tells}
 use Rattle.std.proofs.lemmas.List.{map-append}
 use Rattle.js_base.specs.declared.ids.HostId.{HostId}
 use Rattle.js_base.specs.declared.ids.FieldId.{FieldId}
@@ -13,11 +12,12 @@ use Rattle.jif_tree.specs.declared.program.StmtKind.{StmtKind}
 use Rattle.jif_tree.specs.declared.program.StmtKind as kind
 use Rattle.jif_tree.specs.declared.program.Expr.{Expr}
 use Rattle.jif_tree.specs.SourceRun as source
-use Rattle.jif_tree.specs.SourceRun.{Configuration, IsAtEnd, step, executed, operands, value_of, calls_after, after_item}
+use Rattle.jif_tree.specs.SourceRun.{Configuration, IsAtEnd, step, executed, operands, value_of, calls_after}
+use Rattle.jif_tree.specs.SourceRun.{after_item}
 use Rattle.jif_tree.specs.Store.{element_at, row_of, store_after_write}
 use Rattle.jif_tree.specs.Trees.{ExprTree, number, local, scalar, element, inverted, negated, binary, declassified}
 use Rattle.jif_tree.specs.Trees.{endorsed, Heading, BlockTree, done, set_local, set_field, set_element, branch, loop}
-use Rattle.jif_tree.specs.Trees.{call, give_back, statement_tree, expr_tree}
+use Rattle.jif_tree.specs.Trees.{statement_tree, expr_tree}
 use Rattle.ics_stack.specs.declared.stack.StackEntry.{StackEntry}
 use Rattle.host_code.specs.declared.code_expr.Node.{Node}
 use Rattle.host_code.specs.declared.instruction.Op.TheVariants as op
@@ -36,9 +36,9 @@ use Rattle.split_rules.specs.Positions.{forwards_of, all_due, statements_of}
 use Rattle.split_rules.specs.Typing.{Reads, Sets, Stores, IsValue, Follows}
 use Rattle.split_rules.proofs.TypedValues.{reads_many}
 use Rattle.simulation.proofs.KnownReaders.{IsReader, AreReaders}
-use Rattle.simulation.proofs.TreeValues.{tree_value, value_is, read_value, value_there, all_left, all_right, all_both}
-use Rattle.simulation.proofs.TreeValues.{AreSame}
 use Rattle.simulation.proofs.Simulates.{Split, place_of, alone, due_of, chain_due, IsLeft, IsAt}
+use Rattle.simulation.proofs.TreeValues.{tree_value, value_is, read_value, value_there, AreSame}
+use Rattle.simulation.proofs.Basics.{all_both, all_left, all_map, all_right, told_equal}
 
 -- the next instruction
 pub next_place : (split : Split) (host : HostId) (thread : ThreadShape) →
@@ -51,14 +51,6 @@ next_place split host thread = ap (place_of split host) (omega arith)
 abbrev pub Agrees : Split → Configuration → HostId → (VarId → ℤ) → Type 0
 Agrees split c host variables = (x : VarId) → reads_on split.planned x host.0 ≡ true →
     variables x ≡ source.variable c.calls 0 x.0
-
-all_map : {X : Type 0} (P Q : X → Type 0) → ((x : X) → P x → Q x) → (xs : List X) → AllByRecursion P xs →
-    AllByRecursion Q xs
-all_map P Q make [] all = tt
-all_map P Q make (x ∷ xs) all = (make x all.0, all_map P Q make xs all.1)
-
-pub told_equal : (a b : ℕ) → nat_eq a b ≡ true → a ≡ b
-told_equal a b told = elim (eqb_tells a b) [ inl same ↦ same.1 | inr apart ↦ absurd (cc (apart.0, told)) ]
 
 pub same_values : (split : Split) (c : Configuration) (host : HostId) (variables : VarId → ℤ) →
     Agrees split c host variables → (statement : BlockTree) → is_on split.planned host statement ≡ true →
@@ -97,8 +89,7 @@ index_readers planned (set_element heading field index value rest) readers =
     all_both _ (field_reads index) (field_reads value) (reads_inside _ index readers.0) (reads_inside _ value readers.1)
 index_readers planned (branch heading guard first second rest) readers = reads_inside _ guard readers.0
 index_readers planned (loop heading guard inner rest) readers = reads_inside _ guard readers.0
-index_readers planned (call heading site method arguments into rest) readers = tt
-index_readers planned (give_back heading value rest) readers = reads_inside _ value readers.0
+index_readers planned _ readers = absurd readers
 
 -- ---- what comes first
 
@@ -126,7 +117,8 @@ first_of split c first others (statement ∷ behind) pending due readers = recor
 }
 
 -- what is due first at a position, and what is behind that
-pub front_of : (split : Split) (c : Configuration) (here : Position) (rest : List Due) (first : Due) (others : List Due) →
+pub front_of : (split : Split) (c : Configuration) (here : Position) (rest : List Due) (first : Due)
+    (others : List Due) →
     here.due ≡ first ∷ others → IsLeft split c (here.due ++ rest) → IsFirst split c first (others ++ rest)
 front_of split c here rest first others due left =
     first_of split c first (others ++ rest) left.left left.pending
@@ -181,7 +173,8 @@ read_at split c chain out host thread variables agrees at field index law =
     record {
       frame = at.frame;
       held = at.held;
-      left = subst (λ due. IsLeft split c (due ++ chain_due split chain)) (sym (ap (λ (p : Position). p.due) goes)) at.left;
+      left = subst (λ due. IsLeft split c (due ++ chain_due split chain)) (sym (ap (λ (p : Position). p.due) goes))
+          at.left;
       calling = ap (λ (p : Position). p.calling) goes ∙ at.calling;
       forwards = ap (λ (p : Position). p.forwards) goes ∙ at.forwards;
       temporaries =
@@ -192,7 +185,8 @@ read_at split c chain out host thread variables agrees at field index law =
     }
 
 -- the thread behind an instruction that drops its temporaries
-pub cleared : (split : Split) (c after : Configuration) (chain : List StackEntry) (out now : List Forward) (host : HostId)
+pub cleared : (split : Split) (c after : Configuration) (chain : List StackEntry) (out now : List Forward)
+    (host : HostId)
     (thread : ThreadShape) (behind : List Stmt) (next : Position) → IsAt split c chain out host thread →
     (at : ℕ) → place_of split host at ≡ next → after.pending ≡ map (source.run 0) behind →
     next.due ++ chain_due split chain ≡ map due_of behind →
@@ -256,7 +250,8 @@ assigns_local split c host variables agrees here (kind.Let y value) heading x no
   value = value;
   is = ap (λ z. kind.Let z value) sets.0;
   is_value = sets.1;
-  same = same_values split c host variables agrees (set_local heading y (expr_tree value) done) on_host (expr_tree value)
+  same = same_values split c host variables agrees (set_local heading y (expr_tree value) done) on_host
+      (expr_tree value)
       readers.0;
 }
 assigns_local split c host variables agrees here _ heading x nodes on_host readers sets = absurd sets
@@ -269,7 +264,8 @@ pub record SetsLocal (split : Split) (c : Configuration) (chain : List StackEntr
   pub store : (step split.program c).store ≡ c.store
   pub calls : (step split.program c).calls ≡ calls_after c.calls 0 x.0 value
   pub source : BlockTree
-  pub at : IsAt split (step split.program c) chain (forwards_of split.planned host source x) host (after_clearing thread)
+  pub at : IsAt split (step split.program c) chain (forwards_of split.planned host source x) host
+      (after_clearing thread)
 
 pub let_at : (split : Split) (c : Configuration) (chain : List StackEntry) (out : List Forward) (host : HostId)
     (thread : ThreadShape) (variables : VarId → ℤ) → Agrees split c host variables →
@@ -402,7 +398,8 @@ pub send_at : (split : Split) (c : Configuration) (chain : List StackEntry) (out
     (place_of split host (suc thread.at)) → SendsNext split c chain out host thread x to
 send_at split c chain out host thread at x to law =
     let here = place_of split host thread.at in
-    let goes : place_of split host (thread.at + 1) ≡ with_forwards here law.1.1 = next_place split host thread ∙ law.1.4 in
+    let goes : place_of split host (thread.at + 1) ≡ with_forwards here law.1.1 = next_place split host thread
+    ∙ law.1.4 in
     record {
       source = law.1.0;
       left = law.1.1;

@@ -21,7 +21,8 @@ use Rattle.net_world.specs.Flying.{Flying}
 use Rattle.net_world.specs.World.{WorldShape, state_at, given}
 use Rattle.split_rules.specs.Positions.{Forward, forwards_of}
 use Rattle.split_rules.proofs.NumberedLists.{number_there}
-use Rattle.simulation.proofs.Simulates.{Split, on_stack, IsOut, AreSent, Agree, HasCall, Holder, IsIdle, IsOrderly, AreStacks}
+use Rattle.simulation.proofs.Simulates.{Split, on_stack, IsOut, AreSent, Agree, HasCall, Holder, IsIdle, IsOrderly}
+use Rattle.simulation.proofs.Simulates.{AreStacks}
 use Rattle.simulation.proofs.Simulates.{AreIdle}
 use Rattle.simulation.proofs.Instructions.{Agrees}
 use Rattle.simulation.proofs.Moved.{Moved, either, none_bad, same_id}
@@ -221,7 +222,8 @@ sent_among c variables me x source q same (first ∷ numbers) =
     (q first) same (apart_false first me.0) (sent_among c variables me x source q same numbers)
 
 -- what is to be sent has the variable's value, and goes to others
-pub is_sent : (split : Split) (c : Configuration) (variables : VarId → ℤ) (me : HostId) (source : BlockTree) (x : VarId) →
+pub is_sent : (split : Split) (c : Configuration) (variables : VarId → ℤ) (me : HostId) (source : BlockTree)
+    (x : VarId) →
     variables x ≡ plain.variable c.calls 0 x.0 → AreSent c variables me (forwards_of split.planned me source x)
 is_sent split c variables me source x same =
     sent_among c variables me x source (reads_on split.planned x) same

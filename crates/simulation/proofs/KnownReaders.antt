@@ -1,5 +1,5 @@
 -- Where the needs are those of the program, the host of each statement is one of those that read its variables.
-use Rattle.std.proofs.Common.{◌≡◌, ◌∙◌, ℕ, suc, ◌<◌, ◌⊎◌, inl, inr, Bool, true, false, List, [], ◌∷◌, ◌++◌, map}
+use Rattle.std.proofs.Common.{zero, ◌≡◌, ◌∙◌, ℕ, suc, ◌<◌, ◌⊎◌, inl, inr, Bool, true, false, List, [], ◌∷◌, ◌++◌, map}
 use Rattle.std.proofs.Common.{length, Some, refl, ap, sym, subst}
 use Rattle.std.specs.Prelude.{◌||◌, cond, filter, nat_eq, slice_get, unwrap_or, ⊤}
 use Rattle.std.specs.List.{AllByRecursion, range_with_len, flat_map, list_any}
@@ -12,8 +12,8 @@ use Rattle.js_base.specs.declared.ids.MethodId.{MethodId}
 use Rattle.principals.specs.ActsFor.{Declared}
 use Rattle.jif_tree.specs.LabelRules.{MethodSetting, setting_of}
 use Rattle.jif_tree.specs.Trees.{ExprTree, number, local, scalar, element, inverted, negated, binary, declassified}
-use Rattle.jif_tree.specs.Trees.{endorsed, BlockTree, done, set_local, set_field, set_element, branch, loop, call}
-use Rattle.jif_tree.specs.Trees.{give_back, MethodTree, ProgramTree}
+use Rattle.jif_tree.specs.Trees.{endorsed, BlockTree, done, set_local, set_field, set_element, branch, loop}
+use Rattle.jif_tree.specs.Trees.{MethodTree, ProgramTree}
 use Rattle.jif_tree.specs.WellNumbered.{IsExprIn, IsBlockIn, AreMethodsIn}
 use Rattle.need_labels.specs.Labelled.{Labelled}
 use Rattle.need_labels.specs.Needs.{StatementUse, AreNeedsOf, variables_in, block_uses, method_uses}
@@ -23,7 +23,7 @@ use Rattle.msg_cost.specs.Moves.{PlannedShape}
 use Rattle.msg_cost.specs.Terms.{reads_on}
 use Rattle.split_rules.proofs.NumberedLists.{number_there}
 use Rattle.simulation.specs.Programs.{IsCallFree}
-use Rattle.simulation.proofs.TreeValues.{all_left, all_right, all_both}
+use Rattle.simulation.proofs.Basics.{all_both, all_left, all_right}
 
 -- ---- readers
 
@@ -32,7 +32,8 @@ abbrev pub IsReader : PlannedShape → StmtId → ExprTree → Type 0
 IsReader planned statement expr =
     AllByRecursion (λ x. reads_on planned x (statement_host planned.plan statement).0 ≡ true) (variables_in expr)
 
--- the host of each statement of a block, and of the blocks in it, reads the variables of its expressions
+-- The statements of a block, and of the blocks in it, neither call nor give back, and the host of each reads the
+-- variables of its expressions.
 abbrev pub AreReaders : PlannedShape → BlockTree → Type 0
 AreReaders planned done = ⊤
 AreReaders planned (set_local heading x value rest) = IsReader planned heading.id value × AreReaders planned rest
@@ -43,9 +44,7 @@ AreReaders planned (branch heading guard first second rest) =
     IsReader planned heading.id guard × AreReaders planned first × AreReaders planned second × AreReaders planned rest
 AreReaders planned (loop heading guard body rest) =
     IsReader planned heading.id guard × AreReaders planned body × AreReaders planned rest
-AreReaders planned (call heading site method arguments into rest) =
-    AllByRecursion (IsReader planned heading.id) arguments × AreReaders planned rest
-AreReaders planned (give_back heading value rest) = IsReader planned heading.id value × AreReaders planned rest
+AreReaders planned other = ⊥
 
 -- ---- uses among uses
 
@@ -82,7 +81,8 @@ reads_in : (one : StatementUse) (x : VarId) (uses : List StatementUse) → IsIn 
 reads_in one x [] is_in reads = absurd is_in
 reads_in one x (first ∷ uses) (inl same) reads =
     let own : list_any (λ read. nat_eq read.0 x.0) first.reads ≡ true =
-    any_in (λ read. nat_eq read.0 x.0) x first.reads (subst (λ (other : StatementUse). IsIn x other.reads) (sym same) reads)
+    any_in (λ read. nat_eq read.0 x.0) x first.reads
+    (subst (λ (other : StatementUse). IsIn x other.reads) (sym same) reads)
     (eq-eqb x.0 x.0 refl) in
     taken_first (list_any (λ read. nat_eq read.0 x.0) first.reads) own
   where
@@ -97,11 +97,6 @@ reads_in one x (first ∷ uses) (inr more) reads =
     behind_first first one.id others (list_any (λ read. nat_eq read.0 x.0) first.reads) (reads_in one x uses more reads)
 
 -- ---- expressions
-
-all_map : {X : Type 0} (P Q : X → Type 0) → ((x : X) → P x → Q x) → (xs : List X) → AllByRecursion P xs →
-    AllByRecursion Q xs
-all_map P Q make [] all = tt
-all_map P Q make (x ∷ xs) all = (make x all.0, all_map P Q make xs all.1)
 
 -- every variable that an expression reads is there
 variables_there : (program : ProgramTree) (method : MethodId) (e : ExprTree) → IsExprIn program method e →
@@ -209,28 +204,31 @@ block_readers labelled planned setting method gives _ free fits known = absurd f
 
 -- ---- programs
 
-methods_readers : (principals : Declared) (labelled : Labelled) (planned : PlannedShape) (first : ℕ)
-    (methods : List MethodTree) → AllByRecursion (λ method. IsCallFree method.body) methods →
-    AreMethodsIn planned.program first methods →
-    AllByRecursion (IsKnownUse planned) (flat_map (method_uses principals labelled) methods) →
-    AllByRecursion (λ method. AreReaders planned method.body) methods
-methods_readers principals labelled planned first [] free fits known = tt
-methods_readers principals labelled planned first (method ∷ methods) free fits known =
+method_readers : (principals : Declared) (labelled : Labelled) (planned : PlannedShape) (first : ℕ)
+    (methods : List MethodTree) → AreMethodsIn planned.program first methods →
+    AllByRecursion (IsKnownUse planned) (flat_map (method_uses principals labelled) methods) → (place : ℕ)
+    (tree : MethodTree) → slice_get methods place ≡ Some tree → IsCallFree tree.body → AreReaders planned tree.body
+method_readers principals labelled planned first [] fits known place tree is free = absurd (cc)
+method_readers principals labelled planned first (method ∷ methods) fits known zero tree is free =
     let own = method_uses principals labelled method in
-    let others = flat_map (method_uses principals labelled) methods in (
-      block_readers labelled planned (setting_of principals labelled.program method) (record { 0 = first }) _ method.body
-          free.0 fits.0.body (all_left (IsKnownUse planned) own others known).1,
-      methods_readers principals labelled planned (suc first) methods free.1 fits.1
-          (all_right (IsKnownUse planned) own others known),
-    )
+    let others = flat_map (method_uses principals labelled) methods in
+    let same : method ≡ tree = cc in
+    let here = subst (λ (m : MethodTree). IsCallFree m.body) (sym same) free in
+    subst (λ (m : MethodTree). AreReaders planned m.body) same
+    (block_readers labelled planned (setting_of principals labelled.program method) (record { 0 = first }) _ method.body
+    here fits.0.body (all_left (IsKnownUse planned) own others known).1)
+method_readers principals labelled planned first (method ∷ methods) fits known (suc place) tree is free =
+    let own = method_uses principals labelled method in
+    let others = flat_map (method_uses principals labelled) methods in
+    method_readers principals labelled planned (suc first) methods fits.1
+    (all_right (IsKnownUse planned) own others known) place tree is free
 
--- in a program without calls the host of each statement reads the variables of its expressions
-pub program_readers : (principals : Declared) (labelled : Labelled) (planned : PlannedShape) →
+-- in a method without calls the host of each statement reads the variables of its expressions
+pub body_readers : (principals : Declared) (labelled : Labelled) (planned : PlannedShape) →
     planned.program ≡ labelled.program → AreNeedsOf principals labelled planned.needs →
-    AllByRecursion (λ method. IsCallFree method.body) labelled.program.methods →
-    AreMethodsIn planned.program 0 labelled.program.methods →
-    AllByRecursion (λ method. AreReaders planned method.body) labelled.program.methods
-program_readers principals labelled planned same are free fits =
-    methods_readers principals labelled planned 0 labelled.program.methods free fits
+    AreMethodsIn planned.program 0 labelled.program.methods → (place : ℕ) (tree : MethodTree) →
+    slice_get labelled.program.methods place ≡ Some tree → IsCallFree tree.body → AreReaders planned tree.body
+body_readers principals labelled planned same are fits =
+    method_readers principals labelled planned 0 labelled.program.methods fits
     (all_from (IsKnownUse planned) (statement_uses principals labelled)
     (known_use principals labelled planned same are))

@@ -1,5 +1,5 @@
+pub mod Basics
 pub mod TreeValues
-pub mod PlainCode
 pub mod KnownReaders
 pub mod Simulates
 pub mod Instructions

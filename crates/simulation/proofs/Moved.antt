@@ -12,6 +12,7 @@ use Rattle.net_world.specs.World.{WorldShape, given, present, lacks, is_absent, 
 use Rattle.net_world.specs.World.{without_flight, after_sending, after_posting, after_telling, letter_of, after_step}
 use Rattle.net_world.proofs.Present.{get_other}
 use Rattle.simulation.proofs.Simulates.{nothing, only}
+use Rattle.simulation.proofs.Basics.{some_same, told_equal}
 
 pub same_id : (one other : HostId) → one.0 ≡ other.0 → one ≡ other
 same_id one other same = let make : ℕ → HostId = λ n. record { 0 = n } in ap make same
@@ -53,9 +54,6 @@ pub record Mover (host other : HostId) (state there : HostShape) : Type 0 where
 pub record Other (world : WorldShape) (host other : HostId) (there : HostShape) : Type 0 where
   pub apart : other.0 ≢ host.0
   pub obeys : state_at world other ≡ Some there
-
-some_same : {X : Type 0} (o : Option X) (x y : X) → o ≡ Some x → o ≡ Some y → x ≡ y
-some_same o x y first second = let both : Some x ≡ Some y = sym first ∙ second in cc
 
 pub either : (world after : WorldShape) (host : HostId) (old state : HostShape) (flying : Flying) →
     state_at world host ≡ Some old → Moved world host state flying after → (other : HostId) (there : HostShape) →
@@ -172,15 +170,12 @@ one_cell from to from' to' place flight flight' true true one other there =
 one_cell from to from' to' place flight flight' true false one other there = absurd (cc)
 one_cell from to from' to' place flight flight' false second one other there = absurd (cc)
 
-eq_told : (a b : ℕ) → (a == b) ≡ true → a ≡ b
-eq_told a b told = elim (eqb_tells a b) [ inl same ↦ same.1 | inr apart ↦ absurd (cc (apart.0, told)) ]
-
 pub the_one : (world : WorldShape) (from to from' to' : HostId) (place : ℕ) (flight flight' : Flight) →
     world.flying ≡ only from' to' (flight' ∷ []) → slice_get (world.flying from to) place ≡ Some flight →
     IsOne from to place flight from' to' flight'
 the_one world from to from' to' place flight flight' flying there =
-    one_cell from to from' to' place flight flight' (from.0 == from'.0) (to.0 == to'.0) (eq_told from.0 from'.0)
-    (eq_told to.0 to'.0) (sym (ap (λ (f : Flying). slice_get (f from to) place) flying) ∙ there)
+    one_cell from to from' to' place flight flight' (from.0 == from'.0) (to.0 == to'.0) (told_equal from.0 from'.0)
+    (told_equal to.0 to'.0) (sym (ap (λ (f : Flying). slice_get (f from to) place) flying) ∙ there)
 
 emptied_cell : (b : Bool) (flights others : List Flight) → flights ≡ [] →
     (if b then flights else (if b then others else [])) ≡ []

@@ -2,9 +2,7 @@
 use Rattle.std.proofs.Common.{◌≡◌, ℕ, suc, ◌<◌, inl, inr, List, Some, refl}
 use Rattle.std.proofs.Common.{subst, arith}
 use Rattle.std.specs.Prelude.{ℤ}
-use Rattle.std.specs.List.{AllByRecursion}
-use Rattle.std.proofs.Common.{[], ◌∷◌, zero, Some}
-use Rattle.std.specs.Prelude.{slice_get}
+use Rattle.std.proofs.Common.{Some}
 use Rattle.std.proofs.lemmas.List.{length-map}
 use Rattle.std.proofs.lemmas.Bool.{cases_eq}
 use Rattle.js_base.specs.declared.ids.HostId.{HostId}
@@ -29,20 +27,15 @@ use Rattle.split_rules.specs.Splittable.{IsSplittable}
 use Rattle.split_rules.specs.Typable.{IsTypable}
 use Rattle.split_rules.specs.TypedCode.{Table, IsTypedCode}
 use Rattle.simulation.specs.Obeying.{IsSet, Follows}
-use Rattle.simulation.proofs.KnownReaders.{AreReaders, program_readers}
-use Rattle.simulation.proofs.PlainCode.{plain_code}
+use Rattle.simulation.proofs.KnownReaders.{body_readers}
 use Rattle.simulation.proofs.Simulates.{Split, Simulates}
 use Rattle.simulation.proofs.Starts.{simulates_at_start}
 use Rattle.simulation.proofs.Events.{event_kept, halted_at_end, idle_halted}
 use Rattle.simulation.proofs.Tracks.{IsKept, Tracks, track, track_end}
+use Rattle.std.specs.Prelude.{IsSomeAnd}
+use Rattle.simulation.specs.Programs.{IsCallFree}
 
 -- ---- a split program
-
-pub all_at : {X : Type 0} (P : X → Type 0) (xs : List X) (place : ℕ) (x : X) → AllByRecursion P xs →
-    slice_get xs place ≡ Some x → P x
-all_at P [] place x all is = absurd (cc)
-all_at P (first ∷ xs) zero x all is = let same : first ≡ x = cc in subst P same all.0
-all_at P (first ∷ xs) (suc place) x all is = all_at P xs place x all.1 is
 
 -- a typed code of a program that is set
 unfoldable typed_split : (program : Program) (labelled : Labelled) (needs : NeedsShape) (hosts : HostsShape)
@@ -56,15 +49,14 @@ typed_split program labelled needs hosts plan set table typed = record {
   typed = typed;
   sound = set.sound;
   granted = set.granted;
-  plain = plain_code labelled needs hosts plan set.call_free;
   is = set.is;
   main_tree = set.splittable.numbered.main.0;
   has_main = set.splittable.numbered.main.1;
   main_entry = refl;
-  readers = all_at (λ method. AreReaders (planned_of labelled needs hosts plan) method.body) labelled.program.methods
-      labelled.program.main.0 set.splittable.numbered.main.0
-      (program_readers hosts.principals labelled (planned_of labelled needs hosts plan) refl set.needs_of set.call_free
-      set.splittable.numbered.methods) set.splittable.numbered.main.1;
+  readers = body_readers hosts.principals labelled (planned_of labelled needs hosts plan) refl set.needs_of
+      set.splittable.numbered.methods labelled.program.main.0 set.splittable.numbered.main.0
+      set.splittable.numbered.main.1
+      (subst (λ found. IsSomeAnd found (λ main. IsCallFree main.body)) set.splittable.numbered.main.1 set.call_free);
   many = length-map hosts.hosts named_host;
 }
 
@@ -97,9 +89,16 @@ kept split store world after n event stands step =
     let fits = shape_step split.code world after event split.sound stands.fits
     (own_tokens split (prefix split.program store n) world after event stands.simulates step) step in
     elim (event_kept split (prefix split.program store n) world after event stands.simulates step) [
-      | inl same ↦ (n, omega arith, record { simulates = same; not_before = stands.not_before; fits = fits })
+      | inl same ↦ (
+        n,
+        omega arith,
+        omega arith,
+        record
+            { simulates = same; not_before = stands.not_before; fits = fits },
+      )
       | inr next ↦ (
         suc n,
+        omega arith,
         omega arith,
         record {
           simulates = next.1;
@@ -122,7 +121,8 @@ module _ (split : Split) (store : List (List ℤ)) (hosts : HostsShape)
 
   at_end : (n : ℕ) × Stands split store world n
   at_end =
-      track_end split.code (Stands split store) (world_at_start split.code hosts.hosts 0 store) world 0 events tracked ran
+      track_end split.code (Stands split store) (world_at_start split.code hosts.hosts 0 store) world 0 events tracked
+      ran
 
   pub follows : Follows split.program split.code hosts.hosts store events
   follows = record {
@@ -130,6 +130,7 @@ module _ (split : Split) (store : List (List ℤ)) (hosts : HostsShape)
     moments = tracked.moments;
     first = tracked.first;
     rising = tracked.rising;
+    close = tracked.close;
     fields = λ moment after within is. (tracked.holds moment after within is).simulates.fields;
     halted = λ moment after within is halts.
         let stands = tracked.holds moment after within is in

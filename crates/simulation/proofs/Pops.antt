@@ -65,7 +65,8 @@ pushed_chain split (next ∷ chain) pushed token is_chain top is_entry frame kep
 -- ---- taking off
 
 -- the program ends
-pub record Ended (split : Split) (c : Configuration) (chain : List StackEntry) (host : HostId) (bare : HostShape) : Type 0
+pub record Ended (split : Split) (c : Configuration) (chain : List StackEntry) (host : HostId)
+    (bare : HostShape) : Type 0
   where
     pub on_root : host ≡ split.code.root
     pub is : after_pop split.code bare (on_stack host chain)

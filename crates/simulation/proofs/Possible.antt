@@ -29,16 +29,15 @@ use Rattle.net_world.specs.World.{after_step, without_flight}
 use Rattle.split_rules.specs.Positions.{Forward}
 use Rattle.net_world.specs.Fits.{ShapeFits}
 use Rattle.net_world.proofs.Fitting.{flight_fits}
-use Rattle.simulation.proofs.PlainCode.{IsPlain}
+use Rattle.simulation.proofs.Transfers.{IsPlain, is_plain}
 use Rattle.simulation.proofs.Simulates as simulates
-use Rattle.simulation.proofs.Simulates.{Split, IsChain, only, on_stack, IsRequest, IsAnswer, Holder, runs, asked, answered}
+use Rattle.simulation.proofs.Simulates.{Split, IsChain, only, on_stack, IsRequest, IsAnswer, Holder, runs, asked}
+use Rattle.simulation.proofs.Simulates.{answered}
 use Rattle.simulation.proofs.Simulates.{goes, returns, halted, IsIdle, AreIdle, Stands, IsOrderly, AreStacks, Simulates}
 use Rattle.simulation.proofs.Moved.{same_id, none_taken, the_one, own_cell}
 use Rattle.simulation.proofs.Pops.{top_of, top_on_stack}
 use Rattle.simulation.proofs.Takes.{may_here, awaited_first}
-
-some_same : {X : Type 0} (o : Option X) (x y : X) → o ≡ Some x → o ≡ Some y → x ≡ y
-some_same o x y first second = let both : Some x ≡ Some y = sym first ∙ second in cc
+use Rattle.simulation.proofs.Basics.{none_there, some_same}
 
 -- ---- checks that pass
 
@@ -100,7 +99,8 @@ turn_possible split c world chain out holder orderly stacks is_chain run =
     ap top_token (stacks holder state run.there) ∙ top_on_stack holder chain token.0 token.1 own in is in
     let found = instruction_at code holder thread.at in
     let one = outcome_there code bare thread found (λ there is. turn_passes split bare thread.held token.0
-    (run.at.held ∙ token.1) top there.op (split.plain holder thread.at there is)) in
+    (run.at.held ∙ token.1) top there.op (is_plain split c chain out holder thread run.at there.op
+    (split.typed.instructions holder thread.at there is).1)) in
     let turns : IsTurn code state one.0 =
     subst (λ o. IsTurnOf code state o one.0) (sym run.running)
     (subst (λ m. IsRunning code bare thread (instruction_at code m thread.at) one.0) (sym me) one.1) in (
@@ -197,7 +197,8 @@ happens split c world sim fits (goes from to) stands idle event is =
     let target = target_there split world from to going.flight fits sim.orderly going.flying in
     let one = take_possible split world from to going.flight target.0 target.1 (idle to target.0 target.1 tt).0
     going.flying (subst (Passes split.code target.0 from) (sym going.message)
-    (may_here split target.0 to (ask.Enter (record { 0 = going.number })) from (sim.orderly.numbers to target.0 target.1) going.may)) in
+    (may_here split target.0 to (ask.Enter (record { 0 = going.number })) from
+    (sim.orderly.numbers to target.0 target.1) going.may)) in
     (one.0, subst (λ e. IsStep split.code world e one.0) same one.1)
 happens split c world sim fits (returns from to) stands idle event is =
     let same : Take from to 0 ≡ event = cc in
@@ -217,15 +218,12 @@ runs_there : (o : Option HostShape) → IsSomeAnd o (λ state. IsSome state.runn
 runs_there None is = absurd is
 runs_there (Some state) is = (state, refl, is)
 
-no_thread : {X : Type 0} (o : Option X) → o ≡ None → IsSome o → ⊥
-no_thread {X = X} o none some = let both : IsSome {T = X} None = subst IsSome none some in cc
-
 -- a thread runs nowhere but on the holder
 runs_only : (world : WorldShape) (holder : Holder) → AreIdle holder world → (host : HostId) → IsIdle holder host →
     Runs world host → ⊥
 runs_only world holder idle host rests running =
     let there = runs_there (state_at world host) running in
-    no_thread there.0.running (idle host there.0 there.1 rests).0 there.2
+    none_there there.0.running (idle host there.0 there.1 rests).0 there.2
 
 -- nor on a holder that waits
 runs_not : (world : WorldShape) (host holder : HostId) (state : HostShape) → state_at world holder ≡ Some state →
@@ -234,7 +232,7 @@ runs_not world host holder state obeys rests same running =
     let one : host ≡ holder = same_id host holder same in
     let there = runs_there (state_at world host) running in
     let is = some_same (state_at world holder) there.0 state (ap (state_at world) (sym one) ∙ there.1) obeys in
-    no_thread there.0.running (ap (λ (s : HostShape). s.running) is ∙ rests) there.2
+    none_there there.0.running (ap (λ (s : HostShape). s.running) is ∙ rests) there.2
 
 -- where a thread runs the holder runs it
 running_holder : (split : Split) (c : Configuration) (world : WorldShape) (chain : List StackEntry) (out : List Forward)

@@ -1,5 +1,5 @@
 -- Rows of fields: that of a host after a step is that of the store after the same.
-use Rattle.std.proofs.Common.{◌≡◌, ◌≢◌, ◌∙◌, ℕ, zero, suc, inl, inr, List, [], ◌∷◌, Option, Some, refl, ap}
+use Rattle.std.proofs.Common.{◌≡◌, ◌≢◌, ◌∙◌, ℕ, zero, suc, inl, inr, List, [], ◌∷◌, Some, refl, ap}
 use Rattle.std.proofs.Common.{sym, subst}
 use Rattle.std.specs.Prelude.{ℤ, pos, negsuc, slice_get, slice_set, unwrap_or}
 use Rattle.std.proofs.lemmas.Bool.Decides.{eqb_tells}
@@ -14,6 +14,7 @@ use Rattle.net_world.proofs.Present.{get_other}
 use Rattle.simulation.specs.Obeying.{FieldsAre}
 use Rattle.simulation.proofs.Simulates.{IsFieldOn}
 use Rattle.simulation.proofs.Moved.{Moved, either}
+use Rattle.simulation.proofs.Basics.{some_same}
 
 no_element : (index value : ℤ) → with_element [] index value ≡ []
 no_element (pos index) value = refl
@@ -62,7 +63,8 @@ pub fields_moved : (code : CodeShape) (world after : WorldShape) (host : HostId)
     ((number : ℕ) (field : CodeFieldShape) → slice_get code.fields number ≡ Some field → field.host.0 ≢ host.0 →
     row_of now number ≡ row_of store number) →
     FieldsAre code after now
-fields_moved code world after host old state flying store now fields obeys moved own others number field there is obeyed =
+fields_moved code world after host old state flying store now fields obeys moved own others number field there is
+    obeyed =
     elim (either world after host old state flying obeys moved field.host there obeyed) [
       | inl mover ↦
           ap (λ (s : HostShape). row_of s.rows number) mover.is
@@ -77,9 +79,6 @@ pub fields_same : (code : CodeShape) (world after : WorldShape) (host : HostId) 
 fields_same code world after host old state flying store fields obeys moved rows =
     fields_moved code world after host old state flying store store fields obeys moved
     (λ number same. ap (λ list. row_of list number) rows ∙ same) (λ number field is apart. refl)
-
-some_same : {X : Type 0} (o : Option X) (x y : X) → o ≡ Some x → o ≡ Some y → x ≡ y
-some_same o x y first second = let both : Some x ≡ Some y = sym first ∙ second in cc
 
 -- a step that writes a field of the host
 pub fields_written : (code : CodeShape) (world after : WorldShape) (host : HostId) (old state : HostShape)

@@ -35,7 +35,6 @@ use Rattle.net_world.specs.Flying.{Flight, Flying, with_flights}
 use Rattle.net_world.specs.World.{WorldShape, state_at, misbehaves}
 use Rattle.simulation.specs.Obeying.{FieldsAre}
 use Rattle.simulation.proofs.KnownReaders.{AreReaders}
-use Rattle.simulation.proofs.PlainCode.{IsPlainCode}
 use Rattle.simulation.proofs.TreeValues.{read_value}
 
 -- ---- split programs
@@ -49,7 +48,6 @@ pub record Split : Type 0 where
   pub typed : IsTypedCode planned code table
   pub sound : IsSoundCode code
   pub granted : AreGranted code
-  pub plain : IsPlainCode code
   pub is : program_tree program ≡ planned.program
   pub main_tree : MethodTree
   pub has_main : slice_get planned.program.methods planned.program.main.0 ≡ Some main_tree
@@ -72,8 +70,8 @@ abbrev pub chain_due : Split → List StackEntry → List Due
 chain_due split [] = []
 chain_due split (entry ∷ chain) = due_at (slice_get split.table.entries entry.entry.0) ++ chain_due split chain
 
--- The last of them ends the program, on the root. Each of the others stands on the host of its token, and has the token of the next
--- kept with it.
+-- The last of them ends the program, on the root. Each of the others stands on the host of its token, and has the
+-- token of the next kept with it.
 abbrev pub IsChain : Split → List StackEntry → Type 0
 IsChain split [] = ⊥
 IsChain split (entry ∷ []) = (entry.entry ≡ halt) × (entry.token.host ≡ split.code.root)

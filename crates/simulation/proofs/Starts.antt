@@ -40,6 +40,7 @@ use Rattle.simulation.proofs.Simulates.{Split, place_of, due_at, chain_due, AreS
 use Rattle.simulation.proofs.Transfers.{AreStatements, one_more}
 use Rattle.simulation.proofs.Moved.{same_id}
 use Rattle.simulation.proofs.Pops.{own_stack, other_stack}
+use Rattle.simulation.proofs.Basics.{some_same}
 
 all_there : {X : Type 0} (P : X → Type 0) (xs : List X) (i : ℕ) (x : X) → All P xs → slice_get xs i ≡ Some x → P x
 all_there P xs i x all there =
@@ -235,9 +236,6 @@ last_entry code store key = record {
   kept = last_token code.root;
 }
 
-some_same : {X : Type 0} (o : Option X) (x y : X) → o ≡ Some x → o ≡ Some y → x ≡ y
-some_same o x y first second = let both : Some x ≡ Some y = sym first ∙ second in cc
-
 stacks_at_start : (split : Split) (store : List (List ℤ)) (rows : List declared_hosts.HostShape) (entry : Entry) →
     entry_at split.code split.code.main ≡ Some entry → (key : List ℕ) →
     state_at (world_at_start split.code rows 0 store) split.code.root
@@ -271,7 +269,8 @@ started split store rows hosts (Some entry) is on_root =
     let many : length rows ≡ length code.hosts = sym (length-map rows named_host) ∙ ap length hosts in
     let entries_fit : EntryFits code entry = all_there (EntryFits code) code.entries code.main.0 entry
     split.sound.entries is in
-    let within : root.0 < length code.hosts = subst (λ (h : HostId). h.0 < length code.hosts) on_root entries_fit.host in
+    let within : root.0 < length code.hosts = subst (λ (h : HostId). h.0 < length code.hosts) on_root entries_fit.host
+    in
     let there = there_within code store 0 rows root.0 (omega arith) in
     let start = starts code store rows root there.0 there.1 in
     let state = root_state code store start.key root entry in

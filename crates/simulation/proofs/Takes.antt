@@ -31,13 +31,15 @@ use Rattle.net_world.specs.World.{WorldShape, IsTakeStep, state_at, without_flig
 use Rattle.simulation.specs.Obeying.{FieldsAre}
 use Rattle.simulation.proofs.Simulates.{Split, IsChain, on_stack, IsAt, only, AreSent, Agree, runs}
 use Rattle.simulation.proofs.Simulates.{asked, answered, goes, returns, halted, Holder, IsIdle, IsRequest}
-use Rattle.simulation.proofs.Simulates.{IsAnswer, IsWaiting, IsAsked, IsAnswered, IsGoing, IsReturning, AreIdle, Simulates}
+use Rattle.simulation.proofs.Simulates.{IsAnswer, IsWaiting, IsAsked, IsAnswered, IsGoing, IsReturning, AreIdle}
+use Rattle.simulation.proofs.Simulates.{Simulates}
 use Rattle.simulation.proofs.Simulates.{Goes}
 use Rattle.simulation.proofs.Moved.{Moved, mover_state, other_state, moved_silent, moved_telling, the_one, emptied}
 use Rattle.simulation.proofs.Rows.{fields_same, fields_written, row_there}
 use Rattle.simulation.proofs.Kept.{orderly_moved, NoneHalted, none_halted_moved, stacks_moved, idle_moved}
 use Rattle.simulation.proofs.Kept.{agree_same, agree_forwarded, call_kept, sent_kept}
 use Rattle.simulation.proofs.Pops.{own_stack, other_stack, top_on_stack, pushed_chain, Ended, Continued, popped}
+use Rattle.simulation.proofs.Basics.{some_same}
 
 -- a message that passes does what it is for
 passing : (split : Split) (state : HostShape) (from : HostId) (m : Message) (outcome : Outcome) →
@@ -94,7 +96,8 @@ answers split c now world after sim holder owner idle none_halted waits chain ou
         record {
           waits = record {
             state = waits.state;
-            there = other_state world after owner holder new flying moved (λ same. waits.other (sym same)) ∙ waits.there;
+            there = other_state world after owner holder new flying moved (λ same. waits.other (sym same))
+                ∙ waits.there;
             thread = waits.thread;
             flight = flight;
             running = waits.running;
@@ -115,7 +118,8 @@ request_taken : (split : Split) (c : Configuration) (world after : WorldShape) (
     IsRequest split c sim.chain sim.out holder owner waits.thread m → (old : HostShape) →
     state_at world owner ≡ Some old → (outcome : Outcome) (label : ℕ) → IsTaking split.code old holder m outcome →
     after_step (without_flight world holder owner 0) owner outcome (Some label) ≡ after → Goes split c after
-request_taken split c world after sim holder owner idle none_halted is_chain waits (message.Get request field place) asks
+request_taken split c world after sim holder owner idle none_halted is_chain waits (message.Get request field place)
+    asks
     old obeys outcome label takes leaves =
     let me = sim.orderly.numbers owner old obeys in
     let own = element_at (row_of old.rows field.0) place in
@@ -133,7 +137,8 @@ request_taken split c world after sim holder owner idle none_halted is_chain wai
       fields_same split.code world after owner old old _ c.store sim.fields obeys moved refl,
       agree_same split c c sim.out world after owner old old _ sim.agree obeys moved refl refl,
     )))
-request_taken split c world after sim holder owner idle none_halted is_chain waits (message.Set request field place value)
+request_taken split c world after sim holder owner idle none_halted is_chain waits
+    (message.Set request field place value)
     asks old obeys outcome label takes leaves =
     let me = sim.orderly.numbers owner old obeys in
     let new = with_row_written old field place value in
@@ -144,12 +149,14 @@ request_taken split c world after sim holder owner idle none_halted is_chain wai
     inr (
       asks.4,
       answers split c next world after sim holder owner idle none_halted waits sim.chain sim.out old new label
-          (message.Ack request) outcome obeys refl refl refl refl refl (sim.stacks owner old obeys) (λ other apart. refl) done
+          (message.Ack request) outcome obeys refl refl refl refl refl (sim.stacks owner old obeys)
+          (λ other apart. refl) done
           leaves asks.6 is_chain (sent_kept c next (waits.state.variables main_frame) holder sim.out asks.6 waits.sent)
           (asks.0, asks.1, asks.7)
           (λ moved. (
             subst (FieldsAre split.code after) (sym asks.5)
-                (fields_written split.code world after owner old new _ c.store field place value sim.fields obeys moved asks.3 refl),
+                (fields_written split.code world after owner old new _ c.store field place value sim.fields obeys
+                moved asks.3 refl),
             agree_same split c next sim.out world after owner old new _ sim.agree obeys moved refl asks.6,
           )),
     )
@@ -182,7 +189,8 @@ request_taken split c world after sim holder owner idle none_halted is_chain wai
     let done : with_message new holder (message.Token request pushed.token) ≡ outcome =
     passing split old holder (message.Sync request frame entry token) outcome takes
     (may_here split old owner (ask.Enter entry) holder me asks.2) in
-    inl (answers split c c world after sim holder owner idle none_halted waits (pushed ∷ sim.chain) sim.out old new label
+    inl (answers split c c world after sim holder owner idle none_halted waits (pushed ∷ sim.chain) sim.out old new
+    label
     (message.Token request pushed.token) outcome obeys refl refl refl refl refl
     (ap (λ list. pushed ∷ list) (sim.stacks owner old obeys) ∙ sym (own_stack owner pushed sim.chain me))
     (λ other apart. other_stack owner other pushed sim.chain me apart) done leaves refl
@@ -231,7 +239,8 @@ awaited_first state waiting awaited request from is kind number by =
     ap (position (awaits awaited request from)) is ∙ first_passes (awaits awaited request from) waiting passes
 
 -- a host runs again, or anew, and nothing is in flight
-begins : (split : Split) (c : Configuration) (world after : WorldShape) (sim : Simulates split c world) (before : Holder)
+begins : (split : Split) (c : Configuration) (world after : WorldShape) (sim : Simulates split c world)
+    (before : Holder)
     (from host : HostId) (flight : Flight) (chain : List StackEntry) (out : List Forward) →
     AreIdle before world → NoneHalted world → ((other : HostId) → other.0 ≢ host.0 → IsIdle before other) →
     world.flying ≡ only from host (flight ∷ []) → (old new : HostShape) (thread : ThreadShape) →
@@ -284,7 +293,8 @@ resumes : (split : Split) (c : Configuration) (world after : WorldShape) (sim : 
     without_message (after_answer waits.state place change) ≡ outcome →
     after_step (without_flight world owner holder 0) holder outcome (Some label) ≡ after →
     IsAt split c sim.chain sim.out holder (change waits.thread.thread) → Goes split c after
-resumes split c world after sim holder owner idle none_halted is_chain waits change place outcome label first is leaves at =
+resumes split c world after sim holder owner idle none_halted is_chain waits change place outcome label first is
+    leaves at =
     let state = waits.state in
     let new : HostShape = record state { running = Some (change waits.thread.thread); waiting = [] } in
     let done : without_message new ≡ outcome =
@@ -310,7 +320,8 @@ answer_taken split c world after sim holder owner idle none_halted is_chain wait
     let place = place_of_awaiting waits.state value_of_field request owner in
     let first = awaited_first waits.state waits.thread value_of_field request owner waits.waiting answer.0 answer.1
     waits.asked in
-    resumes split c world after sim holder owner idle none_halted is_chain waits (with_temporary value) place outcome label
+    resumes split c world after sim holder owner idle none_halted is_chain waits (with_temporary value) place outcome
+    label
     first (passing split waits.state owner (message.Value request value) outcome takes (subst IsSome (sym first) refl))
     leaves answer.2
 answer_taken split c world after sim holder owner idle none_halted is_chain waits (message.Ack request) answer outcome
@@ -353,7 +364,8 @@ token_goes split c world after sim from to idle none_halted is_chain going old o
     let rested = idle to old obeys tt in
     begins split c world after sim (goes from to) from to going.flight sim.chain [] idle none_halted (λ other apart. tt)
     going.flying old new thread obeys refl refl refl refl refl refl rested.1 (sim.stacks to old obeys)
-    (λ other apart. refl) outcome label done leaves is_chain (subst (λ out. Agree split c out world) going.none_out sim.agree)
+    (λ other apart. refl) outcome label done leaves is_chain
+    (subst (λ out. Agree split c out world) going.none_out sim.agree)
     tt going.at
 
 -- the token comes back
@@ -413,9 +425,6 @@ token_returns split c world after sim from to idle none_halted is_chain back old
 
 -- ---- events
 
-some_same : {X : Type 0} (o : Option X) (x y : X) → o ≡ Some x → o ≡ Some y → x ≡ y
-some_same o x y first second = let both : Some x ≡ Some y = sym first ∙ second in cc
-
 -- the event takes the one message in flight
 take_at : (split : Split) (world after : WorldShape) (from to from' to' : HostId) (place : ℕ) → from ≡ from' →
     to ≡ to' → place ≡ 0 → IsTakeStep split.code world from to place after →
@@ -457,7 +466,8 @@ pub asked_taken : (split : Split) (c : Configuration) (world after : WorldShape)
     IsTakeStep split.code world from to place after → Goes split c after
 asked_taken split c world after sim holder owner idle none_halted is_chain stands from to place step =
     let one = takes_one split world after from to holder owner place stands.waits.flight stands.waits.flying step in
-    request_taken split c world after sim holder owner idle none_halted is_chain stands.waits stands.waits.flight.message
+    request_taken split c world after sim holder owner idle none_halted is_chain stands.waits
+    stands.waits.flight.message
     stands.request one.old one.obeys one.outcome one.label one.takes one.leaves
 
 -- the answer in flight is taken

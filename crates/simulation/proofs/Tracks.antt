@@ -1,5 +1,5 @@
 -- A property of a world and a number that each event keeps, with that number or a greater one, is kept along events.
-use Rattle.std.proofs.Common.{◌≡◌, ℕ, zero, suc, ◌+◌, ◌<◌, ◌≤◌, List, [], ◌∷◌, length, get_or, take, refl, sym}
+use Rattle.std.proofs.Common.{ap, ◌≡◌, ℕ, zero, suc, ◌+◌, ◌<◌, ◌≤◌, List, [], ◌∷◌, length, get_or, take, refl, sym}
 use Rattle.std.proofs.Common.{subst, arith}
 use Rattle.std.specs.Prelude.{slice_index}
 use Rattle.std.specs.List.Sorted.{IsNonDecreasing}
@@ -12,7 +12,7 @@ use Rattle.net_world.proofs.StepLaws.{one_step}
 -- the property is kept by each event
 abbrev pub IsKept : CodeShape → (WorldShape → ℕ → Type 0) → Type 0
 IsKept code P = (world after : WorldShape) (n : ℕ) (event : Event) → P world n → IsStep code world event after →
-    (m : ℕ) × (n ≤ m) × P after m
+    (m : ℕ) × (n ≤ m) × (m ≤ n + 1) × P after m
 
 -- the numbers before the first event and after each, from a number on
 pub record Tracks (code : CodeShape) (P : WorldShape → ℕ → Type 0) (world : WorldShape) (n : ℕ) (events : List Event) :
@@ -21,6 +21,7 @@ pub record Tracks (code : CodeShape) (P : WorldShape → ℕ → Type 0) (world 
   pub moments : length steps ≡ length events + 1
   pub first : slice_index steps 0 ≡ n
   pub rising : IsNonDecreasing steps
+  pub close : (moment : ℕ) → moment < length events → slice_index steps (moment + 1) ≤ slice_index steps moment + 1
   pub holds : (moment : ℕ) (after : WorldShape) → moment ≤ length events →
       IsRun code world (take moment events) after → P after (slice_index steps moment)
 
@@ -55,15 +56,27 @@ holds_more P code world next after n (suc moment) event events steps holds step 
     later moment after (omega arith)
     (subst (λ w. IsRun code w (take moment events) after) (one_step code world is.0 next event is.1 step) is.2)
 
+close_cons : (n : ℕ) (steps : List ℕ) (count : ℕ) → slice_index steps 0 ≤ n + 1 →
+    ((moment : ℕ) → moment < count → slice_index steps (moment + 1) ≤ slice_index steps moment + 1) → (moment : ℕ) →
+    moment < suc count → slice_index (n ∷ steps) (moment + 1) ≤ slice_index (n ∷ steps) moment + 1
+close_cons n steps count first close zero within = first
+close_cons n steps count first close (suc moment) within =
+    let more = close moment (omega arith) in
+    let count_is : suc moment + 1 ≡ suc (moment + 1) = omega arith in
+    let next : slice_index (n ∷ steps) (suc moment + 1) ≡ slice_index steps (moment + 1) =
+    ap (slice_index (n ∷ steps)) count_is in
+    omega arith
+
 -- one event more at the front
 tracks_more : (code : CodeShape) (P : WorldShape → ℕ → Type 0) (world next : WorldShape) (n m : ℕ) (event : Event)
-    (events : List Event) → P world n → n ≤ m → IsStep code world event next → Tracks code P next m events →
+    (events : List Event) → P world n → n ≤ m → m ≤ n + 1 → IsStep code world event next → Tracks code P next m events →
     Tracks code P world n (event ∷ events)
-tracks_more code P world next n m event events holds le step rest = record {
+tracks_more code P world next n m event events holds le near step rest = record {
   steps = n ∷ rest.steps;
   moments = omega arith;
   first = refl;
   rising = rising_cons n rest.steps (omega arith) rest.rising;
+  close = close_cons n rest.steps (length events) (omega arith) rest.close;
   holds = λ moment after within is. holds_more P code world next after n moment event events rest.steps holds step
       rest.holds within is;
 }
@@ -75,12 +88,13 @@ track code P kept [] world after n holds is = record {
   moments = omega arith;
   first = refl;
   rising = rising_one n;
+  close = λ moment within. absurd (omega arith);
   holds = λ moment v within ran. holds_none P code world v n moment holds within ran;
 }
 track code P kept (event ∷ events) world after n holds is =
     let more = kept world is.0 n event holds is.1 in
-    tracks_more code P world is.0 n more.0 event events holds more.1 is.1
-    (track code P kept events is.0 after more.0 more.2 is.2)
+    tracks_more code P world is.0 n more.0 event events holds more.1 more.2 is.1
+    (track code P kept events is.0 after more.0 more.3 is.2)
 
 -- the property at the end
 pub track_end : (code : CodeShape) (P : WorldShape → ℕ → Type 0) (world after : WorldShape) (n : ℕ)

@@ -13,7 +13,8 @@ use Rattle.jif_tree.specs.declared.program.StmtKind.{StmtKind}
 use Rattle.jif_tree.specs.declared.program.StmtKind as kind
 use Rattle.jif_tree.specs.Operators.{is_true}
 use Rattle.jif_tree.specs.SourceRun as source
-use Rattle.jif_tree.specs.SourceRun.{Configuration, IsAtEnd, step, executed, operands, value_of, calls_after, after_item}
+use Rattle.jif_tree.specs.SourceRun.{Configuration, IsAtEnd, step, executed, operands, value_of, calls_after}
+use Rattle.jif_tree.specs.SourceRun.{after_item}
 use Rattle.jif_tree.specs.Trees.{Heading, BlockTree, done, branch, loop, statement_tree, row_tree, expr_tree}
 use Rattle.capability.specs.declared.token.Token.{Token}
 use Rattle.ics_stack.specs.declared.stack.StackEntry.{StackEntry}
@@ -31,12 +32,18 @@ use Rattle.split_rules.specs.Positions as positions
 use Rattle.split_rules.specs.Positions.{Position, Due, FieldRead, Forward, Entrance, field_reads, own_reads, reads_due}
 use Rattle.split_rules.specs.Positions.{number_of, statement_due, is_on, calm, no_call, with_reads, with_forwards}
 use Rattle.split_rules.specs.Positions.{forwards_of, all_due, statements_of}
-use Rattle.split_rules.specs.Typing.{EntryIs, Cuts, Branches, Divides, Ends, IsCalm}
+use Rattle.split_rules.specs.Typing.{EntryIs, Cuts, Branches, Divides, Ends, IsCalm, Frames, GivesBack, Argues, Enters}
+use Rattle.split_rules.specs.TypedCode.{IsTypedOp}
+use Rattle.split_rules.specs.Positions.{Argument, arguing}
+use Rattle.js_base.specs.declared.ids.SiteId.{SiteId}
+use Rattle.host_code.specs.declared.instruction.Op.{Op}
+use Rattle.std.specs.Prelude.{⊤}
 use Rattle.simulation.proofs.KnownReaders.{AreReaders}
-use Rattle.simulation.proofs.TreeValues.{read_value, all_both}
 use Rattle.simulation.proofs.Simulates.{Split, place_of, alone, due_of, due_at, chain_due, IsChain, IsLeft, IsAt}
 use Rattle.simulation.proofs.Instructions.{next_place, front_of, busy, stepped, cleared, only_value, same_values}
 use Rattle.simulation.proofs.Instructions.{Agrees}
+use Rattle.simulation.proofs.TreeValues.{read_value}
+use Rattle.simulation.proofs.Basics.{all_both}
 
 -- ---- entries
 
@@ -51,7 +58,8 @@ entrance_due split number position need is = ap due_at is
 -- an entry is pushed, on this host or on another
 pub push_at : (split : Split) (c : Configuration) (chain : List StackEntry) (out : List Forward) (host : HostId)
     (thread : ThreadShape) → IsAt split c chain out host thread → (entry : EntryId) →
-    Cuts split.planned split.table.entries (place_of split host thread.at) entry.0 (place_of split host (suc thread.at)) →
+    Cuts split.planned split.table.entries (place_of split host thread.at) entry.0
+    (place_of split host (suc thread.at)) →
     (pushed : StackEntry) → pushed.entry ≡ entry →
     IsAt split c (pushed ∷ chain) [] host (with_token (Some pushed.token) (after_step thread))
 push_at split c chain out host thread at entry law pushed is =
@@ -80,7 +88,8 @@ push_at split c chain out host thread at entry law pushed is =
 
 pub push_calm : (split : Split) (c : Configuration) (chain : List StackEntry) (out : List Forward) (host : HostId)
     (thread : ThreadShape) → IsAt split c chain out host thread → (entry : EntryId) →
-    Cuts split.planned split.table.entries (place_of split host thread.at) entry.0 (place_of split host (suc thread.at)) →
+    Cuts split.planned split.table.entries (place_of split host thread.at) entry.0
+    (place_of split host (suc thread.at)) →
     out ≡ []
 push_calm split c chain out host thread at entry law =
     calm_out (place_of split host thread.at) out at.forwards law.is_calm
@@ -105,7 +114,13 @@ placed split entry there apart is = at_number entry.0 (λ same. apart (ap make s
     at_number zero none found = absurd (none refl)
     at_number (suc number) none found =
         let typed = split.typed.entries number there found in
-        record { position = typed.position; need = there.need; is = typed.is; is_calm = typed.is_calm; stands = typed.stands }
+        record {
+          position = typed.position;
+          need = there.need;
+          is = typed.is;
+          is_calm = typed.is_calm;
+          stands = typed.stands;
+        }
 
 -- a thread starts at an entry
 starts_at : (split : Split) (c : Configuration) (chain : List StackEntry) (number : ℕ) (there : Entry) (token : Token) →
@@ -123,11 +138,13 @@ starts_at split c chain number there token is held left =
       left = subst (λ list. IsLeft split c (list ++ chain_due split chain)) due left;
       calling = ap (λ (p : Position). p.calling) calm_there;
       forwards = ap (λ (p : Position). p.forwards) calm_there;
-      temporaries = sym (ap (λ (p : Position). map (read_value c.store (source.variable c.calls 0)) p.reads) calm_there);
+      temporaries = sym (ap (λ (p : Position). map (read_value c.store (source.variable c.calls 0)) p.reads)
+          calm_there);
     }
 
 -- the thread is handed over at an entry
-pub record HandsOver (split : Split) (c : Configuration) (chain : List StackEntry) (out : List Forward) (entry : EntryId)
+pub record HandsOver (split : Split) (c : Configuration) (chain : List StackEntry) (out : List Forward)
+    (entry : EntryId)
     (token : Token) : Type 0 where
   pub none_out : out ≡ []
   pub at : (there : Entry) → entry_at split.code entry ≡ Some there →
@@ -144,7 +161,8 @@ go_at split c chain out host thread at entry on apart law token held =
       at = λ there is.
           let is_placed = placed split entry there apart is in
           starts_at split c chain entry.0 there token is_placed (sym held ∙ at.held)
-          (subst (λ list. IsLeft split c (list ++ chain_due split chain)) (sym (entrance_due split entry.0 here _ law.1))
+          (subst (λ list. IsLeft split c (list ++ chain_due split chain))
+          (sym (entrance_due split entry.0 here _ law.1))
           at.left);
     }
 
@@ -213,9 +231,8 @@ readers_apart planned (kind.If' guard m first n second) heading rest readers =
     record { own = (readers.0, readers.1, readers.2, tt); behind = readers.3 }
 readers_apart planned (kind.While' guard m body) heading rest readers =
     record { own = (readers.0, readers.1, tt); behind = readers.2 }
-readers_apart planned (kind.Call site method args into) heading rest readers =
-    record { own = (readers.0, tt); behind = readers.1 }
-readers_apart planned (kind.Return value) heading rest readers = record { own = (readers.0, tt); behind = readers.1 }
+readers_apart planned (kind.Call site method args into) heading rest readers = absurd readers
+readers_apart planned (kind.Return value) heading rest readers = absurd readers
 
 -- the statements of a block, with what is known of them
 pub record AreStatements (planned : PlannedShape) (block : BlockTree) (statements : List Stmt) : Type 0 where
@@ -293,7 +310,8 @@ divided : (split : Split) (c : Configuration) (host : HostId) (thread : ThreadSh
     AllByRecursion (λ one. AreReaders split.planned (alone one)) behind →
     Branches here (positions.run (statement_tree what heading done)) others nodes next target →
     Divided split c statement behind what next target rest (value_of_nodes variables thread.temporaries nodes)
-divided split c host thread variables agrees here holds statement behind (kind.If' guard m first n second) heading others
+divided split c host thread variables agrees here holds statement behind (kind.If' guard m first n second) heading
+    others
     rest nodes next target on_host readers own own_is due all law =
     let P = AreReaders split.planned in
     let block = branch heading (expr_tree guard) (row_tree first) (row_tree second) done in
@@ -368,12 +386,14 @@ at_either : (split : Split) (c after : Configuration) (chain : List StackEntry) 
     AllByRecursion (λ one. AreReaders split.planned (alone one)) skipped →
     after.pending ≡ map (source.run 0) (if b then skipped else taken) →
     IsAt split after chain [] host (if b then record (after_clearing thread) { at = target } else after_clearing thread)
-at_either split c after chain out host thread target taken skipped next aim true at is there calm_next calm_aim one two readers
+at_either split c after chain out host thread target taken skipped next aim true at is there calm_next calm_aim one
+    two readers
     others pending =
     cleared split c after chain out [] host thread skipped aim at target there pending two others
     (ap (λ (p : Position). p.calling) calm_aim) (ap (λ (p : Position). p.forwards) calm_aim)
     (ap (λ (p : Position). p.reads) calm_aim)
-at_either split c after chain out host thread target taken skipped next aim false at is there calm_next calm_aim one two readers
+at_either split c after chain out host thread target taken skipped next aim false at is there calm_next calm_aim one
+    two readers
     others pending =
     cleared split c after chain out [] host thread taken next at (thread.at + 1) is pending one readers
     (ap (λ (p : Position). p.calling) calm_next) (ap (λ (p : Position). p.forwards) calm_next)
@@ -397,7 +417,8 @@ branch_at split c chain out host thread variables agrees at guard target law =
     let parts = divided split c host thread variables agrees here at.temporaries front.statement front.behind
     front.statement.kind heading law.1 (chain_due split chain) guard next aim on_host front.own front.own refl front.due
     front.readers branches in
-    let steps = stepped split c front.statement (map (source.run 0) front.behind) front.statement.kind front.pending refl
+    let steps = stepped split c front.statement (map (source.run 0) front.behind) front.statement.kind front.pending
+    refl
     ∙ parts.steps in
     record {
       busy = busy c (source.run 0 front.statement) (map (source.run 0) front.behind) front.pending;
@@ -408,3 +429,57 @@ branch_at split c chain out host thread variables agrees at guard target law =
           (int_eq value (pos 0)) at (next_place split host thread) refl parts.next_is parts.target_is parts.taken_due
           parts.skipped_due parts.taken_readers parts.skipped_readers (ap (λ (k : Configuration). k.pending) steps);
     }
+
+-- ---- instructions for calls
+
+-- an instruction that is not for calls
+abbrev pub IsPlain : Op → Type 0
+IsPlain (op.Frame site) = ⊥
+IsPlain (op.Arg x value) = ⊥
+IsPlain (op.Pass x to) = ⊥
+IsPlain (op.Call there on) = ⊥
+IsPlain (op.Ret x value) = ⊥
+IsPlain other = ⊤
+
+no_frame : (planned : PlannedShape) (here : Position) (what : StmtKind) (heading : Heading) (site : SiteId)
+    (next : Position) → AreReaders planned (statement_tree what heading done) →
+    Frames planned here (positions.run (statement_tree what heading done)) site next → ⊥
+no_frame planned here (kind.Call own method args into) heading site next readers law = readers
+no_frame planned here _ heading site next readers law = law
+
+no_return : (planned : PlannedShape) (here : Position) (what : StmtKind) (heading : Heading) (nodes : List Node) →
+    AreReaders planned (statement_tree what heading done) →
+    GivesBack here (positions.run (statement_tree what heading done)) nodes → ⊥
+no_return planned here (kind.Return value) heading nodes readers law = readers
+no_return planned here _ heading nodes readers law = law
+
+not_arguing : (here : Position) (statement : BlockTree) (set left : List Argument) → here.calling ≡ no_call →
+    here.calling ≡ arguing statement set left → ⊥
+not_arguing here statement set left none some = cc
+
+-- where no call is due and none is made, no instruction for calls stands
+pub is_plain : (split : Split) (c : Configuration) (chain : List StackEntry) (out : List Forward) (host : HostId)
+    (thread : ThreadShape) → IsAt split c chain out host thread → (what : Op) →
+    IsTypedOp split.planned split.table host thread.at what → IsPlain what
+is_plain split c chain out host thread at (op.Frame site) law =
+    let here = place_of split host thread.at in
+    let front = front_of split c here (chain_due split chain) law.0 law.1 law.2.due at.left in
+    let heading : Heading = record { id = front.statement.id; line = front.statement.line } in
+    no_frame split.planned here front.statement.kind heading site _ front.own
+    (subst (λ first. Frames split.planned here first site (place_of split host (suc thread.at))) front.is law.4)
+is_plain split c chain out host thread at (op.Arg x nodes) law =
+    subst (λ calling. Argues split.planned host (place_of split host thread.at) calling x nodes
+    (place_of split host (suc thread.at))) at.calling law
+is_plain split c chain out host thread at (op.Pass x to) law =
+    not_arguing (place_of split host thread.at) law.0 law.1 law.2 at.calling law.3
+is_plain split c chain out host thread at (op.Call there on) law =
+    subst (λ calling. Enters split.planned split.table.entries (place_of split host thread.at) calling there.0)
+    at.calling
+    law
+is_plain split c chain out host thread at (op.Ret x nodes) law =
+    let here = place_of split host thread.at in
+    let front = front_of split c here (chain_due split chain) law.0 [] law.2.due at.left in
+    let heading : Heading = record { id = front.statement.id; line = front.statement.line } in
+    no_return split.planned here front.statement.kind heading nodes front.own
+    (subst (λ first. GivesBack here first nodes) front.is law.4)
+is_plain split c chain out host thread at _ law = tt

@@ -20,6 +20,7 @@ use Rattle.host_core.specs.Values.{temporary_at, values_after, first_of_values, 
 use Rattle.split_rules.specs.Expressions.{reads_in, nodes_of}
 use Rattle.split_rules.specs.Positions.{FieldRead, field_reads}
 use Rattle.split_rules.proofs.TypedValues.{reads_many}
+use Rattle.simulation.proofs.Basics.{all_left, all_right}
 
 -- ---- values of trees
 
@@ -103,21 +104,6 @@ holds_own before (value ∷ values) =
 
 -- ---- variables
 
-pub all_left : {X : Type 0} (P : X → Type 0) (one other : List X) → AllByRecursion P (one ++ other) →
-    AllByRecursion P one
-all_left P [] other all = tt
-all_left P (x ∷ one) other all = (all.0, all_left P one other all.1)
-
-pub all_right : {X : Type 0} (P : X → Type 0) (one other : List X) → AllByRecursion P (one ++ other) →
-    AllByRecursion P other
-all_right P [] other all = all
-all_right P (x ∷ one) other all = all_right P one other all.1
-
-pub all_both : {X : Type 0} (P : X → Type 0) (one other : List X) → AllByRecursion P one → AllByRecursion P other →
-    AllByRecursion P (one ++ other)
-all_both P [] other first second = second
-all_both P (x ∷ one) other first second = (first.0, all_both P one other first.1 second)
-
 -- the variables of an expression have their values
 abbrev pub AreSame : (ℕ → ℤ) → (VarId → ℤ) → ExprTree → Type 0
 AreSame values variables e = AllByRecursion (λ x. variables x ≡ values x.0) (variables_in e)
@@ -125,7 +111,8 @@ AreSame values variables e = AllByRecursion (λ x. variables x ≡ values x.0) (
 same_left : (values : ℕ → ℤ) (variables : VarId → ℤ) (left right : ExprTree) →
     AllByRecursion (λ x. variables x ≡ values x.0) (variables_in left ++ variables_in right) →
     AreSame values variables left
-same_left values variables left right = all_left (λ x. variables x ≡ values x.0) (variables_in left) (variables_in right)
+same_left values variables left right = all_left (λ x. variables x ≡ values x.0) (variables_in left)
+    (variables_in right)
 
 same_right : (values : ℕ → ℤ) (variables : VarId → ℤ) (left right : ExprTree) →
     AllByRecursion (λ x. variables x ≡ values x.0) (variables_in left ++ variables_in right) →
@@ -167,7 +154,8 @@ after_nodes store values variables temporaries first (negated operand) same hold
 after_nodes store values variables temporaries first (binary operator left right) same holds nodes stack =
     let reads = map (read_value store values) (field_reads left) in
     let others = map (read_value store values) (field_reads right) in
-    let apart = subst (Holds temporaries first) (map-append (read_value store values) (field_reads left) (field_reads right))
+    let apart = subst (Holds temporaries first)
+    (map-append (read_value store values) (field_reads left) (field_reads right))
     holds in
     let parts = holds_parts temporaries first reads others apart in
     let many : first + length reads ≡ first + reads_in left =
@@ -180,7 +168,8 @@ after_nodes store values variables temporaries first (binary operator left right
     ∙ append_assoc one other (node.Binary operator ∷ nodes))
     ∙ after_nodes store values variables temporaries first left (same_left values variables left right same) parts.front
     (other ++ node.Binary operator ∷ nodes) stack
-    ∙ after_nodes store values variables temporaries (first + reads_in left) right (same_right values variables left right same) behind
+    ∙ after_nodes store values variables temporaries (first + reads_in left) right
+    (same_right values variables left right same) behind
     (node.Binary operator ∷ nodes) (tree_value store values left ∷ stack)
 after_nodes store values variables temporaries first (declassified operand label) same holds nodes stack =
     after_nodes store values variables temporaries first operand same holds nodes stack

@@ -14,7 +14,8 @@ use Rattle.net_world.specs.World.{WorldShape, after_step}
 use Rattle.split_rules.specs.Positions.{Forward}
 use Rattle.simulation.specs.Obeying.{FieldsAre}
 use Rattle.simulation.proofs.Simulates.{Split, IsChain, on_stack, IsAt, only, AreSent, Agree, HasCall, runs, asked}
-use Rattle.simulation.proofs.Simulates.{Holder, IsIdle, IsRequest, IsRunning, Stands, IsOrderly, AreStacks, AreIdle, GoesOn}
+use Rattle.simulation.proofs.Simulates.{Holder, IsIdle, IsRequest, IsRunning, Stands, IsOrderly, AreStacks, AreIdle}
+use Rattle.simulation.proofs.Simulates.{GoesOn}
 use Rattle.simulation.proofs.Simulates.{Simulates, Goes}
 use Rattle.simulation.proofs.Moved.{Moved, mover_state, moved_silent, moved_telling}
 use Rattle.simulation.proofs.Rows.{fields_same}
@@ -53,7 +54,8 @@ pub goes_on : (split : Split) (c : Configuration) (world after : WorldShape) (ho
     AreSent now (state.variables main_frame) host out →
     (Moved world host (with_running state (Some thread)) world.flying after →
     FieldsAre split.code after now.store × Agree split now out after) → Simulates split now after
-goes_on split c world after host t now chain out state thread me ignored halts waiting entries others is is_chain at call
+goes_on split c world after host t now chain out state thread me ignored halts waiting entries others is is_chain at
+    call
     sent given =
     let old = t.run.state in
     let new = with_running state (Some thread) in
@@ -64,7 +66,8 @@ goes_on split c world after host t now chain out state thread me ignored halts w
       out = out;
       holder = runs host;
       orderly = orderly_moved split.code world after host old new world.flying t.orderly t.run.there moved me ignored;
-      stacks = stacks_moved t.chain chain world after host old new world.flying t.stacks t.run.there moved entries others;
+      stacks = stacks_moved t.chain chain world after host old new world.flying t.stacks t.run.there moved entries
+          others;
       idle = idle_moved (runs host) (runs host) world after host old new world.flying t.idle t.run.there moved
           (λ other apart rests. rests) (λ rests. absurd (rests refl));
       goes_on = none_halted_moved world after host old new world.flying t.none_halted t.run.there moved

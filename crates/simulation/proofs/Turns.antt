@@ -26,7 +26,8 @@ use Rattle.host_code.specs.Thread.{ThreadShape}
 use Rattle.host_code.specs.Thread.Awaited.{value_of_field, acknowledgement, token_of_entry}
 use Rattle.host_core.specs.Host.{HostShape, Outcome, without_message, with_message, with_running, with_row_written}
 use Rattle.host_core.specs.Host.{with_variable_set, after_pop, after_push, after_step, after_clearing, with_temporary}
-use Rattle.host_core.specs.Host.{with_token, with_one_ignored, thread_at, new_token, value_in_thread, next_request, after_asking}
+use Rattle.host_core.specs.Host.{with_token, with_one_ignored, thread_at, new_token, value_in_thread, next_request}
+use Rattle.host_core.specs.Host.{after_asking}
 use Rattle.host_core.specs.Start.{main_frame}
 use Rattle.host_core.specs.Turn.{with_thread, after_read, after_put, after_own_push, after_ask, after_go, after_back}
 use Rattle.host_core.specs.Turn.{after_branch, after_operation, PassesWith, IsRunning, IsTurn, IsTurnOf, label_of_turn}
@@ -38,12 +39,12 @@ use Rattle.split_rules.specs.TypedCode.{IsTypedOp}
 use Rattle.net_world.specs.World as world_steps
 use Rattle.net_world.specs.World.{WorldShape}
 use Rattle.simulation.specs.Obeying.{FieldsAre}
-use Rattle.simulation.proofs.PlainCode.{IsPlain}
 use Rattle.simulation.proofs.Simulates as simulates
-use Rattle.simulation.proofs.Simulates.{Split, place_of, IsChain, on_stack, IsAt, IsFieldOn, AreSent, Agree, runs, goes, returns}
+use Rattle.simulation.proofs.Simulates.{Split, place_of, IsChain, on_stack, IsAt, IsFieldOn, AreSent, Agree, runs}
+use Rattle.simulation.proofs.Simulates.{goes, returns}
 use Rattle.simulation.proofs.Simulates.{AreIdle, halted, Simulates, Goes}
 use Rattle.simulation.proofs.Instructions.{Agrees, read_at, let_at, put_at, send_at}
-use Rattle.simulation.proofs.Transfers.{push_at, push_calm, go_at, back_at, branch_at}
+use Rattle.simulation.proofs.Transfers.{push_at, push_calm, go_at, back_at, branch_at, IsPlain, is_plain}
 use Rattle.simulation.proofs.Moved.{same_id, mover_state, moved_silent}
 use Rattle.simulation.proofs.Rows.{fields_same, fields_written, row_there}
 use Rattle.simulation.proofs.Kept.{orderly_moved, stacks_moved, idle_moved, agree_same, agree_set, call_kept, call_set}
@@ -146,7 +147,8 @@ set_local split c world after host t x nodes law is =
     inr (
       sets.busy,
       goes_on split c world after host t next t.chain (forwards_of split.planned host sets.source x) state
-          (after_clearing thread) refl refl refl refl (t.stacks host old t.run.there) (λ other apart. refl) is t.is_chain
+          (after_clearing thread) refl refl refl refl (t.stacks host old t.run.there) (λ other apart. refl) is
+          t.is_chain
           sets.at (call_set c next x value t.call sets.calls)
           (is_sent split next (state.variables main_frame) host sets.source x
           (own_set c next old.variables thread.frame x value t.call sets.calls t.run.at.frame))
@@ -154,7 +156,8 @@ set_local split c world after host t x nodes law is =
             subst (FieldsAre split.code after) (sym sets.store)
                 (fields_same split.code world after host old new world.flying c.store t.fields t.run.there moved refl),
             agree_set split c next world after host old new world.flying thread.frame x value sets.source t.orderly
-                (none_to_send split c world after host t sets.none_out) t.run.there moved refl t.run.at.frame t.call sets.calls,
+                (none_to_send split c world after host t sets.none_out) t.run.there moved refl t.run.at.frame t.call
+                sets.calls,
           )),
     )
 
@@ -194,7 +197,8 @@ put_found split c world after host t label labels field index nodes law granted 
                 (call_kept c next t.call sets.calls) tt
                 (λ moved. (
                   subst (FieldsAre split.code after) (sym sets.store)
-                      (fields_written split.code world after host old new world.flying c.store field place value t.fields t.run.there
+                      (fields_written split.code world after host old new world.flying c.store field place value
+                      t.fields t.run.there
                       moved on refl),
                   agree_same split c next [] world after host old new world.flying
                       (none_to_send split c world after host t sets.none_out) t.run.there moved refl sets.calls,
@@ -275,7 +279,8 @@ branches split c world after host t guard target law is =
     )
   where
     either_thread : (b : Bool) (state : HostShape) (first other : ThreadShape) →
-        with_thread state (if b then first else other) ≡ (if b then with_thread state first else with_thread state other)
+        with_thread state (if b then first else other) ≡
+        (if b then with_thread state first else with_thread state other)
     either_thread true state first other = refl
     either_thread false state first other = refl
 
@@ -357,7 +362,8 @@ hands_over : (split : Split) (c : Configuration) (world after : WorldShape) (hos
     after_go (acting t) t.run.thread t.run.thread.frame entry on t.run.thread.held ≡ t.outcome → Goes split c after
 hands_over split c world after host t label labels entry on law granted is_entry None found on_host token top is =
     absurd on_host
-hands_over split c world after host t label labels entry on law granted is_entry (Some there) found on_host token top is =
+hands_over split c world after host t label labels entry on law granted is_entry (Some there) found on_host token top
+    is =
     let thread = t.run.thread in
     let bare = acting t in
     let held = t.run.at.held ∙ top in
@@ -398,7 +404,8 @@ returns_own split c world after host t none is (inl ended) =
       out = [];
       holder = halted;
       orderly = orderly_moved split.code world after host old new world.flying t.orderly t.run.there moved refl refl;
-      stacks = stacks_moved t.chain [] world after host old new world.flying t.stacks t.run.there moved refl ended.others;
+      stacks = stacks_moved t.chain [] world after host old new world.flying t.stacks t.run.there moved refl
+          ended.others;
       idle = idle_moved (runs host) halted world after host old new world.flying t.idle t.run.there moved
           (λ other apart rests. apart) (λ rests. (refl, t.run.waiting));
       goes_on = tt;
@@ -443,7 +450,8 @@ gives_back split c world after host t label labels law passes checked token top 
     let held = t.run.at.held ∙ top in
     let gives = back_at split c t.chain t.out host thread t.run.at law in
     let stack = t.stacks host old t.run.there in
-    let popped_by = λ (b : Bool). without_message (if b then after_pop code bare old.entries else with_one_ignored bare) in
+    let popped_by = λ (b : Bool). without_message
+    (if b then after_pop code bare old.entries else with_one_ignored bare) in
     let sends = with_message bare token.host (message.Lgoto token) in
     let given : (if token.host.0 == old.me.0 then popped_by passes else sends) ≡ t.outcome =
     sym (ap (λ o. after_back code bare thread o passes) held) ∙ is in
@@ -462,7 +470,8 @@ gives_back split c world after host t label labels law passes checked token top 
       | inr apart ↦
           let done : sends ≡ t.outcome =
           sym (ap (λ (b : Bool). if b then popped_by passes else sends) apart.0) ∙ given in
-          passes_on split c world after host t label labels token.host (message.Lgoto token) (returns host token.host) done
+          passes_on split c world after host t label labels token.host (message.Lgoto token) (returns host token.host)
+          done
           (λ other differs rests. differs) (λ none. none)
           (λ flying. (
             t.is_chain,
@@ -495,11 +504,13 @@ operation split c world after host t label count labels (op.Let x nodes) plain l
 operation split c world after host t label count labels (op.Put field index nodes) plain law granted fits token top
     passes checked is =
     put_found split c world after host t label labels field index nodes law granted (field_at split.code field) refl is
-operation split c world after host t label count labels (op.Send x to) plain law granted fits token top passes checked is =
+operation split c world after host t label count labels (op.Send x to) plain law granted fits token top passes checked
+    is =
     forwards split c world after host t label labels x to law granted is
 operation split c world after host t label count labels (op.Push entry) plain law granted fits token top passes checked
     is = pushes split c world after host t entry law fits token top is
-operation split c world after host t label count labels (op.Ask entry on) plain law granted fits token top passes checked
+operation split c world after host t label count labels (op.Ask entry on) plain law granted fits token top passes
+    checked
     is = syncs split c world after host t label labels entry on law granted fits.0 fits.1.1 token top is
 operation split c world after host t label count labels (op.Go entry on) plain law granted fits token top passes checked
     is =
@@ -523,7 +534,9 @@ turn_found split c world after host t within None is labels running = stays spli
 turn_found split c world after host t within (Some there) is labels running =
     let at = t.run.thread.at in
     let token = top_of split t.chain t.is_chain in
-    operation split c world after host t there.label _ labels there.op (split.plain host at there is)
+    operation split c world after host t there.label _ labels there.op
+    (is_plain split c t.chain t.out host t.run.thread t.run.at
+    there.op (split.typed.instructions host at there is).1)
     (split.typed.instructions host at there is).1 (split.granted host at there is)
     ((split.sound.parts host within).instructions at there is).operation token.0 token.1 running.0 running.1 running.2
 

@@ -1,13 +1,13 @@
 -- What hosts that all obey promise together, where they run the code of a split program: their fields follow the plain
 -- run of the program.
-use Rattle.std.specs.Prelude.{◌≡◌, ℕ, ◌+◌, ◌≤◌, ℤ, List, length, take, Some, slice_get, slice_index}
-use Rattle.std.specs.List.{AllByRecursion}
+use Rattle.std.specs.Prelude.{◌≡◌, ℕ, ◌+◌, ◌<◌, ◌≤◌, ℤ, List, length, take, Some, slice_get, slice_index, IsSomeAnd}
 use Rattle.std.specs.List.Sorted.{IsNonDecreasing}
 use Rattle.host_decl.specs.Hosts as declared_hosts
 use Rattle.host_decl.specs.Hosts.{HostsShape}
 use Rattle.jif_tree.specs.declared.program.Program.{Program}
 use Rattle.jif_tree.specs.Store.{row_of}
 use Rattle.jif_tree.specs.SourceRun.{prefix, HasLength}
+use Rattle.jif_tree.specs.LabelRules.{method_at}
 use Rattle.jif_tree.specs.Trees.{program_tree}
 use Rattle.host_code.specs.Code.{CodeShape, CodeFieldShape}
 use Rattle.host_code.specs.Sound.{IsSoundCode}
@@ -24,8 +24,8 @@ use Rattle.split_rules.specs.Typable.{IsTypable}
 use Rattle.net_world.specs.World.{WorldShape, IsRun, world_at_start, state_at, has_halted}
 use Rattle.simulation.specs.Programs.{IsCallFree}
 
--- A program without calls, its needs, and a plan by which it can be split, so that hosts are trusted for what their
--- statements start and grant each other's requests.
+-- A program whose `main` calls nothing, its needs, and a plan by which it can be split, so that hosts are trusted for
+-- what their statements start and grant each other's requests.
 pub record IsSet (program : Program) (labelled : Labelled) (needs : NeedsShape) (hosts : HostsShape) (plan : PlanShape)
     : Type 0 where
   pub is : program_tree program ≡ labelled.program
@@ -34,7 +34,7 @@ pub record IsSet (program : Program) (labelled : Labelled) (needs : NeedsShape) 
   pub typable : IsTypable (planned_of labelled needs hosts plan)
   pub sound : IsSoundCode (split_code labelled needs hosts plan)
   pub granted : AreGranted (split_code labelled needs hosts plan)
-  pub call_free : AllByRecursion (λ method. IsCallFree method.body) labelled.program.methods
+  pub call_free : IsSomeAnd (method_at labelled.program labelled.program.main) (λ main. IsCallFree main.body)
 
 -- each field has on its host what the store has
 abbrev pub FieldsAre : CodeShape → WorldShape → List (List ℤ) → Type 0
@@ -47,15 +47,16 @@ abbrev pub IsAfter : CodeShape → List declared_hosts.HostShape → List (List 
 IsAfter code rows store events moment world =
     IsRun code (world_at_start code rows 0 store) (take moment events) world
 
--- There is for each moment, from before the first event to after the last, a number of steps of the plain run, none
--- less than the one before. The fields at that moment are those after so many steps, and where the program has halted
--- so many steps are the whole run.
+-- There is for each moment, from before the first event to after the last, a number of steps of the plain run: that of
+-- the moment before, or one more. The fields at that moment are those after so many steps, and where the program has
+-- halted so many steps are the whole run.
 pub record Follows (program : Program) (code : CodeShape) (rows : List declared_hosts.HostShape)
     (store : List (List ℤ)) (events : List Event) : Type 0 where
   pub steps : List ℕ
   pub moments : length steps ≡ length events + 1
   pub first : slice_index steps 0 ≡ 0
   pub rising : IsNonDecreasing steps
+  pub close : (moment : ℕ) → moment < length events → slice_index steps (moment + 1) ≤ slice_index steps moment + 1
   pub fields : (moment : ℕ) (world : WorldShape) → moment ≤ length events →
       IsAfter code rows store events moment world →
       FieldsAre code world (prefix program store (slice_index steps moment)).store

@@ -11,13 +11,15 @@ returns-clause-idle c = λ program labelled needs hosts plan store events world 
 
 pub returns-clause-ignored : goal.returns-clause-ignored
 returns-clause-ignored c = λ program labelled needs hosts plan store events world host state set ran is.
-    nothing_ignored c.split_laws.ensures.typed program labelled needs hosts plan store events world set ran host state is
+    nothing_ignored c.split_laws.ensures.typed program labelled needs hosts plan store events world set ran host state
+    is
 
 pub returns-clause-next : goal.returns-clause-next
 returns-clause-next c = λ program labelled needs hosts plan store events world event set ran next.
     next_there c.split_laws.ensures.typed program labelled needs hosts plan store events world set ran event next
 
 pub returns-clause-one : goal.returns-clause-one
-returns-clause-one c = λ program labelled needs hosts plan store events world after other first second set ran step also.
+returns-clause-one c = λ program labelled needs hosts plan store events world after other first second set ran step
+    also.
     one_there c.split_laws.ensures.typed program labelled needs hosts plan store events world set ran first second after
     other step also
