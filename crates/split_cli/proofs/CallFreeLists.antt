@@ -1,5 +1,6 @@
 -- Blocks without calls, statement by statement.
-use Rattle.std.proofs.Common.{◌≡◌, ℕ, ◌<◌, ◌+◌, List, [], ◌∷◌, length, map, sym, ap, ◌∙◌, subst, take, get_or, Vec, Global}
+use Rattle.std.proofs.Common.{◌≡◌, ℕ, ◌<◌, ◌+◌, List, [], ◌∷◌, length, sym, ap, ◌∙◌, subst, take, get_or, Vec}
+use Rattle.std.proofs.Common.{Global}
 use Rattle.std.specs.Prelude.{All}
 use Rattle.std.proofs.lemmas.List.Elements.{All-nil, All-cons, All-head, All-tail, All-get_or, All-more}
 use Rattle.jif_tree.specs.declared.program.Expr.{Expr}
@@ -12,12 +13,6 @@ use Rattle.split_cli.specs.CallFree.{IsFree}
 use Rattle.split_cli.proofs.BlockLines.{row_of_list, first_row, second_row}
 
 -- ---- lists
-
-pub unmapped : {X Y : Type 0} (P : Y → Type 0) (f : X → Y) (xs : List X) → All P (map f xs) → All (λ x. P (f x)) xs
-unmapped P f [] all = All-nil (λ x. P (f x))
-unmapped P f (x ∷ xs) all =
-    All-cons (λ y. P (f y)) x xs (All-head P (f x) (map f xs) all)
-    (unmapped P f xs (All-tail P (f x) (map f xs) all))
 
 -- the item at a place has what all have
 pub all_at : {X : Type 0} (P : X → Type 0) (xs : List X) (i : ℕ) (x : X) → i < length xs → x ≡ get_or xs i x →
@@ -41,8 +36,10 @@ branch_free what guard first second firsts seconds is first_is second_is one two
     row_of_list row.1 ∙ ap block_tree (kind.items_hidden-the_row-Stmt-0 first) in
     let others : row_tree other.1 ≡ block_tree second.items =
     row_of_list other.1 ∙ ap block_tree (kind.items_hidden-the_row-Stmt-0 second) in
-    subst IsFree (sym is)
-    (subst IsCallFree (ap block_tree first_is ∙ sym rows) one, subst IsCallFree (ap block_tree second_is ∙ sym others) two)
+    subst IsFree (sym is) (
+      subst IsCallFree (ap block_tree first_is ∙ sym rows) one,
+      subst IsCallFree (ap block_tree second_is ∙ sym others) two,
+    )
 
 pub free_branch : (what : StmtKind) (guard : Expr) (first second : Vec Stmt Global) (firsts seconds : List Stmt) →
     what ≡ kind.If guard first second → firsts ≡ first.items → seconds ≡ second.items → IsFree what →
@@ -54,8 +51,10 @@ free_branch what guard first second firsts seconds is first_is second_is free =
     row_of_list row.1 ∙ ap block_tree (kind.items_hidden-the_row-Stmt-0 first) in
     let others : row_tree other.1 ≡ block_tree second.items =
     row_of_list other.1 ∙ ap block_tree (kind.items_hidden-the_row-Stmt-0 second) in
-    let both = subst IsFree is free in
-    (subst IsCallFree (rows ∙ ap block_tree (sym first_is)) both.0, subst IsCallFree (others ∙ ap block_tree (sym second_is)) both.1)
+    let both = subst IsFree is free in (
+      subst IsCallFree (rows ∙ ap block_tree (sym first_is)) both.0,
+      subst IsCallFree (others ∙ ap block_tree (sym second_is)) both.1,
+    )
 
 pub loop_free : (what : StmtKind) (guard : Expr) (body : Vec Stmt Global) (bodies : List Stmt) →
     what ≡ kind.While guard body → bodies ≡ body.items → IsCallFree (block_tree bodies) → IsFree what

@@ -23,7 +23,7 @@ use Rattle.split_cli.specs.Verdicts.{VerdictShape, Print, program_not_built, too
 use Rattle.split_cli.proofs.NextEvents.{obey_at_start}
 use Rattle.split_cli.proofs.RunDue.{AreBytes}
 
--- a program with a call or a `return`
+-- a program whose `main` calls a method
 pub drive_not_built : (file start : List ℕ) (most : ℕ) (placed : PlacedSource) →
     (IsCallFreeProgram placed.source.tree → false ≡ true) → DueForDrive file start most placed program_not_built
 drive_not_built file start most placed never =
@@ -67,7 +67,8 @@ pub obey_from : (code : CodeShape) (hosts : HostsShape) (values : List (List ℤ
 obey_from code hosts values world is = subst AllObey (sym is) (obey_at_start code hosts.hosts values)
 
 report_of : (placed : PlacedSource) (values : List (List ℤ)) (most : ℕ) (last : WorldShape) (end : Driven)
-    (text : List ℕ) → IsSoundCode (code_of placed) → HasDriven (code_of placed) (first_world placed values) most last end →
+    (text : List ℕ) → IsSoundCode (code_of placed) →
+    HasDriven (code_of placed) (first_world placed values) most last end →
     text ≡ drive_text (code_of placed) end.made last → IsDriveReport placed values most (Print end.status text)
 report_of placed values most last end text sound has is = record {
   events = has.events;

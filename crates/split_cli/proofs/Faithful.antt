@@ -1,5 +1,6 @@
 -- From what is due to the headline.
-use Rattle.std.proofs.Common.{◌≡◌, ◌≢◌, ◌≤◌, ◌∙◌, ℕ, suc, List, [], ◌∷◌, map, length, Option, Some, Ok, refl, sym, ap, subst}
+use Rattle.std.proofs.Common.{◌≡◌, ◌≢◌, ◌≤◌, ◌∙◌, ℕ, suc, List, [], ◌∷◌, map, length, Option, Some, Ok, refl, sym, ap}
+use Rattle.std.proofs.Common.{subst}
 use Rattle.std.proofs.Common.{⊎_elim, inl, arith, take}
 use Rattle.std.specs.Prelude.{ℤ, ◌⊎◌, slice_index, replicate}
 use Rattle.std.specs.List.{AllZip}

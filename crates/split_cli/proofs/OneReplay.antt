@@ -109,7 +109,8 @@ script_once laws file script placed _ second (bad_line line short is) (read said
 script_once laws file script placed first _ (read said _ short sound is due) (long more) = absurd (omega arith)
 script_once laws file script placed first _ (read said _ short sound is due) (bad_line line also_short also) =
     absurd (let no = sym is ∙ also in cc)
-script_once laws file script placed first second (read said _ short sound is due) (read others _ also_short sound_too also due_too) =
+script_once laws file script placed first second (read said _ short sound is due)
+    (read others _ also_short sound_too also due_too) =
     let both = sym is ∙ also in
     let same : others ≡ said = cc in
     events_once laws file (code_of placed) (first_world placed said.start) said.events first second due

@@ -46,7 +46,8 @@ bytes_once laws (Run program hosts start steps) (p ∷ h ∷ s ∷ []) first sec
     (sources_once laws.sources p h) (λ source was. run_once laws.runs start s steps source.tree first second) one two
 bytes_once laws (Replay program hosts events) (p ∷ h ∷ e ∷ []) first second one two =
     one_due (PlacedSources p h) (DueForReplay events e) first second
-    (places_once laws.sources laws.places p h) (λ placed was. replay_once laws.steps events e placed first second) one two
+    (places_once laws.sources laws.places p h)
+    (λ placed was. replay_once laws.steps events e placed first second) one two
 bytes_once laws (Drive program hosts start events) (p ∷ h ∷ s ∷ []) first second one two =
     one_due (PlacedSources p h) (DueForDrive start s events) first second
     (places_once laws.sources laws.places p h)

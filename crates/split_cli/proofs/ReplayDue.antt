@@ -19,7 +19,7 @@ use Rattle.split_cli.specs.Replay.{DueForEvents, DueForScript, DueForReplay, lon
 use Rattle.split_cli.specs.Verdicts.{VerdictShape, program_not_built, too_long, no_form}
 use Rattle.split_cli.proofs.RunDue.{AreBytes}
 
--- a program with a call or a `return`
+-- a program whose `main` calls a method
 pub replay_not_built : (file script : List ℕ) (placed : PlacedSource) →
     (IsCallFreeProgram placed.source.tree → false ≡ true) → DueForReplay file script placed program_not_built
 replay_not_built file script placed never =

@@ -1,6 +1,7 @@
 -- Replayed worlds: one event more, what may be refused, and that scripts name no misbehaving host.
 use Rattle.std.proofs.Common.{◌≡◌, ℕ, zero, suc, ◌+◌, ◌<◌, Bool, true, false, List, [], ◌∷◌, ◌++◌, map, length, get_or}
-use Rattle.std.proofs.Common.{take, Option, Some, None, Result, Ok, Err, refl, sym, ap, subst, ◌∙◌, arith, ⊎_elim, inl, inr}
+use Rattle.std.proofs.Common.{take, Option, Some, None, Result, Ok, Err, refl, sym, ap, subst, ◌∙◌, arith, ⊎_elim}
+use Rattle.std.proofs.Common.{inl, inr}
 use Rattle.std.specs.Prelude.{◌≤◌, ◌⊎◌, All, IsSomeAnd, IsTrue, IfSome, is_some, if◌then◌else◌}
 use Rattle.std.specs.List.{AllByRecursion}
 use Rattle.std.specs.Option.{option_map}
@@ -41,8 +42,8 @@ pub run_more : (code : CodeShape) (first middle after : WorldShape) (said : List
     IsStep code middle (get_or said i d).1 after → IsRun code first (events_in (take (i + 1) said)) after
 run_more code first middle after said i d within ran step =
     let more : events_in (take (i + 1) said) ≡ events_in (take i said) ++ (get_or said i d).1 ∷ [] =
-    ap events_in (take_more said i d within) ∙ map-append (λ (one : ℕ × Event). one.1) (take i said) (get_or said i d ∷ [])
-    in
+    ap events_in (take_more said i d within)
+    ∙ map-append (λ (one : ℕ × Event). one.1) (take i said) (get_or said i d ∷ []) in
     subst (λ (events : List Event). IsRun code first events after) (sym more)
     (ran_more code first middle after (events_in (take i said)) (get_or said i d).1 ran step)
 

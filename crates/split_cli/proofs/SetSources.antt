@@ -3,7 +3,6 @@ use Rattle.std.proofs.Common.{◌≡◌, ◌∙◌, ℕ, ◌≤◌, List, [], �
 use Rattle.std.proofs.Common.{refl, sym, subst, arith, ⊎_elim, slice_get}
 use Rattle.std.specs.List.{AllZip, zip}
 use Rattle.std.specs.Option.{IsSomeAnd}
-use Rattle.std.proofs.lemmas.List.Elements.{recursion_from_All}
 use Rattle.js_base.specs.declared.ids.HostId.{HostId}
 use Rattle.js_base.specs.declared.limits.TheConstants.{PROGRAM_BYTES}
 use Rattle.principals.specs.ActsFor.{Declared, IsDeclared}
@@ -20,7 +19,7 @@ use Rattle.jif_tree.specs.LabelRules.{declared_labels, IsWellLabelled}
 use Rattle.jif_tree.specs.Labelling.{AreLabelledMethods}
 use Rattle.jif_tree.specs.Named.{AreNamed}
 use Rattle.jif_tree.specs.Numbering.{CountsFrom, statement_numbers, site_numbers}
-use Rattle.jif_tree.specs.Trees.{MethodTree, ProgramTree, program_tree}
+use Rattle.jif_tree.specs.Trees.{ProgramTree, program_tree}
 use Rattle.jif_tree.specs.WellNumbered.{IsWellNumbered}
 use Rattle.jif_grammar.specs.DraftShapes.{DraftShape}
 use Rattle.jif_grammar.specs.Programs as grammar
@@ -40,7 +39,6 @@ use Rattle.split_rules.specs.SplitCode.{split_code}
 use Rattle.split_rules.specs.Splittable.{IsSplittable}
 use Rattle.split_rules.specs.Typable.{IsTypable}
 use Rattle.simulation.specs.Obeying.{IsSet}
-use Rattle.simulation.specs.Programs.{IsCallFree}
 use Rattle.split_cli.specs.CallFree.{IsCallFreeProgram}
 use Rattle.split_cli.specs.PlacedSources.{PlacedSource, AreChosen, PlacedSources, labelled_source}
 use Rattle.split_cli.specs.Sources.{Source, Accepted, AcceptedWith, Drafted, Sources}
@@ -268,5 +266,5 @@ module _ (sources : ReadingLaws) (plans : PlanLaws) (splits : SplitLaws) (progra
     sound = sound;
     granted = splits.granted (labelled_source placed.source) placed.needs placed.source.file placed.plan splits_there
         allowed seen;
-    call_free = recursion_from_All (λ (method : MethodTree). IsCallFree method.body) placed.source.tree.methods free;
+    call_free = free;
   }

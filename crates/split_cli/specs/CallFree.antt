@@ -1,12 +1,14 @@
--- Which programs are run by hosts so far: no method calls another, and none gives a value back.
-use Rattle.std.specs.Prelude.{All, ⊤}
+-- Which programs are run by hosts so far: `main` calls no method.
+use Rattle.std.specs.Prelude.{⊤}
+use Rattle.std.specs.Option.{IsSomeAnd}
 use Rattle.jif_tree.specs.declared.program.StmtKind.{StmtKind}
 use Rattle.jif_tree.specs.declared.program.StmtKind as kind
+use Rattle.jif_tree.specs.LabelRules.{method_at}
 use Rattle.jif_tree.specs.Trees.{ProgramTree, row_tree}
 use Rattle.simulation.specs.Programs.{IsCallFree}
 
 abbrev pub IsCallFreeProgram : ProgramTree → Type 0
-IsCallFreeProgram tree = All (λ method. IsCallFree method.body) tree.methods
+IsCallFreeProgram tree = IsSomeAnd (method_at tree tree.main) (λ main. IsCallFree main.body)
 
 -- ---- in the program
 

@@ -1,29 +1,20 @@
 //! Which programs hosts can run so far.
 
-ghost use Rattle.std.specs.Prelude.{◌↔◌, All, IsTrue, map};
-ghost use Rattle.jif_tree.specs.Trees.{block_tree, method_tree, program_tree};
+ghost use Rattle.std.specs.Prelude.{◌↔◌, IsTrue};
+ghost use Rattle.jif_tree.specs.Trees.{block_tree, program_tree};
 ghost use Rattle.simulation.specs.Programs.{IsCallFree};
 ghost use Rattle.split_cli.specs.CallFree.{IsCallFreeProgram, IsFree};
 
-use jif_tree::{Method, Program, Stmt, StmtKind};
+use jif_tree::{Program, Stmt, StmtKind};
 
-/// Whether no method of a program calls another or gives a value back.
+/// Whether `main` calls no method.
 pub fn is_call_free(program: &Program) -> bool
     ensures { IsTrue result ↔ IsCallFreeProgram (program_tree program.now) }
 {
-    are_call_free(&program.methods)
-}
-
-/// Whether no method calls another or gives a value back.
-fn are_call_free(methods: &[Method]) -> bool
-    ensures { IsTrue result ↔ All (λ method. IsCallFree method.body) (map method_tree methods.now) }
-{
-    for method in methods {
-        if !is_free_block(&method.body) {
-            return false;
-        }
+    match program.methods.get(program.main.0 as usize) {
+        Some(main) => is_free_block(&main.body),
+        None => false,
     }
-    true
 }
 
 /// Whether no statement of a block, nor of the blocks in it, calls a method or gives a value back.
