@@ -16,3 +16,4 @@ pub mod Possible
 pub mod Starts
 pub mod Tracks
 pub mod Obeyed
+pub mod Ending
