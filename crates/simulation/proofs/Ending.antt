@@ -1,5 +1,5 @@
 -- Hosts that all obey come to an end: each event leaves less of what is enough, but for the steps of the plain run.
-use Rattle.std.proofs.Common.{◌≡◌, ℕ, zero, suc, ◌+◌, ◌<◌, ◌≤◌, inl, inr, List, [], ◌∷◌, length, refl, sym, subst}
+use Rattle.std.proofs.Common.{◌≡◌, ℕ, zero, suc, ◌+◌, ◌<◌, ◌≤◌, inl, inr, List, [], ◌∷◌, length, refl, subst}
 use Rattle.std.proofs.Common.{arith, ◌⊎◌, Option, Some, None}
 use Rattle.std.specs.Prelude.{ℤ, ◌*◌, ◌-◌}
 use Rattle.host_decl.specs.Hosts.{HostsShape}

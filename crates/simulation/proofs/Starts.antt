@@ -1,7 +1,7 @@
 -- The world before the first event stands for the start of the plain run.
 use Rattle.std.proofs.Common.{◌≡◌, ◌≢◌, ◌∙◌, ℕ, zero, suc, ◌+◌, ◌<◌, inl, inr, Bool, false, List, [], ◌∷◌}
 use Rattle.std.proofs.Common.{map, length, Option, Some, None, refl, ap, sym, arith}
-use Rattle.std.specs.Prelude.{ℤ, pos, ◌*◌, ◌≤◌, ◌==◌, if◌then◌else◌, IsSomeAnd, slice_get}
+use Rattle.std.specs.Prelude.{ℤ, pos, ◌≤◌, ◌==◌, if◌then◌else◌, IsSomeAnd, slice_get}
 use Rattle.std.specs.Option.{option_map}
 use Rattle.std.proofs.lemmas.Bool.Decides.{eqb_tells}
 use Rattle.std.proofs.lemmas.Bool.{eq-eqb, ne_eqb}
