@@ -1,7 +1,7 @@
 -- A turn of the holder, by the instruction that it runs.
 use Rattle.std.proofs.Common.{◌≡◌, ◌≢◌, ◌∙◌, ℕ, suc, ◌⊎◌, inl, inr, Bool, true, false, List, [], ◌∷◌, Option}
-use Rattle.std.proofs.Common.{Some, None, refl, ap, sym, subst, arith, zero, ◌+◌, ◌<◌, ◌≤◌, length}
-use Rattle.std.specs.Prelude.{◌*◌, ◌-◌, IfSome, slice_get}
+use Rattle.std.proofs.Common.{Some, None, refl, ap, sym, subst, arith, ◌+◌, ◌<◌, ◌≤◌, length}
+use Rattle.std.specs.Prelude.{◌*◌}
 use Rattle.std.specs.Prelude.{ℤ, pos, ◌==◌, ◌↔◌, if◌then◌else◌, IsTrue, IsSomeAnd}
 use Rattle.std.specs.Option.{option_and_then}
 use Rattle.std.specs.Ordering.{int_eq}
@@ -34,12 +34,11 @@ use Rattle.host_core.specs.Turn.{with_thread, after_read, after_put, after_own_p
 use Rattle.host_core.specs.Turn.{after_branch, after_operation, PassesWith, IsRunning, IsTurn, IsTurnOf, label_of_turn}
 use Rattle.host_core.specs.Turn.{label_of_thread}
 use Rattle.split_rules.specs.Asking.{IsGranted, IfElsewhere}
-use Rattle.host_core.specs.Fits.{RunningFits}
-use Rattle.net_world.specs.Fits.{ShapeFits, IsStateOf}
+use Rattle.net_world.specs.Fits.{ShapeFits}
 use Rattle.split_rules.specs.Pace as pace_rules
 use Rattle.split_rules.specs.Pace.{PACE, Falls, FallsWithStep, FallsWithEntry, IsPacedOp, calls_at, is_call}
 use Rattle.split_rules.specs.Pace.{is_call_there}
-use Rattle.split_rules.specs.Positions.{Forward, forwards_of}
+use Rattle.split_rules.specs.Positions.{forwards_of}
 use Rattle.split_rules.specs.Typing.{Cuts, Pushes}
 use Rattle.split_rules.specs.TypedCode.{IsTypedOp}
 use Rattle.net_world.specs.World as world_steps
@@ -56,6 +55,8 @@ use Rattle.simulation.proofs.Rows.{fields_same, fields_written, row_there}
 use Rattle.simulation.proofs.Kept.{orderly_moved, stacks_moved, idle_moved, agree_same, agree_set, call_kept, call_set}
 use Rattle.simulation.proofs.Kept.{NoneHalted, host_within, is_sent, own_set, holder_agrees}
 use Rattle.simulation.proofs.Pops.{own_stack, other_stack, top_of, top_on_stack, pushed_chain, Ended, Continued, popped}
+use Rattle.simulation.proofs.Fuel.{lighter, back_fuel, some_fuel, popped_less, at_most, falls, falls_with_step}
+use Rattle.simulation.proofs.Fuel.{falls_at_step, falls_with_entry, none_within, field_there, place_there, none_called}
 use Rattle.simulation.proofs.Turning.{Turning, acting, goes_on, goes_on_same, asks, passes_on}
 
 -- ---- what the holder knows
@@ -82,104 +83,6 @@ granted_there : (split : Split) (me : HostId) (field : FieldId) (there : CodeFie
 granted_there split me field there holds is granted apart =
     let so = subst (λ (o : Option CodeFieldShape). IsSomeAnd o (λ one. one.host ≢ me → holds one.host)) is granted in
     so (λ same. apart (ap (λ (h : HostId). h.0) same))
-
--- ---- what is left of the fuel
-
--- what is left at the next instruction
-next_pace : (split : Split) (host : HostId) (at : ℕ) → split.pace host.0 (at + 1) ≡ split.pace host.0 (suc at)
-next_pace split host at = ap (split.pace host.0) (omega arith)
-
--- the chain has an entry
-some_chain : (split : Split) (chain : List StackEntry) → IsChain split chain → 0 < length chain
-some_chain split [] is_chain = absurd is_chain
-some_chain split (top ∷ chain) is_chain = omega arith
-
-lighter : (here next many fuel : ℕ) → next < here → 3 * (here + many) ≤ fuel →
-    (0 < fuel) × (3 * (next + many) < fuel) × (3 * (next + many) + 2 ≤ fuel - 1)
-lighter here next many fuel less most = (omega arith, omega arith, omega arith)
-
-some_fuel : (many fuel : ℕ) → 3 * (PACE + many) ≤ fuel → 0 < fuel
-some_fuel many fuel most = omega arith
-
-popped_less : (weight whole fuel : ℕ) → weight + 3 ≤ whole → whole ≤ fuel → weight < fuel
-popped_less weight whole fuel less most = omega arith
-
-back_fuel : (here many fuel : ℕ) → PACE ≤ here → 3 * (here + many) ≤ fuel →
-    (3 * (PACE + many) ≤ fuel) × (0 < fuel) × (3 * (PACE + many) ≤ (fuel - 1) + 1)
-back_fuel here many fuel least most = (omega arith, omega arith, omega arith)
-
-at_most : (weight fuel : ℕ) → weight + 2 ≤ fuel → weight + 1 ≤ fuel
-at_most weight fuel most = omega arith
-
-lighter_step : (here next many fuel : ℕ) → next + 1 < here + PACE → 0 < many → 3 * (here + many) ≤ fuel →
-    (0 < fuel) × (3 * (next + many) < fuel + STEP) × (3 * (next + many) + 2 ≤ (fuel - 1) + STEP)
-lighter_step here next many fuel less some most = (omega arith, omega arith, omega arith)
-
-lighter_entry : (here next many fuel : ℕ) → next + 1 < here → 3 * (here + many) ≤ fuel →
-    (0 < fuel) × (3 * (next + suc many) < fuel) × (3 * (next + many) + 5 ≤ fuel - 1)
-lighter_entry here next many fuel less most = (omega arith, omega arith, omega arith)
-
--- behind an instruction that makes no step
-falls : (split : Split) (c : Configuration) (world after : WorldShape) (host : HostId)
-    (t : Turning split c world after host) → Paced split → Falls split.pace host t.run.thread.at (suc t.run.thread.at) →
-    (0 < t.fuel) × (weight_at split t.chain host (t.run.thread.at + 1) < t.fuel)
-    × (weight_at split t.chain host (t.run.thread.at + 1) + 2 ≤ t.fuel - 1)
-falls split c world after host t paced less =
-    lighter (split.pace host.0 t.run.thread.at) (split.pace host.0 (t.run.thread.at + 1)) (length t.chain) t.fuel
-    (subst (λ n. n < split.pace host.0 t.run.thread.at) (sym (next_pace split host t.run.thread.at)) less)
-    (t.fueled paced)
-
--- behind one that makes a step
-falls_with_step : (split : Split) (c : Configuration) (world after : WorldShape) (host : HostId)
-    (t : Turning split c world after host) → Paced split → (next : ℕ) →
-    FallsWithStep split.pace host t.run.thread.at next →
-    (0 < t.fuel) × (weight_at split t.chain host next < t.fuel + STEP)
-    × (weight_at split t.chain host next + 2 ≤ (t.fuel - 1) + STEP)
-falls_with_step split c world after host t paced next less =
-    lighter_step (split.pace host.0 t.run.thread.at) (split.pace host.0 next) (length t.chain) t.fuel less
-    (some_chain split t.chain t.is_chain) (t.fueled paced)
-
--- the same for the next instruction
-falls_at_step : (split : Split) (c : Configuration) (world after : WorldShape) (host : HostId)
-    (t : Turning split c world after host) → Paced split →
-    FallsWithStep split.pace host t.run.thread.at (suc t.run.thread.at) →
-    (0 < t.fuel) × (weight_at split t.chain host (t.run.thread.at + 1) < t.fuel + STEP)
-    × (weight_at split t.chain host (t.run.thread.at + 1) + 2 ≤ (t.fuel - 1) + STEP)
-falls_at_step split c world after host t paced less =
-    falls_with_step split c world after host t paced (t.run.thread.at + 1)
-    (subst (λ n. n + 1 < split.pace host.0 t.run.thread.at + PACE) (sym (next_pace split host t.run.thread.at)) less)
-
--- behind one that puts an entry on the chain
-falls_with_entry : (split : Split) (c : Configuration) (world after : WorldShape) (host : HostId)
-    (t : Turning split c world after host) → Paced split →
-    FallsWithEntry split.pace host t.run.thread.at (suc t.run.thread.at) → (entry : StackEntry) →
-    (0 < t.fuel) × (weight_at split (entry ∷ t.chain) host (t.run.thread.at + 1) < t.fuel)
-    × (weight_at split t.chain host (t.run.thread.at + 1) + 5 ≤ t.fuel - 1)
-falls_with_entry split c world after host t paced less entry =
-    lighter_entry (split.pace host.0 t.run.thread.at) (split.pace host.0 (t.run.thread.at + 1)) (length t.chain) t.fuel
-    (subst (λ n. n + 1 < split.pace host.0 t.run.thread.at) (sym (next_pace split host t.run.thread.at)) less)
-    (t.fueled paced)
-
-none_within : {X : Type 0} (xs : List X) (n : ℕ) → n < length xs → slice_get xs n ≡ None → ⊥
-none_within [] n within none = omega arith
-none_within (x ∷ xs) zero within none = absurd (cc)
-none_within (x ∷ xs) (suc n) within none = none_within xs n (omega arith) none
-
--- a field of sound code is there
-field_there : (split : Split) (field : FieldId) → IsField split.code field → field_at split.code field ≡ None → ⊥
-field_there split field within none =
-    none_within split.code.fields field.0 within none
-
--- the thread that runs stands at an instruction
-place_there : (split : Split) (world : WorldShape) (host : HostId) (state : HostShape) (thread : ThreadShape) →
-    ShapeFits split.code world → world_steps.state_at world host ≡ Some state → state.running ≡ Some thread →
-    state.me ≡ host → thread.at < length (part_of split.code host)
-place_there split world host state thread fits there running me =
-    let is : IsStateOf split.code host state =
-    subst (λ o. IfSome o (IsStateOf split.code host)) there (fits.states host) in
-    let run : RunningFits split.code state.me thread =
-    subst (λ o. IfSome o (RunningFits split.code state.me)) running is.fits.running in
-    subst (λ h. thread.at < length (part_of split.code h)) me run.place
 
 -- nothing is left to be sent
 none_to_send : (split : Split) (c : Configuration) (world after : WorldShape) (host : HostId)
@@ -407,21 +310,6 @@ branches split c world after host t guard target law pace is =
     either_less false first other one two = two
 
 -- ---- pushes
-
--- no call is made where a thread of a program that calls nothing stands
-none_called : (split : Split) (c : Configuration) (chain : List StackEntry) (out : List Forward) (host : HostId)
-    (thread : ThreadShape) → IsAt split c chain out host thread → calls_at split.code host thread.at ≡ false
-none_called split c chain out host thread at = of_found (instruction_at split.code host thread.at) refl
-  where
-    of_plain : (what : Op) → IsPlain what → is_call what ≡ false
-    of_plain (op.Call there on) plain = absurd plain
-    of_plain _ plain = refl
-
-    of_found : (found : Option Instr) → instruction_at split.code host thread.at ≡ found → is_call_there found ≡ false
-    of_found None is = refl
-    of_found (Some there) is =
-        of_plain there.op (is_plain split c chain out host thread at there.op
-        (split.typed.instructions host thread.at there is).1)
 
 pushes : (split : Split) (c : Configuration) (world after : WorldShape) (host : HostId)
     (t : Turning split c world after host) (entry : EntryId) →
