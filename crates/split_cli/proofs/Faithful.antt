@@ -1,6 +1,6 @@
 -- From what is due to the headline.
-use Rattle.std.proofs.Common.{◌≡◌, ◌≢◌, ◌≤◌, ◌∙◌, ℕ, suc, List, [], ◌∷◌, map, length, Option, Some, Ok, refl, sym, ap}
-use Rattle.std.proofs.Common.{subst}
+use Rattle.std.proofs.Common.{◌≡◌, ◌≢◌, ◌≤◌, ◌+◌, ◌*◌, ◌∙◌, ℕ, suc, List, [], ◌∷◌, ◌++◌, map, length, Option, Some, Ok, refl, sym, ap}
+use Rattle.std.proofs.Common.{subst, length-append}
 use Rattle.std.proofs.Common.{⊎_elim, inl, arith, take}
 use Rattle.std.specs.Prelude.{ℤ, ◌⊎◌, slice_index, replicate}
 use Rattle.std.specs.List.{AllZip}
@@ -13,6 +13,8 @@ use Rattle.js_base.specs.declared.status.Status.TheVariants.{Done, Spent, Source
 use Rattle.host_decl.specs.Hosts.{HostsShape}
 use Rattle.jif_tree.specs.declared.program.Field.{Field}
 use Rattle.jif_tree.specs.declared.program.Program.{Program}
+use Rattle.jif_tree.specs.Sizes.{IsSized}
+use Rattle.jif_tree.specs.SourceRun.{HasLength}
 use Rattle.jif_tree.specs.Store.{starting_values}
 use Rattle.jif_tree.specs.Trees.{FieldTree, ProgramTree, field_tree, program_tree}
 use Rattle.event_text.specs.declared.event.Event.{Event}
@@ -26,9 +28,10 @@ use Rattle.label_lattice.specs.declared.label.Label.{Label}
 use Rattle.need_labels.specs.Labelled as needs
 use Rattle.need_labels.specs.Needs.{NeedsShape}
 use Rattle.need_labels.specs.Plan.{PlanShape}
-use Rattle.net_world.specs.Choice.{NoneRuns, NothingFlies}
-use Rattle.net_world.specs.World.{WorldShape, IsRun, world_at_start, state_at, has_halted}
+use Rattle.net_world.specs.Choice.{NoneRuns, NothingFlies, IsNextEvent}
+use Rattle.net_world.specs.World.{WorldShape, IsStep, IsRun, world_at_start, state_at, has_halted}
 use Rattle.split_rules.specs.SplitCode.{split_code, placed_code_fields}
+use Rattle.simulation.specs.Ending.{EVENTS}
 use Rattle.simulation.specs.Obeying.{IsSet, Follows}
 use Rattle.split_cli.specs.Commands.{CommandShape, Replay, Drive, IsCommand, IsStepCount, words_of, files_of}
 use Rattle.split_cli.specs.Verdicts.{VerdictShape, Refuse, Print}
@@ -50,7 +53,7 @@ use Rattle.split_cli.specs.Faithful.{PutsText, PutsFaithfully, PutsDriven}
 use Rattle.split_cli.proofs.OneDrive.{driven_run}
 use Rattle.split_cli.proofs.OneVerdict.{one_command}
 use Rattle.split_cli.proofs.ReplayedEvents.{plain_script}
-use Rattle.split_cli.proofs.SetSources.{ReadingLaws, PlanLaws, SplitLaws, set_there}
+use Rattle.split_cli.proofs.SetSources.{ReadingLaws, PlanLaws, SplitLaws, set_there, sized_there}
 use Rattle.split_cli.proofs.Stages.{stop_with}
 
 -- ---- hosts that all obey
@@ -69,12 +72,31 @@ ObeyingLaws = (tree : Program) (labelled : needs.Labelled) (need : NeedsShape) (
     IsRun (split_code labelled need file plan) (world_at_start (split_code labelled need file plan) file.hosts 0 store)
     events world → Laws tree (split_code labelled need file plan) file store events world
 
+-- no list of events is longer than the plain run allows
+abbrev pub EndingLaw : Type 0
+EndingLaw = (tree : Program) (labelled : needs.Labelled) (need : NeedsShape) (file : HostsShape) (plan : PlanShape)
+    (store : List (List ℤ)) (steps : ℕ) (events : List Event) (world : WorldShape) →
+    IsSet tree labelled need file plan → IsSized labelled.program → HasLength tree store steps →
+    IsRun (split_code labelled need file plan) (world_at_start (split_code labelled need file plan) file.hosts 0 store)
+    events world → length events ≤ EVENTS * (steps + 1)
+
+-- the event that comes next happens
+abbrev pub NextLaw : Type 0
+NextLaw = (tree : Program) (labelled : needs.Labelled) (need : NeedsShape) (file : HostsShape) (plan : PlanShape)
+    (store : List (List ℤ)) (events : List Event) (world : WorldShape) (event : Event) →
+    IsSet tree labelled need file plan →
+    IsRun (split_code labelled need file plan) (world_at_start (split_code labelled need file plan) file.hosts 0 store)
+    events world → IsNextEvent world (Some event) →
+    (after : WorldShape) × IsStep (split_code labelled need file plan) world event after
+
 -- all that is cited
 pub record AllLaws : Type 0 where
   pub reading : ReadingLaws
   pub plans : PlanLaws
   pub splits : SplitLaws
   pub obeying : ObeyingLaws
+  pub next : NextLaw
+  pub ending : EndingLaw
 
 faithful_run : AllLaws → (program hosts : List ℕ) (placed : PlacedSource) (tree : Program) (start : List (List ℤ))
     (events : List Event) (last : WorldShape) → IsRunnable program hosts placed tree → IsSoundCode (code_of placed) →
@@ -144,6 +166,33 @@ ends_run : (code : CodeShape) (world : WorldShape) (most : ℕ) (events : List E
 ends_run code world most events last _ (rested few driven rest) = driven_run code world last events driven
 ends_run code world most events last _ (spent next all driven more) = driven_run code world last events driven
 
+-- one event more
+runs_on : (code : CodeShape) (world last after : WorldShape) (events : List Event) (event : Event) →
+    IsRun code world events last → IsStep code last event after → IsRun code world (events ++ event ∷ []) after
+runs_on code world last after [] event run step =
+    (after, subst (λ (w : WorldShape). IsStep code w event after) (sym run) step, refl)
+runs_on code world last after (first ∷ events) event run step =
+    (run.0, run.1, runs_on code run.0 last after events event run.2 step)
+
+too_many : (bound most : ℕ) (events : List Event) (event : Event) → length (events ++ event ∷ []) ≤ bound →
+    length events ≡ most → bound ≤ most → ⊥
+too_many bound most events event few all enough =
+    let many : length (events ++ event ∷ []) ≡ length events + 1 = length-append events (event ∷ []) in
+    omega (arith, few, all, enough, many)
+
+-- who was given as many events as ever happen came to rest
+ends_in_time : (code : CodeShape) (world : WorldShape) (most : ℕ) (events : List Event) (last : WorldShape)
+    (status : Status) → DrivesTo code world most events last status → (bound : ℕ) →
+    ((more : List Event) (after : WorldShape) → IsRun code world more after → length more ≤ bound) →
+    ((event : Event) → IsRun code world events last → IsNextEvent last (Some event) →
+    (after : WorldShape) × IsStep code last event after) → bound ≤ most → status ≡ Done
+ends_in_time code world most events last _ (rested few driven rest) bound ends next enough = refl
+ends_in_time code world most events last _ (spent event all driven more) bound ends next enough =
+    let run = driven_run code world last events driven in
+    let step = next event run more in
+    absurd (too_many bound most events event
+    (ends (events ++ event ∷ []) step.0 (runs_on code world last step.0 events event run step.1)) all enough)
+
 is_faithful_drive : AllLaws → (program hosts start : List ℕ) (most : ℕ) (status : Status) (text : List ℕ)
     (driven : IsDrivenTo program hosts start most status text) → IsSoundCode (code_of driven.placed) →
     IsFaithfulDrive program hosts start most status text
@@ -158,6 +207,17 @@ is_faithful_drive laws program hosts start most status text driven sound =
       rested = λ done.
           let rest = ends_rested code first most driven.events driven.last status driven.ends done in
           run.idle rest.0 rest.1;
+      in_time = λ steps ends enough.
+          let placed = driven.placed in
+          let labelled = labelled_source placed.source in
+          let set = set_there laws.reading laws.plans laws.splits program hosts placed driven.runnable.accepted driven.tree
+          driven.runnable.tree_is sound driven.runnable.call_free in
+          let sized = sized_there laws.reading laws.plans laws.splits program hosts placed driven.runnable.accepted in
+          ends_in_time code first most driven.events driven.last status driven.ends (EVENTS * (steps + 1))
+          (λ more after ran. laws.ending driven.tree labelled placed.needs placed.source.file placed.plan driven.values steps
+          more after set sized ends ran)
+          (λ event ran comes. laws.next driven.tree labelled placed.needs placed.source.file placed.plan driven.values
+          driven.events driven.last event set ran comes) enough;
     }
 
 -- ---- what stops a command before its end is no success

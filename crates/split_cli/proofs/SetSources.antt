@@ -18,12 +18,14 @@ use Rattle.jif_tree.specs.GuardLabels.{AreAllGuardsLabelled}
 use Rattle.jif_tree.specs.LabelRules.{declared_labels, IsWellLabelled}
 use Rattle.jif_tree.specs.Labelling.{AreLabelledMethods}
 use Rattle.jif_tree.specs.Named.{AreNamed}
+use Rattle.jif_tree.specs.Sizes.{IsSized}
 use Rattle.jif_tree.specs.Numbering.{CountsFrom, statement_numbers, site_numbers}
 use Rattle.jif_tree.specs.Trees.{ProgramTree, program_tree}
 use Rattle.jif_tree.specs.WellNumbered.{IsWellNumbered}
 use Rattle.jif_grammar.specs.DraftShapes.{DraftShape}
 use Rattle.jif_grammar.specs.Programs as grammar
 use Rattle.jif_resolve.specs.Sizes.{IsLimited}
+use Rattle.jif_resolve.specs.Sizes as drafts
 use Rattle.jif_resolve.specs.Verdicts.{IsProgramOf}
 use Rattle.need_labels.specs.Labelled as needs
 use Rattle.need_labels.specs.Needs.{NeedsShape, AreNeedsOf}
@@ -54,6 +56,9 @@ pub record ReadingLaws : Type 0 where
       length text ≤ PROGRAM_BYTES → ReadsAs text (tokens list) → grammar.IsProgramOf list draft →
       IsProgramOf principals draft program → AreNamed program
   pub limited : (list : List Token) (draft : DraftShape) → grammar.IsProgramOf list draft → IsLimited draft
+  pub few : (list : List Token) (draft : DraftShape) → grammar.IsProgramOf list draft → drafts.IsSized draft
+  pub sized : (principals : Declared) (draft : DraftShape) (tree : ProgramTree) → drafts.IsSized draft →
+      IsLimited draft → IsProgramOf principals draft tree → IsSized tree
   pub statements : (principals : Declared) (draft : DraftShape) (tree : ProgramTree) →
       IsProgramOf principals draft tree → CountsFrom 0 (statement_numbers tree)
   pub sites : (principals : Declared) (draft : DraftShape) (tree : ProgramTree) →
@@ -213,6 +218,11 @@ module _ (sources : ReadingLaws) (plans : PlanLaws) (splits : SplitLaws) (progra
 
   statements : CountsFrom 0 (statement_numbers placed.source.tree)
   statements = sources.statements placed.source.file.principals read.draft placed.source.tree read.resolved
+
+  pub sized_there : IsSized placed.source.tree
+  sized_there =
+      sources.sized placed.source.file.principals read.draft placed.source.tree
+      (sources.few read.list read.draft read.parsed) (sources.limited read.list read.draft read.parsed) read.resolved
 
   numbered : IsWellNumbered placed.source.tree
   numbered = sources.numbered placed.source.file.principals read.draft placed.source.tree read.resolved

@@ -1,5 +1,5 @@
 -- The headline for hosts that all obey: what is reported of them is a world whose fields follow the plain run.
-use Rattle.std.specs.Prelude.{◌≡◌, ℕ, ◌≤◌, ℤ, List, length, map, Option, Some, Ok}
+use Rattle.std.specs.Prelude.{◌≡◌, ℕ, ◌+◌, ◌*◌, ◌≤◌, ℤ, List, length, map, Option, Some, Ok}
 use Rattle.js_base.specs.declared.ids.HostId.{HostId}
 use Rattle.js_base.specs.declared.limits.TheConstants.{SCRIPT_BYTES}
 use Rattle.js_base.specs.declared.status.Status.{Status}
@@ -17,6 +17,7 @@ use Rattle.event_text.specs.Start.{start_of}
 use Rattle.host_core.specs.Host.{HostShape}
 use Rattle.net_world.specs.Choice.{NoneRuns, NothingFlies}
 use Rattle.net_world.specs.World.{WorldShape, IsRun, state_at, has_halted}
+use Rattle.simulation.specs.Ending.{EVENTS}
 use Rattle.simulation.specs.Obeying.{FieldsAre, Follows}
 use Rattle.split_cli.specs.CallFree.{IsCallFreeProgram}
 use Rattle.split_cli.specs.Drive.{code_of, first_world, drive_text}
@@ -86,11 +87,13 @@ pub record IsDrivenTo (program hosts start : List ℕ) (most : ℕ) (status : St
   pub text_is : text ≡ drive_text (code_of placed) (length events) last
 
 -- The drive follows the plain run of its program from these starting values, and where it came to rest the program has
--- halted.
+-- halted. It comes to rest in time.
 pub record IsFaithfulDrive (program hosts start : List ℕ) (most : ℕ) (status : Status) (text : List ℕ) : Type 0 where
   pub driven : IsDrivenTo program hosts start most status text
   pub faithful : IsFaithfulRun driven.placed driven.tree driven.values driven.events driven.last
   pub rested : status ≡ Done → has_halted (code_of driven.placed).root driven.last
+  -- where the plain run ends after so many steps, so many events are enough
+  pub in_time : (steps : ℕ) → HasLength driven.tree driven.values steps → EVENTS * (steps + 1) ≤ most → status ≡ Done
 
 -- ---- what is put
 

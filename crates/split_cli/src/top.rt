@@ -18,11 +18,11 @@ use crate::verdict::Verdict;
 use crate::words::{Command, command_of};
 use host_decl::host_file_laws;
 use jif_parse::named_laws;
-use jif_resolve::{labelling_laws, limit_laws, program_laws};
+use jif_resolve::{labelling_laws, limit_laws, program_laws, size_laws};
 use js_base::{Files, OutOfMemory, PutError, Sink, Status};
 use need_labels::need_laws;
 use placement::placement_laws;
-use simulation::obeying_laws;
+use simulation::{ending_laws, obeying_laws};
 use split_rules::{asking_laws, trust_laws};
 use std::alloc::Global;
 
@@ -77,7 +77,8 @@ pub fn jifsplit<F: Files, S: Sink, E: Sink>(
     ensures headline { (program hosts events : List ℕ) →
         map string_bytes words.now ≡ command.words_of (command.Replay program hosts events) → result ≡ Status.Done →
         PutsFaithfully program hosts events (F.held files.old) (S.taken out.old) (S.taken out.new) }
-    // So it is where hosts were driven, to their rest or by all their events. At rest the program has halted.
+    // So it is where hosts were driven, to their rest or by all their events. At rest the program has halted, and 4096
+    // events for each step of the plain run, and for one more, are enough to come to rest.
     ensures driven { (program hosts start : List ℕ) (events : ℕ) → command.IsStepCount events →
         map string_bytes words.now ≡ command.words_of (command.Drive program hosts start events) →
         (result ≡ Status.Done) ⊎ (result ≡ Status.Spent) →
@@ -92,6 +93,7 @@ pub fn jifsplit<F: Files, S: Sink, E: Sink>(
 {
     host_file_laws();
     named_laws();
+    size_laws();
     limit_laws();
     program_laws();
     labelling_laws();
@@ -100,6 +102,7 @@ pub fn jifsplit<F: Files, S: Sink, E: Sink>(
     trust_laws();
     asking_laws();
     obeying_laws();
+    ending_laws();
     answered(alloc, words, files, out, err)
 }
 

@@ -7,6 +7,8 @@ all_laws g c = record {
     hosts = c.host_file_laws.ensures.sound;
     named = c.named_laws.ensures.of_text;
     limited = c.limit_laws.ensures.limited;
+    few = c.size_laws.ensures;
+    sized = c.limit_laws.ensures.sized;
     statements = c.program_laws.ensures.statements;
     sites = c.program_laws.ensures.sites;
     numbered = c.program_laws.ensures.well_numbered;
@@ -25,6 +27,8 @@ all_laws g c = record {
     ignored = λ host state is.
         c.obeying_laws.ensures.ignored tree labelled need file plan store events world host state set ran is;
   };
+  next = c.obeying_laws.ensures.next;
+  ending = c.ending_laws.ensures.ends;
 }
 
 pub returns-clause-headline : goal.returns-clause-headline
