@@ -16,7 +16,8 @@ use Rattle.net_world.specs.World.{WorldShape, IsStep, IsTurnStep, IsTakeStep, st
 use Rattle.split_rules.specs.Positions.{Forward}
 use Rattle.simulation.proofs.Simulates.{Split, only, Holder, runs, asked, answered, goes, returns, halted, IsIdle}
 use Rattle.simulation.proofs.Simulates.{Stands}
-use Rattle.simulation.proofs.Simulates.{AreIdle, GoesOn, Simulates, Goes}
+use Rattle.net_world.specs.Fits.{ShapeFits}
+use Rattle.simulation.proofs.Simulates.{AreIdle, GoesOn, Simulates, Goes, Paced, IsFueled}
 use Rattle.simulation.proofs.Moved.{same_id, none_taken, own_cell}
 use Rattle.simulation.proofs.Turns.{holder_turn}
 use Rattle.simulation.proofs.Takes.{asked_taken, answered_taken, going_taken, returning_taken}
@@ -40,67 +41,70 @@ waiting_turn split world after host holder state there rests same step =
     none_there step.state.running (ap (λ (s : HostShape). s.running) is ∙ rests) step.runs
 
 turned : (split : Split) (c : Configuration) (world after : WorldShape) (sim : Simulates split c world)
-    (holder : Holder) → sim.holder ≡ holder → Stands split c sim.chain sim.out world holder → AreIdle holder world →
-    GoesOn holder world → (host : HostId) → IsTurnStep split.code world host after → Goes split c after
-turned split c world after sim (runs holder) is stands idle none host step = elim (eqb_tells host.0 holder.0) [
+    (holder : Holder) → ShapeFits split.code world → sim.holder ≡ holder →
+    (stands : Stands split c sim.chain sim.out world holder) →
+    (Paced split → IsFueled split c sim.chain sim.out world holder stands sim.fuel) → AreIdle holder world →
+    GoesOn holder world → (host : HostId) → IsTurnStep split.code world host after → Goes split c sim.fuel after
+turned split c world after sim (runs holder) fits is stands fueled idle none host step = elim (eqb_tells host.0 holder.0) [
   | inl same ↦
       let one : host ≡ holder = same_id host holder same.1 in
       let run = stands.1 in
       let here = subst (λ h. IsTurnStep split.code world h after) one step in
       let state = some_same (state_at world holder) here.state run.state here.obeys run.there in
-      holder_turn split c world after holder sim is run stands.0 none idle here.outcome
+      holder_turn split c world after holder fits sim is run stands.0 none idle fueled here.outcome
       (subst (λ (s : HostShape). IsTurn split.code s here.outcome) state here.turns)
       (ap (λ (s : HostShape). after_step world holder here.outcome (label_of_turn split.code s)) (sym state)
       ∙ here.leaves)
   | inr apart ↦ absurd (idle_turn split world after (runs holder) idle host apart.1 step)
 ]
-turned split c world after sim (asked holder owner) is stands idle none host step = elim (eqb_tells host.0 holder.0) [
+turned split c world after sim (asked holder owner) fits is stands fueled idle none host step = elim (eqb_tells host.0 holder.0) [
   | inl same ↦
       let waits = stands.1.waits in
       absurd (waiting_turn split world after host holder waits.state waits.there waits.running same.1 step)
   | inr apart ↦ absurd (idle_turn split world after (asked holder owner) idle host apart.1 step)
 ]
-turned split c world after sim (answered holder owner) is stands idle none host step =
+turned split c world after sim (answered holder owner) fits is stands fueled idle none host step =
     elim (eqb_tells host.0 holder.0) [
       | inl same ↦
           let waits = stands.1.waits in
           absurd (waiting_turn split world after host holder waits.state waits.there waits.running same.1 step)
       | inr apart ↦ absurd (idle_turn split world after (answered holder owner) idle host apart.1 step)
     ]
-turned split c world after sim (goes from to) is stands idle none host step =
+turned split c world after sim (goes from to) fits is stands fueled idle none host step =
     absurd (idle_turn split world after (goes from to) idle host tt step)
-turned split c world after sim (returns from to) is stands idle none host step =
+turned split c world after sim (returns from to) fits is stands fueled idle none host step =
     absurd (idle_turn split world after (returns from to) idle host tt step)
-turned split c world after sim halted is stands idle none host step =
+turned split c world after sim halted fits is stands fueled idle none host step =
     absurd (idle_turn split world after halted idle host tt step)
 
 -- ---- messages
 
 taken : (split : Split) (c : Configuration) (world after : WorldShape) (sim : Simulates split c world)
-    (holder : Holder) → Stands split c sim.chain sim.out world holder → AreIdle holder world → GoesOn holder world →
-    (from to : HostId) (place : ℕ) → IsTakeStep split.code world from to place after → Goes split c after
-taken split c world after sim (runs holder) stands idle none from to place step =
+    (holder : Holder) → (stands : Stands split c sim.chain sim.out world holder) →
+    (Paced split → IsFueled split c sim.chain sim.out world holder stands sim.fuel) → AreIdle holder world → GoesOn holder world →
+    (from to : HostId) (place : ℕ) → IsTakeStep split.code world from to place after → Goes split c sim.fuel after
+taken split c world after sim (runs holder) stands fueled idle none from to place step =
     absurd (none_taken world from to place step.flight stands.1.flying step.there)
-taken split c world after sim (asked holder owner) stands idle none from to place step =
-    asked_taken split c world after sim holder owner idle none stands.0 stands.1 from to place step
-taken split c world after sim (answered holder owner) stands idle none from to place step =
-    answered_taken split c world after sim holder owner idle none stands.0 stands.1 from to place step
-taken split c world after sim (goes sender target) stands idle none from to place step =
-    going_taken split c world after sim sender target idle none stands.0 stands.1 from to place step
-taken split c world after sim (returns sender target) stands idle none from to place step =
-    returning_taken split c world after sim sender target idle none stands.0 stands.1 from to place step
-taken split c world after sim halted stands idle none from to place step =
+taken split c world after sim (asked holder owner) stands fueled idle none from to place step =
+    asked_taken split c world after sim holder owner idle none stands.0 stands.1 from to place step fueled
+taken split c world after sim (answered holder owner) stands fueled idle none from to place step =
+    answered_taken split c world after sim holder owner idle none stands.0 stands.1 from to place step fueled
+taken split c world after sim (goes sender target) stands fueled idle none from to place step =
+    going_taken split c world after sim sender target idle none stands.0 stands.1 from to place step fueled
+taken split c world after sim (returns sender target) stands fueled idle none from to place step =
+    returning_taken split c world after sim sender target idle none stands.0 stands.1 from to place step fueled
+taken split c world after sim halted stands fueled idle none from to place step =
     absurd (none_taken world from to place step.flight stands.flying step.there)
 
 -- ---- events
 
 pub event_kept : (split : Split) (c : Configuration) (world after : WorldShape) (event : Event) →
-    Simulates split c world → IsStep split.code world event after → Goes split c after
-event_kept split c world after (Take from to place) sim step =
-    taken split c world after sim sim.holder sim.stands sim.idle sim.goes_on from to place step
-event_kept split c world after (Turn host) sim step =
-    turned split c world after sim sim.holder refl sim.stands sim.idle sim.goes_on host step
-event_kept split c world after (Act from to made) sim step =
+    (sim : Simulates split c world) → ShapeFits split.code world → IsStep split.code world event after → Goes split c sim.fuel after
+event_kept split c world after (Take from to place) sim fits step =
+    taken split c world after sim sim.holder sim.stands sim.fueled sim.idle sim.goes_on from to place step
+event_kept split c world after (Turn host) sim fits step =
+    turned split c world after sim sim.holder fits refl sim.stands sim.fueled sim.idle sim.goes_on host step
+event_kept split c world after (Act from to made) sim fits step =
     absurd (let none = sim.orderly.none_bad from in let bad = step.bad in cc)
 
 -- ---- what such a world has

@@ -9,6 +9,7 @@ pub mod Rows
 pub mod Kept
 pub mod Turning
 pub mod Pops
+pub mod Fuel
 pub mod Turns
 pub mod Takes
 pub mod Events
@@ -16,3 +17,4 @@ pub mod Possible
 pub mod Starts
 pub mod Tracks
 pub mod Obeyed
+pub mod Ending

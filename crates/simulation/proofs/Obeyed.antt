@@ -22,6 +22,7 @@ use Rattle.event_text.specs.declared.event.Event.TheVariants.{Take, Turn, Act}
 use Rattle.jif_tree.specs.SourceRun.{Configuration}
 use Rattle.simulation.proofs.Possible.{next_happens, one_event}
 use Rattle.net_world.specs.World.{IsStep, named_host, WorldShape, IsRun, world_at_start, state_at, has_halted}
+use Rattle.split_rules.specs.Pace.{Allowance}
 use Rattle.split_rules.specs.SplitCode.{split_code}
 use Rattle.split_rules.specs.Splittable.{IsSplittable}
 use Rattle.split_rules.specs.Typable.{IsTypable}
@@ -29,7 +30,7 @@ use Rattle.split_rules.specs.TypedCode.{Table, IsTypedCode}
 use Rattle.simulation.specs.Obeying.{IsSet, Follows}
 use Rattle.simulation.proofs.KnownReaders.{body_readers}
 use Rattle.simulation.proofs.Simulates.{Split, Simulates}
-use Rattle.simulation.proofs.Starts.{simulates_at_start}
+use Rattle.simulation.proofs.Starts.{falls_at_start}
 use Rattle.simulation.proofs.Events.{event_kept, halted_at_end, idle_halted}
 use Rattle.simulation.proofs.Tracks.{IsKept, Tracks, track, track_end}
 use Rattle.std.specs.Prelude.{IsSomeAnd}
@@ -38,10 +39,10 @@ use Rattle.simulation.specs.Programs.{IsCallFree}
 -- ---- a split program
 
 -- a typed code of a program that is set
-unfoldable typed_split : (program : Program) (labelled : Labelled) (needs : NeedsShape) (hosts : HostsShape)
+unfoldable pub typed_split : (program : Program) (labelled : Labelled) (needs : NeedsShape) (hosts : HostsShape)
     (plan : PlanShape) → IsSet program labelled needs hosts plan → (table : Table) →
-    IsTypedCode (planned_of labelled needs hosts plan) (split_code labelled needs hosts plan) table → Split
-typed_split program labelled needs hosts plan set table typed = record {
+    IsTypedCode (planned_of labelled needs hosts plan) (split_code labelled needs hosts plan) table → Allowance → Split
+typed_split program labelled needs hosts plan set table typed pace = record {
   program = program;
   planned = planned_of labelled needs hosts plan;
   code = split_code labelled needs hosts plan;
@@ -58,6 +59,7 @@ typed_split program labelled needs hosts plan set table typed = record {
       set.splittable.numbered.main.1
       (subst (λ found. IsSomeAnd found (λ main. IsCallFree main.body)) set.splittable.numbered.main.1 set.call_free);
   many = length-map hosts.hosts named_host;
+  pace = pace;
 }
 
 -- ---- along events
@@ -69,7 +71,7 @@ record Stands (split : Split) (store : List (List ℤ)) (world : WorldShape) (n 
   fits : ShapeFits split.code world
 
 -- no host that misbehaves makes an event
-own_tokens : (split : Split) (c : Configuration) (world after : WorldShape) (event : Event) → Simulates split c world →
+pub own_tokens : (split : Split) (c : Configuration) (world after : WorldShape) (event : Event) → Simulates split c world →
     IsStep split.code world event after → HasOwnToken world event
 own_tokens split c world after (Take from to place) sim step = tt
 own_tokens split c world after (Turn host) sim step = tt
@@ -88,20 +90,20 @@ kept : (split : Split) (store : List (List ℤ)) → IsKept split.code (Stands s
 kept split store world after n event stands step =
     let fits = shape_step split.code world after event split.sound stands.fits
     (own_tokens split (prefix split.program store n) world after event stands.simulates step) step in
-    elim (event_kept split (prefix split.program store n) world after event stands.simulates step) [
+    elim (event_kept split (prefix split.program store n) world after event stands.simulates stands.fits step) [
       | inl same ↦ (
         n,
         omega arith,
         omega arith,
         record
-            { simulates = same; not_before = stands.not_before; fits = fits },
+            { simulates = same.now; not_before = stands.not_before; fits = fits },
       )
       | inr next ↦ (
         suc n,
         omega arith,
         omega arith,
         record {
-          simulates = next.1;
+          simulates = next.1.now;
           not_before = not_at_end split store n stands.not_before next.0;
           fits = fits;
         },
@@ -172,12 +174,12 @@ module _ (gives : GivesTables) (program : Program) (labelled : Labelled) (needs 
   split : Split
   split =
       let typed = gives labelled needs hosts plan set.splittable set.typable in
-      typed_split program labelled needs hosts plan set typed.0 typed.1
+      typed_split program labelled needs hosts plan set typed.0 typed.1 (λ host place. 0)
 
   start : Simulates split (prefix program store 0)
       (world_at_start (split_code labelled needs hosts plan) hosts.hosts 0 store)
   unfolding split typed_split
-  start = simulates_at_start split store hosts.hosts refl
+  start = (falls_at_start split store hosts.hosts refl).now
 
   fits_there : ShapeFits (split_code labelled needs hosts plan)
       (world_at_start (split_code labelled needs hosts plan) hosts.hosts 0 store)

@@ -1,7 +1,7 @@
 -- What taking the first entry of the chain off its stack leaves.
 use Rattle.std.proofs.Common.{◌≡◌, ◌≢◌, ◌∙◌, ℕ, ◌⊎◌, inl, inr, Bool, true, false, List, [], ◌∷◌, Option, Some, None}
-use Rattle.std.proofs.Common.{refl, ap, sym, subst}
-use Rattle.std.specs.Prelude.{◌==◌, if◌then◌else◌, IsSomeAnd}
+use Rattle.std.proofs.Common.{refl, ap, sym, subst, arith, zero, suc, ◌+◌, ◌≤◌, length}
+use Rattle.std.specs.Prelude.{◌*◌, ◌==◌, if◌then◌else◌, IsSomeAnd, slice_get}
 use Rattle.std.proofs.lemmas.Bool.{eq-eqb, ne_eqb}
 use Rattle.js_base.specs.declared.ids.HostId.{HostId}
 use Rattle.js_base.specs.declared.ids.EntryId.{EntryId}
@@ -15,7 +15,8 @@ use Rattle.host_code.specs.Sound.{IsEntryOn}
 use Rattle.host_code.specs.Thread.{ThreadShape}
 use Rattle.host_core.specs.Host.{HostShape, with_running, after_pop, after_entering, thread_at}
 use Rattle.host_core.specs.Start.{main_frame}
-use Rattle.simulation.proofs.Simulates.{Split, chain_due, IsChain, on_stack, IsLeft, IsAt}
+use Rattle.split_rules.specs.Pace.{PACE}
+use Rattle.simulation.proofs.Simulates.{Split, chain_due, IsChain, on_stack, IsLeft, IsAt, Paced, weight_at}
 use Rattle.simulation.proofs.Transfers.{pop_at, end_at}
 
 -- ---- stacks
@@ -84,6 +85,13 @@ pub record Continued (split : Split) (c : Configuration) (chain : List StackEntr
       ≡ with_running (record bare { entries = on_stack host now }) (Some thread)
   pub others : (other : HostId) → other.0 ≢ host.0 → on_stack other now ≡ on_stack other chain
   pub at : IsAt split c now [] host thread
+  pub lighter : Paced split → weight_at split now host thread.at + 3 ≤ 3 * (PACE + length chain)
+
+-- where an entry stands that does not end the program, few instructions are left
+pub entry_pace : (split : Split) → Paced split → (number : ℕ) (there : Entry) →
+    slice_get split.code.entries number ≡ Some there → (number ≡ 0 → ⊥) → split.pace there.host.0 there.at ≤ PACE
+entry_pace split paced zero there is apart = absurd (apart refl)
+entry_pace split paced (suc number) there is apart = paced.entries number there is
 
 entered : (split : Split) (c : Configuration) (top next : StackEntry) (below : List StackEntry) (host : HostId)
     (bare : HostShape) → IsChain split (top ∷ next ∷ below) → IsLeft split c (chain_due split (top ∷ next ∷ below)) →
@@ -109,6 +117,13 @@ entered split c top next below host bare chain left own (Some there) is on_host 
       others = λ other differs. sym (other_stack host other top (next ∷ below) own differs);
       at = subst (λ h. IsAt split c (next ∷ below) [] h thread) (on_host ∙ own)
           (pop_at split c top next below chain left there is);
+      lighter = λ paced.
+          let most : split.pace there.host.0 there.at ≤ PACE = entry_pace split paced top.entry.0 there is
+          (λ same. chain.0.0 (ap make same)) in
+          let here : there.host.0 ≡ host.0 = ap (λ (h : HostId). h.0) (on_host ∙ own) in
+          let same : split.pace there.host.0 there.at ≡ split.pace host.0 there.at =
+          ap (λ h. split.pace h there.at) here in
+          omega arith;
     }
 
 pub popped : (split : Split) (c : Configuration) (chain : List StackEntry) (host : HostId) (bare : HostShape)

@@ -22,7 +22,7 @@ use Rattle.entry_check.specs.declared.ask.Ask.TheVariants as ask
 use Rattle.host_core.specs.Host.{HostShape, Outcome, with_running}
 use Rattle.host_core.specs.Taking.{Passes, after_passing}
 use Rattle.host_core.specs.Turn.{IsTurn, IsTurnOf, IsRunning, PassesWith, after_operation, with_thread, label_of_turn}
-use Rattle.net_world.specs.Choice.{Runs, IsNextEvent}
+use Rattle.net_world.specs.Choice.{Runs, NoneRuns, IsNextEvent}
 use Rattle.net_world.specs.Flying.{Flight, Flying}
 use Rattle.net_world.specs.World.{WorldShape, IsStep, IsTurnStep, IsTakeStep, state_at, is_absent, given}
 use Rattle.net_world.specs.World.{after_step, without_flight}
@@ -167,7 +167,7 @@ event_of (returns from to) = Some (Take from to 0)
 event_of halted = None
 
 -- it happens
-happens : (split : Split) (c : Configuration) (world : WorldShape) (sim : Simulates split c world) →
+pub happens : (split : Split) (c : Configuration) (world : WorldShape) (sim : Simulates split c world) →
     ShapeFits split.code world → (holder : Holder) → Stands split c sim.chain sim.out world holder →
     AreIdle holder world → (event : Event) → event_of holder ≡ Some event →
     (after : WorldShape) × IsStep split.code world event after
@@ -325,3 +325,98 @@ pub next_happens : (split : Split) (c : Configuration) (world : WorldShape) → 
     (after : WorldShape) × IsStep split.code world event after
 next_happens split c world sim fits event next =
     happens split c world sim fits sim.holder sim.stands sim.idle event (next_is split c world sim event next)
+
+-- ---- the event that is possible comes next
+
+-- where no event is possible none comes next
+pub none_comes : (split : Split) (c : Configuration) (world : WorldShape) (sim : Simulates split c world) →
+    event_of sim.holder ≡ None → IsNextEvent world None
+none_comes split c world sim none = (
+  λ host running.
+      let one = running_holder split c world sim.chain sim.out sim.holder sim.stands sim.idle host running in cc,
+  λ from to flies.
+      let first = some_first (world.flying from to) flies in
+      let one = flying_holder split c world sim.chain sim.out sim.holder sim.stands from to 0 first.0 first.1 in cc,
+)
+
+-- the one message in flight is the first
+first_flies : (world : WorldShape) (from to : HostId) (flight : Flight) → world.flying ≡ only from to (flight ∷ []) →
+    NoneRuns world → IsNextEvent world (Some (Take from to 0))
+first_flies world from to flight flying none = (
+  none,
+  record {
+    sender = λ earlier before other flies.
+        let first = some_first (world.flying earlier other) flies in
+        let is = the_one world earlier other from to 0 first.0 flight flying first.1 in
+        let same : earlier.0 ≡ from.0 = ap (λ (h : HostId). h.0) is.from_is in
+        omega arith;
+    target = record {
+      flies = λ nothing.
+          let here : world.flying from to ≡ flight ∷ [] =
+          ap (λ (f : Flying). f from to) flying ∙ own_cell from to (flight ∷ []) in
+          let both : flight ∷ [] ≡ [] = sym here ∙ nothing in
+          cc;
+      first = λ earlier before flies.
+          let first = some_first (world.flying from earlier) flies in
+          let is = the_one world from earlier from to 0 first.0 flight flying first.1 in
+          let same : earlier.0 ≡ to.0 = ap (λ (h : HostId). h.0) is.to_is in
+          omega arith;
+    };
+  },
+  refl,
+)
+
+none_runs : (split : Split) (c : Configuration) (world : WorldShape) (chain : List StackEntry) (out : List Forward)
+    (holder : Holder) → Stands split c chain out world holder → AreIdle holder world → (from to : HostId) →
+    event_of holder ≡ Some (Take from to 0) → NoneRuns world
+none_runs split c world chain out holder stands idle from to is host running =
+    let one = running_holder split c world chain out holder stands idle host running in cc
+
+-- the thread of the holder is the first that runs
+first_runs : (split : Split) (c : Configuration) (world : WorldShape) (chain : List StackEntry) (out : List Forward)
+    (holder : HostId) → Stands split c chain out world (runs holder) → AreIdle (runs holder) world →
+    IsNextEvent world (Some (Turn holder))
+first_runs split c world chain out holder stands idle =
+    let run = stands.1 in
+    record {
+      runs = subst (λ o. IsSomeAnd o (λ state. IsSome state.running)) (sym run.there)
+          (subst IsSome (sym run.running) refl);
+      first = λ earlier before running.
+          let one = running_holder split c world chain out (runs holder) stands idle earlier running in
+          let host : holder ≡ earlier = cc in
+          let same : holder.0 ≡ earlier.0 = ap (λ (h : HostId). h.0) host in
+          omega arith;
+    }
+
+comes : (split : Split) (c : Configuration) (world : WorldShape) (chain : List StackEntry) (out : List Forward)
+    (holder : Holder) → Stands split c chain out world holder → AreIdle holder world → (event : Event) →
+    event_of holder ≡ Some event → IsNextEvent world (Some event)
+comes split c world chain out (runs holder) stands idle event is =
+    let same : Turn holder ≡ event = cc in
+    subst (λ e. IsNextEvent world (Some e)) same (first_runs split c world chain out holder stands idle)
+comes split c world chain out (asked holder owner) stands idle event is =
+    let same : Take holder owner 0 ≡ event = cc in
+    subst (λ e. IsNextEvent world (Some e)) same
+    (first_flies world holder owner stands.1.waits.flight stands.1.waits.flying
+    (none_runs split c world chain out (asked holder owner) stands idle holder owner refl))
+comes split c world chain out (answered holder owner) stands idle event is =
+    let same : Take owner holder 0 ≡ event = cc in
+    subst (λ e. IsNextEvent world (Some e)) same
+    (first_flies world owner holder stands.1.waits.flight stands.1.waits.flying
+    (none_runs split c world chain out (answered holder owner) stands idle owner holder refl))
+comes split c world chain out (goes from to) stands idle event is =
+    let same : Take from to 0 ≡ event = cc in
+    subst (λ e. IsNextEvent world (Some e)) same
+    (first_flies world from to stands.1.flight stands.1.flying
+    (none_runs split c world chain out (goes from to) stands idle from to refl))
+comes split c world chain out (returns from to) stands idle event is =
+    let same : Take from to 0 ≡ event = cc in
+    subst (λ e. IsNextEvent world (Some e)) same
+    (first_flies world from to stands.1.flight stands.1.flying
+    (none_runs split c world chain out (returns from to) stands idle from to refl))
+comes split c world chain out halted stands idle event is = absurd (cc)
+
+pub one_comes : (split : Split) (c : Configuration) (world : WorldShape) (sim : Simulates split c world)
+    (event : Event) → event_of sim.holder ≡ Some event → IsNextEvent world (Some event)
+one_comes split c world sim event is =
+    comes split c world sim.chain sim.out sim.holder sim.stands sim.idle event is

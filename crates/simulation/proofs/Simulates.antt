@@ -1,5 +1,6 @@
 -- How a world of hosts that all obey stands for a configuration of the plain run.
 use Rattle.std.proofs.Common.{◌≡◌, ◌≢◌, ℕ, ◌⊎◌, true, false, List, [], ◌∷◌, ◌++◌, length, map, Option, Some, None}
+use Rattle.std.specs.Prelude.{◌+◌, ◌*◌, ◌<◌, ◌≤◌}
 use Rattle.std.specs.Prelude.{ℤ, suc, slice_get, ◌==◌, if◌then◌else◌, ⊤}
 use Rattle.std.specs.List.{AllByRecursion}
 use Rattle.js_base.specs.declared.ids.HostId.{HostId}
@@ -28,6 +29,7 @@ use Rattle.host_core.specs.Start.{main_frame}
 use Rattle.msg_cost.specs.Moves.{PlannedShape}
 use Rattle.msg_cost.specs.Terms.{reads_on}
 use Rattle.split_rules.specs.Asking.{AreGranted}
+use Rattle.split_rules.specs.Pace.{PACE, Allowance, IsPaced}
 use Rattle.split_rules.specs.Positions as positions
 use Rattle.split_rules.specs.Positions.{Due, Position, Entrance, Forward, no_call}
 use Rattle.split_rules.specs.TypedCode.{Table, IsTypedCode}
@@ -39,7 +41,7 @@ use Rattle.simulation.proofs.TreeValues.{read_value}
 
 -- ---- split programs
 
--- a program with its code, and what is known at each instruction of that
+-- a program with its code, what is known at each instruction of that, and how many instructions may still come there
 pub record Split : Type 0 where
   pub program : Program
   pub planned : PlannedShape
@@ -54,6 +56,7 @@ pub record Split : Type 0 where
   pub main_entry : code.main.0 ≡ suc planned.program.main.0
   pub readers : AreReaders planned main_tree.body
   pub many : length code.hosts ≡ length planned.hosts.hosts
+  pub pace : Allowance
 
 -- the position of an instruction of a host
 abbrev pub place_of : Split → HostId → ℕ → Position
@@ -292,6 +295,43 @@ Stands split c chain out world (goes from to) = IsChain split chain × IsGoing s
 Stands split c chain out world (returns from to) = IsChain split chain × IsReturning split c chain out world from to
 Stands split c chain out world halted = IsHalted split c out world
 
+-- ---- how many events may still come before the next step
+
+-- by those numbers the code is paced
+abbrev pub Paced : Split → Type 0
+Paced split = IsPaced split.code split.pace
+
+-- an instruction makes three events at most: a turn, a request that is taken, and an answer that is taken
+abbrev pub STEP : ℕ
+STEP = 3 * PACE
+
+-- where a thread runs
+abbrev pub weight_at : Split → List StackEntry → HostId → ℕ → ℕ
+weight_at split chain host at = 3 * (split.pace host.0 at + length chain)
+
+-- A request is still to be taken, and its answer. A set makes a step when it is taken, and a sync puts an entry on the
+-- chain.
+abbrev pub IsFueledRequest : Split → List StackEntry → HostId → ℕ → ℕ → Message → Type 0
+IsFueledRequest split chain host at fuel (message.Set request field place value) =
+    weight_at split chain host at + 2 ≤ fuel + STEP
+IsFueledRequest split chain host at fuel (message.Sync request frame entry token) =
+    weight_at split chain host at + 5 ≤ fuel
+IsFueledRequest split chain host at fuel other = weight_at split chain host at + 2 ≤ fuel
+
+-- so many events are enough
+abbrev pub IsFueled : (split : Split) (c : Configuration) (chain : List StackEntry) (out : List Forward)
+    (world : WorldShape) (holder : Holder) → Stands split c chain out world holder → ℕ → Type 0
+IsFueled split c chain out world (runs holder) stands fuel =
+    weight_at split chain holder stands.1.thread.at ≤ fuel
+IsFueled split c chain out world (asked holder owner) stands fuel =
+    IsFueledRequest split chain holder stands.1.waits.thread.thread.at fuel stands.1.waits.flight.message
+IsFueled split c chain out world (answered holder owner) stands fuel =
+    weight_at split chain holder stands.1.waits.thread.thread.at + 1 ≤ fuel
+IsFueled split c chain out world (goes from to) stands fuel =
+    weight_at split chain to stands.1.there.at + 1 ≤ fuel
+IsFueled split c chain out world (returns from to) stands fuel = 3 * (PACE + length chain) ≤ fuel + 1
+IsFueled split c chain out world halted stands fuel = ⊤
+
 -- ---- the world
 
 -- nobody misbehaves, and no message was ignored
@@ -329,8 +369,15 @@ pub record Simulates (split : Split) (c : Configuration) (world : WorldShape) : 
   pub call : HasCall c
   pub agree : Agree split c out world
   pub stands : Stands split c chain out world holder
+  pub fuel : ℕ
+  pub fueled : Paced split → IsFueled split c chain out world holder stands fuel
+
+-- fewer events than these are enough
+pub record Falls (split : Split) (c : Configuration) (most : ℕ) (world : WorldShape) : Type 0 where
+  pub now : Simulates split c world
+  pub less : Paced split → now.fuel < most
 
 -- the same configuration, or the next
-abbrev pub Goes : Split → Configuration → WorldShape → Type 0
-Goes split c world =
-    Simulates split c world ⊎ ((¬ IsAtEnd c) × Simulates split (step split.program c) world)
+abbrev pub Goes : Split → Configuration → ℕ → WorldShape → Type 0
+Goes split c most world =
+    Falls split c most world ⊎ ((¬ IsAtEnd c) × Falls split (step split.program c) (most + STEP) world)

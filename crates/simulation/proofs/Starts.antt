@@ -1,7 +1,7 @@
 -- The world before the first event stands for the start of the plain run.
 use Rattle.std.proofs.Common.{◌≡◌, ◌≢◌, ◌∙◌, ℕ, zero, suc, ◌+◌, ◌<◌, inl, inr, Bool, false, List, [], ◌∷◌}
 use Rattle.std.proofs.Common.{map, length, Option, Some, None, refl, ap, sym, arith}
-use Rattle.std.specs.Prelude.{ℤ, pos, ◌==◌, if◌then◌else◌, IsSomeAnd, slice_get}
+use Rattle.std.specs.Prelude.{ℤ, pos, ◌≤◌, ◌==◌, if◌then◌else◌, IsSomeAnd, slice_get}
 use Rattle.std.specs.Option.{option_map}
 use Rattle.std.proofs.lemmas.Bool.Decides.{eqb_tells}
 use Rattle.std.proofs.lemmas.Bool.{eq-eqb, ne_eqb}
@@ -36,10 +36,11 @@ use Rattle.ics_stack.specs.declared.stack.StackEntry.{StackEntry}
 use Rattle.host_code.specs.Sound.{EntryFits}
 use Rattle.msg_cost.specs.Moves.{PlannedShape}
 use Rattle.simulation.proofs.TreeValues.{read_value}
-use Rattle.simulation.proofs.Simulates.{Split, place_of, due_at, chain_due, AreStacks, runs, Simulates}
+use Rattle.simulation.proofs.Simulates.{Split, place_of, due_at, chain_due, AreStacks, runs, Falls, Paced, STEP, weight_at}
 use Rattle.simulation.proofs.Transfers.{AreStatements, one_more}
 use Rattle.simulation.proofs.Moved.{same_id}
-use Rattle.simulation.proofs.Pops.{own_stack, other_stack}
+use Rattle.simulation.proofs.Pops.{own_stack, other_stack, entry_pace}
+use Rattle.split_rules.specs.Pace.{PACE}
 use Rattle.simulation.proofs.Basics.{some_same}
 
 all_there : {X : Type 0} (P : X → Type 0) (xs : List X) (i : ℕ) (x : X) → All P xs → slice_get xs i ≡ Some x → P x
@@ -260,7 +261,7 @@ stacks_at_start split store rows entry main key there host state is =
 started : (split : Split) (store : List (List ℤ)) (rows : List declared_hosts.HostShape) → AreHostsOf split.code rows →
     (found : Option Entry) → entry_at split.code split.code.main ≡ found →
     IsSomeAnd found (λ there. there.host ≡ split.code.root) →
-    Simulates split (configuration_at_start split.program store) (world_at_start split.code rows 0 store)
+    Falls split (configuration_at_start split.program store) (STEP + 4) (world_at_start split.code rows 0 store)
 started split store rows hosts None is on_root = absurd on_root
 started split store rows hosts (Some entry) is on_root =
     let code = split.code in
@@ -285,63 +286,78 @@ started split store rows hosts (Some entry) is on_root =
     let last = last_entry code store start.key in
     let none_behind : due_at (slice_get split.table.entries 0) ≡ [] = ap due_at split.typed.halts in
     record {
-      chain = last ∷ [];
-      out = [];
-      holder = runs root;
-      orderly = record {
-        count = long_start code store 0 rows ∙ many;
-        none_bad = λ host. none_absent code store 0 rows host.0;
-        numbers = λ host s at. (fresh_there split store rows entry is host s at).me;
-        ignored = λ host s at. (fresh_there split store rows entry is host s at).ignored;
-      };
-      stacks = stacks_at_start split store rows entry is start.key root_there;
-      idle = λ host s at apart. (
-        (fresh_there split store rows entry is host s at).rest apart,
-        (fresh_there split store rows entry is host s at).waiting,
-      );
-      goes_on = λ host s at. (fresh_there split store rows entry is host s at).halts;
-      fields = λ number field s there at.
-          ap (λ (list : List (List ℤ)). row_of list number) (fresh_there split store rows entry is field.host s at).rows
-          ∙ own_row_at field.host store 0 code.fields number field there refl
-          ∙ ap (row_of store) (omega arith);
-      call = record {
-        call = record { caller = 0; method = split.program.main.0; values = λ x. pos 0 };
-        calls = refl;
-      };
-      agree = λ host s x at reads. inr (ap (λ (v : FrameId → VarId → ℤ). v main_frame x)
-          (fresh_there split store rows entry is host s at).variables);
-      stands = (
-        (refl, refl),
-        record {
-          state = state;
-          there = root_there;
-          thread = thread_at entry main_frame last.token;
-          running = refl;
-          waiting = refl;
-          sent = tt;
-          flying = refl;
-          at = record {
-            frame = refl;
-            held = refl;
-            left = record {
-              left = main_body split.program;
-              pending = refl;
-              due = ap (λ (p : Position). p.due ++ chain_due split (last ∷ [])) place
-                  ∙ ap (λ list. all_due split.main_tree.body ++ (list ++ [])) none_behind
-                  ∙ append-nil (all_due split.main_tree.body) ∙ body.due;
-              readers = body.readers split.readers;
+      now = record {
+        chain = last ∷ [];
+        out = [];
+        holder = runs root;
+        orderly = record {
+          count = long_start code store 0 rows ∙ many;
+          none_bad = λ host. none_absent code store 0 rows host.0;
+          numbers = λ host s at. (fresh_there split store rows entry is host s at).me;
+          ignored = λ host s at. (fresh_there split store rows entry is host s at).ignored;
+        };
+        stacks = stacks_at_start split store rows entry is start.key root_there;
+        idle = λ host s at apart. (
+          (fresh_there split store rows entry is host s at).rest apart,
+          (fresh_there split store rows entry is host s at).waiting,
+        );
+        goes_on = λ host s at. (fresh_there split store rows entry is host s at).halts;
+        fields = λ number field s there at.
+            ap (λ (list : List (List ℤ)). row_of list number) (fresh_there split store rows entry is field.host s at).rows
+            ∙ own_row_at field.host store 0 code.fields number field there refl
+            ∙ ap (row_of store) (omega arith);
+        call = record {
+          call = record { caller = 0; method = split.program.main.0; values = λ x. pos 0 };
+          calls = refl;
+        };
+        agree = λ host s x at reads. inr (ap (λ (v : FrameId → VarId → ℤ). v main_frame x)
+            (fresh_there split store rows entry is host s at).variables);
+        stands = (
+          (refl, refl),
+          record {
+            state = state;
+            there = root_there;
+            thread = thread_at entry main_frame last.token;
+            running = refl;
+            waiting = refl;
+            sent = tt;
+            flying = refl;
+            at = record {
+              frame = refl;
+              held = refl;
+              left = record {
+                left = main_body split.program;
+                pending = refl;
+                due = ap (λ (p : Position). p.due ++ chain_due split (last ∷ [])) place
+                    ∙ ap (λ list. all_due split.main_tree.body ++ (list ++ [])) none_behind
+                    ∙ append-nil (all_due split.main_tree.body) ∙ body.due;
+                readers = body.readers split.readers;
+              };
+              calling = ap (λ (p : Position). p.calling) place;
+              forwards = ap (λ (p : Position). p.forwards) place;
+              temporaries = sym (ap (λ (p : Position). map (read_value store (λ x. pos 0)) p.reads) place);
             };
-            calling = ap (λ (p : Position). p.calling) place;
-            forwards = ap (λ (p : Position). p.forwards) place;
-            temporaries = sym (ap (λ (p : Position). map (read_value store (λ x. pos 0)) p.reads) place);
-          };
-        },
-      );
+          },
+        );
+        fuel = weight_at split (last ∷ []) root entry.at;
+        fueled = λ paced. omega arith;
+      };
+      less = λ paced. at_main paced;
     }
+  where
+    at_main : Paced split → weight_at split (last_entry split.code store [] ∷ []) split.code.root entry.at < STEP + 4
+    at_main paced =
+        let number = split.planned.program.main.0 in
+        let most : split.pace entry.host.0 entry.at ≤ PACE =
+        entry_pace split paced split.code.main.0 entry is
+        (λ none. let main = split.main_entry in omega arith) in
+        let same : split.pace entry.host.0 entry.at ≡ split.pace split.code.root.0 entry.at =
+        ap (λ (host : HostId). split.pace host.0 entry.at) on_root in
+        omega arith
 
 -- the world before the first event stands for the start of the plain run
-pub simulates_at_start : (split : Split) (store : List (List ℤ)) (rows : List declared_hosts.HostShape) →
+pub falls_at_start : (split : Split) (store : List (List ℤ)) (rows : List declared_hosts.HostShape) →
     AreHostsOf split.code rows →
-    Simulates split (configuration_at_start split.program store) (world_at_start split.code rows 0 store)
-simulates_at_start split store rows hosts =
+    Falls split (configuration_at_start split.program store) (STEP + 4) (world_at_start split.code rows 0 store)
+falls_at_start split store rows hosts =
     started split store rows hosts (entry_at split.code split.code.main) refl split.sound.main

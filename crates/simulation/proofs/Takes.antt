@@ -1,6 +1,7 @@
 -- Taking the one message in flight: a request by its owner, an answer by the host that waits, or the token.
 use Rattle.std.proofs.Common.{◌≡◌, ◌≢◌, ◌∙◌, ℕ, ◌⊎◌, inl, inr, Bool, true, List, [], ◌∷◌, Option, Some, None, refl, ap}
-use Rattle.std.proofs.Common.{sym, subst}
+use Rattle.std.proofs.Common.{sym, subst, arith, ◌+◌, ◌<◌, ◌≤◌, length}
+use Rattle.std.specs.Prelude.{◌*◌}
 use Rattle.std.specs.Prelude.{ℤ, IsSome, slice_get, position, remove}
 use Rattle.std.specs.Option.{option_map}
 use Rattle.std.proofs.lemmas.Bool.{eq-eqb}
@@ -32,7 +33,8 @@ use Rattle.simulation.specs.Obeying.{FieldsAre}
 use Rattle.simulation.proofs.Simulates.{Split, IsChain, on_stack, IsAt, only, AreSent, Agree, runs}
 use Rattle.simulation.proofs.Simulates.{asked, answered, goes, returns, halted, Holder, IsIdle, IsRequest}
 use Rattle.simulation.proofs.Simulates.{IsAnswer, IsWaiting, IsAsked, IsAnswered, IsGoing, IsReturning, AreIdle}
-use Rattle.simulation.proofs.Simulates.{Simulates}
+use Rattle.simulation.proofs.Simulates.{Simulates, Falls, Paced, STEP, weight_at, IsFueledRequest}
+use Rattle.split_rules.specs.Pace.{PACE}
 use Rattle.simulation.proofs.Simulates.{Goes}
 use Rattle.simulation.proofs.Moved.{Moved, mover_state, other_state, moved_silent, moved_telling, the_one, emptied}
 use Rattle.simulation.proofs.Rows.{fields_same, fields_written, row_there}
@@ -67,9 +69,10 @@ answers : (split : Split) (c now : Configuration) (world after : WorldShape) (si
     IsChain split chain → AreSent now (waits.state.variables main_frame) holder out →
     IsAnswer split now chain out holder waits.thread answer →
     (Moved world owner new (only owner holder (record { message = answer; label = label } ∷ [])) after →
-    FieldsAre split.code after now.store × Agree split now out after) → Simulates split now after
+    FieldsAre split.code after now.store × Agree split now out after) → (most : ℕ) →
+    (Paced split → weight_at split chain holder waits.thread.thread.at + 1 < most) → Falls split now most after
 answers split c now world after sim holder owner idle none_halted waits chain out old new label answer outcome obeys me
-    ignored running waiting halts entries others is leaves calls is_chain sent ready given =
+    ignored running waiting halts entries others is leaves calls is_chain sent ready given most less =
     let flight : Flight = record { message = answer; label = label } in
     let flying = only owner holder (flight ∷ []) in
     let left = without_flight world holder owner 0 in
@@ -79,37 +82,42 @@ answers split c now world after sim holder owner idle none_halted waits chain ou
     let kept = given moved in
     let rested = idle owner old obeys waits.other in
     record {
-      chain = chain;
-      out = out;
-      holder = answered holder owner;
-      orderly = orderly_moved split.code world after owner old new flying sim.orderly obeys moved me ignored;
-      stacks = stacks_moved sim.chain chain world after owner old new flying sim.stacks obeys moved entries others;
-      idle = idle_moved (asked holder owner) (answered holder owner) world after owner old new flying idle obeys moved
-          (λ other apart rests. rests) (λ rests. (running ∙ rested.0, waiting ∙ rested.1));
-      goes_on = none_halted_moved world after owner old new flying none_halted obeys moved
-          (halts ∙ none_halted owner old obeys);
-      fields = kept.0;
-      call = call_kept c now sim.call calls;
-      agree = kept.1;
-      stands = (
-        is_chain,
-        record {
-          waits = record {
-            state = waits.state;
-            there = other_state world after owner holder new flying moved (λ same. waits.other (sym same))
-                ∙ waits.there;
-            thread = waits.thread;
-            flight = flight;
-            running = waits.running;
-            waiting = waits.waiting;
-            asked = waits.asked;
-            other = waits.other;
-            sent = sent;
-            flying = moved.flying;
-          };
-          answer = ready;
-        },
-      );
+      now = record {
+        chain = chain;
+        out = out;
+        holder = answered holder owner;
+        orderly = orderly_moved split.code world after owner old new flying sim.orderly obeys moved me ignored;
+        stacks = stacks_moved sim.chain chain world after owner old new flying sim.stacks obeys moved entries others;
+        idle = idle_moved (asked holder owner) (answered holder owner) world after owner old new flying idle obeys moved
+            (λ other apart rests. rests) (λ rests. (running ∙ rested.0, waiting ∙ rested.1));
+        goes_on = none_halted_moved world after owner old new flying none_halted obeys moved
+            (halts ∙ none_halted owner old obeys);
+        fields = kept.0;
+        call = call_kept c now sim.call calls;
+        agree = kept.1;
+        stands = (
+          is_chain,
+          record {
+            waits = record {
+              state = waits.state;
+              there = other_state world after owner holder new flying moved (λ same. waits.other (sym same))
+                  ∙ waits.there;
+              thread = waits.thread;
+              flight = flight;
+              running = waits.running;
+              waiting = waits.waiting;
+              asked = waits.asked;
+              other = waits.other;
+              sent = sent;
+              flying = moved.flying;
+            };
+            answer = ready;
+          },
+        );
+        fuel = weight_at split chain holder waits.thread.thread.at + 1;
+        fueled = λ paced. omega arith;
+      };
+      less = less;
     }
 
 request_taken : (split : Split) (c : Configuration) (world after : WorldShape) (sim : Simulates split c world)
@@ -117,10 +125,12 @@ request_taken : (split : Split) (c : Configuration) (world after : WorldShape) (
     (waits : IsWaiting c sim.out world holder owner holder owner) (m : Message) →
     IsRequest split c sim.chain sim.out holder owner waits.thread m → (old : HostShape) →
     state_at world owner ≡ Some old → (outcome : Outcome) (label : ℕ) → IsTaking split.code old holder m outcome →
-    after_step (without_flight world holder owner 0) owner outcome (Some label) ≡ after → Goes split c after
+    after_step (without_flight world holder owner 0) owner outcome (Some label) ≡ after →
+    (Paced split → IsFueledRequest split sim.chain holder waits.thread.thread.at sim.fuel m) →
+    Goes split c sim.fuel after
 request_taken split c world after sim holder owner idle none_halted is_chain waits (message.Get request field place)
     asks
-    old obeys outcome label takes leaves =
+    old obeys outcome label takes leaves fueled =
     let me = sim.orderly.numbers owner old obeys in
     let own = element_at (row_of old.rows field.0) place in
     let value = element_at (row_of c.store field.0) place in
@@ -136,10 +146,10 @@ request_taken split c world after sim holder owner idle none_halted is_chain wai
     (λ moved. (
       fields_same split.code world after owner old old _ c.store sim.fields obeys moved refl,
       agree_same split c c sim.out world after owner old old _ sim.agree obeys moved refl refl,
-    )))
+    )) sim.fuel (λ paced. let some = fueled paced in omega arith))
 request_taken split c world after sim holder owner idle none_halted is_chain waits
     (message.Set request field place value)
-    asks old obeys outcome label takes leaves =
+    asks old obeys outcome label takes leaves fueled =
     let me = sim.orderly.numbers owner old obeys in
     let new = with_row_written old field place value in
     let next = step split.program c in
@@ -158,10 +168,10 @@ request_taken split c world after sim holder owner idle none_halted is_chain wai
                 (fields_written split.code world after owner old new _ c.store field place value sim.fields obeys
                 moved asks.3 refl),
             agree_same split c next sim.out world after owner old new _ sim.agree obeys moved refl asks.6,
-          )),
+          )) (sim.fuel + STEP) (λ paced. let some = fueled paced in omega arith),
     )
 request_taken split c world after sim holder owner idle none_halted is_chain waits
-    (message.Forward request frame x value) asks old obeys outcome label takes leaves =
+    (message.Forward request frame x value) asks old obeys outcome label takes leaves fueled =
     let me = sim.orderly.numbers owner old obeys in
     let new = with_variable_set old frame x value in
     let done : with_message new holder (message.Ack request) ≡ outcome =
@@ -175,9 +185,9 @@ request_taken split c world after sim holder owner idle none_halted is_chain wai
       fields_same split.code world after owner old new _ c.store sim.fields obeys moved refl,
       agree_forwarded split c asks.6 world after owner old new _ frame x value asks.5
           (subst (λ out. Agree split c out world) asks.7 sim.agree) obeys moved refl asks.3 asks.4,
-    )))
+    )) sim.fuel (λ paced. let some = fueled paced in omega arith))
 request_taken split c world after sim holder owner idle none_halted is_chain waits
-    (message.Sync request frame entry token) asks old obeys outcome label takes leaves =
+    (message.Sync request frame entry token) asks old obeys outcome label takes leaves fueled =
     let me = sim.orderly.numbers owner old obeys in
     let new = after_push old entry frame token in
     let pushed : StackEntry = record {
@@ -200,9 +210,9 @@ request_taken split c world after sim holder owner idle none_halted is_chain wai
     (λ moved. (
       fields_same split.code world after owner old new _ c.store sim.fields obeys moved refl,
       agree_same split c c sim.out world after owner old new _ sim.agree obeys moved refl refl,
-    )))
+    )) sim.fuel (λ paced. let some = fueled paced in omega arith))
 request_taken split c world after sim holder owner idle none_halted is_chain waits _ asks old obeys outcome label takes
-    leaves = absurd asks
+    leaves fueled = absurd asks
 
 -- ---- answers
 
@@ -251,38 +261,43 @@ begins : (split : Split) (c : Configuration) (world after : WorldShape) (sim : S
     (label : ℕ) → without_message new ≡ outcome →
     after_step (without_flight world from host 0) host outcome (Some label) ≡ after → IsChain split chain →
     Agree split c out world → AreSent c (new.variables main_frame) host out → IsAt split c chain out host thread →
-    Goes split c after
+    (Paced split → weight_at split chain host thread.at < sim.fuel) → Goes split c sim.fuel after
 begins split c world after sim before from host flight chain out idle none_halted apart flying old new thread obeys me
-    ignored halts rows variables running waiting entries others outcome label is leaves is_chain agree sent at =
+    ignored halts rows variables running waiting entries others outcome label is leaves is_chain agree sent at less =
     let left = without_flight world from host 0 in
     let stepped = moved_silent left host outcome new (Some label) after is leaves in
     let moved : Moved world host new left.flying after = record { hosts = stepped.hosts; flying = stepped.flying } in
     inl (record {
-      chain = chain;
-      out = out;
-      holder = runs host;
-      orderly = orderly_moved split.code world after host old new left.flying sim.orderly obeys moved me ignored;
-      stacks = stacks_moved sim.chain chain world after host old new left.flying sim.stacks obeys moved entries others;
-      idle = idle_moved before (runs host) world after host old new left.flying idle obeys moved
-          (λ other differs rests. apart other differs) (λ rests. absurd (rests refl));
-      goes_on = none_halted_moved world after host old new left.flying none_halted obeys moved
-          (halts ∙ none_halted host old obeys);
-      fields = fields_same split.code world after host old new left.flying c.store sim.fields obeys moved rows;
-      call = sim.call;
-      agree = agree_same split c c out world after host old new left.flying agree obeys moved variables refl;
-      stands = (
-        is_chain,
-        record {
-          state = new;
-          there = mover_state world after host old new left.flying obeys moved;
-          thread = thread;
-          running = running;
-          waiting = waiting;
-          sent = sent;
-          flying = moved.flying ∙ emptied world from host flight flying;
-          at = at;
-        },
-      );
+      now = record {
+        chain = chain;
+        out = out;
+        holder = runs host;
+        orderly = orderly_moved split.code world after host old new left.flying sim.orderly obeys moved me ignored;
+        stacks = stacks_moved sim.chain chain world after host old new left.flying sim.stacks obeys moved entries others;
+        idle = idle_moved before (runs host) world after host old new left.flying idle obeys moved
+            (λ other differs rests. apart other differs) (λ rests. absurd (rests refl));
+        goes_on = none_halted_moved world after host old new left.flying none_halted obeys moved
+            (halts ∙ none_halted host old obeys);
+        fields = fields_same split.code world after host old new left.flying c.store sim.fields obeys moved rows;
+        call = sim.call;
+        agree = agree_same split c c out world after host old new left.flying agree obeys moved variables refl;
+        stands = (
+          is_chain,
+          record {
+            state = new;
+            there = mover_state world after host old new left.flying obeys moved;
+            thread = thread;
+            running = running;
+            waiting = waiting;
+            sent = sent;
+            flying = moved.flying ∙ emptied world from host flight flying;
+            at = at;
+          },
+        );
+        fuel = weight_at split chain host thread.at;
+        fueled = λ paced. omega arith;
+      };
+      less = less;
     })
 
 -- the host that waits goes on as it is after the answer
@@ -292,9 +307,10 @@ resumes : (split : Split) (c : Configuration) (world after : WorldShape) (sim : 
     (place : Option ℕ) (outcome : Outcome) (label : ℕ) → place ≡ Some 0 →
     without_message (after_answer waits.state place change) ≡ outcome →
     after_step (without_flight world owner holder 0) holder outcome (Some label) ≡ after →
-    IsAt split c sim.chain sim.out holder (change waits.thread.thread) → Goes split c after
+    IsAt split c sim.chain sim.out holder (change waits.thread.thread) →
+    (Paced split → weight_at split sim.chain holder (change waits.thread.thread).at < sim.fuel) → Goes split c sim.fuel after
 resumes split c world after sim holder owner idle none_halted is_chain waits change place outcome label first is
-    leaves at =
+    leaves at less =
     let state = waits.state in
     let new : HostShape = record state { running = Some (change waits.thread.thread); waiting = [] } in
     let done : without_message new ≡ outcome =
@@ -307,40 +323,42 @@ resumes split c world after sim holder owner idle none_halted is_chain waits cha
     begins split c world after sim (answered holder owner) owner holder waits.flight sim.chain sim.out idle none_halted
     (λ other apart. apart) waits.flying state new (change waits.thread.thread) waits.there refl refl refl refl refl refl
     refl (sim.stacks holder state waits.there) (λ other apart. refl) outcome label done leaves is_chain sim.agree
-    waits.sent at
+    waits.sent at less
 
 answer_taken : (split : Split) (c : Configuration) (world after : WorldShape) (sim : Simulates split c world)
     (holder owner : HostId) → AreIdle (answered holder owner) world → NoneHalted world → IsChain split sim.chain →
     (waits : IsWaiting c sim.out world holder owner owner holder) (m : Message) →
     IsAnswer split c sim.chain sim.out holder waits.thread m → (outcome : Outcome) (label : ℕ) →
     IsTaking split.code waits.state owner m outcome →
-    after_step (without_flight world owner holder 0) holder outcome (Some label) ≡ after → Goes split c after
+    after_step (without_flight world owner holder 0) holder outcome (Some label) ≡ after →
+    (Paced split → weight_at split sim.chain holder waits.thread.thread.at + 1 ≤ sim.fuel) → Goes split c sim.fuel after
 answer_taken split c world after sim holder owner idle none_halted is_chain waits (message.Value request value) answer
-    outcome label takes leaves =
+    outcome label takes leaves fueled =
     let place = place_of_awaiting waits.state value_of_field request owner in
     let first = awaited_first waits.state waits.thread value_of_field request owner waits.waiting answer.0 answer.1
     waits.asked in
     resumes split c world after sim holder owner idle none_halted is_chain waits (with_temporary value) place outcome
     label
     first (passing split waits.state owner (message.Value request value) outcome takes (subst IsSome (sym first) refl))
-    leaves answer.2
+    leaves answer.2 (λ paced. let some = fueled paced in omega arith)
 answer_taken split c world after sim holder owner idle none_halted is_chain waits (message.Ack request) answer outcome
-    label takes leaves =
+    label takes leaves fueled =
     let place = place_of_awaiting waits.state acknowledgement request owner in
     let first = awaited_first waits.state waits.thread acknowledgement request owner waits.waiting answer.0 answer.1
     waits.asked in
     resumes split c world after sim holder owner idle none_halted is_chain waits (λ thread. thread) place outcome label
     first (passing split waits.state owner (message.Ack request) outcome takes (subst IsSome (sym first) refl)) leaves
-    answer.2
+    answer.2 (λ paced. let some = fueled paced in omega arith)
 answer_taken split c world after sim holder owner idle none_halted is_chain waits (message.Token request token) answer
-    outcome label takes leaves =
+    outcome label takes leaves fueled =
     let place = place_of_awaiting waits.state token_of_entry request owner in
     let first = awaited_first waits.state waits.thread token_of_entry request owner waits.waiting answer.0 answer.1
     waits.asked in
     resumes split c world after sim holder owner idle none_halted is_chain waits (with_token (Some token)) place outcome
     label first (passing split waits.state owner (message.Token request token) outcome takes
     (subst IsSome (sym first) refl)) leaves answer.2
-answer_taken split c world after sim holder owner idle none_halted is_chain waits _ answer outcome label takes leaves =
+    (λ paced. let some = fueled paced in omega arith)
+answer_taken split c world after sim holder owner idle none_halted is_chain waits _ answer outcome label takes leaves fueled =
     absurd answer
 
 -- ---- the token
@@ -351,8 +369,9 @@ token_goes : (split : Split) (c : Configuration) (world after : WorldShape) (sim
     (going : IsGoing split c sim.chain sim.out world from to) (old : HostShape) → state_at world to ≡ Some old →
     (outcome : Outcome) (label : ℕ) →
     IsTaking split.code old from (message.Rgoto main_frame (record { 0 = going.number }) going.token) outcome →
-    after_step (without_flight world from to 0) to outcome (Some label) ≡ after → Goes split c after
-token_goes split c world after sim from to idle none_halted is_chain going old obeys outcome label takes leaves =
+    after_step (without_flight world from to 0) to outcome (Some label) ≡ after →
+    (Paced split → weight_at split sim.chain to going.there.at + 1 ≤ sim.fuel) → Goes split c sim.fuel after
+token_goes split c world after sim from to idle none_halted is_chain going old obeys outcome label takes leaves fueled =
     let me = sim.orderly.numbers to old obeys in
     let entry : EntryId = record { 0 = going.number } in
     let thread = thread_at going.there main_frame going.token in
@@ -366,7 +385,7 @@ token_goes split c world after sim from to idle none_halted is_chain going old o
     going.flying old new thread obeys refl refl refl refl refl refl rested.1 (sim.stacks to old obeys)
     (λ other apart. refl) outcome label done leaves is_chain
     (subst (λ out. Agree split c out world) going.none_out sim.agree)
-    tt going.at
+    tt going.at (λ paced. let some = fueled paced in omega arith)
 
 -- the token comes back
 token_returns : (split : Split) (c : Configuration) (world after : WorldShape) (sim : Simulates split c world)
@@ -374,9 +393,10 @@ token_returns : (split : Split) (c : Configuration) (world after : WorldShape) (
     (back : IsReturning split c sim.chain sim.out world from to) (old : HostShape) → state_at world to ≡ Some old →
     (outcome : Outcome) (label : ℕ) → IsTaking split.code old from (message.Lgoto back.token) outcome →
     after_step (without_flight world from to 0) to outcome (Some label) ≡ after →
-    (Ended split c sim.chain to old ⊎ Continued split c sim.chain to old) → Goes split c after
+    (Ended split c sim.chain to old ⊎ Continued split c sim.chain to old) →
+    (Paced split → 3 * (PACE + length sim.chain) ≤ sim.fuel + 1) → Goes split c sim.fuel after
 token_returns split c world after sim from to idle none_halted is_chain back old obeys outcome label takes leaves
-    (inl ended) =
+    (inl ended) fueled =
     let stack = sim.stacks to old obeys in
     let new : HostShape = record old { entries = []; running = None; halted = true } in
     let passed = passing split old from (message.Lgoto back.token) outcome takes
@@ -388,30 +408,35 @@ token_returns split c world after sim from to idle none_halted is_chain back old
     let moved : Moved world to new left.flying after = record { hosts = stepped.hosts; flying = stepped.flying } in
     let rested = idle to old obeys tt in
     inl (record {
-      chain = [];
-      out = [];
-      holder = halted;
-      orderly = orderly_moved split.code world after to old new left.flying sim.orderly obeys moved refl refl;
-      stacks = stacks_moved sim.chain [] world after to old new left.flying sim.stacks obeys moved refl ended.others;
-      idle = idle_moved (returns from to) halted world after to old new left.flying idle obeys moved
-          (λ other apart rests. tt) (λ rests. (refl, rested.1));
-      goes_on = tt;
-      fields = fields_same split.code world after to old new left.flying c.store sim.fields obeys moved refl;
-      call = sim.call;
-      agree = agree_same split c c [] world after to old new left.flying
-          (subst (λ out. Agree split c out world) back.none_out sim.agree) obeys moved refl refl;
-      stands = record {
-        state = new;
-        there = ap (state_at after) (sym ended.on_root)
-            ∙ mover_state world after to old new left.flying obeys moved;
-        halted = refl;
-        flying = moved.flying ∙ emptied world from to back.flight back.flying;
-        none_out = refl;
-        ends = ended.ends;
+      now = record {
+        chain = [];
+        out = [];
+        holder = halted;
+        orderly = orderly_moved split.code world after to old new left.flying sim.orderly obeys moved refl refl;
+        stacks = stacks_moved sim.chain [] world after to old new left.flying sim.stacks obeys moved refl ended.others;
+        idle = idle_moved (returns from to) halted world after to old new left.flying idle obeys moved
+            (λ other apart rests. tt) (λ rests. (refl, rested.1));
+        goes_on = tt;
+        fields = fields_same split.code world after to old new left.flying c.store sim.fields obeys moved refl;
+        call = sim.call;
+        agree = agree_same split c c [] world after to old new left.flying
+            (subst (λ out. Agree split c out world) back.none_out sim.agree) obeys moved refl refl;
+        stands = record {
+          state = new;
+          there = ap (state_at after) (sym ended.on_root)
+              ∙ mover_state world after to old new left.flying obeys moved;
+          halted = refl;
+          flying = moved.flying ∙ emptied world from to back.flight back.flying;
+          none_out = refl;
+          ends = ended.ends;
+        };
+        fuel = 0;
+        fueled = λ paced. tt;
       };
+      less = λ paced. let some = fueled paced in omega arith;
     })
 token_returns split c world after sim from to idle none_halted is_chain back old obeys outcome label takes leaves
-    (inr more) =
+    (inr more) fueled =
     let stack = sim.stacks to old obeys in
     let new = with_running (record old { entries = on_stack to more.now }) (Some more.thread) in
     let passed = passing split old from (message.Lgoto back.token) outcome takes
@@ -422,6 +447,7 @@ token_returns split c world after sim from to idle none_halted is_chain back old
     begins split c world after sim (returns from to) from to back.flight more.now [] idle none_halted
     (λ other apart. tt) back.flying old new more.thread obeys refl refl refl refl refl refl rested.1 refl more.others
     outcome label done leaves more.is_chain (subst (λ out. Agree split c out world) back.none_out sim.agree) tt more.at
+    (λ paced. let some = fueled paced in let less = more.lighter paced in omega arith)
 
 -- ---- events
 
@@ -462,44 +488,49 @@ takes_one split world after from to from' to' place flight flying step =
 -- the request in flight is taken
 pub asked_taken : (split : Split) (c : Configuration) (world after : WorldShape) (sim : Simulates split c world)
     (holder owner : HostId) → AreIdle (asked holder owner) world → NoneHalted world → IsChain split sim.chain →
-    IsAsked split c sim.chain sim.out world holder owner → (from to : HostId) (place : ℕ) →
-    IsTakeStep split.code world from to place after → Goes split c after
-asked_taken split c world after sim holder owner idle none_halted is_chain stands from to place step =
+    (stands : IsAsked split c sim.chain sim.out world holder owner) → (from to : HostId) (place : ℕ) →
+    IsTakeStep split.code world from to place after → (Paced split →
+    IsFueledRequest split sim.chain holder stands.waits.thread.thread.at sim.fuel stands.waits.flight.message) → Goes split c sim.fuel after
+asked_taken split c world after sim holder owner idle none_halted is_chain stands from to place step fueled =
     let one = takes_one split world after from to holder owner place stands.waits.flight stands.waits.flying step in
     request_taken split c world after sim holder owner idle none_halted is_chain stands.waits
     stands.waits.flight.message
-    stands.request one.old one.obeys one.outcome one.label one.takes one.leaves
+    stands.request one.old one.obeys one.outcome one.label one.takes one.leaves fueled
 
 -- the answer in flight is taken
 pub answered_taken : (split : Split) (c : Configuration) (world after : WorldShape) (sim : Simulates split c world)
     (holder owner : HostId) → AreIdle (answered holder owner) world → NoneHalted world → IsChain split sim.chain →
-    IsAnswered split c sim.chain sim.out world holder owner → (from to : HostId) (place : ℕ) →
-    IsTakeStep split.code world from to place after → Goes split c after
-answered_taken split c world after sim holder owner idle none_halted is_chain stands from to place step =
+    (stands : IsAnswered split c sim.chain sim.out world holder owner) → (from to : HostId) (place : ℕ) →
+    IsTakeStep split.code world from to place after → (Paced split →
+    weight_at split sim.chain holder stands.waits.thread.thread.at + 1 ≤ sim.fuel) → Goes split c sim.fuel after
+answered_taken split c world after sim holder owner idle none_halted is_chain stands from to place step fueled =
     let waits = stands.waits in
     let one = takes_one split world after from to owner holder place waits.flight waits.flying step in
     let state = some_same (state_at world holder) one.old waits.state one.obeys waits.there in
     answer_taken split c world after sim holder owner idle none_halted is_chain waits waits.flight.message stands.answer
     one.outcome one.label
-    (subst (λ (s : HostShape). IsTaking split.code s owner waits.flight.message one.outcome) state one.takes) one.leaves
+    (subst (λ (s : HostShape). IsTaking split.code s owner waits.flight.message one.outcome) state one.takes) one.leaves fueled
 
 -- the token is taken at an entry
 pub going_taken : (split : Split) (c : Configuration) (world after : WorldShape) (sim : Simulates split c world)
     (sender target : HostId) → AreIdle (goes sender target) world → NoneHalted world → IsChain split sim.chain →
-    IsGoing split c sim.chain sim.out world sender target → (from to : HostId) (place : ℕ) →
-    IsTakeStep split.code world from to place after → Goes split c after
-going_taken split c world after sim sender target idle none_halted is_chain stands from to place step =
+    (stands : IsGoing split c sim.chain sim.out world sender target) → (from to : HostId) (place : ℕ) →
+    IsTakeStep split.code world from to place after → (Paced split →
+    weight_at split sim.chain target stands.there.at + 1 ≤ sim.fuel) → Goes split c sim.fuel after
+going_taken split c world after sim sender target idle none_halted is_chain stands from to place step fueled =
     let one = takes_one split world after from to sender target place stands.flight stands.flying step in
     token_goes split c world after sim sender target idle none_halted is_chain stands one.old one.obeys one.outcome
     one.label (subst (λ m. IsTaking split.code one.old sender m one.outcome) stands.message one.takes) one.leaves
+    fueled
 
 -- the token is taken by who gave it
 pub returning_taken : (split : Split) (c : Configuration) (world after : WorldShape) (sim : Simulates split c world)
     (sender target : HostId) → AreIdle (returns sender target) world → NoneHalted world → IsChain split sim.chain →
     IsReturning split c sim.chain sim.out world sender target → (from to : HostId) (place : ℕ) →
-    IsTakeStep split.code world from to place after → Goes split c after
-returning_taken split c world after sim sender target idle none_halted is_chain stands from to place step =
+    IsTakeStep split.code world from to place after → (Paced split →
+    3 * (PACE + length sim.chain) ≤ sim.fuel + 1) → Goes split c sim.fuel after
+returning_taken split c world after sim sender target idle none_halted is_chain stands from to place step fueled =
     let one = takes_one split world after from to sender target place stands.flight stands.flying step in
     token_returns split c world after sim sender target idle none_halted is_chain stands one.old one.obeys one.outcome
     one.label (subst (λ m. IsTaking split.code one.old sender m one.outcome) stands.message one.takes) one.leaves
-    (popped split c sim.chain target one.old stands.token is_chain stands.left stands.top stands.host)
+    (popped split c sim.chain target one.old stands.token is_chain stands.left stands.top stands.host) fueled

@@ -1,6 +1,7 @@
 -- A turn of the holder, by the instruction that it runs.
 use Rattle.std.proofs.Common.{◌≡◌, ◌≢◌, ◌∙◌, ℕ, suc, ◌⊎◌, inl, inr, Bool, true, false, List, [], ◌∷◌, Option}
-use Rattle.std.proofs.Common.{Some, None, refl, ap, sym, subst}
+use Rattle.std.proofs.Common.{Some, None, refl, ap, sym, subst, arith, ◌+◌, ◌<◌, ◌≤◌, length}
+use Rattle.std.specs.Prelude.{◌*◌}
 use Rattle.std.specs.Prelude.{ℤ, pos, ◌==◌, ◌↔◌, if◌then◌else◌, IsTrue, IsSomeAnd}
 use Rattle.std.specs.Option.{option_and_then}
 use Rattle.std.specs.Ordering.{int_eq}
@@ -20,8 +21,8 @@ use Rattle.host_code.specs.declared.instruction.Instr.{Instr}
 use Rattle.host_code.specs.declared.instruction.Op.{Op}
 use Rattle.host_code.specs.declared.instruction.Op.TheVariants as op
 use Rattle.host_code.specs.declared.message.Message.TheVariants as message
-use Rattle.host_code.specs.Code.{CodeFieldShape, field_at, entry_at, instruction_at}
-use Rattle.host_code.specs.Sound.{IsHost, IsEntryOn, OperationFits}
+use Rattle.host_code.specs.Code.{CodeFieldShape, field_at, entry_at, instruction_at, part_of}
+use Rattle.host_code.specs.Sound.{IsHost, IsField, IsEntryOn, OperationFits}
 use Rattle.host_code.specs.Thread.{ThreadShape}
 use Rattle.host_code.specs.Thread.Awaited.{value_of_field, acknowledgement, token_of_entry}
 use Rattle.host_core.specs.Host.{HostShape, Outcome, without_message, with_message, with_running, with_row_written}
@@ -33,6 +34,10 @@ use Rattle.host_core.specs.Turn.{with_thread, after_read, after_put, after_own_p
 use Rattle.host_core.specs.Turn.{after_branch, after_operation, PassesWith, IsRunning, IsTurn, IsTurnOf, label_of_turn}
 use Rattle.host_core.specs.Turn.{label_of_thread}
 use Rattle.split_rules.specs.Asking.{IsGranted, IfElsewhere}
+use Rattle.net_world.specs.Fits.{ShapeFits}
+use Rattle.split_rules.specs.Pace as pace_rules
+use Rattle.split_rules.specs.Pace.{PACE, Falls, FallsWithStep, FallsWithEntry, IsPacedOp, calls_at, is_call}
+use Rattle.split_rules.specs.Pace.{is_call_there}
 use Rattle.split_rules.specs.Positions.{forwards_of}
 use Rattle.split_rules.specs.Typing.{Cuts, Pushes}
 use Rattle.split_rules.specs.TypedCode.{IsTypedOp}
@@ -42,7 +47,7 @@ use Rattle.simulation.specs.Obeying.{FieldsAre}
 use Rattle.simulation.proofs.Simulates as simulates
 use Rattle.simulation.proofs.Simulates.{Split, place_of, IsChain, on_stack, IsAt, IsFieldOn, AreSent, Agree, runs}
 use Rattle.simulation.proofs.Simulates.{goes, returns}
-use Rattle.simulation.proofs.Simulates.{AreIdle, halted, Simulates, Goes}
+use Rattle.simulation.proofs.Simulates.{AreIdle, halted, Simulates, Goes, Paced, STEP, weight_at}
 use Rattle.simulation.proofs.Instructions.{Agrees, read_at, let_at, put_at, send_at}
 use Rattle.simulation.proofs.Transfers.{push_at, push_calm, go_at, back_at, branch_at, IsPlain, is_plain}
 use Rattle.simulation.proofs.Moved.{same_id, mover_state, moved_silent}
@@ -50,7 +55,9 @@ use Rattle.simulation.proofs.Rows.{fields_same, fields_written, row_there}
 use Rattle.simulation.proofs.Kept.{orderly_moved, stacks_moved, idle_moved, agree_same, agree_set, call_kept, call_set}
 use Rattle.simulation.proofs.Kept.{NoneHalted, host_within, is_sent, own_set, holder_agrees}
 use Rattle.simulation.proofs.Pops.{own_stack, other_stack, top_of, top_on_stack, pushed_chain, Ended, Continued, popped}
-use Rattle.simulation.proofs.Turning.{Turning, acting, goes_on, goes_on_same, stays, asks, passes_on}
+use Rattle.simulation.proofs.Fuel.{lighter, back_fuel, some_fuel, popped_less, at_most, falls, falls_with_step}
+use Rattle.simulation.proofs.Fuel.{falls_at_step, falls_with_entry, none_within, field_there, place_there, none_called}
+use Rattle.simulation.proofs.Turning.{Turning, acting, goes_on, goes_on_same, asks, passes_on}
 
 -- ---- what the holder knows
 
@@ -87,12 +94,14 @@ none_to_send split c world after host t none = subst (λ out. Agree split c out 
 read_found : (split : Split) (c : Configuration) (world after : WorldShape) (host : HostId)
     (t : Turning split c world after host) (label : ℕ) → t.label ≡ Some label → (field : FieldId) (index : List Node) →
     IsTypedOp split.planned split.table host t.run.thread.at (op.Read field index) →
-    IsGranted split.code host (op.Read field index) → (found : Option CodeFieldShape) →
+    IsGranted split.code host (op.Read field index) → IsField split.code field →
+    (Paced split → IsPacedOp split.code split.pace host t.run.thread.at (op.Read field index)) →
+    (found : Option CodeFieldShape) →
     field_at split.code field ≡ found → after_read (acting t) t.run.thread field index found ≡ t.outcome →
-    Goes split c after
-read_found split c world after host t label labels field index law granted None found is =
-    stays split c world after host t is
-read_found split c world after host t label labels field index law granted (Some there) found is =
+    Goes split c t.fuel after
+read_found split c world after host t label labels field index law granted within pace None found is =
+    absurd (field_there split field within found)
+read_found split c world after host t label labels field index law granted within pace (Some there) found is =
     let thread = t.run.thread in
     let me = holder_me split c world after host t in
     let state = acting t in
@@ -115,6 +124,7 @@ read_found split c world after host t label labels field index law granted (Some
           ap (λ v. with_thread state (with_temporary v (after_step thread))) (sym given)
           ∙ sym (ap (λ (b : Bool). if b then near else far) same.0) ∙ is in
           goes_on_same split c world after host t (with_temporary value (after_step thread)) done at
+          (λ paced. (falls split c world after host t paced (pace paced)).1)
       | inr apart ↦
           let away : there.host.0 ≢ host.0 = λ same. apart.1 (same ∙ sym (ap (λ (h : HostId). h.0) me)) in
           let done : far ≡ t.outcome = sym (ap (λ (b : Bool). if b then near else far) apart.0) ∙ is in
@@ -125,7 +135,7 @@ read_found split c world after host t label labels field index law granted (Some
             granted_there split host field there _ found granted away,
             owned split field there found there.host refl,
             at,
-          )
+          ) (λ paced. let less = falls split c world after host t paced (pace paced) in (less.0, less.2))
     ]
 
 -- ---- assignments
@@ -133,9 +143,10 @@ read_found split c world after host t label labels field index law granted (Some
 set_local : (split : Split) (c : Configuration) (world after : WorldShape) (host : HostId)
     (t : Turning split c world after host) (x : VarId) (nodes : List Node) →
     IsTypedOp split.planned split.table host t.run.thread.at (op.Let x nodes) →
+    (Paced split → IsPacedOp split.code split.pace host t.run.thread.at (op.Let x nodes)) →
     with_thread (with_variable_set (acting t) t.run.thread.frame x (value_in_thread (acting t) t.run.thread nodes))
-    (after_clearing t.run.thread) ≡ t.outcome → Goes split c after
-set_local split c world after host t x nodes law is =
+    (after_clearing t.run.thread) ≡ t.outcome → Goes split c t.fuel after
+set_local split c world after host t x nodes law pace is =
     let thread = t.run.thread in
     let old = t.run.state in
     let value = value_in_thread (acting t) thread nodes in
@@ -158,19 +169,22 @@ set_local split c world after host t x nodes law is =
             agree_set split c next world after host old new world.flying thread.frame x value sets.source t.orderly
                 (none_to_send split c world after host t sets.none_out) t.run.there moved refl t.run.at.frame t.call
                 sets.calls,
-          )),
+          )) (t.fuel + STEP)
+          (λ paced. (falls_at_step split c world after host t paced (pace paced)).1),
     )
 
 put_found : (split : Split) (c : Configuration) (world after : WorldShape) (host : HostId)
     (t : Turning split c world after host) (label : ℕ) → t.label ≡ Some label → (field : FieldId)
     (index nodes : List Node) →
     IsTypedOp split.planned split.table host t.run.thread.at (op.Put field index nodes) →
-    IsGranted split.code host (op.Put field index nodes) → (found : Option CodeFieldShape) →
+    IsGranted split.code host (op.Put field index nodes) → IsField split.code field →
+    (Paced split → IsPacedOp split.code split.pace host t.run.thread.at (op.Put field index nodes)) →
+    (found : Option CodeFieldShape) →
     field_at split.code field ≡ found → after_put (acting t) t.run.thread field index nodes found ≡ t.outcome →
-    Goes split c after
-put_found split c world after host t label labels field index nodes law granted None found is =
-    stays split c world after host t is
-put_found split c world after host t label labels field index nodes law granted (Some there) found is =
+    Goes split c t.fuel after
+put_found split c world after host t label labels field index nodes law granted within pace None found is =
+    absurd (field_there split field within found)
+put_found split c world after host t label labels field index nodes law granted within pace (Some there) found is =
     let thread = t.run.thread in
     let old = t.run.state in
     let me = holder_me split c world after host t in
@@ -202,7 +216,8 @@ put_found split c world after host t label labels field index nodes law granted 
                       moved on refl),
                   agree_same split c next [] world after host old new world.flying
                       (none_to_send split c world after host t sets.none_out) t.run.there moved refl sets.calls,
-                )),
+                )) (t.fuel + STEP)
+                (λ paced. (falls_at_step split c world after host t paced (pace paced)).1),
           )
       | inr apart ↦
           let away : there.host.0 ≢ host.0 = λ same. apart.1 (same ∙ sym (ap (λ (h : HostId). h.0) me)) in
@@ -217,7 +232,7 @@ put_found split c world after host t label labels field index nodes law granted 
             sets.store,
             sets.calls,
             subst (λ out. IsAt split next t.chain out host (after_clearing thread)) (sym sets.none_out) sets.at,
-          )
+          ) (λ paced. let less = falls_at_step split c world after host t paced (pace paced) in (less.0, less.2))
     ]
 
 -- ---- forwards
@@ -226,10 +241,11 @@ forwards : (split : Split) (c : Configuration) (world after : WorldShape) (host 
     (t : Turning split c world after host) (label : ℕ) → t.label ≡ Some label → (x : VarId) (to : HostId) →
     IsTypedOp split.planned split.table host t.run.thread.at (op.Send x to) →
     IsGranted split.code host (op.Send x to) →
+    (Paced split → IsPacedOp split.code split.pace host t.run.thread.at (op.Send x to)) →
     with_message (after_asking (acting t) t.run.thread.at (after_step t.run.thread) acknowledgement to) to
     (message.Forward (next_request (acting t) t.run.thread.at) t.run.thread.frame x
-    (t.run.state.variables t.run.thread.frame x)) ≡ t.outcome → Goes split c after
-forwards split c world after host t label labels x to law granted is =
+    (t.run.state.variables t.run.thread.frame x)) ≡ t.outcome → Goes split c t.fuel after
+forwards split c world after host t label labels x to law granted pace is =
     let thread = t.run.thread in
     let old = t.run.state in
     let sends = send_at split c t.chain t.out host thread t.run.at x to law in
@@ -245,15 +261,16 @@ forwards split c world after host t label labels x to law granted is =
       sends.left,
       sends.first,
       sends.at,
-    )
+    ) (λ paced. let less = falls split c world after host t paced (pace paced) in (less.0, less.2))
 
 -- ---- branches
 
 branches : (split : Split) (c : Configuration) (world after : WorldShape) (host : HostId)
     (t : Turning split c world after host) (guard : List Node) (target : ℕ) →
     IsTypedOp split.planned split.table host t.run.thread.at (op.Branch guard target) →
-    after_branch (acting t) t.run.thread guard target ≡ t.outcome → Goes split c after
-branches split c world after host t guard target law is =
+    (Paced split → IsPacedOp split.code split.pace host t.run.thread.at (op.Branch guard target)) →
+    after_branch (acting t) t.run.thread guard target ≡ t.outcome → Goes split c t.fuel after
+branches split c world after host t guard target law pace is =
     let thread = t.run.thread in
     let old = t.run.state in
     let value = value_in_thread (acting t) thread guard in
@@ -275,7 +292,9 @@ branches split c world after host t guard target law is =
                 (fields_same split.code world after host old new world.flying c.store t.fields t.run.there moved refl),
             agree_same split c next [] world after host old new world.flying
                 (none_to_send split c world after host t decides.none_out) t.run.there moved refl decides.calls,
-          )),
+          )) (t.fuel + STEP) (λ paced. either_less (int_eq value (pos 0)) aim (after_clearing thread)
+          (falls_with_step split c world after host t paced target (pace paced).1).1
+          (falls_at_step split c world after host t paced (pace paced).0).1),
     )
   where
     either_thread : (b : Bool) (state : HostShape) (first other : ThreadShape) →
@@ -284,14 +303,21 @@ branches split c world after host t guard target law is =
     either_thread true state first other = refl
     either_thread false state first other = refl
 
+    either_less : (b : Bool) (first other : ThreadShape) → weight_at split t.chain host first.at < t.fuel + STEP →
+        weight_at split t.chain host other.at < t.fuel + STEP →
+        weight_at split t.chain host (if b then first else other).at < t.fuel + STEP
+    either_less true first other one two = one
+    either_less false first other one two = two
+
 -- ---- pushes
 
 pushes : (split : Split) (c : Configuration) (world after : WorldShape) (host : HostId)
     (t : Turning split c world after host) (entry : EntryId) →
     IsTypedOp split.planned split.table host t.run.thread.at (op.Push entry) → IsEntryOn split.code host entry →
+    (Paced split → IsPacedOp split.code split.pace host t.run.thread.at (op.Push entry)) →
     (token : Token) → top_token t.chain ≡ Some token →
-    after_own_push (acting t) t.run.thread entry t.run.thread.held ≡ t.outcome → Goes split c after
-pushes split c world after host t entry law is_entry token top is =
+    after_own_push (acting t) t.run.thread entry t.run.thread.held ≡ t.outcome → Goes split c t.fuel after
+pushes split c world after host t entry law is_entry pace token top is =
     let thread = t.run.thread in
     let old = t.run.state in
     let me = holder_me split c world after host t in
@@ -312,27 +338,34 @@ pushes split c world after host t entry law is_entry token top is =
     (place_of split host (suc thread.at))) t.run.at.calling law in
     let new = with_running state (Some next) in
     let none = push_calm split c t.chain t.out host thread t.run.at entry law_cuts in
+    let behind = push_at split c t.chain t.out host thread t.run.at entry law_cuts is_pushed refl in
+    let uncalled : calls_at split.code host (suc thread.at) ≡ false =
+    subst (λ n. calls_at split.code host n ≡ false) (omega arith)
+    (none_called split c (is_pushed ∷ t.chain) [] host next behind) in
     inl (goes_on split c world after host t c (is_pushed ∷ t.chain) [] state next refl refl refl refl
     (ap (λ list. is_pushed ∷ list) (t.stacks host old t.run.there) ∙ sym (own_stack host is_pushed t.chain me))
     (λ other apart. other_stack host other is_pushed t.chain me apart) done
     (pushed_chain split t.chain is_pushed token t.is_chain top
     (subst (λ h. IsEntryOn split.code h entry) (sym me) is_entry) t.run.at.frame refl)
-    (push_at split c t.chain t.out host thread t.run.at entry law_cuts is_pushed refl) t.call tt
+    behind t.call tt
     (λ moved. (
       fields_same split.code world after host old new world.flying c.store t.fields t.run.there moved refl,
       agree_same split c c [] world after host old new world.flying (none_to_send split c world after host t none)
           t.run.there moved refl refl,
-    )))
+    )) t.fuel (λ paced. (falls_with_entry split c world after host t paced
+    (subst (pace_rules.Pushes split.pace host thread.at) uncalled (pace paced)) is_pushed).1))
 
 -- ---- transfers
 
 syncs : (split : Split) (c : Configuration) (world after : WorldShape) (host : HostId)
     (t : Turning split c world after host) (label : ℕ) → t.label ≡ Some label → (entry : EntryId) (on : HostId) →
     IsTypedOp split.planned split.table host t.run.thread.at (op.Ask entry on) →
-    IsGranted split.code host (op.Ask entry on) → IsEntryOn split.code on entry → on ≢ host → (token : Token) →
+    IsGranted split.code host (op.Ask entry on) → IsEntryOn split.code on entry → on ≢ host →
+    (Paced split → IsPacedOp split.code split.pace host t.run.thread.at (op.Ask entry on)) →
+    (token : Token) →
     top_token t.chain ≡ Some token → after_ask (acting t) t.run.thread entry on t.run.thread.held ≡ t.outcome →
-    Goes split c after
-syncs split c world after host t label labels entry on law granted is_entry apart token top is =
+    Goes split c t.fuel after
+syncs split c world after host t label labels entry on law granted is_entry apart pace token top is =
     let thread = t.run.thread in
     let bare = acting t in
     let waiting = with_token None (after_step thread) in
@@ -351,18 +384,22 @@ syncs split c world after host t label labels entry on law granted is_entry apar
       λ pushed same. subst (λ out. IsAt split c (pushed ∷ t.chain) out host
           (with_token (Some pushed.token) (after_step thread))) (sym none)
           (push_at split c t.chain t.out host thread t.run.at entry law.0 pushed same),
-    )
+    ) (λ paced.
+    let pushed : StackEntry = record { token = token; entry = entry; frame = main_frame; kept = token } in
+    let less = falls_with_entry split c world after host t paced (pace paced) pushed in (less.0, less.2))
 
 hands_over : (split : Split) (c : Configuration) (world after : WorldShape) (host : HostId)
     (t : Turning split c world after host) (label : ℕ) → t.label ≡ Some label → (entry : EntryId) (on : HostId) →
     IsTypedOp split.planned split.table host t.run.thread.at (op.Go entry on) →
-    IsGranted split.code host (op.Go entry on) → IsEntryOn split.code on entry → (found : Option Entry) →
+    IsGranted split.code host (op.Go entry on) → IsEntryOn split.code on entry →
+    (Paced split → IsPacedOp split.code split.pace host t.run.thread.at (op.Go entry on)) →
+    (found : Option Entry) →
     entry_at split.code entry ≡ found → IsSomeAnd found (λ there. there.host ≡ on) → (token : Token) →
     top_token t.chain ≡ Some token →
-    after_go (acting t) t.run.thread t.run.thread.frame entry on t.run.thread.held ≡ t.outcome → Goes split c after
-hands_over split c world after host t label labels entry on law granted is_entry None found on_host token top is =
+    after_go (acting t) t.run.thread t.run.thread.frame entry on t.run.thread.held ≡ t.outcome → Goes split c t.fuel after
+hands_over split c world after host t label labels entry on law granted is_entry pace None found on_host token top is =
     absurd on_host
-hands_over split c world after host t label labels entry on law granted is_entry (Some there) found on_host token top
+hands_over split c world after host t label labels entry on law granted is_entry pace (Some there) found on_host token top
     is =
     let thread = t.run.thread in
     let bare = acting t in
@@ -388,42 +425,54 @@ hands_over split c world after host t label labels entry on law granted is_entry
         at = subst (λ h. IsAt split c t.chain [] h (thread_at there main_frame token)) on_host (over.at there found);
       },
     ))
+    (λ flying paced.
+    let here : split.pace there.host.0 there.at ≡ split.pace on.0 there.at =
+    ap (λ (h : HostId). split.pace h.0 there.at) on_host in
+    let less = lighter (split.pace host.0 thread.at) (split.pace on.0 there.at) (length t.chain) t.fuel
+    (subst (λ n. n < split.pace host.0 thread.at) here (pace paced there found)) (t.fueled paced) in
+    (less.0, at_most _ _ less.2))
 
 -- ---- the way back
 
 returns_own : (split : Split) (c : Configuration) (world after : WorldShape) (host : HostId)
     (t : Turning split c world after host) → t.out ≡ [] →
     without_message (after_pop split.code (acting t) (on_stack host t.chain)) ≡ t.outcome →
-    (Ended split c t.chain host (acting t) ⊎ Continued split c t.chain host (acting t)) → Goes split c after
-returns_own split c world after host t none is (inl ended) =
+    (Ended split c t.chain host (acting t) ⊎ Continued split c t.chain host (acting t)) →
+    (Paced split → 3 * (PACE + length t.chain) ≤ t.fuel) → Goes split c t.fuel after
+returns_own split c world after host t none is (inl ended) most =
     let old = t.run.state in
     let new : HostShape = record (acting t) { entries = []; running = None; halted = true } in
     let moved = moved_silent world host t.outcome new t.label after (sym (ap without_message ended.is) ∙ is) t.leaves in
     inl (record {
-      chain = [];
-      out = [];
-      holder = halted;
-      orderly = orderly_moved split.code world after host old new world.flying t.orderly t.run.there moved refl refl;
-      stacks = stacks_moved t.chain [] world after host old new world.flying t.stacks t.run.there moved refl
-          ended.others;
-      idle = idle_moved (runs host) halted world after host old new world.flying t.idle t.run.there moved
-          (λ other apart rests. apart) (λ rests. (refl, t.run.waiting));
-      goes_on = tt;
-      fields = fields_same split.code world after host old new world.flying c.store t.fields t.run.there moved refl;
-      call = t.call;
-      agree = agree_same split c c [] world after host old new world.flying
-          (none_to_send split c world after host t none) t.run.there moved refl refl;
-      stands = record {
-        state = new;
-        there = ap (world_steps.state_at after) (sym ended.on_root)
-            ∙ mover_state world after host old new world.flying t.run.there moved;
-        halted = refl;
-        flying = moved.flying ∙ t.run.flying;
-        none_out = refl;
-        ends = ended.ends;
+      now = record {
+        chain = [];
+        out = [];
+        holder = halted;
+        orderly = orderly_moved split.code world after host old new world.flying t.orderly t.run.there moved refl refl;
+        stacks = stacks_moved t.chain [] world after host old new world.flying t.stacks t.run.there moved refl
+            ended.others;
+        idle = idle_moved (runs host) halted world after host old new world.flying t.idle t.run.there moved
+            (λ other apart rests. apart) (λ rests. (refl, t.run.waiting));
+        goes_on = tt;
+        fields = fields_same split.code world after host old new world.flying c.store t.fields t.run.there moved refl;
+        call = t.call;
+        agree = agree_same split c c [] world after host old new world.flying
+            (none_to_send split c world after host t none) t.run.there moved refl refl;
+        stands = record {
+          state = new;
+          there = ap (world_steps.state_at after) (sym ended.on_root)
+              ∙ mover_state world after host old new world.flying t.run.there moved;
+          halted = refl;
+          flying = moved.flying ∙ t.run.flying;
+          none_out = refl;
+          ends = ended.ends;
+        };
+        fuel = 0;
+        fueled = λ paced. tt;
       };
+      less = λ paced. some_fuel (length t.chain) t.fuel (most paced);
     })
-returns_own split c world after host t none is (inr more) =
+returns_own split c world after host t none is (inr more) most =
     let old = t.run.state in
     let state : HostShape = record (acting t) { entries = on_stack host more.now } in
     let new = with_running state (Some more.thread) in
@@ -433,15 +482,17 @@ returns_own split c world after host t none is (inr more) =
       fields_same split.code world after host old new world.flying c.store t.fields t.run.there moved refl,
       agree_same split c c [] world after host old new world.flying (none_to_send split c world after host t none)
           t.run.there moved refl refl,
-    )))
+    )) t.fuel (λ paced. popped_less _ _ t.fuel (more.lighter paced) (most paced)))
 
 gives_back : (split : Split) (c : Configuration) (world after : WorldShape) (host : HostId)
     (t : Turning split c world after host) (label : ℕ) → t.label ≡ Some label →
-    IsTypedOp split.planned split.table host t.run.thread.at op.Back → (passes : Bool) →
+    IsTypedOp split.planned split.table host t.run.thread.at op.Back →
+    (Paced split → IsPacedOp split.code split.pace host t.run.thread.at (op.Back)) →
+    (passes : Bool) →
     (IsTrue passes ↔ PassesWith split.code (acting t) op.Back t.run.thread.held) → (token : Token) →
     top_token t.chain ≡ Some token →
-    after_back split.code (acting t) t.run.thread t.run.thread.held passes ≡ t.outcome → Goes split c after
-gives_back split c world after host t label labels law passes checked token top is =
+    after_back split.code (acting t) t.run.thread t.run.thread.held passes ≡ t.outcome → Goes split c t.fuel after
+gives_back split c world after host t label labels law pace passes checked token top is =
     let code = split.code in
     let thread = t.run.thread in
     let old = t.run.state in
@@ -467,6 +518,7 @@ gives_back split c world after host t label labels law passes checked token top 
           ∙ sym (ap (λ (b : Bool). if b then popped_by passes else sends) same.0) ∙ given in
           returns_own split c world after host t gives.none_out done
           (popped split c t.chain host bare token t.is_chain gives.left top own)
+          (λ paced. (back_fuel (split.pace host.0 thread.at) (length t.chain) t.fuel (pace paced) (t.fueled paced)).0)
       | inr apart ↦
           let done : sends ≡ t.outcome =
           sym (ap (λ (b : Bool). if b then popped_by passes else sends) apart.0) ∙ given in
@@ -485,7 +537,7 @@ gives_back split c world after host t label labels law passes checked token top 
               none_out = gives.none_out;
               left = gives.left;
             },
-          ))
+          )) (λ flying paced. let some = back_fuel (split.pace host.0 thread.at) (length t.chain) t.fuel (pace paced) (t.fueled paced) in (some.1, some.2))
     ]
 
 -- ---- any instruction
@@ -493,60 +545,67 @@ gives_back split c world after host t label labels law passes checked token top 
 operation : (split : Split) (c : Configuration) (world after : WorldShape) (host : HostId)
     (t : Turning split c world after host) (label count : ℕ) → t.label ≡ Some label → (what : Op) → IsPlain what →
     IsTypedOp split.planned split.table host t.run.thread.at what → IsGranted split.code host what →
-    OperationFits split.code host count what → (token : Token) → top_token t.chain ≡ Some token → (passes : Bool) →
+    OperationFits split.code host count what →
+    (Paced split → IsPacedOp split.code split.pace host t.run.thread.at (what)) →
+    (token : Token) → top_token t.chain ≡ Some token → (passes : Bool) →
     (IsTrue passes ↔ PassesWith split.code (acting t) what t.run.thread.held) →
-    after_operation split.code (acting t) t.run.thread what passes ≡ t.outcome → Goes split c after
-operation split c world after host t label count labels (op.Read field index) plain law granted fits token top passes
+    after_operation split.code (acting t) t.run.thread what passes ≡ t.outcome → Goes split c t.fuel after
+operation split c world after host t label count labels (op.Read field index) plain law granted fits pace token top passes
     checked is =
-    read_found split c world after host t label labels field index law granted (field_at split.code field) refl is
-operation split c world after host t label count labels (op.Let x nodes) plain law granted fits token top passes checked
-    is = set_local split c world after host t x nodes law is
-operation split c world after host t label count labels (op.Put field index nodes) plain law granted fits token top
+    read_found split c world after host t label labels field index law granted fits.0 pace (field_at split.code field) refl is
+operation split c world after host t label count labels (op.Let x nodes) plain law granted fits pace token top passes checked
+    is = set_local split c world after host t x nodes law pace is
+operation split c world after host t label count labels (op.Put field index nodes) plain law granted fits pace token top
     passes checked is =
-    put_found split c world after host t label labels field index nodes law granted (field_at split.code field) refl is
-operation split c world after host t label count labels (op.Send x to) plain law granted fits token top passes checked
+    put_found split c world after host t label labels field index nodes law granted fits.0 pace (field_at split.code field) refl is
+operation split c world after host t label count labels (op.Send x to) plain law granted fits pace token top passes checked
     is =
-    forwards split c world after host t label labels x to law granted is
-operation split c world after host t label count labels (op.Push entry) plain law granted fits token top passes checked
-    is = pushes split c world after host t entry law fits token top is
-operation split c world after host t label count labels (op.Ask entry on) plain law granted fits token top passes
+    forwards split c world after host t label labels x to law granted pace is
+operation split c world after host t label count labels (op.Push entry) plain law granted fits pace token top passes checked
+    is = pushes split c world after host t entry law fits pace token top is
+operation split c world after host t label count labels (op.Ask entry on) plain law granted fits pace token top passes
     checked
-    is = syncs split c world after host t label labels entry on law granted fits.0 fits.1.1 token top is
-operation split c world after host t label count labels (op.Go entry on) plain law granted fits token top passes checked
+    is = syncs split c world after host t label labels entry on law granted fits.0 fits.1.1 pace token top is
+operation split c world after host t label count labels (op.Go entry on) plain law granted fits pace token top passes checked
     is =
-    hands_over split c world after host t label labels entry on law granted fits.0 (entry_at split.code entry) refl
+    hands_over split c world after host t label labels entry on law granted fits.0 pace (entry_at split.code entry) refl
     fits.0.1 token top is
-operation split c world after host t label count labels op.Back plain law granted fits token top passes checked is =
-    gives_back split c world after host t label labels law passes checked token top is
-operation split c world after host t label count labels (op.Branch guard target) plain law granted fits token top passes
-    checked is = branches split c world after host t guard target law is
-operation split c world after host t label count labels _ plain law granted fits token top passes checked is =
+operation split c world after host t label count labels op.Back plain law granted fits pace token top passes checked is =
+    gives_back split c world after host t label labels law pace passes checked token top is
+operation split c world after host t label count labels (op.Branch guard target) plain law granted fits pace token top passes
+    checked is = branches split c world after host t guard target law pace is
+operation split c world after host t label count labels _ plain law granted fits pace token top passes checked is =
     absurd plain
 
 -- ---- a turn
 
 turn_found : (split : Split) (c : Configuration) (world after : WorldShape) (host : HostId)
-    (t : Turning split c world after host) → IsHost split.code host → (found : Option Instr) →
+    (t : Turning split c world after host) → IsHost split.code host →
+    t.run.thread.at < length (part_of split.code host) → (found : Option Instr) →
     instruction_at split.code host t.run.thread.at ≡ found →
     t.label ≡ option_and_then (λ one. Some one.label) found →
-    IsRunning split.code (acting t) t.run.thread found t.outcome → Goes split c after
-turn_found split c world after host t within None is labels running = stays split c world after host t running
-turn_found split c world after host t within (Some there) is labels running =
+    IsRunning split.code (acting t) t.run.thread found t.outcome → Goes split c t.fuel after
+turn_found split c world after host t within place None is labels running =
+    absurd (none_within (part_of split.code host) t.run.thread.at place is)
+turn_found split c world after host t within place (Some there) is labels running =
     let at = t.run.thread.at in
     let token = top_of split t.chain t.is_chain in
     operation split c world after host t there.label _ labels there.op
     (is_plain split c t.chain t.out host t.run.thread t.run.at
     there.op (split.typed.instructions host at there is).1)
     (split.typed.instructions host at there is).1 (split.granted host at there is)
-    ((split.sound.parts host within).instructions at there is).operation token.0 token.1 running.0 running.1 running.2
+    ((split.sound.parts host within).instructions at there is).operation
+    (λ paced. paced.instructions host at there is) token.0 token.1 running.0 running.1 running.2
 
 -- the host that holds the token makes a turn
 pub holder_turn : (split : Split) (c : Configuration) (world after : WorldShape) (host : HostId) →
+    ShapeFits split.code world →
     (sim : Simulates split c world) → sim.holder ≡ runs host →
     (run : simulates.IsRunning split c sim.chain sim.out world host) → IsChain split sim.chain → NoneHalted world →
-    AreIdle (runs host) world → (outcome : Outcome) → IsTurn split.code run.state outcome →
-    world_steps.after_step world host outcome (label_of_turn split.code run.state) ≡ after → Goes split c after
-holder_turn split c world after host sim holds run is_chain none_halted idle outcome turns leaves =
+    AreIdle (runs host) world → (Paced split → weight_at split sim.chain host run.thread.at ≤ sim.fuel) →
+    (outcome : Outcome) → IsTurn split.code run.state outcome →
+    world_steps.after_step world host outcome (label_of_turn split.code run.state) ≡ after → Goes split c sim.fuel after
+holder_turn split c world after host fits sim holds run is_chain none_halted idle fueled outcome turns leaves =
     let code = split.code in
     let thread = run.thread in
     let state = run.state in
@@ -572,4 +631,7 @@ holder_turn split c world after host sim holds run is_chain none_halted idle out
       outcome = outcome;
       label = label_of_turn code state;
       leaves = leaves;
-    }) (host_within code world host state sim.orderly run.there) found refl labels running
+      fuel = sim.fuel;
+      fueled = fueled;
+    }) (host_within code world host state sim.orderly run.there)
+    (place_there split world host state thread fits run.there run.running me) found refl labels running

@@ -1,2 +1,4 @@
 pub mod Programs
 pub mod Obeying
+pub mod Driven
+pub mod Ending

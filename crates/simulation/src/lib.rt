@@ -3,4 +3,4 @@
 
 mod laws;
 
-pub use laws::obeying_laws;
+pub use laws::{ending_laws, obeying_laws};
