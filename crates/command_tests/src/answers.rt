@@ -27,6 +27,12 @@ fn replays_two_assignments(rt: HostRuntime) -> Result<(), Fail> {
             host B: running 0, waiting 0, stack 0, ignored 0\n\
             flying B A 0: ack 1.0\n",
         ),
+        (
+            "// b is set before\nset b -5\nturn A\n",
+            "halted no\nfield a = 1\nfield b = -5\n\
+            host A: running 1, waiting 0, stack 1, ignored 0\n\
+            host B: running 0, waiting 0, stack 0, ignored 0\n",
+        ),
     ];
     for (events, report) in cases {
         let held = [Some(PROGRAM), Some(HOSTS), Some(events)];
@@ -79,6 +85,7 @@ fn refuses_by_the_first_cause(rt: HostRuntime) -> Result<(), Fail> {
     let unknown = Some("int{} a; void main{}() { c = 1; }");
     let secret = Some("int{Alice:} a; int{} b; void main{}() { b = a; }");
     let array = Some("int{} a[2]; void main{}() { }");
+    let calling = Some("void m{}() { } void main{}() { m(); }");
     let bob_alone = Some(
         "principals = [\"Alice\", \"Bob\"]\n[[host]]\nname = \"B\"\nlabel = \"{Bob:}\"\n",
     );
@@ -121,10 +128,11 @@ fn refuses_by_the_first_cause(rt: HostRuntime) -> Result<(), Fail> {
         ),
         (
             replay,
-            [array, bob_alone, bad],
+            [calling, bob_alone, bad],
             source,
             "program: not built yet",
         ),
+        (replay, [array, bob_alone, bad], input, "E line 1: no form"),
         (
             replay,
             [program, bob_alone, bad],
@@ -137,6 +145,18 @@ fn refuses_by_the_first_cause(rt: HostRuntime) -> Result<(), Fail> {
             [program, hosts, Some("take A B 0\nturn C\n")],
             input,
             "E line 2: no form",
+        ),
+        (
+            replay,
+            [program, hosts, Some("turn A\nset a 1\n")],
+            input,
+            "E line 2: no form",
+        ),
+        (
+            replay,
+            [program, hosts, Some("turn A\nturn A\ntake A B 0\nturn B\n")],
+            input,
+            "E line 4: not there",
         ),
         (
             replay,

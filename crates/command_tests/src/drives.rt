@@ -140,13 +140,7 @@ fn refuses_what_cannot_be_driven(rt: HostRuntime) -> Result<(), Fail> {
     let no_form = "E line 1: no form";
     let source = Status::SourceRefused;
     let input = Status::InputRefused;
-    // The second host is trusted for the second statement alone.
-    let elsewhere = "principals = ['Alice', 'Bob']\n\
-        [[host]]\nname = 'T'\nlabel = '{?:Alice}'\n\
-        [[host]]\nname = 'B'\nlabel = '{Bob:}'\n";
     let cases = [
-        ("void main{}() { if (1) { } }", ONE, source, not_built),
-        ("void main{}() { while (0) { } }", ONE, source, not_built),
         (
             "void f{}() { } void main{}() { f(); }",
             ONE,
@@ -154,16 +148,17 @@ fn refuses_what_cannot_be_driven(rt: HostRuntime) -> Result<(), Fail> {
             not_built,
         ),
         (
-            "int{} f{}() { return 1; } void main{}() { }",
+            "void f{}() { } void main{}() { if (0) { while (1) { f(); } } }",
             ONE,
             source,
             not_built,
         ),
+        ("void main{}() { while (0) { } }", ONE, input, no_form),
         (
-            "int{Bob:} b;\nvoid main{?:Alice}() { b = b + 1; }",
-            elsewhere,
-            source,
-            not_built,
+            "int{} f{}() { return 1; } void main{}() { }",
+            ONE,
+            input,
+            no_form,
         ),
         ("void f{}() { } void main{}() { }", ONE, input, no_form),
         (LOCAL, ONE, input, no_form),

@@ -85,15 +85,19 @@ fn checks_labels_by_who_acts_for_whom(rt: HostRuntime) -> Result<(), Fail> {
 fn replays_what_hosts_can_run(rt: HostRuntime) -> Result<(), Fail> {
     let cases = [
         ("void main{}() { }", true),
-        ("int{} a; void main{}() { a = 1; a = -1; }", true),
-        ("int{} a[2]; void main{}() { }", false),
-        ("int{} a; void main{}() { a = - -1; }", false),
-        ("int{} a; void main{}() { a = 1 + 1; }", false),
-        ("int{} a; void main{}() { if (1) { a = 1; } }", false),
-        ("void main{}() { int x = 1; }", false),
-        ("void m{}() { } void main{}() { }", false),
-        ("void main{}() where authority(Alice) { }", false),
-        ("void main{Alice:}() { }", false),
+        ("int{} a; void main{}() { a = 1; a = - -1; }", true),
+        ("int{} a[2]; void main{}() { a[1] = a[0] + 1; }", true),
+        (
+            "int{} a; void main{}() { if (a) { a = 1; } else { a = 2; } }",
+            true,
+        ),
+        (
+            "int{} a; void main{}() { int x = 1; while (a < x) { a = a + 1; } }",
+            true,
+        ),
+        ("void m{}() { m(); } void main{}() { }", true),
+        ("void m{}() { } void main{}() { m(); }", false),
+        ("void m{}() { } void main{}() { while (0) { m(); } }", false),
     ];
     for (text, built) in cases {
         let ended = replay(rt.alloc(), [Some(text), Some(HOSTS), Some("")])?;

@@ -1,5 +1,4 @@
 pub mod Choosing
-pub mod FirstForm
 pub mod Fitting
 pub mod Flights
 pub mod Letters

@@ -4,4 +4,3 @@ pub mod Flying
 pub mod Steps
 pub mod Told
 pub mod World
-pub mod first

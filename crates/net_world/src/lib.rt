@@ -2,7 +2,6 @@
 #![tactic(auto)]
 
 mod choice;
-pub mod first;
 mod flying;
 pub mod laws;
 mod mail;

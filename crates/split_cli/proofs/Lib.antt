@@ -28,10 +28,10 @@ pub mod ReportLines
 pub mod Results
 pub mod RunDue
 pub mod RunReport
+pub mod SeenItems
 pub mod SetSources
 pub mod Stages
 pub mod StepCounts
 pub mod Stops
-pub mod TreeCode
 pub mod VariableCounts
 pub mod WorldLines

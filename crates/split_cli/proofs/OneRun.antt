@@ -12,7 +12,7 @@ use Rattle.source_run.specs.Alike.{RunAlike}
 use Rattle.source_run.specs.Runs.{RunsTo}
 use Rattle.split_cli.specs.PlainRun.{run_report, DueForProgram, long, bad_line, ran, DueForRun}
 use Rattle.split_cli.specs.Verdicts.{VerdictShape, no_form}
-use Rattle.split_cli.proofs.TreeCode.{map_seen}
+use Rattle.split_cli.proofs.SeenItems.{map_seen}
 
 -- what is known of runs
 pub record RunLaws : Type 0 where

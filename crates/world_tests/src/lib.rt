@@ -8,8 +8,4 @@ mod programs;
 #[cfg(test)]
 mod runs;
 #[cfg(test)]
-mod scripts;
-#[cfg(test)]
 mod starting_values;
-#[cfg(test)]
-mod worlds;

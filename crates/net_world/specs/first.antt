@@ -1,9 +1,0 @@
-pub mod AllObey
-pub mod Code
-pub mod EventSteps
-pub mod Events
-pub mod FirstCode
-pub mod Flying
-pub mod HostTable
-pub mod MessageText
-pub mod World
