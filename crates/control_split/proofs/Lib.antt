@@ -3,7 +3,6 @@ pub mod LabelPlaces
 pub mod Placing
 pub mod Standing
 pub mod Whole
-pub mod Sizes
 pub mod Stepping
 pub mod SplitParts
 pub mod Alike

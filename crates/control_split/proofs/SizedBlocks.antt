@@ -9,10 +9,10 @@ use Rattle.jif_tree.specs.declared.program.Stmt.{Stmt}
 use Rattle.jif_tree.specs.declared.program.StmtKind.{StmtKind}
 use Rattle.jif_tree.specs.declared.program.StmtKind as kind
 use Rattle.jif_tree.specs.Trees.{Heading, ExprTree, BlockTree, done, branch, loop, call, statement_tree, block_tree, expr_tree}
-use Rattle.jif_tree.specs.Trees.{row_tree}
+use Rattle.jif_tree.specs.Trees.{row_tree, tree_before}
 use Rattle.jif_tree.specs.Sizes.{expr_nodes, block_nodes}
 use Rattle.host_code.specs.declared.code_expr.TheConstants.{MOST_NODES}
-use Rattle.control_split.specs.Views.{tree_before, IsSizedExpr, IsSizedBlock}
+use Rattle.control_split.specs.Views.{IsSizedExpr, IsSizedBlock}
 
 abbrev pub IsFew : ℕ → Type 0
 IsFew nodes = nodes ≤ MOST_NODES

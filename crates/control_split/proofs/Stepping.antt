@@ -4,7 +4,8 @@ use Rattle.js_base.specs.declared.ids.StmtId.{StmtId}
 use Rattle.jif_tree.specs.declared.program.Stmt.{Stmt}
 use Rattle.jif_tree.specs.declared.program.StmtKind.{StmtKind}
 use Rattle.jif_tree.specs.declared.program.StmtKind as kind
-use Rattle.jif_tree.specs.Trees.{Heading, BlockTree, done, statement_tree, block_tree}
+use Rattle.jif_tree.specs.Trees.{Heading, BlockTree, done, statement_tree, block_tree, tree_before}
+use Rattle.msg_cost.proofs.Statements.{own_ids}
 use Rattle.msg_cost.specs.declared.spot.Spot.{Spot}
 use Rattle.msg_cost.specs.Moves.{next_spot, own_statements}
 use Rattle.msg_cost.specs.Views.{ids_of}
@@ -12,25 +13,7 @@ use Rattle.split_rules.specs.Emissions.{Emission, Counts, counts_after}
 use Rattle.split_rules.specs.Walk.{Walked, Around, Lane, lane_at, under_token, move_emissions, block_emissions}
 use Rattle.control_split.specs.Own.{own_emissions}
 use Rattle.control_split.specs.Trace.{TraceShape, traced}
-use Rattle.control_split.specs.Views.{tree_before}
 use Rattle.control_split.proofs.Traces.{traced_append, traced_counts, counts_append}
-
-own_first : (what : StmtKind) (heading : Heading) (rest : BlockTree) →
-    own_statements (statement_tree what heading rest) ≡ heading.id ∷ own_statements rest
-own_first (kind.Let x value) heading rest = refl
-own_first (kind.SetField field value) heading rest = refl
-own_first (kind.SetElement field index value) heading rest = refl
-own_first (kind.If' guard m first n second) heading rest = refl
-own_first (kind.While' guard m body) heading rest = refl
-own_first (kind.Call site method args into) heading rest = refl
-own_first (kind.Return value) heading rest = refl
-
--- the statements of a block are those of its list
-pub own_ids : (statements : List Stmt) → own_statements (block_tree statements) ≡ ids_of statements
-own_ids [] = refl
-own_ids (first ∷ others) =
-    own_first first.kind (record { id = first.id; line = first.line }) (block_tree others)
-    ∙ ap (λ (ids : List StmtId). first.id ∷ ids) (own_ids others)
 
 -- what comes of a statement and those behind it, where it is known where it runs and what is behind it
 abbrev one_by_one : Walked → Around → Counts → Lane → Spot → List StmtId → StmtKind → Heading → BlockTree →

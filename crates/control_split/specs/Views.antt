@@ -1,7 +1,6 @@
 -- What contracts see of the places of a walk.
 use Rattle.std.specs.Prelude.{◌≤◌, All}
-use Rattle.jif_tree.specs.declared.program.Stmt.{Stmt}
-use Rattle.jif_tree.specs.Trees.{BlockTree, ExprTree, method_tree, statement_tree}
+use Rattle.jif_tree.specs.Trees.{BlockTree, ExprTree, method_tree}
 use Rattle.jif_tree.specs.Sizes.{expr_nodes, block_nodes}
 use Rattle.host_code.specs.declared.code_expr.TheConstants.{MOST_NODES}
 use Rattle.need_labels.specs.Labelled.{Labelled, labelled_of}
@@ -28,11 +27,6 @@ around_of around = record { owner = around.owner; pc = around.pc.now }
 
 abbrev pub lane_of : BlockLane → Lane
 lane_of lane = record { spot = lane.spot; return_entry = lane.return_entry }
-
--- a statement and those after it
-abbrev pub tree_before : Stmt → BlockTree → BlockTree
-tree_before statement rest =
-    statement_tree statement.kind (record { id = statement.id; line = statement.line }) rest
 
 -- the expressions have so few nodes that their code has no more than it may have
 abbrev pub IsSizedExpr : ExprTree → Type 0

@@ -5,11 +5,12 @@ ghost use Rattle.js_base.specs.declared.ids.StmtId.{StmtId};
 ghost use Rattle.host_code.specs.declared.code_expr.TheConstants.{MOST_NODES};
 ghost use Rattle.host_code.specs.declared.instruction.Op.TheVariants as op;
 ghost use Rattle.jif_tree.specs.Trees.{done, set_local, set_field, set_element, branch, loop, expr_tree, block_tree};
+ghost use Rattle.jif_tree.specs.Trees.{tree_before};
 ghost use Rattle.jif_tree.specs.Sizes.{expr_nodes};
 ghost use Rattle.split_rules.specs.Walk.{lane_on, need_of, block_emissions};
 ghost use Rattle.control_split.specs.Own.{own_emissions};
 ghost use Rattle.control_split.specs.Trace.{traced};
-ghost use Rattle.control_split.specs.Views.{walked_of, planned_in, around_of, tree_before, IsSizedExpr, IsSizedBlock};
+ghost use Rattle.control_split.specs.Views.{walked_of, planned_in, around_of, IsSizedExpr, IsSizedBlock};
 ghost use Rattle.control_split.specs.Places.{around_at, heading_at};
 
 use crate::calls::{CallSite, call, give_back};

@@ -5,10 +5,10 @@ ghost use Rattle.std.specs.List.{flat_map, zip};
 ghost use Rattle.std.specs.String.{string_bytes};
 ghost use Rattle.host_code.specs.declared.code.TheConstants.{MOST_ITEMS};
 ghost use Rattle.js_base.specs.declared.limits.TheConstants.{FIELDS};
-ghost use Rattle.jif_tree.specs.Trees.{field_tree, var_tree, program_tree, block_tree, done};
+ghost use Rattle.jif_tree.specs.Trees.{field_tree, var_tree, program_tree, block_tree, done, tree_before};
 ghost use Rattle.split_rules.specs.SplitCode.{label_place, placed_code_fields, code_variable, method_name, site_hosts};
 ghost use Rattle.control_split.specs.Tables.{naming, code_hosts, IsShort};
-ghost use Rattle.control_split.specs.Views.{labelled_in, tree_before};
+ghost use Rattle.control_split.specs.Views.{labelled_in};
 
 use crate::trace::Trace;
 use crate::walk::Split;

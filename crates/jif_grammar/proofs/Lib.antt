@@ -27,3 +27,4 @@ pub mod ProgramMarks
 pub mod ExcessOf
 pub mod Walking
 pub mod Widths
+pub mod DraftRows

@@ -15,6 +15,7 @@ use Rattle.jif_tree.specs.declared.draft.ExprDraft.{ExprDraft}
 use Rattle.jif_tree.specs.declared.draft.StmtDraft.{StmtDraft}
 use Rattle.jif_tree.specs.declared.draft.StmtKindDraft as kind
 use Rattle.jif_tree.specs.declared.draft.StmtKindDraft.{StmtKindDraft}
+use Rattle.jif_grammar.proofs.DraftRows.{if_shape, while_shape}
 use Rattle.jif_grammar.specs.Phrases as phrases
 use Rattle.jif_grammar.specs.Phrases.{BlockPhrase}
 use Rattle.jif_grammar.specs.Grouping.{IsBlock}
@@ -41,7 +42,6 @@ use Rattle.jif_parse.proofs.Moving.{moves_then, moves_as, stepped, takes_passed,
 use Rattle.jif_parse.proofs.Fixed.{takes_fixed, fails_fixed, step_symbol}
 use Rattle.jif_parse.proofs.Chains.{chain, chain_then, IsBlock_chain}
 use Rattle.jif_parse.proofs.Widths.{chain_at, chain_width, branch_width, branch_else_width, loop_width}
-use Rattle.jif_parse.proofs.Rows.{if_shape, while_shape}
 
 -- ---- lines
 

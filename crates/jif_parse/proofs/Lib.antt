@@ -17,12 +17,10 @@ pub mod FieldParts
 pub mod ItemLists
 pub mod MethodParts
 pub mod FirstVerdict
-pub mod Rows
 pub mod Values
 pub mod Widths
 pub mod PrintedPieces
 pub mod PrintedKinds
-pub mod PrintedSizes
 pub mod PrintedTexts
 pub mod PrintedApart
 pub mod PrintedStatements

@@ -10,11 +10,11 @@ use Rattle.jif_tree.specs.declared.program.StmtKind.{StmtKind, If, While}
 use Rattle.jif_tree.specs.declared.program.StmtKind as kind
 use Rattle.jif_tree.specs.declared.program.Expr.{Expr}
 use Rattle.jif_tree.specs.Trees.{ExprTree, Heading, BlockTree, branch, loop, block_tree, expr_tree}
-use Rattle.jif_tree.specs.Trees.{statement_tree}
+use Rattle.jif_tree.specs.Trees.{statement_tree, tree_before}
 use Rattle.jif_parse.specs.PrintedNames.{Naming}
 use Rattle.jif_parse.specs.PrintedExprs.{expr_text}
 use Rattle.jif_parse.specs.PrintedProgram.{else_text, is_done, block_text, seen_behind}
-use Rattle.jif_parse.specs.PrintedBlocks.{tree_before, PrintsBefore}
+use Rattle.jif_parse.specs.PrintedBlocks.{PrintsBefore}
 
 -- ---- the trees of statements with blocks
 

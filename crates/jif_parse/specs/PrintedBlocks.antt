@@ -1,14 +1,8 @@
 -- What is printed of a block, statement by statement.
 use Rattle.std.specs.Prelude.{◌≡◌, ℕ, List, ◌++◌}
-use Rattle.jif_tree.specs.declared.program.Stmt.{Stmt}
-use Rattle.jif_tree.specs.Trees.{BlockTree, statement_tree}
+use Rattle.jif_tree.specs.Trees.{BlockTree}
 use Rattle.jif_parse.specs.PrintedNames.{Naming}
 use Rattle.jif_parse.specs.PrintedProgram.{block_text, seen_behind}
-
--- a statement and those after it
-abbrev pub tree_before : Stmt → BlockTree → BlockTree
-tree_before statement rest =
-    statement_tree statement.kind (record { id = statement.id; line = statement.line }) rest
 
 -- the text of a block begins with this text, and goes on with that of those of its statements that are left
 pub record PrintsBefore (naming : Naming) (seen : ℕ) (block : BlockTree) (text : List ℕ) (after : ℕ)

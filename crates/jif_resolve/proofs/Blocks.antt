@@ -14,6 +14,7 @@ use Rattle.jif_tree.specs.declared.program.Stmt.{Stmt}
 use Rattle.jif_tree.specs.declared.program.StmtKind as made_kind
 use Rattle.jif_tree.specs.declared.program.StmtKind.{StmtKind}
 use Rattle.jif_tree.specs.Trees.{Heading, BlockTree, done, branch, loop, expr_tree, statement_tree, block_tree}
+use Rattle.jif_grammar.proofs.DraftRows.{if_shape, while_shape}
 use Rattle.jif_grammar.specs.DraftShapes.{Start, end_shape, branch_shape, loop_shape}
 use Rattle.jif_grammar.specs.DraftShapes.{label_shape, name_shape, expr_shape, statement_shape, block_shape}
 use Rattle.jif_resolve.specs.Places.{Setting, Place, after_statement, after_block}
@@ -23,7 +24,6 @@ use Rattle.jif_resolve.specs.KnownNames.{IsCounted, left}
 use Rattle.jif_resolve.specs.Walks.{behind}
 use Rattle.jif_resolve.specs.Resolved.{heading_of, IsExprFor, IsBlockFor}
 use Rattle.jif_resolve.specs.Making.{IsKindFor, IsStatementFor}
-use Rattle.jif_resolve.proofs.Rows.{if_shape, while_shape}
 use Rattle.jif_resolve.proofs.Usable.{none_in_two, none_in_three, none_in_four}
 use Rattle.jif_resolve.proofs.Walks.{WalkedSoFar, at_place, next_faults, walk_counted, walk_goes_on, walk_left}
 use Rattle.jif_resolve.proofs.Walks.{if_alone, while_alone}

@@ -25,7 +25,6 @@ mod Parts
 mod PrincipalNames
 mod Ranges
 mod Returning
-mod Rows
 mod Sized
 mod Sooner
 mod StandingVariables

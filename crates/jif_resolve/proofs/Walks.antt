@@ -12,6 +12,7 @@ use Rattle.jif_tree.specs.declared.draft.NameDraft.{NameDraft}
 use Rattle.jif_tree.specs.declared.draft.StmtKindDraft as kind
 use Rattle.jif_tree.specs.declared.draft.StmtKindDraft.{StmtKindDraft}
 use Rattle.jif_tree.specs.declared.draft.StmtDraft.{StmtDraft}
+use Rattle.jif_grammar.proofs.DraftRows.{if_shape, while_shape}
 use Rattle.jif_grammar.specs.DraftShapes.{NameShape, Start, BlockShape, end_shape, declaration_shape, assignment_shape}
 use Rattle.jif_grammar.specs.DraftShapes.{element_assignment_shape, branch_shape, loop_shape, call_shape, return_shape}
 use Rattle.jif_grammar.specs.DraftShapes.{name_shape, expr_shape, statement_shape, block_shape}
@@ -24,7 +25,6 @@ use Rattle.jif_resolve.specs.First.{with_faults}
 use Rattle.jif_resolve.specs.KnownNames.{IsCounted, left}
 use Rattle.jif_resolve.specs.Walks.{behind}
 use Rattle.jif_resolve.proofs.Sooner.{faults_joined}
-use Rattle.jif_resolve.proofs.Rows.{if_shape, while_shape}
 
 -- ---- calls
 

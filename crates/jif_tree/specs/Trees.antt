@@ -112,6 +112,11 @@ block_tree [] = done
 block_tree (statement ∷ statements) =
     statement_tree statement.kind (record { id = statement.id; line = statement.line }) (block_tree statements)
 
+-- a statement and those after it, which may be of no list
+abbrev pub tree_before : Stmt → BlockTree → BlockTree
+tree_before statement rest =
+    statement_tree statement.kind (record { id = statement.id; line = statement.line }) rest
+
 abbrev pub field_tree : Field → FieldTree
 field_tree field = record {
   name = string_bytes field.name;

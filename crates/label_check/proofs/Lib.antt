@@ -5,5 +5,4 @@ pub mod Asked
 pub mod Arguments
 pub mod Exits
 pub mod Passing
-pub mod Sizes
 pub mod LabelOrder

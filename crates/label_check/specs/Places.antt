@@ -1,7 +1,6 @@
 -- Where a statement stands, and what was found before it.
 use Rattle.std.specs.Prelude.{List}
-use Rattle.jif_tree.specs.declared.program.Stmt.{Stmt}
-use Rattle.jif_tree.specs.Trees.{BlockTree, MethodTree, program_tree, method_tree, statement_tree}
+use Rattle.jif_tree.specs.Trees.{BlockTree, MethodTree, program_tree, method_tree}
 use Rattle.jif_tree.specs.LabelRules.{MethodSetting, setting_of, Obligation, obligations_of, labels_after, block_labels}
 use Rattle.jif_tree.specs.LabelRules.{labels_after_methods, methods_labels}
 use Rattle.principals.specs.ActsFor.{Declared}
@@ -14,11 +13,6 @@ use Rattle.label_check.specs.Parts.{Passes}
 -- what every place of its method has in common
 abbrev pub setting_at : Place → MethodSetting
 setting_at place = setting_of place.principals.now (program_tree place.program.now) (method_tree place.method.now)
-
--- a statement and those after it
-abbrev pub tree_before : Stmt → BlockTree → BlockTree
-tree_before statement rest =
-    statement_tree statement.kind (record { id = statement.id; line = statement.line }) rest
 
 -- what a block asks for
 abbrev pub asks_of : Place → Label → Found → BlockTree → List Obligation

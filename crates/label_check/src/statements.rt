@@ -1,11 +1,11 @@
 //! Statements and blocks.
 
 ghost use Rattle.std.specs.Prelude.{◌≡◌, ◌++◌, [], ◌∷◌, OnOk, IfErr};
-ghost use Rattle.jif_tree.specs.Trees.{BlockTree, done, block_tree};
+ghost use Rattle.jif_tree.specs.Trees.{BlockTree, done, block_tree, tree_before};
 ghost use Rattle.label_check.specs.declared.check_error.CheckError.TheVariants as error;
 ghost use Rattle.label_check.specs.Checking.{IsAuthority};
 ghost use Rattle.label_check.specs.Parts.{Refuses};
-ghost use Rattle.label_check.specs.Places.{tree_before, asks_of, PassesTo};
+ghost use Rattle.label_check.specs.Places.{asks_of, PassesTo};
 
 use crate::CheckError;
 use crate::assignments::{assign_element, assign_field, assign_variable, give_back};

@@ -7,5 +7,4 @@ pub mod Walks
 pub mod Bounds
 pub mod OneHost
 pub mod Found
-pub mod Sizes
 pub mod Between

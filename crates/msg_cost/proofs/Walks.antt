@@ -7,12 +7,13 @@ use Rattle.jif_tree.specs.declared.program.Stmt.{Stmt}
 use Rattle.jif_tree.specs.declared.program.StmtKind.{StmtKind}
 use Rattle.jif_tree.specs.declared.program.StmtKind as kind
 use Rattle.jif_tree.specs.Trees.{Heading, BlockTree, done, branch, loop, statement_tree, block_tree, ExprTree}
+use Rattle.jif_tree.specs.Trees.{tree_before}
 use Rattle.need_labels.specs.Plan.{statement_host}
 use Rattle.msg_cost.specs.declared.spot.Spot.{Spot}
 use Rattle.msg_cost.specs.Cost.{cost_of}
 use Rattle.msg_cost.specs.Moves.{PlannedShape, on, next_spot, own_statements, block_end}
 use Rattle.msg_cost.specs.Terms.{Term, message, inside, leave_terms, move_terms, expr_terms, block_terms}
-use Rattle.msg_cost.specs.Views.{capped, tree_before, ids_of}
+use Rattle.msg_cost.specs.Views.{capped, ids_of}
 use Rattle.msg_cost.proofs.Statements.{own_ids}
 use Rattle.msg_cost.proofs.Sums.{CostsWith, with_less, sum_of_two}
 

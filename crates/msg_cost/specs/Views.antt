@@ -2,7 +2,7 @@
 use Rattle.std.specs.Prelude.{ℕ, ◌-◌, ◌^◌, min, List, map}
 use Rattle.js_base.specs.declared.ids.StmtId.{StmtId}
 use Rattle.jif_tree.specs.declared.program.Stmt.{Stmt}
-use Rattle.jif_tree.specs.Trees.{BlockTree, program_tree, statement_tree}
+use Rattle.jif_tree.specs.Trees.{program_tree}
 use Rattle.msg_cost.specs.declared.planned.Planned.{Planned}
 use Rattle.msg_cost.specs.Moves.{PlannedShape}
 
@@ -16,11 +16,6 @@ shape_of planned = record {
 
 abbrev pub ids_of : List Stmt → List StmtId
 ids_of statements = map (λ statement. statement.id) statements
-
--- a statement and those after it
-abbrev pub tree_before : Stmt → BlockTree → BlockTree
-tree_before statement rest =
-    statement_tree statement.kind (record { id = statement.id; line = statement.line }) rest
 
 -- the number, or the largest one of 64 bits
 abbrev pub capped : ℕ → ℕ

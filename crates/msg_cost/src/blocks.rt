@@ -1,13 +1,13 @@
 //! What statements and blocks cost.
 
 ghost use Rattle.std.specs.Prelude.{◌≡◌, ◌++◌, [], ◌∷◌};
-ghost use Rattle.jif_tree.specs.Trees.{done, block_tree};
+ghost use Rattle.jif_tree.specs.Trees.{done, block_tree, tree_before};
 ghost use Rattle.need_labels.specs.Plan.{statement_host};
 ghost use Rattle.msg_cost.specs.Cost.{cost_of};
 ghost use Rattle.msg_cost.specs.Kept.{IsKept};
 ghost use Rattle.msg_cost.specs.Moves.{on, block_end};
 ghost use Rattle.msg_cost.specs.Terms.{message, block_terms};
-ghost use Rattle.msg_cost.specs.Views.{shape_of, tree_before, capped};
+ghost use Rattle.msg_cost.specs.Views.{shape_of, capped};
 
 use crate::calls::call_cost;
 use crate::kept::Kept;

@@ -5,7 +5,6 @@ pub mod ReadRows
 pub mod Exprs
 pub mod FoundRows
 pub mod Walked
-pub mod Sizes
 pub mod Nested
 pub mod WholePrograms
 pub mod Ordered

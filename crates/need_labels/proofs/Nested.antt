@@ -14,12 +14,12 @@ use Rattle.jif_tree.specs.declared.program.StmtKind.{StmtKind, If, While}
 use Rattle.jif_tree.specs.declared.program.StmtKind as kind
 use Rattle.jif_tree.specs.declared.program.Expr.{Expr}
 use Rattle.jif_tree.specs.Trees.{ExprTree, Heading, BlockTree, done, branch, loop, statement_tree, block_tree, expr_tree}
-use Rattle.jif_tree.specs.Trees.{row_tree}
+use Rattle.jif_tree.specs.Trees.{row_tree, tree_before}
 use Rattle.jif_tree.specs.LabelRules.{MethodSetting}
 use Rattle.need_labels.specs.declared.place.Found.{Found}
 use Rattle.need_labels.specs.Labelled.{Labelled}
 use Rattle.need_labels.specs.Needs.{Backing, StatementUse, block_uses, statement_use, for_releases, all_backing}
-use Rattle.need_labels.specs.Finding.{AddsUses, enclosing, tree_before}
+use Rattle.need_labels.specs.Finding.{AddsUses, enclosing}
 use Rattle.need_labels.proofs.FoundRows.{both_added}
 
 inside_apart : {X : Type 0} (first : X) (inside rest : List X) →

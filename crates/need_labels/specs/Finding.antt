@@ -10,8 +10,7 @@ use Rattle.label_lattice.specs.declared.label.Label.{Label}
 use Rattle.label_lattice.specs.declared.label.TheConstants.{READERS}
 use Rattle.label_lattice.specs.Label.{Trusts}
 use Rattle.label_lattice.specs.Lattice.{join_of}
-use Rattle.jif_tree.specs.declared.program.Stmt.{Stmt}
-use Rattle.jif_tree.specs.Trees.{ExprTree, BlockTree, program_tree, method_tree, statement_tree}
+use Rattle.jif_tree.specs.Trees.{ExprTree, program_tree, method_tree}
 use Rattle.jif_tree.specs.LabelRules.{MethodSetting, setting_of, part_labels}
 use Rattle.need_labels.specs.declared.place.Place.{Place}
 use Rattle.need_labels.specs.declared.place.Reads.{Reads}
@@ -28,11 +27,6 @@ setting_at place =
 
 abbrev pub labelled_at : Place → Labelled
 labelled_at place = labelled_of place.checked.now
-
--- a statement and those after it
-abbrev pub tree_before : Stmt → BlockTree → BlockTree
-tree_before statement rest =
-    statement_tree statement.kind (record { id = statement.id; line = statement.line }) rest
 
 -- each principal of an authority is declared
 abbrev pub AreDeclared : Declared → List PrincipalId → Type 0

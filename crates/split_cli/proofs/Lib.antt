@@ -33,5 +33,4 @@ pub mod SetSources
 pub mod Stages
 pub mod StepCounts
 pub mod Stops
-pub mod VariableCounts
 pub mod WorldLines

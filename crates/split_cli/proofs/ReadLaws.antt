@@ -14,10 +14,10 @@ use Rattle.need_labels.specs.Labelled.{Labelled}
 use Rattle.need_labels.specs.Plan.{PlanShape}
 use Rattle.placement.specs.Placing.{HasHosts}
 use Rattle.principals.specs.ActsFor.{Declared}
+use Rattle.jif_tree.proofs.VariableCounts.{variable_count}
 use Rattle.split_rules.specs.Splittable.{IsSplittable}
 use Rattle.split_cli.specs.PlacedSources.{labelled_source}
 use Rattle.split_cli.specs.ReadPrograms.{IsReadDraft, IsReadProgram}
-use Rattle.split_cli.proofs.VariableCounts.{variable_count}
 
 -- what is known of the names of a program that was read
 abbrev pub NamedLaw : Type 0

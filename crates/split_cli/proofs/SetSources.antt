@@ -22,6 +22,7 @@ use Rattle.jif_tree.specs.Sizes.{IsSized}
 use Rattle.jif_tree.specs.Numbering.{CountsFrom, statement_numbers, site_numbers}
 use Rattle.jif_tree.specs.Trees.{ProgramTree, program_tree}
 use Rattle.jif_tree.specs.WellNumbered.{IsWellNumbered}
+use Rattle.jif_tree.proofs.VariableCounts.{variable_count}
 use Rattle.jif_grammar.specs.DraftShapes.{DraftShape}
 use Rattle.jif_grammar.specs.Programs as grammar
 use Rattle.jif_resolve.specs.Sizes.{IsLimited}
@@ -46,7 +47,6 @@ use Rattle.split_cli.specs.PlacedSources.{PlacedSource, AreChosen, PlacedSources
 use Rattle.split_cli.specs.Sources.{Source, Accepted, AcceptedWith, Drafted, Sources}
 use Rattle.split_cli.specs.Stages.{given, stopped}
 use Rattle.split_cli.proofs.ReadLaws.{splittable}
-use Rattle.split_cli.proofs.VariableCounts.{variable_count}
 
 -- ---- the laws of the crates below
 

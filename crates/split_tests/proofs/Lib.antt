@@ -1,2 +1,1 @@
 mod Splittable
-mod VariableCounts

@@ -5,12 +5,12 @@ use Rattle.host_decl.specs.Hosts.{HostsShape, AreHosts}
 use Rattle.jif_tree.specs.declared.program.Checked.{Checked}
 use Rattle.jif_tree.specs.declared.program.Program.{Program}
 use Rattle.jif_tree.specs.Trees.{program_tree}
+use Rattle.jif_tree.proofs.VariableCounts.{variable_count}
 use Rattle.label_check.specs.Checking.{IsChecked}
 use Rattle.need_labels.specs.Labelled.{labelled_of}
 use Rattle.need_labels.specs.Plan.{PlanShape}
 use Rattle.split_rules.specs.Splittable.{StandsAmong, IsSplittable}
 use Rattle.split_tests.specs.ReadPrograms.{IsReadProgram}
-use Rattle.split_tests.proofs.VariableCounts.{variable_count}
 
 -- what was read of the program that is checked
 pub read_checked : (principals : Declared) (program : Program) (checked : Checked) →

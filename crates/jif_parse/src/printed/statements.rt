@@ -2,12 +2,12 @@
 
 ghost use Rattle.std.specs.Prelude.{◌≡◌, ◌++◌, IfOk, OnOk, map, string_bytes, codes};
 ghost use Rattle.std.specs.List.{join_by};
-ghost use Rattle.jif_tree.specs.Trees.{BlockTree, block_tree, expr_tree};
+ghost use Rattle.jif_tree.specs.Trees.{BlockTree, block_tree, expr_tree, tree_before};
 ghost use Rattle.jif_parse.specs.PrintedNames.{naming_of, field_name, method_name};
 ghost use Rattle.jif_parse.specs.PrintedExprs.{expr_text};
 ghost use Rattle.jif_parse.specs.PrintedProgram.{optional_label_text, declared_text, assigned_text, into_text};
 ghost use Rattle.jif_parse.specs.PrintedProgram.{else_text, is_done, block_text, seen_after, seen_behind};
-ghost use Rattle.jif_parse.specs.PrintedBlocks.{tree_before, PrintsBefore};
+ghost use Rattle.jif_parse.specs.PrintedBlocks.{PrintsBefore};
 
 use crate::printed::exprs::{args_text, expr_text};
 use crate::printed::names::{Names, field_name, method_name, variable_label, variable_name};

@@ -4,7 +4,8 @@ use Rattle.std.proofs.Math.Seq.{drop-cons}
 use Rattle.js_base.specs.declared.ids.HostId.{HostId}
 use Rattle.jif_tree.specs.declared.program.Stmt.{Stmt}
 use Rattle.jif_tree.specs.declared.program.StmtKind.{StmtKind}
-use Rattle.jif_tree.specs.Trees.{Heading, BlockTree, done, expr_tree, statement_tree, block_tree}
+use Rattle.jif_tree.specs.Trees.{Heading, BlockTree, done, expr_tree, statement_tree, block_tree, tree_before}
+use Rattle.jif_tree.proofs.StatementCounts.{part_counts, body_counts, both_counts}
 use Rattle.msg_cost.specs.declared.spot.Spot.{Spot}
 use Rattle.msg_cost.specs.Kept.{AreTrustedTo}
 use Rattle.msg_cost.specs.Moves.{PlannedShape, next_spot}
@@ -14,11 +15,10 @@ use Rattle.control_split.specs.Ahead.{IsAhead}
 use Rattle.control_split.specs.Own.{own_emissions}
 use Rattle.control_split.specs.Places.{around_at, heading_at}
 use Rattle.control_split.specs.Trace.{traced}
-use Rattle.control_split.specs.Views.{walked_of, around_of, lane_of, tree_before}
+use Rattle.control_split.specs.Views.{walked_of, around_of, lane_of}
 use Rattle.control_split.proofs.Nesting.{branch_front_traced, branch_traced, loop_front_traced, loop_traced}
 use Rattle.control_split.proofs.SizedBlocks.{sized_part, sized_guard, sized_first, sized_second, sized_loop_guard}
 use Rattle.control_split.proofs.SizedBlocks.{sized_body, sized_args}
-use Rattle.control_split.proofs.Sizes.{part_counts, both_counts, body_counts}
 use Rattle.control_split.proofs.Spots.{spot_host}
 use Rattle.control_split.proofs.Stepping.{one_walked}
 use Rattle.control_split.proofs.blocks.+blocks.Goals as goal

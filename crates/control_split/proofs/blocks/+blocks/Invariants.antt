@@ -1,10 +1,10 @@
 use Rattle.std.proofs.Common.{◌≡◌, drop, ◌+◌, ◌*◌}
-use Rattle.jif_tree.specs.Trees.{block_tree, done}
+use Rattle.jif_tree.specs.Trees.{block_tree, done, tree_before}
+use Rattle.jif_tree.proofs.StatementCounts.{count_in}
 use Rattle.msg_cost.specs.Kept.{AreTrustedTo}
 use Rattle.split_rules.specs.Walk.{lane_on, block_emissions}
 use Rattle.control_split.specs.Trace.{traced}
-use Rattle.control_split.specs.Views.{walked_of, planned_in, around_of, lane_of, tree_before}
-use Rattle.control_split.proofs.Sizes.{count_in}
+use Rattle.control_split.specs.Views.{walked_of, planned_in, around_of, lane_of}
 use Rattle.control_split.proofs.blocks.+blocks.Given as goal
 
 -- what is left gives what all statements gave from the start

@@ -4,11 +4,10 @@ use Rattle.std.proofs.Math.Seq.{drop-cons}
 use Rattle.js_base.specs.declared.ids.HostId.{HostId}
 use Rattle.jif_tree.specs.declared.program.Stmt.{Stmt}
 use Rattle.jif_tree.specs.declared.program.StmtKind.{StmtKind}
-use Rattle.jif_tree.specs.Trees.{Heading, done, statement_tree, block_tree}
+use Rattle.jif_tree.specs.Trees.{Heading, done, statement_tree, block_tree, tree_before}
+use Rattle.jif_tree.proofs.StatementCounts.{part_counts, first_counts, second_counts, body_counts}
 use Rattle.split_rules.specs.SplitCode.{site_hosts}
-use Rattle.control_split.specs.Views.{tree_before}
 use Rattle.control_split.proofs.Sites.{sites_apart, sites_in_branch, sites_in_loop}
-use Rattle.control_split.proofs.Sizes.{part_counts, first_counts, second_counts, body_counts}
 use Rattle.control_split.proofs.tables.+site_blocks.Goals as goal
 
 abbrev head_of : Stmt → Heading

@@ -1,8 +1,7 @@
 use Rattle.std.proofs.Common.{◌≡◌, ◌++◌, ◌+◌, ◌*◌, drop}
-use Rattle.jif_tree.specs.Trees.{block_tree, done}
+use Rattle.jif_tree.specs.Trees.{block_tree, done, tree_before}
+use Rattle.jif_tree.proofs.StatementCounts.{count_in}
 use Rattle.split_rules.specs.SplitCode.{site_hosts}
-use Rattle.control_split.specs.Views.{tree_before}
-use Rattle.control_split.proofs.Sizes.{count_in}
 use Rattle.control_split.proofs.tables.+site_blocks.Given as goal
 
 -- the sites so far with those that are left

@@ -5,15 +5,15 @@ use Rattle.std.proofs.Math.Seq.{drop-cons}
 use Rattle.std.proofs.lemmas.List.{drop_all}
 use Rattle.std.proofs.lemmas.Result.{on_ok_weaker}
 use Rattle.jif_tree.specs.declared.program.Stmt.{Stmt}
-use Rattle.label_check.proofs.Sizes.{part_counts, first_counts, second_counts, body_counts}
 use Rattle.std.specs.Global.{Vec}
 use Rattle.jif_tree.specs.declared.program.StmtKind.{StmtKind, If, While}
 use Rattle.jif_tree.specs.declared.program.Expr.{Expr}
 use Rattle.jif_tree.specs.Trees.{Heading, BlockTree, done, branch, loop, block_tree, expr_tree, statement_tree}
-use Rattle.jif_tree.specs.Trees.{program_tree}
+use Rattle.jif_tree.specs.Trees.{program_tree, tree_before}
 use Rattle.jif_tree.specs.LabelRules.{VariableLabels, method_at}
+use Rattle.jif_tree.proofs.StatementCounts.{part_counts, first_counts, second_counts, body_counts}
 use Rattle.label_check.proofs.Arguments.{call_asks}
-use Rattle.label_check.specs.Places.{tree_before, asks_of, PassesTo, setting_at}
+use Rattle.label_check.specs.Places.{asks_of, PassesTo, setting_at}
 use Rattle.label_check.proofs.Asked.{refused_before}
 use Rattle.label_check.proofs.Exits.{handed_on}
 use Rattle.label_check.proofs.Passing.{refused_for_rest, handed_on_rest, passes_none, passes_on, refused_left, loop_passes, loop_refused}

@@ -1,7 +1,7 @@
 use Rattle.std.proofs.Common.{drop, ◌+◌, ◌*◌}
-use Rattle.jif_tree.specs.Trees.{block_tree, done}
-use Rattle.label_check.specs.Places.{PassesTo, tree_before}
-use Rattle.label_check.proofs.Sizes.{count_in}
+use Rattle.jif_tree.specs.Trees.{block_tree, done, tree_before}
+use Rattle.jif_tree.proofs.StatementCounts.{count_in}
+use Rattle.label_check.specs.Places.{PassesTo}
 use Rattle.label_check.proofs.statements.+blocks.Given as goal
 
 -- the statements so far are passed

@@ -3,13 +3,13 @@ use Rattle.std.proofs.Common.{add-one, arith}
 use Rattle.std.proofs.Math.Seq.{drop-cons}
 use Rattle.jif_tree.specs.declared.program.Stmt.{Stmt}
 use Rattle.jif_tree.specs.declared.program.StmtKind.{StmtKind}
-use Rattle.jif_tree.specs.Trees.{Heading, BlockTree, done, expr_tree, statement_tree, block_tree}
+use Rattle.jif_tree.specs.Trees.{Heading, BlockTree, done, expr_tree, statement_tree, block_tree, tree_before}
+use Rattle.jif_tree.proofs.StatementCounts.{part_counts, first_counts, second_counts, body_counts}
 use Rattle.need_labels.specs.Plan.{statement_host}
 use Rattle.msg_cost.specs.Cost.{cost_of}
 use Rattle.msg_cost.specs.Moves.{on}
 use Rattle.msg_cost.specs.Terms.{block_terms}
-use Rattle.msg_cost.specs.Views.{shape_of, ids_of, tree_before, capped}
-use Rattle.msg_cost.proofs.Sizes.{part_counts, first_counts, second_counts, body_counts}
+use Rattle.msg_cost.specs.Views.{shape_of, ids_of, capped}
 use Rattle.msg_cost.proofs.Sums.{CostsWith}
 use Rattle.msg_cost.proofs.Walks.{one_walked, branch_alone, loop_alone}
 use Rattle.msg_cost.proofs.blocks.+blocks.Goals as goal

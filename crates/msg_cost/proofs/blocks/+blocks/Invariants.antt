@@ -1,10 +1,10 @@
 use Rattle.std.proofs.Common.{drop, ◌+◌, ◌*◌}
-use Rattle.jif_tree.specs.Trees.{block_tree, done}
+use Rattle.jif_tree.specs.Trees.{block_tree, done, tree_before}
+use Rattle.jif_tree.proofs.StatementCounts.{count_in}
 use Rattle.msg_cost.specs.Kept.{AreTrustedTo}
 use Rattle.msg_cost.specs.Moves.{on}
 use Rattle.msg_cost.specs.Terms.{block_terms}
-use Rattle.msg_cost.specs.Views.{shape_of, tree_before}
-use Rattle.msg_cost.proofs.Sizes.{count_in}
+use Rattle.msg_cost.specs.Views.{shape_of}
 use Rattle.msg_cost.proofs.Sums.{CostsWith}
 use Rattle.msg_cost.proofs.blocks.+blocks.Given as goal
 

@@ -1,8 +1,8 @@
 use Rattle.std.proofs.Common.{take, ◌+◌, ◌*◌}
-use Rattle.jif_tree.specs.Trees.{block_tree, done}
+use Rattle.jif_tree.specs.Trees.{block_tree, done, tree_before}
+use Rattle.jif_tree.proofs.StatementCounts.{count_in}
 use Rattle.need_labels.specs.Needs.{block_uses}
-use Rattle.need_labels.specs.Finding.{AddsUses, tree_before, setting_at, labelled_at}
-use Rattle.need_labels.proofs.Sizes.{count_in}
+use Rattle.need_labels.specs.Finding.{AddsUses, setting_at, labelled_at}
 use Rattle.need_labels.proofs.statements.+blocks.Given as goal
 
 -- the statements so far

@@ -1,8 +1,8 @@
 use Rattle.std.proofs.Common.{drop, ◌+◌, ◌*◌, string_bytes}
-use Rattle.jif_tree.specs.Trees.{block_tree, done}
+use Rattle.jif_tree.specs.Trees.{block_tree, done, tree_before}
+use Rattle.jif_tree.proofs.StatementCounts.{count_in}
 use Rattle.jif_parse.specs.PrintedNames.{naming_of}
-use Rattle.jif_parse.specs.PrintedBlocks.{PrintsBefore, tree_before}
-use Rattle.jif_parse.proofs.PrintedSizes.{count_in}
+use Rattle.jif_parse.specs.PrintedBlocks.{PrintsBefore}
 use Rattle.jif_parse.proofs.printed.statements.+printed_blocks.Given as goal
 
 -- the text so far stands before that of the statements that are left

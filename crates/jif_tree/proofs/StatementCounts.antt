@@ -1,25 +1,10 @@
--- How many statements a block has, with those in the blocks inside it, and how many nodes an expression:
--- the measures of the check.
+-- How many statements a block has, with those in the blocks inside it: the measure of walks over blocks.
 use Rattle.std.proofs.Common.{◌≡◌, ℕ, zero, suc, ◌+◌, ◌<◌, ◌≤◌, ap, subst, sym, List, [], ◌∷◌, length, get_or, arith}
 use Rattle.jif_tree.specs.declared.program.Stmt.{Stmt}
 use Rattle.jif_tree.specs.declared.program.StmtKind.{StmtKind}
 use Rattle.jif_tree.specs.declared.program.StmtKind as kind
-use Rattle.jif_tree.specs.Trees.{ExprTree, number, local, scalar, element, inverted, negated, binary, declassified}
-use Rattle.jif_tree.specs.Trees.{endorsed}
 use Rattle.jif_tree.specs.Trees.{Heading, BlockTree, done, set_local, set_field, set_element, branch, loop, call}
-use Rattle.jif_tree.specs.Trees.{give_back, statement_tree, block_tree}
-use Rattle.label_check.specs.Places.{tree_before}
-
-abbrev pub nodes_in : ExprTree → ℕ
-nodes_in (number value) = 1
-nodes_in (local x) = 1
-nodes_in (scalar field) = 1
-nodes_in (element field index) = 1 + nodes_in index
-nodes_in (inverted operand) = 1 + nodes_in operand
-nodes_in (negated operand) = 1 + nodes_in operand
-nodes_in (binary operator left right) = 1 + (nodes_in left + nodes_in right)
-nodes_in (declassified operand label) = 1 + nodes_in operand
-nodes_in (endorsed operand label) = 1 + nodes_in operand
+use Rattle.jif_tree.specs.Trees.{give_back, statement_tree, block_tree, tree_before}
 
 abbrev pub count_in : BlockTree → ℕ
 count_in done = 0
@@ -66,3 +51,7 @@ second_counts heading first second tree is = omega (arith, ap count_in is)
 pub body_counts : (heading : Heading) {guard : _} (body tree : BlockTree) →
     tree ≡ loop heading guard body done → count_in body < count_in tree
 body_counts heading body tree is = omega (arith, ap count_in is)
+
+pub both_counts : (heading : Heading) {guard : _} (first second tree : BlockTree) →
+    tree ≡ branch heading guard first second done → count_in first + count_in second < count_in tree
+both_counts heading first second tree is = omega (arith, ap count_in is)
