@@ -12,3 +12,4 @@ pub mod Sizes
 pub mod Returns
 pub mod Labelling
 pub mod GuardLabels
+pub mod Results
