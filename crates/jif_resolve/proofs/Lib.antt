@@ -24,6 +24,7 @@ mod OneProgram
 mod Parts
 mod PrincipalNames
 mod Ranges
+mod ResultsGiven
 mod Returning
 mod Sized
 mod Sooner

@@ -59,7 +59,7 @@ never_returns may s p (call_shape start name args into rest) tree (f, xs, k, r, 
     subst (ReturnsLast may) (sym same) (never_returns may s (after_call p) rest r behind none)
 never_returns may s p (return_shape start value rest) tree is none = absurd none
 
-nothing_behind : (s : Setting) (p : Place) (b : BlockShape) (tree : BlockTree) → b ≡ end_shape →
+pub nothing_behind : (s : Setting) (p : Place) (b : BlockShape) (tree : BlockTree) → b ≡ end_shape →
     IsBlockFor s p b tree → tree ≡ done
 nothing_behind s p b tree ends is = subst (λ shape. IsBlockFor s p shape tree) ends is
 
