@@ -25,6 +25,7 @@ mod Parts
 mod PrincipalNames
 mod Ranges
 mod ResultsGiven
+mod ResultsUnread
 mod Returning
 mod Sized
 mod Sooner

@@ -33,11 +33,11 @@ use Rattle.jif_resolve.proofs.Within.{HasVariables, block_in}
 
 -- ---- parameters
 
-params_first : (p : Place) (params : List ParamShape) → (after_params p params).first ≡ p.first
+pub params_first : (p : Place) (params : List ParamShape) → (after_params p params).first ≡ p.first
 params_first p [] = refl
 params_first p (param ∷ params) = params_first (after_variable p param.name) params
 
-params_earlier : (p : Place) (params : List ParamShape) →
+pub params_earlier : (p : Place) (params : List ParamShape) →
     length (after_params p params).earlier ≡ length p.earlier + length params
 params_earlier p [] = omega arith
 params_earlier p (param ∷ params) =
@@ -48,7 +48,7 @@ params_earlier p (param ∷ params) =
     length-append p.earlier (param.name.text ∷ []) in
     omega arith
 
-params_known : (program : ProgramTree) (own : MethodId) (size : ℕ) (p : Place) →
+pub params_known : (program : ProgramTree) (own : MethodId) (size : ℕ) (p : Place) →
     HasVariables program own p.first size → AreKnownIn program own p.known → (params : List ParamShape) →
     length p.earlier + length params ≤ size → AreKnownIn program own (after_params p params).known
 params_known program own size p vars known [] room = known
@@ -150,7 +150,8 @@ all_own own method =
     (both_all (λ v. v.method ≡ own) _ _ (params_own own method.params) (locals_own own (locals_in method.body)))
     (result_own own method.result)
 
-own_variables : (principals : Declared) (program : ProgramTree) (own : MethodId) (first : ℕ) (method : MethodShape) →
+pub own_variables : (principals : Declared) (program : ProgramTree) (own : MethodId) (first : ℕ)
+    (method : MethodShape) →
     VariablesStand principals program first (method_variables own method) →
     HasVariables program own first (variables_in method)
 own_variables principals program own first method stands k less =

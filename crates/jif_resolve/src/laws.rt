@@ -7,7 +7,7 @@ ghost use Rattle.label_lattice.specs.declared.label.TheConstants.{READERS};
 ghost use Rattle.jif_tree.specs.LabelRules.{declared_labels};
 ghost use Rattle.jif_tree.specs.Labelling.{AreLabelledMethods};
 ghost use Rattle.jif_tree.specs.GuardLabels.{AreAllGuardsLabelled};
-ghost use Rattle.jif_tree.specs.Results.{AreGivenBack};
+ghost use Rattle.jif_tree.specs.Results.{AreGivenBack, AreUnread};
 ghost use Rattle.jif_tree.specs.Returns.{ReturnsLast};
 ghost use Rattle.jif_tree.specs.Sizes as trees;
 ghost use Rattle.jif_tree.specs.Trees.{ProgramTree};
@@ -93,11 +93,14 @@ pub fn labelling_laws()
         AreAllGuardsLabelled principals tree (declared_labels tree) tree.methods }
 {}
 
-/// What becomes of results: a method that has one gives it back.
+/// What becomes of results: a method that has one gives it back, and no expression reads it.
 pub fn result_laws()
     // Each method with a result gives it back at its end.
     ensures given { (principals : Declared) (draft : DraftShape) (tree : ProgramTree) →
         IsLimited draft → IsProgramOf principals draft tree → AreGivenBack tree }
+    // No expression reads a result: names stand for fields, parameters and locals.
+    ensures unread { (principals : Declared) (draft : DraftShape) (tree : ProgramTree) →
+        IsProgramOf principals draft tree → AreUnread tree }
 {}
 
 /// The fault that is found one by one is the first, and none is found where there is none.
