@@ -21,6 +21,7 @@ mod MethodWalks
 mod Methods
 mod Numbers
 mod OneProgram
+mod ParametersInOrder
 mod Parts
 mod PrincipalNames
 mod Ranges

@@ -1,6 +1,7 @@
 //! Laws of names, for whoever resolves programs. The calls do nothing.
 
-ghost use Rattle.std.specs.Prelude.{◌≡◌, ◌⊎◌, ◌<◌, true, [], ◌∷◌, Some, None, codes, length, All, List};
+ghost use Rattle.std.specs.Prelude.{◌≡◌, ◌⊎◌, ◌<◌, ℕ, true, [], ◌∷◌, Some, None, codes, length, slice_get, All, List};
+ghost use Rattle.js_base.specs.declared.ids.VarId.{VarId};
 ghost use Rattle.principals.specs.ActsFor.{Declared, IsDeclared};
 ghost use Rattle.label_lattice.specs.Over.{TrustsOver};
 ghost use Rattle.label_lattice.specs.declared.label.TheConstants.{READERS};
@@ -10,7 +11,7 @@ ghost use Rattle.jif_tree.specs.GuardLabels.{AreAllGuardsLabelled};
 ghost use Rattle.jif_tree.specs.Results.{AreGivenBack, AreUnread};
 ghost use Rattle.jif_tree.specs.Returns.{ReturnsLast};
 ghost use Rattle.jif_tree.specs.Sizes as trees;
-ghost use Rattle.jif_tree.specs.Trees.{ProgramTree};
+ghost use Rattle.jif_tree.specs.Trees.{MethodTree, ProgramTree};
 ghost use Rattle.jif_tree.specs.WellNumbered.{IsWellNumbered};
 ghost use Rattle.jif_lex.specs.declared.token.Token.{Token};
 ghost use Rattle.jif_grammar.specs.DraftShapes.{DraftShape};
@@ -56,6 +57,12 @@ pub fn program_laws()
     ensures authorities { (principals : Declared) (draft : DraftShape) (tree : ProgramTree) →
         IsProgramOf principals draft tree →
         All (λ method. All (λ member. member.0 < length principals.names) method.authority) tree.methods }
+    // The parameters of a method have numbers that rise in their order.
+    ensures parameters { (principals : Declared) (draft : DraftShape) (tree : ProgramTree) →
+        IsProgramOf principals draft tree →
+        (place first second : ℕ) (method : MethodTree) (x y : VarId) →
+        slice_get tree.methods place ≡ Some method → slice_get method.params first ≡ Some x →
+        slice_get method.params second ≡ Some y → first < second → x.0 < y.0 }
 {}
 
 /// A draft of the parser keeps the limits that `resolve` asks for.

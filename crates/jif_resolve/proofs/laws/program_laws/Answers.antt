@@ -1,6 +1,7 @@
 use Rattle.jif_resolve.proofs.Authorities.{authorities}
 use Rattle.jif_resolve.proofs.OneProgram.{one_program}
 use Rattle.jif_resolve.proofs.Numbers.{statements_counted, sites_counted}
+use Rattle.jif_resolve.proofs.ParametersInOrder.{params_rise}
 use Rattle.jif_resolve.proofs.WellNumbered.{well_numbered}
 use Rattle.jif_resolve.proofs.laws.program_laws.Goals as goal
 
@@ -11,4 +12,5 @@ returns c = record {
   sites = sites_counted;
   well_numbered = well_numbered;
   authorities = authorities;
+  parameters = params_rise;
 }
