@@ -1,7 +1,7 @@
 -- What a put leaves on a sink, and what is then answered.
-use Rattle.std.proofs.Common.{◌≡◌, ℕ, List, length, Option, refl, sym, ◌∙◌, subst, inl, inr, Result, Ok, Err}
+use Rattle.std.proofs.Common.{◌≡◌, ℕ, List, length, Option, refl, sym, ◌∙◌, subst, inl, inr, ⊎_elim, Result, Ok, Err}
 use Rattle.std.proofs.Common.{arith}
-use Rattle.std.specs.Prelude.{OnOk, OnErr, IsErrOf}
+use Rattle.std.specs.Prelude.{◌⊎◌, OnOk, OnErr, IsErrOf}
 use Rattle.std.proofs.lemmas.List.{take_all}
 use Rattle.js_base.specs.Counts.{Rose}
 use Rattle.js_base.specs.Sink.{Takes, TakesFront}
@@ -12,7 +12,7 @@ use Rattle.js_base.specs.declared.status.Status.TheVariants.{OutFault, NoMemory}
 use Rattle.split_cli.specs.Verdicts.{Refuse, no_memory_line}
 use Rattle.split_cli.specs.Loads.{FilesChange}
 use Rattle.split_cli.specs.Due.{IsDue}
-use Rattle.split_cli.specs.Answers.{SinkChange, AnswersTo}
+use Rattle.split_cli.specs.Answers.{SinkChange, IsUntouched, AnswersTo}
 
 -- whatever a put answered, a front of the text was put
 pub front_put : {T E : Type 0} (put : Result T E) (text : List ℕ) (before after : Option (List ℕ)) →
@@ -30,8 +30,9 @@ pub refused : {T : Type 0} (words : List (List ℕ)) (files : FilesChange) (stat
     (put : Result T PutError) (out : SinkChange)
     (faults_before faults_between faults_after : ℕ) (taken_before taken_between taken_after : Option (List ℕ)) →
     IsDue words files (Refuse status line) →
-    out.taken_after ≡ out.taken_before →
+    IsUntouched out →
     OnOk put (Takes line taken_before taken_between) → OnErr put (TakesFront line taken_before taken_between) →
+    IsErrOf put put_error.Failed ⊎ (faults_between ≡ faults_before) →
     (IsErrOf put put_error.Failed → Rose faults_before faults_between) →
     OnOk put (answer ≡ status) → (IsErrOf put put_error.Failed → answer ≡ OutFault) →
     (IsErrOf put put_error.OutOfMemory → answer ≡ NoMemory) →
@@ -46,11 +47,12 @@ pub refused : {T : Type 0} (words : List (List ℕ)) (files : FilesChange) (stat
       taken_after = taken_after;
     })
 refused words files status answer line (Ok x) out faults_before faults_between faults_after taken_before
-    taken_between taken_after due same whole front cause ok failed memory line_put untouched =
+    taken_between taken_after due same whole front fault cause ok failed memory line_put untouched =
     let no_more = untouched (λ is. cc) in
-    inr (Refuse status line, due, (same, inl (ok, no_more.0 ∙ whole)))
+    let faultless = ⊎_elim (λ fails. absurd (let no : ⊥ = cc in no)) (λ none. none) fault in
+    inr (Refuse status line, due, (same, inl (ok, no_more.0 ∙ whole, no_more.1 ∙ faultless)))
 refused words files status answer line (Err put_error.Failed) out faults_before faults_between faults_after
-    taken_before taken_between taken_after due same whole front cause ok failed memory line_put untouched =
+    taken_before taken_between taken_after due same whole front fault cause ok failed memory line_put untouched =
     let no_more = untouched (λ is. cc) in
     inr (
       Refuse status line,
@@ -65,5 +67,5 @@ refused words files status answer line (Err put_error.Failed) out faults_before 
       ),
     )
 refused words files status answer line (Err put_error.OutOfMemory) out faults_before faults_between faults_after
-    taken_before taken_between taken_after due same whole front cause ok failed memory line_put untouched =
+    taken_before taken_between taken_after due same whole front fault cause ok failed memory line_put untouched =
     inl (memory refl, inr (Refuse status line, due, (same, (taken_between, front, line_put refl))))

@@ -15,9 +15,9 @@ pub record SinkChange : Type 0 where
   pub taken_before : Option (List ℕ)
   pub taken_after : Option (List ℕ)
 
--- nothing was put
+-- nothing was put, and no fault was counted
 abbrev pub IsUntouched : SinkChange → Type 0
-IsUntouched sink = sink.taken_after ≡ sink.taken_before
+IsUntouched sink = (sink.taken_after ≡ sink.taken_before) × (sink.faults_after ≡ sink.faults_before)
 
 -- no more was put than a front of the text
 abbrev pub PutsFront : List ℕ → SinkChange → Type 0
@@ -32,10 +32,10 @@ PutsFronts first second sink =
 
 -- ---- answers to what is due
 
--- all of the text was put, and the answer is this status, or a front of it, where the sink counted a fault
+-- all of the text was put, with no fault, and the answer is this status, or a front of it, where the sink counted one
 abbrev pub Puts : List ℕ → Status → Status → SinkChange → Type 0
 Puts text status answer sink =
-    ((answer ≡ status) × Takes text sink.taken_before sink.taken_after)
+    ((answer ≡ status) × Takes text sink.taken_before sink.taken_after × (sink.faults_after ≡ sink.faults_before))
     ⊎ ((answer ≡ OutFault) × Rose sink.faults_before sink.faults_after × PutsFront text sink)
 
 -- A refusal puts its line on the error output and nothing on the output. A report goes on the output, with nothing on

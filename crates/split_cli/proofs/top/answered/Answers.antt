@@ -6,10 +6,10 @@ pub returns-in-Ok-Refuse-clause-answer : goal.returns-in-Ok-Refuse-clause-answer
 returns-in-Ok-Refuse-clause-answer g c =
     refused _ _ c.in-Ok-Refuse.status _ _ c.put-put-in-Ok-Refuse.result _ _
     (g.E.Sink.faults c.put-put-in-Ok-Refuse.new.self) _ _ (g.E.Sink.taken c.put-put-in-Ok-Refuse.new.self) _
-    (rw c.in-Ok-Refuse.field-0-is at c.in-Ok-Refuse.ensures.due) refl
+    (rw c.in-Ok-Refuse.field-0-is at c.in-Ok-Refuse.ensures.due) (refl, refl)
     (rw c.as_bytes-in-Ok-Refuse.ensures.value at c.put-put-in-Ok-Refuse.ensures.ok)
     (rw c.as_bytes-in-Ok-Refuse.ensures.value at c.put-put-in-Ok-Refuse.ensures.err)
-    c.put-put-in-Ok-Refuse.ensures.cause
+    c.put-put-in-Ok-Refuse.ensures.no_fault c.put-put-in-Ok-Refuse.ensures.cause
     c.status_after-in-Ok-Refuse.ensures.ok c.status_after-in-Ok-Refuse.ensures.failed
     c.status_after-in-Ok-Refuse.ensures.memory
     c.status_after-in-Ok-Refuse.ensures.line c.status_after-in-Ok-Refuse.ensures.untouched
