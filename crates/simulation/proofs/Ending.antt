@@ -21,7 +21,8 @@ use Rattle.split_rules.specs.Splittable.{IsSplittable}
 use Rattle.simulation.specs.Driven.{IsDriven}
 use Rattle.simulation.specs.Ending.{EVENTS, HaltsWithin}
 use Rattle.simulation.specs.Obeying.{IsSet}
-use Rattle.simulation.proofs.Simulates.{Split, Paced, STEP, Falls, Simulates}
+use Rattle.simulation.proofs.Views.{Split}
+use Rattle.simulation.proofs.Simulates.{Paced, STEP, Falls, Simulates}
 use Rattle.simulation.proofs.Starts.{falls_at_start}
 use Rattle.simulation.proofs.Events.{event_kept, idle_halted}
 use Rattle.simulation.proofs.Possible.{event_of, happens, none_comes, one_comes}

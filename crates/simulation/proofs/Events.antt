@@ -1,11 +1,10 @@
 -- Every event leaves a world that stands for the same configuration of the plain run, or for the next.
-use Rattle.std.proofs.Common.{◌≡◌, ◌∙◌, ℕ, inl, inr, true, false, List, [], ◌∷◌, Option, Some, None, refl, ap, sym}
+use Rattle.std.proofs.Common.{◌≡◌, ◌∙◌, ℕ, inl, inr, true, false, [], ◌∷◌, Option, Some, None, refl, ap, sym}
 use Rattle.std.proofs.Common.{subst}
 use Rattle.std.specs.Prelude.{IsSome, IsSomeAnd, IsTrue}
 use Rattle.std.proofs.lemmas.Bool.Decides.{eqb_tells}
 use Rattle.js_base.specs.declared.ids.HostId.{HostId}
 use Rattle.jif_tree.specs.SourceRun.{Configuration, IsAtEnd}
-use Rattle.ics_stack.specs.declared.stack.StackEntry.{StackEntry}
 use Rattle.event_text.specs.declared.event.Event.{Event}
 use Rattle.event_text.specs.declared.event.Event.TheVariants.{Take, Turn, Act}
 use Rattle.host_core.specs.Host.{HostShape}
@@ -13,14 +12,13 @@ use Rattle.host_core.specs.Turn.{IsTurn, label_of_turn}
 use Rattle.net_world.specs.Choice.{NoneRuns, NothingFlies}
 use Rattle.net_world.specs.Flying.{Flight, Flying}
 use Rattle.net_world.specs.World.{WorldShape, IsStep, IsTurnStep, IsTakeStep, state_at, after_step, has_halted}
-use Rattle.split_rules.specs.Positions.{Forward}
-use Rattle.simulation.proofs.Simulates.{Split, only, Holder, runs, asked, answered, goes, returns, halted, IsIdle}
-use Rattle.simulation.proofs.Simulates.{Stands}
+use Rattle.simulation.proofs.Views.{Split, View}
+use Rattle.simulation.proofs.Simulates.{only, Holder, runs, asked, answered, gives, goes, returns, halted, IsIdle}
+use Rattle.simulation.proofs.Simulates.{Stands, AreIdle, GoesOn, Simulates, Goes, Paced, IsFueled}
 use Rattle.net_world.specs.Fits.{ShapeFits}
-use Rattle.simulation.proofs.Simulates.{AreIdle, GoesOn, Simulates, Goes, Paced, IsFueled}
 use Rattle.simulation.proofs.Moved.{same_id, none_taken, own_cell}
-use Rattle.simulation.proofs.Turns.{holder_turn}
-use Rattle.simulation.proofs.Takes.{asked_taken, answered_taken, going_taken, returning_taken}
+use Rattle.simulation.proofs.HolderTurns.{holder_turn}
+use Rattle.simulation.proofs.Takes.{asked_taken, answered_taken, giving_taken, going_taken, returning_taken}
 use Rattle.simulation.proofs.Basics.{none_there, some_same}
 
 -- ---- turns
@@ -42,8 +40,8 @@ waiting_turn split world after host holder state there rests same step =
 
 turned : (split : Split) (c : Configuration) (world after : WorldShape) (sim : Simulates split c world)
     (holder : Holder) → ShapeFits split.code world → sim.holder ≡ holder →
-    (stands : Stands split c sim.chain sim.out world holder) →
-    (Paced split → IsFueled split c sim.chain sim.out world holder stands sim.fuel) → AreIdle holder world →
+    (stands : Stands split c sim.view world holder) →
+    (Paced split → IsFueled split c sim.view world holder stands sim.fuel) → AreIdle holder world →
     GoesOn holder world → (host : HostId) → IsTurnStep split.code world host after → Goes split c sim.fuel after
 turned split c world after sim (runs holder) fits is stands fueled idle none host step = elim (eqb_tells host.0 holder.0) [
   | inl same ↦
@@ -70,6 +68,13 @@ turned split c world after sim (answered holder owner) fits is stands fueled idl
           absurd (waiting_turn split world after host holder waits.state waits.there waits.running same.1 step)
       | inr apart ↦ absurd (idle_turn split world after (answered holder owner) idle host apart.1 step)
     ]
+turned split c world after sim (gives holder owner) fits is stands fueled idle none host step =
+    elim (eqb_tells host.0 holder.0) [
+      | inl same ↦
+          let waits = stands.1.waits in
+          absurd (waiting_turn split world after host holder waits.state waits.there waits.running same.1 step)
+      | inr apart ↦ absurd (idle_turn split world after (gives holder owner) idle host apart.1 step)
+    ]
 turned split c world after sim (goes from to) fits is stands fueled idle none host step =
     absurd (idle_turn split world after (goes from to) idle host tt step)
 turned split c world after sim (returns from to) fits is stands fueled idle none host step =
@@ -80,8 +85,8 @@ turned split c world after sim halted fits is stands fueled idle none host step 
 -- ---- messages
 
 taken : (split : Split) (c : Configuration) (world after : WorldShape) (sim : Simulates split c world)
-    (holder : Holder) → (stands : Stands split c sim.chain sim.out world holder) →
-    (Paced split → IsFueled split c sim.chain sim.out world holder stands sim.fuel) → AreIdle holder world → GoesOn holder world →
+    (holder : Holder) → (stands : Stands split c sim.view world holder) →
+    (Paced split → IsFueled split c sim.view world holder stands sim.fuel) → AreIdle holder world → GoesOn holder world →
     (from to : HostId) (place : ℕ) → IsTakeStep split.code world from to place after → Goes split c sim.fuel after
 taken split c world after sim (runs holder) stands fueled idle none from to place step =
     absurd (none_taken world from to place step.flight stands.1.flying step.there)
@@ -89,6 +94,8 @@ taken split c world after sim (asked holder owner) stands fueled idle none from 
     asked_taken split c world after sim holder owner idle none stands.0 stands.1 from to place step fueled
 taken split c world after sim (answered holder owner) stands fueled idle none from to place step =
     answered_taken split c world after sim holder owner idle none stands.0 stands.1 from to place step fueled
+taken split c world after sim (gives holder owner) stands fueled idle none from to place step =
+    giving_taken split c world after sim holder owner idle none stands.0 stands.1 from to place step fueled
 taken split c world after sim (goes sender target) stands fueled idle none from to place step =
     going_taken split c world after sim sender target idle none stands.0 stands.1 from to place step fueled
 taken split c world after sim (returns sender target) stands fueled idle none from to place step =
@@ -124,21 +131,22 @@ still world root none halts =
     let has = halting (state_at world root) halts in
     not_halted has.0 (none root has.0 has.1) has.2
 
-ended : (split : Split) (c : Configuration) (world : WorldShape) (chain : List StackEntry) (out : List Forward)
-    (holder : Holder) → Stands split c chain out world holder → GoesOn holder world → has_halted split.code.root world →
+ended : (split : Split) (c : Configuration) (world : WorldShape) (view : View)
+    (holder : Holder) → Stands split c view world holder → GoesOn holder world → has_halted split.code.root world →
     IsAtEnd c
-ended split c world chain out (runs holder) stands none halts = absurd (still world split.code.root none halts)
-ended split c world chain out (asked holder owner) stands none halts = absurd (still world split.code.root none halts)
-ended split c world chain out (answered holder owner) stands none halts = absurd
+ended split c world view (runs holder) stands none halts = absurd (still world split.code.root none halts)
+ended split c world view (asked holder owner) stands none halts = absurd (still world split.code.root none halts)
+ended split c world view (answered holder owner) stands none halts = absurd
     (still world split.code.root none halts)
-ended split c world chain out (goes from to) stands none halts = absurd (still world split.code.root none halts)
-ended split c world chain out (returns from to) stands none halts = absurd (still world split.code.root none halts)
-ended split c world chain out halted stands none halts = stands.ends
+ended split c world view (gives holder owner) stands none halts = absurd (still world split.code.root none halts)
+ended split c world view (goes from to) stands none halts = absurd (still world split.code.root none halts)
+ended split c world view (returns from to) stands none halts = absurd (still world split.code.root none halts)
+ended split c world view halted stands none halts = stands.ends
 
 -- where the world has halted the plain run is at its end
 pub halted_at_end : (split : Split) (c : Configuration) (world : WorldShape) → Simulates split c world →
     has_halted split.code.root world → IsAtEnd c
-halted_at_end split c world sim halts = ended split c world sim.chain sim.out sim.holder sim.stands sim.goes_on halts
+halted_at_end split c world sim halts = ended split c world sim.view sim.holder sim.stands sim.goes_on halts
 
 flies : (world : WorldShape) (from to : HostId) (flight : Flight) → world.flying ≡ only from to (flight ∷ []) →
     NothingFlies world → ⊥
@@ -163,26 +171,28 @@ has_ended (Some there) state is halts =
     let same : there ≡ state = cc in
     ap (λ (s : HostShape). s.halted) same ∙ halts
 
-idle_stands : (split : Split) (c : Configuration) (world : WorldShape) (chain : List StackEntry) (out : List Forward)
-    (holder : Holder) → Stands split c chain out world holder → NoneRuns world → NothingFlies world →
+idle_stands : (split : Split) (c : Configuration) (world : WorldShape) (view : View)
+    (holder : Holder) → Stands split c view world holder → NoneRuns world → NothingFlies world →
     has_halted split.code.root world
-idle_stands split c world chain out (runs holder) stands none idle =
+idle_stands split c world view (runs holder) stands none idle =
     let run = stands.1 in
     absurd (none holder
     (has_run (state_at world holder) run.state run.there (subst IsSome (sym run.running) refl)))
-idle_stands split c world chain out (asked holder owner) stands none idle =
+idle_stands split c world view (asked holder owner) stands none idle =
     absurd (flies world holder owner stands.1.waits.flight stands.1.waits.flying idle)
-idle_stands split c world chain out (answered holder owner) stands none idle =
+idle_stands split c world view (answered holder owner) stands none idle =
     absurd (flies world owner holder stands.1.waits.flight stands.1.waits.flying idle)
-idle_stands split c world chain out (goes from to) stands none idle =
+idle_stands split c world view (gives holder owner) stands none idle =
+    absurd (flies world holder owner stands.1.waits.flight stands.1.waits.flying idle)
+idle_stands split c world view (goes from to) stands none idle =
     absurd (flies world from to stands.1.flight stands.1.flying idle)
-idle_stands split c world chain out (returns from to) stands none idle =
+idle_stands split c world view (returns from to) stands none idle =
     absurd (flies world from to stands.1.flight stands.1.flying idle)
-idle_stands split c world chain out halted stands none idle =
+idle_stands split c world view halted stands none idle =
     has_ended (state_at world split.code.root) stands.state stands.there stands.halted
 
 -- where nothing is left to happen the program has halted
 pub idle_halted : (split : Split) (c : Configuration) (world : WorldShape) → Simulates split c world →
     NoneRuns world → NothingFlies world → has_halted split.code.root world
 idle_halted split c world sim none idle =
-    idle_stands split c world sim.chain sim.out sim.holder sim.stands none idle
+    idle_stands split c world sim.view sim.holder sim.stands none idle

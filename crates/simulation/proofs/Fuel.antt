@@ -1,11 +1,10 @@
 -- How many events are enough behind an instruction, by its pace; and a thread stands at an instruction.
-use Rattle.std.proofs.Common.{◌≡◌, ℕ, zero, suc, ◌+◌, ◌<◌, ◌≤◌, false, List, [], ◌∷◌, length, Option, Some, None, refl}
+use Rattle.std.proofs.Common.{◌≡◌, ℕ, zero, suc, ◌+◌, ◌<◌, ◌≤◌, Bool, true, false, List, [], ◌∷◌, length, Option, Some, None, refl}
 use Rattle.std.proofs.Common.{ap, sym, subst, arith}
 use Rattle.std.specs.Prelude.{◌*◌, ◌-◌, IfSome, slice_get}
 use Rattle.js_base.specs.declared.ids.HostId.{HostId}
 use Rattle.js_base.specs.declared.ids.FieldId.{FieldId}
 use Rattle.jif_tree.specs.SourceRun.{Configuration}
-use Rattle.ics_stack.specs.declared.stack.StackEntry.{StackEntry}
 use Rattle.host_code.specs.declared.instruction.Instr.{Instr}
 use Rattle.host_code.specs.declared.instruction.Op.{Op}
 use Rattle.host_code.specs.declared.instruction.Op.TheVariants as op
@@ -16,10 +15,14 @@ use Rattle.host_core.specs.Fits.{RunningFits}
 use Rattle.host_core.specs.Host.{HostShape}
 use Rattle.net_world.specs.Fits.{ShapeFits, IsStateOf}
 use Rattle.net_world.specs.World.{WorldShape, state_at}
-use Rattle.split_rules.specs.Pace.{PACE, Falls, FallsWithStep, FallsWithEntry, calls_at, is_call, is_call_there}
-use Rattle.split_rules.specs.Positions.{Forward}
-use Rattle.simulation.proofs.Simulates.{Split, IsChain, IsAt, Paced, STEP, weight_at}
-use Rattle.simulation.proofs.Transfers.{IsPlain, is_plain}
+use Rattle.split_rules.specs.Pace.{PACE, Allowance, Falls, FallsWithStep, FallsWithEntry, Pushes, calls_at, is_call}
+use Rattle.split_rules.specs.Pace.{is_call_there}
+use Rattle.split_rules.specs.Positions.{no_call}
+use Rattle.split_rules.specs.Typing.{Enters}
+use Rattle.split_rules.specs.TypedCode.{IsTypedOp}
+use Rattle.simulation.proofs.Views.{Split, Naming, Link, place_of}
+use Rattle.simulation.proofs.Chains.{IsChain}
+use Rattle.simulation.proofs.Simulates.{Paced, STEP, weight_at}
 use Rattle.simulation.proofs.Turning.{Turning}
 
 -- ---- what is left of a number of events, by what is left at a place and how long the chain is
@@ -60,17 +63,17 @@ next_pace : (split : Split) (host : HostId) (at : ℕ) → split.pace host.0 (at
 next_pace split host at = ap (split.pace host.0) (omega arith)
 
 -- the chain has an entry
-some_chain : (split : Split) (chain : List StackEntry) → IsChain split chain → 0 < length chain
-some_chain split [] is_chain = absurd is_chain
-some_chain split (top ∷ chain) is_chain = omega arith
+some_chain : (split : Split) (naming : Naming) (chain : List Link) → IsChain split naming chain → 0 < length chain
+some_chain split naming [] is_chain = absurd is_chain
+some_chain split naming (top ∷ chain) is_chain = omega arith
 
 -- behind an instruction that makes no step
 pub falls : (split : Split) (c : Configuration) (world after : WorldShape) (host : HostId)
     (t : Turning split c world after host) → Paced split → Falls split.pace host t.run.thread.at (suc t.run.thread.at) →
-    (0 < t.fuel) × (weight_at split t.chain host (t.run.thread.at + 1) < t.fuel)
-    × (weight_at split t.chain host (t.run.thread.at + 1) + 2 ≤ t.fuel - 1)
+    (0 < t.fuel) × (weight_at split t.view.chain host (t.run.thread.at + 1) < t.fuel)
+    × (weight_at split t.view.chain host (t.run.thread.at + 1) + 2 ≤ t.fuel - 1)
 falls split c world after host t paced less =
-    lighter (split.pace host.0 t.run.thread.at) (split.pace host.0 (t.run.thread.at + 1)) (length t.chain) t.fuel
+    lighter (split.pace host.0 t.run.thread.at) (split.pace host.0 (t.run.thread.at + 1)) (length t.view.chain) t.fuel
     (subst (λ n. n < split.pace host.0 t.run.thread.at) (sym (next_pace split host t.run.thread.at)) less)
     (t.fueled paced)
 
@@ -78,18 +81,18 @@ falls split c world after host t paced less =
 pub falls_with_step : (split : Split) (c : Configuration) (world after : WorldShape) (host : HostId)
     (t : Turning split c world after host) → Paced split → (next : ℕ) →
     FallsWithStep split.pace host t.run.thread.at next →
-    (0 < t.fuel) × (weight_at split t.chain host next < t.fuel + STEP)
-    × (weight_at split t.chain host next + 2 ≤ (t.fuel - 1) + STEP)
+    (0 < t.fuel) × (weight_at split t.view.chain host next < t.fuel + STEP)
+    × (weight_at split t.view.chain host next + 2 ≤ (t.fuel - 1) + STEP)
 falls_with_step split c world after host t paced next less =
-    lighter_step (split.pace host.0 t.run.thread.at) (split.pace host.0 next) (length t.chain) t.fuel less
-    (some_chain split t.chain t.is_chain) (t.fueled paced)
+    lighter_step (split.pace host.0 t.run.thread.at) (split.pace host.0 next) (length t.view.chain) t.fuel less
+    (some_chain split t.view.naming t.view.chain t.is_chain) (t.fueled paced)
 
 -- the same for the next instruction
 pub falls_at_step : (split : Split) (c : Configuration) (world after : WorldShape) (host : HostId)
     (t : Turning split c world after host) → Paced split →
     FallsWithStep split.pace host t.run.thread.at (suc t.run.thread.at) →
-    (0 < t.fuel) × (weight_at split t.chain host (t.run.thread.at + 1) < t.fuel + STEP)
-    × (weight_at split t.chain host (t.run.thread.at + 1) + 2 ≤ (t.fuel - 1) + STEP)
+    (0 < t.fuel) × (weight_at split t.view.chain host (t.run.thread.at + 1) < t.fuel + STEP)
+    × (weight_at split t.view.chain host (t.run.thread.at + 1) + 2 ≤ (t.fuel - 1) + STEP)
 falls_at_step split c world after host t paced less =
     falls_with_step split c world after host t paced (t.run.thread.at + 1)
     (subst (λ n. n + 1 < split.pace host.0 t.run.thread.at + PACE) (sym (next_pace split host t.run.thread.at)) less)
@@ -97,11 +100,11 @@ falls_at_step split c world after host t paced less =
 -- behind one that puts an entry on the chain
 pub falls_with_entry : (split : Split) (c : Configuration) (world after : WorldShape) (host : HostId)
     (t : Turning split c world after host) → Paced split →
-    FallsWithEntry split.pace host t.run.thread.at (suc t.run.thread.at) → (entry : StackEntry) →
-    (0 < t.fuel) × (weight_at split (entry ∷ t.chain) host (t.run.thread.at + 1) < t.fuel)
-    × (weight_at split t.chain host (t.run.thread.at + 1) + 5 ≤ t.fuel - 1)
+    FallsWithEntry split.pace host t.run.thread.at (suc t.run.thread.at) → (entry : Link) →
+    (0 < t.fuel) × (weight_at split (entry ∷ t.view.chain) host (t.run.thread.at + 1) < t.fuel)
+    × (weight_at split t.view.chain host (t.run.thread.at + 1) + 5 ≤ t.fuel - 1)
 falls_with_entry split c world after host t paced less entry =
-    lighter_entry (split.pace host.0 t.run.thread.at) (split.pace host.0 (t.run.thread.at + 1)) (length t.chain) t.fuel
+    lighter_entry (split.pace host.0 t.run.thread.at) (split.pace host.0 (t.run.thread.at + 1)) (length t.view.chain) t.fuel
     (subst (λ n. n + 1 < split.pace host.0 t.run.thread.at) (sym (next_pace split host t.run.thread.at)) less)
     (t.fueled paced)
 
@@ -129,17 +132,37 @@ place_there split world host state thread fits there running me =
     subst (λ o. IfSome o (RunningFits split.code state.me)) running is.fits.running in
     subst (λ h. thread.at < length (part_of split.code h)) me run.place
 
--- no call is made where a thread of a program that calls nothing stands
-pub none_called : (split : Split) (c : Configuration) (chain : List StackEntry) (out : List Forward) (host : HostId)
-    (thread : ThreadShape) → IsAt split c chain out host thread → calls_at split.code host thread.at ≡ false
-none_called split c chain out host thread at = of_found (instruction_at split.code host thread.at) refl
+-- no call is made where none is being made
+pub none_called : (split : Split) (host : HostId) (at : ℕ) → (place_of split host at).calling ≡ no_call →
+    calls_at split.code host at ≡ false
+none_called split host at none = of_found (instruction_at split.code host at) refl
   where
-    of_plain : (what : Op) → IsPlain what → is_call what ≡ false
-    of_plain (op.Call there on) plain = absurd plain
-    of_plain _ plain = refl
+    of_law : (what : Op) → IsTypedOp split.planned split.table host at what → is_call what ≡ false
+    of_law (op.Call there on) law =
+        absurd (subst (λ calling. Enters split.planned split.table.entries (place_of split host at) calling there.0) none
+        law)
+    of_law _ law = refl
 
-    of_found : (found : Option Instr) → instruction_at split.code host thread.at ≡ found → is_call_there found ≡ false
+    of_found : (found : Option Instr) → instruction_at split.code host at ≡ found → is_call_there found ≡ false
     of_found None is = refl
-    of_found (Some there) is =
-        of_plain there.op (is_plain split c chain out host thread at there.op
-        (split.typed.instructions host thread.at there is).1)
+    of_found (Some there) is = of_law there.op (split.typed.instructions host at there is).1
+
+-- a push that makes the step of a call
+step_of_push : (left : Allowance) (host : HostId) (place : ℕ) (b : Bool) → Pushes left host place b →
+    FallsWithStep left host place (suc place)
+step_of_push left host place true less = less
+step_of_push left host place false less = omega arith
+
+lighter_call : (here next many fuel : ℕ) → next + 1 < here + PACE → 3 * (here + many) ≤ fuel →
+    3 * (next + suc many) < fuel + STEP
+lighter_call here next many fuel less most = omega arith
+
+pub falls_with_call : (split : Split) (c : Configuration) (world after : WorldShape) (host : HostId)
+    (t : Turning split c world after host) → Paced split →
+    Pushes split.pace host t.run.thread.at (calls_at split.code host (suc t.run.thread.at)) → (entry : Link) →
+    weight_at split (entry ∷ t.view.chain) host (t.run.thread.at + 1) < t.fuel + STEP
+falls_with_call split c world after host t paced pushes entry =
+    let at = t.run.thread.at in
+    lighter_call (split.pace host.0 at) (split.pace host.0 (at + 1)) (length t.view.chain) t.fuel
+    (subst (λ n. n + 1 < split.pace host.0 at + PACE) (sym (next_pace split host at))
+    (step_of_push split.pace host at (calls_at split.code host (suc at)) pushes)) (t.fueled paced)

@@ -1,20 +1,22 @@
 -- Where the needs are those of the program, the host of each statement is one of those that read its variables.
-use Rattle.std.proofs.Common.{zero, ◌≡◌, ◌∙◌, ℕ, suc, ◌<◌, ◌⊎◌, inl, inr, Bool, true, false, List, [], ◌∷◌, ◌++◌, map}
-use Rattle.std.proofs.Common.{length, Some, refl, ap, sym, subst}
+use Rattle.std.proofs.Common.{zero, ◌≡◌, ◌≢◌, ◌∙◌, ℕ, suc, ◌<◌, ◌⊎◌, inl, inr, Bool, true, false, List, [], ◌∷◌}
+use Rattle.std.proofs.Common.{◌++◌, map, length, Option, Some, None, refl, ap, sym, subst}
 use Rattle.std.specs.Prelude.{◌||◌, cond, filter, nat_eq, slice_get, unwrap_or, ⊤}
 use Rattle.std.specs.List.{AllByRecursion, range_with_len, flat_map, list_any}
-use Rattle.std.proofs.lemmas.Bool.{eq-eqb}
+use Rattle.std.proofs.lemmas.Bool.{eq-eqb, ne_eqb}
 use Rattle.std.proofs.lemmas.Option.{slice_get-map, slice_get_within}
 use Rattle.std.specs.Option.{option_map}
 use Rattle.js_base.specs.declared.ids.StmtId.{StmtId}
 use Rattle.js_base.specs.declared.ids.VarId.{VarId}
 use Rattle.js_base.specs.declared.ids.MethodId.{MethodId}
 use Rattle.principals.specs.ActsFor.{Declared}
-use Rattle.jif_tree.specs.LabelRules.{MethodSetting, setting_of}
+use Rattle.jif_tree.specs.LabelRules.{MethodSetting, setting_of, method_at, result_of}
+use Rattle.jif_tree.specs.Results.{AreUnread, BlockReadsNoResult, IsNoResult, ReadsNoResult}
 use Rattle.jif_tree.specs.Trees.{ExprTree, number, local, scalar, element, inverted, negated, binary, declassified}
 use Rattle.jif_tree.specs.Trees.{endorsed, BlockTree, done, set_local, set_field, set_element, branch, loop}
-use Rattle.jif_tree.specs.Trees.{MethodTree, ProgramTree}
-use Rattle.jif_tree.specs.WellNumbered.{IsExprIn, IsBlockIn, AreMethodsIn}
+use Rattle.jif_tree.specs.Trees.{call, give_back, MethodTree, ProgramTree}
+use Rattle.jif_tree.specs.WellNumbered.{IsExprIn, IsBlockIn, AreMethodsIn, is_some}
+use Rattle.host_code.specs.Code.{CodeShape}
 use Rattle.need_labels.specs.Labelled.{Labelled}
 use Rattle.need_labels.specs.Needs.{StatementUse, AreNeedsOf, variables_in, block_uses, method_uses}
 use Rattle.need_labels.specs.Needs.{statement_uses, readers_of}
@@ -22,7 +24,7 @@ use Rattle.need_labels.specs.Plan.{statement_host}
 use Rattle.msg_cost.specs.Moves.{PlannedShape}
 use Rattle.msg_cost.specs.Terms.{reads_on}
 use Rattle.split_rules.proofs.NumberedLists.{number_there}
-use Rattle.simulation.specs.Programs.{IsCallFree}
+use Rattle.simulation.proofs.SeenResults.{SeesResult, SeeResults}
 use Rattle.simulation.proofs.Basics.{all_both, all_left, all_right}
 
 -- ---- readers
@@ -32,19 +34,27 @@ abbrev pub IsReader : PlannedShape → StmtId → ExprTree → Type 0
 IsReader planned statement expr =
     AllByRecursion (λ x. reads_on planned x (statement_host planned.plan statement).0 ≡ true) (variables_in expr)
 
--- The statements of a block, and of the blocks in it, neither call nor give back, and the host of each reads the
--- variables of its expressions.
-abbrev pub AreReaders : PlannedShape → BlockTree → Type 0
-AreReaders planned done = ⊤
-AreReaders planned (set_local heading x value rest) = IsReader planned heading.id value × AreReaders planned rest
-AreReaders planned (set_field heading field value rest) = IsReader planned heading.id value × AreReaders planned rest
-AreReaders planned (set_element heading field index value rest) =
-    IsReader planned heading.id index × IsReader planned heading.id value × AreReaders planned rest
-AreReaders planned (branch heading guard first second rest) =
-    IsReader planned heading.id guard × AreReaders planned first × AreReaders planned second × AreReaders planned rest
-AreReaders planned (loop heading guard body rest) =
-    IsReader planned heading.id guard × AreReaders planned body × AreReaders planned rest
-AreReaders planned other = ⊥
+-- a call keeps the result of the method exactly where there is one
+abbrev pub IsResultKept : PlannedShape → MethodId → Option VarId → Type 0
+IsResultKept planned method into = is_some into ≡ is_some (result_of (method_at planned.program method))
+
+-- The host of each statement of a block, and of the blocks in it, reads the variables of its expressions, and may see
+-- the result of what it calls.
+abbrev pub IsFit : CodeShape → PlannedShape → BlockTree → Type 0
+IsFit code planned done = ⊤
+IsFit code planned (set_local heading x value rest) = IsReader planned heading.id value × IsFit code planned rest
+IsFit code planned (set_field heading field value rest) = IsReader planned heading.id value × IsFit code planned rest
+IsFit code planned (set_element heading field index value rest) =
+    IsReader planned heading.id index × IsReader planned heading.id value × IsFit code planned rest
+IsFit code planned (branch heading guard first second rest) =
+    IsReader planned heading.id guard × IsFit code planned first × IsFit code planned second
+    × IsFit code planned rest
+IsFit code planned (loop heading guard body rest) =
+    IsReader planned heading.id guard × IsFit code planned body × IsFit code planned rest
+IsFit code planned (call heading site method arguments into rest) =
+    AllByRecursion (IsReader planned heading.id) arguments × IsResultKept planned method into
+    × SeesResult code planned heading.id method × IsFit code planned rest
+IsFit code planned (give_back heading value rest) = IsReader planned heading.id value × IsFit code planned rest
 
 -- ---- uses among uses
 
@@ -156,30 +166,50 @@ all_from : {X : Type 0} (P : X → Type 0) (xs : List X) → ((x : X) → IsIn x
 all_from P [] each = tt
 all_from P (x ∷ xs) each = (each x (inl refl), all_from P xs (λ y is_in. each y (inr is_in)))
 
-block_readers : (labelled : Labelled) (planned : PlannedShape) (setting : MethodSetting) (method : MethodId)
-    (gives : Bool) (block : BlockTree) → IsCallFree block → IsBlockIn planned.program method gives block →
-    AllByRecursion (IsKnownUse planned) (block_uses labelled setting block) → AreReaders planned block
-block_readers labelled planned setting method gives done free fits known = tt
-block_readers labelled planned setting method gives (set_local heading x value rest) free fits known = (
+each_reader : (planned : PlannedShape) (method : MethodId) (id : StmtId) (values : List ExprTree) →
+    AllByRecursion (IsExprIn planned.program method) values →
+    ((x : VarId) → IsIn x (flat_map variables_in values) → x.0 < length planned.program.vars →
+    reads_on planned x (statement_host planned.plan id).0 ≡ true) → AllByRecursion (IsReader planned id) values
+each_reader planned method id [] fit known = tt
+each_reader planned method id (value ∷ values) fit known = (
+  is_reader planned method id (flat_map variables_in (value ∷ values)) value fit.0 known
+      (λ x is_in. in_left x (variables_in value) (flat_map variables_in values) is_in),
+  each_reader planned method id values fit.1
+      (λ x is_in within. known x (in_right x (variables_in value) (flat_map variables_in values) is_in) within),
+)
+
+same_result : (found : Option MethodTree) (tree : MethodTree) (gives : Bool) → found ≡ Some tree →
+    is_some tree.result ≡ gives → gives ≡ is_some (result_of found)
+same_result None tree gives is has = absurd (cc)
+same_result (Some other) tree gives is has =
+    let same : other ≡ tree = cc in
+    sym has ∙ ap (λ (m : MethodTree). is_some m.result) (sym same)
+
+block_fit : (labelled : Labelled) (code : CodeShape) (planned : PlannedShape) (setting : MethodSetting)
+    (method : MethodId) (gives : Bool) (block : BlockTree) → IsBlockIn planned.program method gives block →
+    SeeResults code planned block → AllByRecursion (IsKnownUse planned) (block_uses labelled setting block) →
+    IsFit code planned block
+block_fit labelled code planned setting method gives done fits sees known = tt
+block_fit labelled code planned setting method gives (set_local heading x value rest) fits sees known = (
   is_reader planned method heading.id (variables_in value ++ []) value fits.1 known.0
       (λ y is_in. in_left y (variables_in value) [] is_in),
-  block_readers labelled planned setting method gives rest free fits.2 known.1,
+  block_fit labelled code planned setting method gives rest fits.2 sees known.1,
 )
-block_readers labelled planned setting method gives (set_field heading field value rest) free fits known = (
+block_fit labelled code planned setting method gives (set_field heading field value rest) fits sees known = (
   is_reader planned method heading.id (variables_in value ++ []) value fits.1 known.0
       (λ y is_in. in_left y (variables_in value) [] is_in),
-  block_readers labelled planned setting method gives rest free fits.2 known.1,
+  block_fit labelled code planned setting method gives rest fits.2 sees known.1,
 )
-block_readers labelled planned setting method gives (set_element heading field index value rest) free fits known =
+block_fit labelled code planned setting method gives (set_element heading field index value rest) fits sees known =
     let reads = variables_in index ++ (variables_in value ++ []) in (
       is_reader planned method heading.id reads index fits.1 known.0
           (λ y is_in. in_left y (variables_in index) (variables_in value ++ []) is_in),
       is_reader planned method heading.id reads value fits.2 known.0
           (λ y is_in. in_right y (variables_in index) (variables_in value ++ [])
           (in_left y (variables_in value) [] is_in)),
-      block_readers labelled planned setting method gives rest free fits.3 known.1,
+      block_fit labelled code planned setting method gives rest fits.3 sees known.1,
     )
-block_readers labelled planned setting method gives (branch heading guard first second rest) free fits known =
+block_fit labelled code planned setting method gives (branch heading guard first second rest) fits sees known =
     let P = IsKnownUse planned in
     let one = block_uses labelled setting first in
     let two = block_uses labelled setting second in
@@ -187,48 +217,161 @@ block_readers labelled planned setting method gives (branch heading guard first 
     let inside = all_left P (one ++ two) behind known.1 in (
       is_reader planned method heading.id (variables_in guard ++ []) guard fits.0 known.0
           (λ y is_in. in_left y (variables_in guard) [] is_in),
-      block_readers labelled planned setting method gives first free.0 fits.1 (all_left P one two inside),
-      block_readers labelled planned setting method gives second free.1 fits.2 (all_right P one two inside),
-      block_readers labelled planned setting method gives rest free.2 fits.3 (all_right P (one ++ two) behind known.1),
+      block_fit labelled code planned setting method gives first fits.1 sees.0 (all_left P one two inside),
+      block_fit labelled code planned setting method gives second fits.2 sees.1 (all_right P one two inside),
+      block_fit labelled code planned setting method gives rest fits.3 sees.2
+          (all_right P (one ++ two) behind known.1),
     )
-block_readers labelled planned setting method gives (loop heading guard body rest) free fits known =
+block_fit labelled code planned setting method gives (loop heading guard body rest) fits sees known =
     let P = IsKnownUse planned in
     let inside = block_uses labelled setting body in
     let behind = block_uses labelled setting rest in (
       is_reader planned method heading.id (variables_in guard ++ []) guard fits.0 known.0
           (λ y is_in. in_left y (variables_in guard) [] is_in),
-      block_readers labelled planned setting method gives body free.0 fits.1 (all_left P inside behind known.1),
-      block_readers labelled planned setting method gives rest free.1 fits.2 (all_right P inside behind known.1),
+      block_fit labelled code planned setting method gives body fits.1 sees.0 (all_left P inside behind known.1),
+      block_fit labelled code planned setting method gives rest fits.2 sees.1 (all_right P inside behind known.1),
     )
-block_readers labelled planned setting method gives _ free fits known = absurd free
+block_fit labelled code planned setting method gives (call heading site called arguments into rest) fits sees known = (
+  each_reader planned method heading.id arguments fits.1 known.0,
+  same_result (method_at planned.program called) fits.0.0 (is_some into) fits.0.1 fits.0.3,
+  sees.0,
+  block_fit labelled code planned setting method gives rest fits.3 sees.1 known.1,
+)
+block_fit labelled code planned setting method gives (give_back heading value rest) fits sees known = (
+  is_reader planned method heading.id (variables_in value ++ []) value fits.1 known.0
+      (λ y is_in. in_left y (variables_in value) [] is_in),
+  block_fit labelled code planned setting method gives rest fits.2 sees known.1,
+)
 
 -- ---- programs
 
-method_readers : (principals : Declared) (labelled : Labelled) (planned : PlannedShape) (first : ℕ)
+method_fit : (principals : Declared) (labelled : Labelled) (code : CodeShape) (planned : PlannedShape) (first : ℕ)
     (methods : List MethodTree) → AreMethodsIn planned.program first methods →
     AllByRecursion (IsKnownUse planned) (flat_map (method_uses principals labelled) methods) → (place : ℕ)
-    (tree : MethodTree) → slice_get methods place ≡ Some tree → IsCallFree tree.body → AreReaders planned tree.body
-method_readers principals labelled planned first [] fits known place tree is free = absurd (cc)
-method_readers principals labelled planned first (method ∷ methods) fits known zero tree is free =
+    (tree : MethodTree) → slice_get methods place ≡ Some tree → SeeResults code planned tree.body →
+    IsFit code planned tree.body
+method_fit principals labelled code planned first [] fits known place tree is sees = absurd (cc)
+method_fit principals labelled code planned first (method ∷ methods) fits known zero tree is sees =
     let own = method_uses principals labelled method in
     let others = flat_map (method_uses principals labelled) methods in
     let same : method ≡ tree = cc in
-    let here = subst (λ (m : MethodTree). IsCallFree m.body) (sym same) free in
-    subst (λ (m : MethodTree). AreReaders planned m.body) same
-    (block_readers labelled planned (setting_of principals labelled.program method) (record { 0 = first }) _ method.body
-    here fits.0.body (all_left (IsKnownUse planned) own others known).1)
-method_readers principals labelled planned first (method ∷ methods) fits known (suc place) tree is free =
+    let here = subst (λ (m : MethodTree). SeeResults code planned m.body) (sym same) sees in
+    subst (λ (m : MethodTree). IsFit code planned m.body) same
+    (block_fit labelled code planned (setting_of principals labelled.program method) (record { 0 = first }) _
+    method.body fits.0.body here (all_left (IsKnownUse planned) own others known).1)
+method_fit principals labelled code planned first (method ∷ methods) fits known (suc place) tree is sees =
     let own = method_uses principals labelled method in
     let others = flat_map (method_uses principals labelled) methods in
-    method_readers principals labelled planned (suc first) methods fits.1
-    (all_right (IsKnownUse planned) own others known) place tree is free
+    method_fit principals labelled code planned (suc first) methods fits.1
+    (all_right (IsKnownUse planned) own others known) place tree is sees
 
--- in a method without calls the host of each statement reads the variables of its expressions
-pub body_readers : (principals : Declared) (labelled : Labelled) (planned : PlannedShape) →
+-- the host of each statement of a method reads the variables of its expressions, and may see what it calls for
+pub body_fit : (principals : Declared) (labelled : Labelled) (code : CodeShape) (planned : PlannedShape) →
     planned.program ≡ labelled.program → AreNeedsOf principals labelled planned.needs →
     AreMethodsIn planned.program 0 labelled.program.methods → (place : ℕ) (tree : MethodTree) →
-    slice_get labelled.program.methods place ≡ Some tree → IsCallFree tree.body → AreReaders planned tree.body
-body_readers principals labelled planned same are fits =
-    method_readers principals labelled planned 0 labelled.program.methods fits
+    slice_get labelled.program.methods place ≡ Some tree → SeeResults code planned tree.body →
+    IsFit code planned tree.body
+body_fit principals labelled code planned same are fits =
+    method_fit principals labelled code planned 0 labelled.program.methods fits
     (all_from (IsKnownUse planned) (statement_uses principals labelled)
     (known_use principals labelled planned same are))
+
+-- ---- who reads a variable that no expression reads
+
+-- no use reads the variable
+abbrev LacksRead : VarId → StatementUse → Type 0
+LacksRead x one = AllByRecursion (λ read. nat_eq read.0 x.0 ≡ false) one.reads
+
+unread_expr : (program : ProgramTree) (x : VarId) (e : ExprTree) → ((y : VarId) → IsNoResult program y → y.0 ≢ x.0) →
+    ReadsNoResult program e → AllByRecursion (λ read. nat_eq read.0 x.0 ≡ false) (variables_in e)
+unread_expr program x (number value) apart none = tt
+unread_expr program x (local y) apart none = (ne_eqb y.0 x.0 (apart y none), tt)
+unread_expr program x (scalar field) apart none = tt
+unread_expr program x (element field index) apart none = unread_expr program x index apart none
+unread_expr program x (inverted operand) apart none = unread_expr program x operand apart none
+unread_expr program x (negated operand) apart none = unread_expr program x operand apart none
+unread_expr program x (binary operator left right) apart none =
+    all_both (λ read. nat_eq read.0 x.0 ≡ false) (variables_in left) (variables_in right)
+    (unread_expr program x left apart none.0) (unread_expr program x right apart none.1)
+unread_expr program x (declassified operand label) apart none = unread_expr program x operand apart none
+unread_expr program x (endorsed operand label) apart none = unread_expr program x operand apart none
+
+module _ (labelled : Labelled) (setting : MethodSetting) (x : VarId)
+    (apart : (y : VarId) → IsNoResult labelled.program y → y.0 ≢ x.0) where
+  unread_list : (values : List ExprTree) → AllByRecursion (ReadsNoResult labelled.program) values →
+      AllByRecursion (λ read. nat_eq read.0 x.0 ≡ false) (flat_map variables_in values)
+  unread_list [] none = tt
+  unread_list (value ∷ values) none =
+      all_both (λ read. nat_eq read.0 x.0 ≡ false) (variables_in value) (flat_map variables_in values)
+      (unread_expr labelled.program x value apart none.0) (unread_list values none.1)
+
+  unread_block : (block : BlockTree) → BlockReadsNoResult labelled.program block →
+      AllByRecursion (LacksRead x) (block_uses labelled setting block)
+  unread_block done none = tt
+  unread_block (set_local heading y value rest) none =
+      (unread_list (value ∷ []) (none.0, tt), unread_block rest none.1)
+  unread_block (set_field heading field value rest) none =
+      (unread_list (value ∷ []) (none.0, tt), unread_block rest none.1)
+  unread_block (set_element heading field index value rest) none =
+      (unread_list (index ∷ value ∷ []) (none.0, (none.1, tt)), unread_block rest none.2)
+  unread_block (branch heading guard first second rest) none =
+      let one = block_uses labelled setting first in
+      let two = block_uses labelled setting second in (
+        unread_list (guard ∷ []) (none.0, tt),
+        all_both (LacksRead x) (one ++ two) (block_uses labelled setting rest)
+            (all_both (LacksRead x) one two (unread_block first none.1) (unread_block second none.2))
+            (unread_block rest none.3),
+      )
+  unread_block (loop heading guard inner rest) none = (
+    unread_list (guard ∷ []) (none.0, tt),
+    all_both (LacksRead x) (block_uses labelled setting inner) (block_uses labelled setting rest)
+        (unread_block inner none.1) (unread_block rest none.2),
+  )
+  unread_block (call heading site method arguments into rest) none =
+      (unread_list arguments none.0, unread_block rest none.1)
+  unread_block (give_back heading value rest) none =
+      (unread_list (value ∷ []) (none.0, tt), unread_block rest none.1)
+
+unread_methods : (principals : Declared) (labelled : Labelled) (x : VarId) →
+    ((y : VarId) → IsNoResult labelled.program y → y.0 ≢ x.0) → (methods : List MethodTree) →
+    ((place : ℕ) (method : MethodTree) → slice_get methods place ≡ Some method →
+    BlockReadsNoResult labelled.program method.body) →
+    AllByRecursion (LacksRead x) (flat_map (method_uses principals labelled) methods)
+unread_methods principals labelled x apart [] none = tt
+unread_methods principals labelled x apart (method ∷ methods) none =
+    all_both (LacksRead x) (method_uses principals labelled method) (flat_map (method_uses principals labelled) methods)
+    (tt, unread_block labelled (setting_of principals labelled.program method) x apart method.body (none 0 method refl))
+    (unread_methods principals labelled x apart methods (λ place. none (suc place)))
+
+none_of : (x : VarId) (reads : List VarId) → AllByRecursion (λ read. nat_eq read.0 x.0 ≡ false) reads →
+    list_any (λ read. nat_eq read.0 x.0) reads ≡ false
+none_of x [] none = refl
+none_of x (first ∷ reads) none = rw (none.0, none_of x reads none.1) refl
+
+none_reads : (x : VarId) (uses : List StatementUse) → AllByRecursion (LacksRead x) uses → readers_of uses x.0 ≡ []
+none_reads x [] none = refl
+none_reads x (first ∷ uses) none =
+    let others = filter (λ other. list_any (λ read. nat_eq read.0 x.0) other.reads) uses in
+    ap (λ (b : Bool). map (λ (other : StatementUse). other.id) (cond b (first ∷ others) others))
+    (none_of x first.reads none.0) ∙ none_reads x uses none.1
+
+-- nobody reads the result of a method
+pub nobody_reads : (principals : Declared) (labelled : Labelled) (planned : PlannedShape) →
+    AreNeedsOf principals labelled planned.needs → AreUnread labelled.program → (place : ℕ) (method : MethodTree)
+    (x : VarId) → slice_get labelled.program.methods place ≡ Some method → method.result ≡ Some x →
+    x.0 < length labelled.program.vars → (host : ℕ) → reads_on planned x host ≡ true → ⊥
+nobody_reads principals labelled planned are unread place method x is result within host reads =
+    let uses = statement_uses principals labelled in
+    let many = length labelled.program.vars in
+    let make : ℕ → VarId = λ n. record { 0 = n } in
+    let none = none_reads x uses (unread_methods principals labelled x
+    (λ y no_result same. no_result place method is (result ∙ ap (λ n. Some (make n)) (sym same)))
+    labelled.program.methods unread) in
+    let row : slice_get planned.needs.readers x.0 ≡ Some [] =
+    ap (λ list. slice_get list x.0) are.readers
+    ∙ slice_get-map (readers_of uses) (range_with_len 0 many) x.0
+    ∙ ap (option_map (readers_of uses)) (number_there many x.0 within)
+    ∙ ap Some none in
+    let nobody : reads_on planned x host ≡ false =
+    ap (λ found. list_any (λ statement. nat_eq (statement_host planned.plan statement).0 host) (unwrap_or found [])) row in
+    cc

@@ -1,16 +1,21 @@
 -- The laws of hosts that all obey: every event keeps that the world stands for a configuration of the plain run.
-use Rattle.std.proofs.Common.{◌≡◌, ℕ, suc, ◌<◌, inl, inr, List, Some, refl}
+use Rattle.std.proofs.Common.{◌≡◌, ℕ, zero, suc, ◌<◌, inl, inr, false, List, [], ◌∷◌, length, Option, Some, None, refl}
 use Rattle.std.proofs.Common.{subst, arith}
-use Rattle.std.specs.Prelude.{ℤ}
-use Rattle.std.proofs.Common.{Some}
+use Rattle.std.specs.Prelude.{ℤ, slice_get}
+use Rattle.std.specs.List.{AllByRecursion}
+use Rattle.std.proofs.lemmas.Option.{slice_get_within}
 use Rattle.std.proofs.lemmas.List.{length-map}
 use Rattle.std.proofs.lemmas.Bool.{cases_eq}
 use Rattle.js_base.specs.declared.ids.HostId.{HostId}
+use Rattle.js_base.specs.declared.ids.MethodId.{MethodId}
+use Rattle.js_base.specs.declared.ids.VarId.{VarId}
 use Rattle.host_decl.specs.Hosts.{HostsShape}
 use Rattle.event_text.specs.declared.event.Event.{Event}
 use Rattle.host_core.specs.Host.{HostShape}
 use Rattle.jif_tree.specs.declared.program.Program.{Program}
 use Rattle.jif_tree.specs.SourceRun.{IsAtEnd, prefix}
+use Rattle.jif_tree.specs.Trees.{MethodTree, ProgramTree}
+use Rattle.jif_tree.specs.WellNumbered.{is_some, HasOptionalVariable, AreMethodsIn, IsMethodIn}
 use Rattle.need_labels.specs.Labelled.{Labelled}
 use Rattle.need_labels.specs.Needs.{NeedsShape}
 use Rattle.need_labels.specs.Plan.{PlanShape}
@@ -28,13 +33,58 @@ use Rattle.split_rules.specs.Splittable.{IsSplittable}
 use Rattle.split_rules.specs.Typable.{IsTypable}
 use Rattle.split_rules.specs.TypedCode.{Table, IsTypedCode}
 use Rattle.simulation.specs.Obeying.{IsSet, Follows}
-use Rattle.simulation.proofs.KnownReaders.{body_readers}
-use Rattle.simulation.proofs.Simulates.{Split, Simulates}
+use Rattle.simulation.proofs.KnownReaders.{body_fit, nobody_reads}
+use Rattle.simulation.proofs.SeenResults.{results_seen}
+use Rattle.simulation.proofs.Views.{Split, AreRising}
+use Rattle.simulation.proofs.Simulates.{Simulates}
 use Rattle.simulation.proofs.Starts.{falls_at_start}
 use Rattle.simulation.proofs.Events.{event_kept, halted_at_end, idle_halted}
 use Rattle.simulation.proofs.Tracks.{IsKept, Tracks, track, track_end}
-use Rattle.std.specs.Prelude.{IsSomeAnd}
-use Rattle.simulation.specs.Programs.{IsCallFree}
+
+-- ---- parameters and results
+
+pub none_given : (result : Option VarId) → is_some result ≡ false → result ≡ None
+none_given None is = refl
+none_given (Some x) is = absurd (cc)
+
+all_above : (x : VarId) (others : List VarId) →
+    ((place : ℕ) (y : VarId) → slice_get others place ≡ Some y → x.0 < y.0) → AllByRecursion (λ y. x.0 < y.0) others
+all_above x [] above = tt
+all_above x (first ∷ others) above = (above 0 first refl, all_above x others (λ place. above (suc place)))
+
+pub rising_params : (params : List VarId) → ((first second : ℕ) (x y : VarId) → slice_get params first ≡ Some x →
+    slice_get params second ≡ Some y → first < second → x.0 < y.0) → AreRising params
+rising_params [] rise = tt
+rising_params (x ∷ others) rise = (
+  all_above x others (λ place y is. rise 0 (suc place) x y refl is (omega arith)),
+  rising_params others (λ first second y z is also before.
+      rise (suc first) (suc second) y z is also (omega (arith, before))),
+)
+
+-- a result is one of the program's variables
+variable_within : (program : ProgramTree) (method : MethodId) (result : Option VarId) (x : VarId) →
+    HasOptionalVariable program method result → result ≡ Some x → x.0 < length program.vars
+variable_within program method None x has is = absurd (cc)
+variable_within program method (Some y) x has is =
+    let same : y ≡ x = cc in
+    subst (λ (v : VarId). v.0 < length program.vars) same (slice_get_within program.vars y.0 has.0 has.1)
+
+method_numbered : (program : ProgramTree) (first : ℕ) (methods : List MethodTree) (place : ℕ) (method : MethodTree) →
+    AreMethodsIn program first methods → slice_get methods place ≡ Some method →
+    (number : MethodId) × IsMethodIn program number method
+method_numbered program first [] place method are is = absurd (cc)
+method_numbered program first (own ∷ methods) zero method are is =
+    let same : own ≡ method = cc in
+    (record { 0 = first }, subst (IsMethodIn program (record { 0 = first })) same are.0)
+method_numbered program first (own ∷ methods) (suc place) method are is =
+    method_numbered program (suc first) methods place method are.1 is
+
+pub result_within : (program : ProgramTree) (place : ℕ) (method : MethodTree) (x : VarId) →
+    AreMethodsIn program 0 program.methods → slice_get program.methods place ≡ Some method →
+    method.result ≡ Some x → x.0 < length program.vars
+result_within program place method x are is result =
+    let numbered = method_numbered program 0 program.methods place method are is in
+    variable_within program numbered.0 method.result x numbered.1.result result
 
 -- ---- a split program
 
@@ -53,11 +103,18 @@ typed_split program labelled needs hosts plan set table typed pace = record {
   is = set.is;
   main_tree = set.splittable.numbered.main.0;
   has_main = set.splittable.numbered.main.1;
+  main_gives = none_given set.splittable.numbered.main.0.result set.splittable.numbered.main.3;
   main_entry = refl;
-  readers = body_readers hosts.principals labelled (planned_of labelled needs hosts plan) refl set.needs_of
-      set.splittable.numbered.methods labelled.program.main.0 set.splittable.numbered.main.0
-      set.splittable.numbered.main.1
-      (subst (λ found. IsSomeAnd found (λ main. IsCallFree main.body)) set.splittable.numbered.main.1 set.call_free);
+  bodies = λ place method is.
+      body_fit hosts.principals labelled (split_code labelled needs hosts plan) (planned_of labelled needs hosts plan)
+      refl set.needs_of set.splittable.numbered.methods place method is
+      (results_seen labelled needs hosts plan set.splittable set.allowed set.held place method is);
+  given_back = set.given_back;
+  rising = λ place method is.
+      rising_params method.params (λ first second x y. set.in_order place first second method x y is);
+  unread = λ place method x host is result.
+      nobody_reads hosts.principals labelled (planned_of labelled needs hosts plan) set.needs_of set.unread place method
+      x is result (result_within labelled.program place method x set.splittable.numbered.methods is result) host;
   many = length-map hosts.hosts named_host;
   pace = pace;
 }
@@ -133,7 +190,7 @@ module _ (split : Split) (store : List (List ℤ)) (hosts : HostsShape)
     first = tracked.first;
     rising = tracked.rising;
     close = tracked.close;
-    fields = λ moment after within is. (tracked.holds moment after within is).simulates.fields;
+    fields = λ moment after within is. (tracked.holds moment after within is).simulates.holds.fields;
     halted = λ moment after within is halts.
         let stands = tracked.holds moment after within is in
         record {

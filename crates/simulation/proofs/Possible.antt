@@ -7,7 +7,6 @@ use Rattle.js_base.specs.declared.ids.HostId.{HostId}
 use Rattle.jif_tree.specs.SourceRun.{Configuration}
 use Rattle.capability.specs.declared.token.Token.{Token}
 use Rattle.ics_stack.specs.Stack.{top_token}
-use Rattle.ics_stack.specs.declared.stack.StackEntry.{StackEntry}
 use Rattle.event_text.specs.declared.event.Event.{Event}
 use Rattle.event_text.specs.declared.event.Event.TheVariants.{Take, Turn, Act}
 use Rattle.host_code.specs.declared.instruction.Instr.{Instr}
@@ -26,14 +25,19 @@ use Rattle.net_world.specs.Choice.{Runs, NoneRuns, IsNextEvent}
 use Rattle.net_world.specs.Flying.{Flight, Flying}
 use Rattle.net_world.specs.World.{WorldShape, IsStep, IsTurnStep, IsTakeStep, state_at, is_absent, given}
 use Rattle.net_world.specs.World.{after_step, without_flight}
-use Rattle.split_rules.specs.Positions.{Forward}
+use Rattle.split_rules.specs.TypedCode.{IsTypedOp}
 use Rattle.net_world.specs.Fits.{ShapeFits}
 use Rattle.net_world.proofs.Fitting.{flight_fits}
-use Rattle.simulation.proofs.Transfers.{IsPlain, is_plain}
 use Rattle.simulation.proofs.Simulates as simulates
-use Rattle.simulation.proofs.Simulates.{Split, IsChain, only, on_stack, IsRequest, IsAnswer, Holder, runs, asked}
-use Rattle.simulation.proofs.Simulates.{answered}
-use Rattle.simulation.proofs.Simulates.{goes, returns, halted, IsIdle, AreIdle, Stands, IsOrderly, AreStacks, Simulates}
+use Rattle.simulation.proofs.Views.{Split, View, entries_of}
+use Rattle.simulation.proofs.Chains.{IsChain}
+use Rattle.simulation.proofs.Variables.{Holds}
+use Rattle.simulation.proofs.Simulates.{only, IsRequest, IsAnswer, Holder, runs, asked, answered, gives, goes}
+use Rattle.simulation.proofs.Simulates.{returns, halted, IsIdle, AreIdle, Stands, IsOrderly, AreStacks, Simulates}
+use Rattle.simulation.proofs.Instructions.{Agrees}
+use Rattle.simulation.proofs.Transfers.{calm_calling}
+use Rattle.simulation.proofs.ResultsGiven.{return_at}
+use Rattle.simulation.proofs.Holding.{holder_agrees}
 use Rattle.simulation.proofs.Moved.{same_id, none_taken, the_one, own_cell}
 use Rattle.simulation.proofs.Pops.{top_of, top_on_stack}
 use Rattle.simulation.proofs.Takes.{may_here, awaited_first}
@@ -41,37 +45,52 @@ use Rattle.simulation.proofs.Basics.{none_there, some_same}
 
 -- ---- checks that pass
 
-turn_passes : (split : Split) (bare : HostShape) (held : Option Token) (token : Token) → held ≡ Some token →
-    (token.host.0 ≡ bare.me.0 → top_token bare.entries ≡ Some token) → (what : Op) → IsPlain what →
-    PassesWith split.code bare what held
-turn_passes split bare held token is top op.Back plain = subst (PassesWith split.code bare op.Back) (sym is) top
-turn_passes split bare held token is top (op.Ret x value) plain = absurd plain
-turn_passes split bare held token is top _ plain = tt
+-- A result may be seen where its call stands, and a token that is given back here is that of the top entry.
+turn_passes : (split : Split) (c : Configuration) (view : View) (world : WorldShape) (host : HostId) →
+    IsChain split view.naming view.chain → Holds split c view world →
+    (run : simulates.IsRunning split c view world host) → (token : Token) →
+    top_token (entries_of view.chain) ≡ Some token →
+    (token.host.0 ≡ run.state.me.0 → top_token run.state.entries ≡ Some token) → (what : Op) →
+    IsTypedOp split.planned split.table host run.thread.at what →
+    PassesWith split.code (with_running run.state None) what run.thread.held
+turn_passes split c view world host is_chain holds run token is top op.Back law =
+    subst (PassesWith split.code (with_running run.state None) op.Back) (sym (run.at.held ∙ is)) top
+turn_passes split c view world host is_chain holds run token is top (op.Ret x nodes) law =
+    let thread = run.thread in
+    let at = run.at in
+    let held = at.held ∙ is in
+    let frame = (calm_calling split c view host thread at law.3).1 in
+    let knows : Agrees split c host at.call (run.state.variables thread.frame) =
+    subst (λ f. Agrees split c host at.call (run.state.variables f)) (sym frame)
+    (holder_agrees split c view world host run.state at.call holds run.there run.sent at.made) in
+    let result = return_at split c view host thread (run.state.variables thread.frame) at knows is_chain
+    (holds.named at.call at.made) x nodes law token held in
+    subst (PassesWith split.code (with_running run.state None) (op.Ret x nodes)) (sym held) (λ differs. result.sees)
+turn_passes split c view world host is_chain holds run token is top _ law = tt
 
-request_passes : (split : Split) (c : Configuration) (chain : List StackEntry) (out : List Forward)
-    (holder owner : HostId) (waiting : WaitingShape) (m : Message) →
-    IsRequest split c chain out holder owner waiting m → (old : HostShape) → old.me ≡ owner →
+request_passes : (split : Split) (c : Configuration) (view : View) (holder owner : HostId) (waiting : WaitingShape)
+    (m : Message) → IsRequest split c view holder owner waiting m → (old : HostShape) → old.me ≡ owner →
     Passes split.code old holder m
-request_passes split c chain out holder owner waiting (message.Get request field place) asks old me =
+request_passes split c view holder owner waiting (message.Get request field place) asks old me =
     may_here split old owner (ask.Get field) holder me asks.2
-request_passes split c chain out holder owner waiting (message.Set request field place value) asks old me =
+request_passes split c view holder owner waiting (message.Set request field place value) asks old me =
     may_here split old owner (ask.Set field) holder me asks.2
-request_passes split c chain out holder owner waiting (message.Forward request frame x value) asks old me =
+request_passes split c view holder owner waiting (message.Forward request frame x value) asks old me =
     may_here split old owner (ask.Forward x) holder me asks.2
-request_passes split c chain out holder owner waiting (message.Sync request frame entry token) asks old me =
+request_passes split c view holder owner waiting (message.Sync request frame entry token) asks old me =
     may_here split old owner (ask.Enter entry) holder me asks.2
-request_passes split c chain out holder owner waiting _ asks old me = absurd asks
+request_passes split c view holder owner waiting _ asks old me = absurd asks
 
-answer_passes : (split : Split) (c : Configuration) (chain : List StackEntry) (out : List Forward)
-    (holder owner : HostId) (waiting : WaitingShape) (m : Message) → IsAnswer split c chain out holder waiting m →
-    (state : HostShape) → state.waiting ≡ waiting ∷ [] → waiting.asked ≡ owner → Passes split.code state owner m
-answer_passes split c chain out holder owner waiting (message.Value request value) answer state is by =
+answer_passes : (split : Split) (c : Configuration) (view : View) (holder owner : HostId) (waiting : WaitingShape)
+    (m : Message) → IsAnswer split c view holder waiting m → (state : HostShape) → state.waiting ≡ waiting ∷ [] →
+    waiting.asked ≡ owner → Passes split.code state owner m
+answer_passes split c view holder owner waiting (message.Value request value) answer state is by =
     subst IsSome (sym (awaited_first state waiting value_of_field request owner is answer.0 answer.1 by)) refl
-answer_passes split c chain out holder owner waiting (message.Ack request) answer state is by =
+answer_passes split c view holder owner waiting (message.Ack request) answer state is by =
     subst IsSome (sym (awaited_first state waiting acknowledgement request owner is answer.0 answer.1 by)) refl
-answer_passes split c chain out holder owner waiting (message.Token request token) answer state is by =
+answer_passes split c view holder owner waiting (message.Token request token) answer state is by =
     subst IsSome (sym (awaited_first state waiting token_of_entry request owner is answer.0 answer.1 by)) refl
-answer_passes split c chain out holder owner waiting _ answer state is by = absurd answer
+answer_passes split c view holder owner waiting _ answer state is by = absurd answer
 
 -- ---- turns
 
@@ -82,25 +101,24 @@ outcome_there code bare thread None passes = (with_thread bare thread, refl)
 outcome_there code bare thread (Some there) passes =
     (after_operation code bare thread there.op true, (true, (λ told. passes there refl, λ passing. refl), refl))
 
-turn_possible : (split : Split) (c : Configuration) (world : WorldShape) (chain : List StackEntry) (out : List Forward)
-    (holder : HostId) → IsOrderly split.code world → AreStacks chain world → IsChain split chain →
-    (run : simulates.IsRunning split c chain out world holder) →
+turn_possible : (split : Split) (c : Configuration) (world : WorldShape) (view : View) (holder : HostId) →
+    IsOrderly split.code world → AreStacks view.chain world → IsChain split view.naming view.chain →
+    Holds split c view world → (run : simulates.IsRunning split c view world holder) →
     (after : WorldShape) × IsTurnStep split.code world holder after
-turn_possible split c world chain out holder orderly stacks is_chain run =
+turn_possible split c world view holder orderly stacks is_chain holds run =
     let code = split.code in
     let state = run.state in
     let thread = run.thread in
     let bare = with_running state None in
     let me = orderly.numbers holder state run.there in
-    let token = top_of split chain is_chain in
+    let token = top_of split view.naming view.chain is_chain in
     let top = λ (same : token.0.host.0 ≡ state.me.0).
     let own = same_id token.0.host holder (same ∙ ap (λ (h : HostId). h.0) me) in
     let is : top_token state.entries ≡ Some token.0 =
-    ap top_token (stacks holder state run.there) ∙ top_on_stack holder chain token.0 token.1 own in is in
+    ap top_token (stacks holder state run.there) ∙ top_on_stack holder view.chain token.0 token.1 own in is in
     let found = instruction_at code holder thread.at in
-    let one = outcome_there code bare thread found (λ there is. turn_passes split bare thread.held token.0
-    (run.at.held ∙ token.1) top there.op (is_plain split c chain out holder thread run.at there.op
-    (split.typed.instructions holder thread.at there is).1)) in
+    let one = outcome_there code bare thread found (λ there is. turn_passes split c view world holder is_chain holds run
+    token.0 token.1 top there.op (split.typed.instructions holder thread.at there is).1) in
     let turns : IsTurn code state one.0 =
     subst (λ o. IsTurnOf code state o one.0) (sym run.running)
     (subst (λ m. IsRunning code bare thread (instruction_at code m thread.at) one.0) (sym me) one.1) in (
@@ -162,18 +180,19 @@ abbrev pub event_of : Holder → Option Event
 event_of (runs holder) = Some (Turn holder)
 event_of (asked holder owner) = Some (Take holder owner 0)
 event_of (answered holder owner) = Some (Take owner holder 0)
+event_of (gives holder owner) = Some (Take holder owner 0)
 event_of (goes from to) = Some (Take from to 0)
 event_of (returns from to) = Some (Take from to 0)
 event_of halted = None
 
 -- it happens
 pub happens : (split : Split) (c : Configuration) (world : WorldShape) (sim : Simulates split c world) →
-    ShapeFits split.code world → (holder : Holder) → Stands split c sim.chain sim.out world holder →
+    ShapeFits split.code world → (holder : Holder) → Stands split c sim.view world holder →
     AreIdle holder world → (event : Event) → event_of holder ≡ Some event →
     (after : WorldShape) × IsStep split.code world event after
 happens split c world sim fits (runs holder) stands idle event is =
     let same : Turn holder ≡ event = cc in
-    let turn = turn_possible split c world sim.chain sim.out holder sim.orderly sim.stacks stands.0 stands.1 in
+    let turn = turn_possible split c world sim.view holder sim.orderly sim.stacks stands.0 sim.holds stands.1 in
     (turn.0, subst (λ e. IsStep split.code world e turn.0) same turn.1)
 happens split c world sim fits (asked holder owner) stands idle event is =
     let same : Take holder owner 0 ≡ event = cc in
@@ -181,15 +200,26 @@ happens split c world sim fits (asked holder owner) stands idle event is =
     let target = target_there split world holder owner waits.flight fits sim.orderly waits.flying in
     let one = take_possible split world holder owner waits.flight target.0 target.1
     (idle owner target.0 target.1 waits.other).0 waits.flying
-    (request_passes split c sim.chain sim.out holder owner waits.thread waits.flight.message stands.1.request target.0
+    (request_passes split c sim.view holder owner waits.thread waits.flight.message stands.1.request target.0
     (sim.orderly.numbers owner target.0 target.1)) in
     (one.0, subst (λ e. IsStep split.code world e one.0) same one.1)
 happens split c world sim fits (answered holder owner) stands idle event is =
     let same : Take owner holder 0 ≡ event = cc in
     let waits = stands.1.waits in
     let one = take_possible split world owner holder waits.flight waits.state waits.there waits.running waits.flying
-    (answer_passes split c sim.chain sim.out holder owner waits.thread waits.flight.message stands.1.answer waits.state
+    (answer_passes split c sim.view holder owner waits.thread waits.flight.message stands.1.answer waits.state
     waits.waiting waits.asked) in
+    (one.0, subst (λ e. IsStep split.code world e one.0) same one.1)
+happens split c world sim fits (gives holder owner) stands idle event is =
+    let same : Take holder owner 0 ≡ event = cc in
+    let giving = stands.1 in
+    let waits = giving.waits in
+    let target = target_there split world holder owner waits.flight fits sim.orderly waits.flying in
+    let one = take_possible split world holder owner waits.flight target.0 target.1
+    (idle owner target.0 target.1 waits.other).0 waits.flying
+    (subst (Passes split.code target.0 holder) (sym giving.message)
+    (may_here split target.0 owner (ask.Forward giving.x) holder (sim.orderly.numbers owner target.0 target.1)
+    giving.may)) in
     (one.0, subst (λ e. IsStep split.code world e one.0) same one.1)
 happens split c world sim fits (goes from to) stands idle event is =
     let same : Take from to 0 ≡ event = cc in
@@ -207,7 +237,7 @@ happens split c world sim fits (returns from to) stands idle event is =
     let one = take_possible split world from to back.flight target.0 target.1 (idle to target.0 target.1 tt).0
     back.flying (subst (Passes split.code target.0 from) (sym back.message)
     (ap top_token (sim.stacks to target.0 target.1)
-    ∙ top_on_stack to sim.chain back.token back.top back.host)) in
+    ∙ top_on_stack to sim.view.chain back.token back.top back.host)) in
     (one.0, subst (λ e. IsStep split.code world e one.0) same one.1)
 happens split c world sim fits halted stands idle event is = absurd (cc)
 
@@ -235,30 +265,36 @@ runs_not world host holder state obeys rests same running =
     none_there there.0.running (ap (λ (s : HostShape). s.running) is ∙ rests) there.2
 
 -- where a thread runs the holder runs it
-running_holder : (split : Split) (c : Configuration) (world : WorldShape) (chain : List StackEntry) (out : List Forward)
-    (holder : Holder) → Stands split c chain out world holder → AreIdle holder world → (host : HostId) →
-    Runs world host → event_of holder ≡ Some (Turn host)
-running_holder split c world chain out (runs holder) stands idle host running = elim (eqb_tells host.0 holder.0) [
+running_holder : (split : Split) (c : Configuration) (world : WorldShape) (view : View) (holder : Holder) →
+    Stands split c view world holder → AreIdle holder world → (host : HostId) → Runs world host →
+    event_of holder ≡ Some (Turn host)
+running_holder split c world view (runs holder) stands idle host running = elim (eqb_tells host.0 holder.0) [
   | inl same ↦ ap (λ h. Some (Turn h)) (sym (same_id host holder same.1))
   | inr apart ↦ absurd (runs_only world (runs holder) idle host apart.1 running)
 ]
-running_holder split c world chain out (asked holder owner) stands idle host running =
+running_holder split c world view (asked holder owner) stands idle host running =
     let waits = stands.1.waits in
     elim (eqb_tells host.0 holder.0) [
       | inl same ↦ absurd (runs_not world host holder waits.state waits.there waits.running same.1 running)
       | inr apart ↦ absurd (runs_only world (asked holder owner) idle host apart.1 running)
     ]
-running_holder split c world chain out (answered holder owner) stands idle host running =
+running_holder split c world view (answered holder owner) stands idle host running =
     let waits = stands.1.waits in
     elim (eqb_tells host.0 holder.0) [
       | inl same ↦ absurd (runs_not world host holder waits.state waits.there waits.running same.1 running)
       | inr apart ↦ absurd (runs_only world (answered holder owner) idle host apart.1 running)
     ]
-running_holder split c world chain out (goes from to) stands idle host running =
+running_holder split c world view (gives holder owner) stands idle host running =
+    let waits = stands.1.waits in
+    elim (eqb_tells host.0 holder.0) [
+      | inl same ↦ absurd (runs_not world host holder waits.state waits.there waits.running same.1 running)
+      | inr apart ↦ absurd (runs_only world (gives holder owner) idle host apart.1 running)
+    ]
+running_holder split c world view (goes from to) stands idle host running =
     absurd (runs_only world (goes from to) idle host tt running)
-running_holder split c world chain out (returns from to) stands idle host running =
+running_holder split c world view (returns from to) stands idle host running =
     absurd (runs_only world (returns from to) idle host tt running)
-running_holder split c world chain out halted stands idle host running =
+running_holder split c world view halted stands idle host running =
     absurd (runs_only world halted idle host tt running)
 
 -- the event takes the one message in flight
@@ -270,30 +306,32 @@ takes_it world from to from' to' place flight flight' flying there =
     ap (λ f. Some (Take f to' 0)) (sym is.from_is) ∙ ap (λ t. Some (Take from t 0)) (sym is.to_is)
     ∙ ap (λ p. Some (Take from to p)) (sym is.place_is)
 
-flying_holder : (split : Split) (c : Configuration) (world : WorldShape) (chain : List StackEntry) (out : List Forward)
-    (holder : Holder) → Stands split c chain out world holder → (from to : HostId) (place : ℕ) (flight : Flight) →
+flying_holder : (split : Split) (c : Configuration) (world : WorldShape) (view : View) (holder : Holder) →
+    Stands split c view world holder → (from to : HostId) (place : ℕ) (flight : Flight) →
     slice_get (world.flying from to) place ≡ Some flight → event_of holder ≡ Some (Take from to place)
-flying_holder split c world chain out (runs holder) stands from to place flight there =
+flying_holder split c world view (runs holder) stands from to place flight there =
     absurd (none_taken world from to place flight stands.1.flying there)
-flying_holder split c world chain out (asked holder owner) stands from to place flight there =
+flying_holder split c world view (asked holder owner) stands from to place flight there =
     takes_it world from to holder owner place flight stands.1.waits.flight stands.1.waits.flying there
-flying_holder split c world chain out (answered holder owner) stands from to place flight there =
+flying_holder split c world view (answered holder owner) stands from to place flight there =
     takes_it world from to owner holder place flight stands.1.waits.flight stands.1.waits.flying there
-flying_holder split c world chain out (goes sender target) stands from to place flight there =
+flying_holder split c world view (gives holder owner) stands from to place flight there =
+    takes_it world from to holder owner place flight stands.1.waits.flight stands.1.waits.flying there
+flying_holder split c world view (goes sender target) stands from to place flight there =
     takes_it world from to sender target place flight stands.1.flight stands.1.flying there
-flying_holder split c world chain out (returns sender target) stands from to place flight there =
+flying_holder split c world view (returns sender target) stands from to place flight there =
     takes_it world from to sender target place flight stands.1.flight stands.1.flying there
-flying_holder split c world chain out halted stands from to place flight there =
+flying_holder split c world view halted stands from to place flight there =
     absurd (none_taken world from to place flight stands.flying there)
 
 -- what happens is the event of the holder
 step_is : (split : Split) (c : Configuration) (world after : WorldShape) (sim : Simulates split c world)
     (event : Event) → IsStep split.code world event after → event_of sim.holder ≡ Some event
 step_is split c world after sim (Turn host) step =
-    running_holder split c world sim.chain sim.out sim.holder sim.stands sim.idle host
+    running_holder split c world sim.view sim.holder sim.stands sim.idle host
     (subst (λ o. IsSomeAnd o (λ state. IsSome state.running)) (sym step.obeys) step.runs)
 step_is split c world after sim (Take from to place) step =
-    flying_holder split c world sim.chain sim.out sim.holder sim.stands from to place step.flight step.there
+    flying_holder split c world sim.view sim.holder sim.stands from to place step.flight step.there
 step_is split c world after sim (Act from to made) step =
     absurd (let none = sim.orderly.none_bad from in let bad = step.bad in cc)
 
@@ -312,10 +350,10 @@ some_first (flight ∷ flights) apart = (flight, refl)
 next_is : (split : Split) (c : Configuration) (world : WorldShape) (sim : Simulates split c world) (event : Event) →
     IsNextEvent world (Some event) → event_of sim.holder ≡ Some event
 next_is split c world sim (Turn host) next =
-    running_holder split c world sim.chain sim.out sim.holder sim.stands sim.idle host next.runs
+    running_holder split c world sim.view sim.holder sim.stands sim.idle host next.runs
 next_is split c world sim (Take from to place) next =
     let first = some_first (world.flying from to) next.1.target.flies in
-    flying_holder split c world sim.chain sim.out sim.holder sim.stands from to 0 first.0 first.1
+    flying_holder split c world sim.view sim.holder sim.stands from to 0 first.0 first.1
     ∙ ap (λ p. Some (Take from to p)) (sym next.2)
 next_is split c world sim (Act from to made) next = absurd next
 
@@ -333,10 +371,10 @@ pub none_comes : (split : Split) (c : Configuration) (world : WorldShape) (sim :
     event_of sim.holder ≡ None → IsNextEvent world None
 none_comes split c world sim none = (
   λ host running.
-      let one = running_holder split c world sim.chain sim.out sim.holder sim.stands sim.idle host running in cc,
+      let one = running_holder split c world sim.view sim.holder sim.stands sim.idle host running in cc,
   λ from to flies.
       let first = some_first (world.flying from to) flies in
-      let one = flying_holder split c world sim.chain sim.out sim.holder sim.stands from to 0 first.0 first.1 in cc,
+      let one = flying_holder split c world sim.view sim.holder sim.stands from to 0 first.0 first.1 in cc,
 )
 
 -- the one message in flight is the first
@@ -366,57 +404,61 @@ first_flies world from to flight flying none = (
   refl,
 )
 
-none_runs : (split : Split) (c : Configuration) (world : WorldShape) (chain : List StackEntry) (out : List Forward)
-    (holder : Holder) → Stands split c chain out world holder → AreIdle holder world → (from to : HostId) →
+none_runs : (split : Split) (c : Configuration) (world : WorldShape) (view : View) (holder : Holder) →
+    Stands split c view world holder → AreIdle holder world → (from to : HostId) →
     event_of holder ≡ Some (Take from to 0) → NoneRuns world
-none_runs split c world chain out holder stands idle from to is host running =
-    let one = running_holder split c world chain out holder stands idle host running in cc
+none_runs split c world view holder stands idle from to is host running =
+    let one = running_holder split c world view holder stands idle host running in cc
 
 -- the thread of the holder is the first that runs
-first_runs : (split : Split) (c : Configuration) (world : WorldShape) (chain : List StackEntry) (out : List Forward)
-    (holder : HostId) → Stands split c chain out world (runs holder) → AreIdle (runs holder) world →
-    IsNextEvent world (Some (Turn holder))
-first_runs split c world chain out holder stands idle =
+first_runs : (split : Split) (c : Configuration) (world : WorldShape) (view : View) (holder : HostId) →
+    Stands split c view world (runs holder) → AreIdle (runs holder) world → IsNextEvent world (Some (Turn holder))
+first_runs split c world view holder stands idle =
     let run = stands.1 in
     record {
       runs = subst (λ o. IsSomeAnd o (λ state. IsSome state.running)) (sym run.there)
           (subst IsSome (sym run.running) refl);
       first = λ earlier before running.
-          let one = running_holder split c world chain out (runs holder) stands idle earlier running in
+          let one = running_holder split c world view (runs holder) stands idle earlier running in
           let host : holder ≡ earlier = cc in
           let same : holder.0 ≡ earlier.0 = ap (λ (h : HostId). h.0) host in
           omega arith;
     }
 
-comes : (split : Split) (c : Configuration) (world : WorldShape) (chain : List StackEntry) (out : List Forward)
-    (holder : Holder) → Stands split c chain out world holder → AreIdle holder world → (event : Event) →
-    event_of holder ≡ Some event → IsNextEvent world (Some event)
-comes split c world chain out (runs holder) stands idle event is =
+comes : (split : Split) (c : Configuration) (world : WorldShape) (view : View) (holder : Holder) →
+    Stands split c view world holder → AreIdle holder world → (event : Event) → event_of holder ≡ Some event →
+    IsNextEvent world (Some event)
+comes split c world view (runs holder) stands idle event is =
     let same : Turn holder ≡ event = cc in
-    subst (λ e. IsNextEvent world (Some e)) same (first_runs split c world chain out holder stands idle)
-comes split c world chain out (asked holder owner) stands idle event is =
+    subst (λ e. IsNextEvent world (Some e)) same (first_runs split c world view holder stands idle)
+comes split c world view (asked holder owner) stands idle event is =
     let same : Take holder owner 0 ≡ event = cc in
     subst (λ e. IsNextEvent world (Some e)) same
     (first_flies world holder owner stands.1.waits.flight stands.1.waits.flying
-    (none_runs split c world chain out (asked holder owner) stands idle holder owner refl))
-comes split c world chain out (answered holder owner) stands idle event is =
+    (none_runs split c world view (asked holder owner) stands idle holder owner refl))
+comes split c world view (answered holder owner) stands idle event is =
     let same : Take owner holder 0 ≡ event = cc in
     subst (λ e. IsNextEvent world (Some e)) same
     (first_flies world owner holder stands.1.waits.flight stands.1.waits.flying
-    (none_runs split c world chain out (answered holder owner) stands idle owner holder refl))
-comes split c world chain out (goes from to) stands idle event is =
+    (none_runs split c world view (answered holder owner) stands idle owner holder refl))
+comes split c world view (gives holder owner) stands idle event is =
+    let same : Take holder owner 0 ≡ event = cc in
+    subst (λ e. IsNextEvent world (Some e)) same
+    (first_flies world holder owner stands.1.waits.flight stands.1.waits.flying
+    (none_runs split c world view (gives holder owner) stands idle holder owner refl))
+comes split c world view (goes from to) stands idle event is =
     let same : Take from to 0 ≡ event = cc in
     subst (λ e. IsNextEvent world (Some e)) same
     (first_flies world from to stands.1.flight stands.1.flying
-    (none_runs split c world chain out (goes from to) stands idle from to refl))
-comes split c world chain out (returns from to) stands idle event is =
+    (none_runs split c world view (goes from to) stands idle from to refl))
+comes split c world view (returns from to) stands idle event is =
     let same : Take from to 0 ≡ event = cc in
     subst (λ e. IsNextEvent world (Some e)) same
     (first_flies world from to stands.1.flight stands.1.flying
-    (none_runs split c world chain out (returns from to) stands idle from to refl))
-comes split c world chain out halted stands idle event is = absurd (cc)
+    (none_runs split c world view (returns from to) stands idle from to refl))
+comes split c world view halted stands idle event is = absurd (cc)
 
 pub one_comes : (split : Split) (c : Configuration) (world : WorldShape) (sim : Simulates split c world)
     (event : Event) → event_of sim.holder ≡ Some event → IsNextEvent world (Some event)
 one_comes split c world sim event is =
-    comes split c world sim.chain sim.out sim.holder sim.stands sim.idle event is
+    comes split c world sim.view sim.holder sim.stands sim.idle event is

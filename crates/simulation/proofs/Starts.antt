@@ -1,46 +1,47 @@
 -- The world before the first event stands for the start of the plain run.
-use Rattle.std.proofs.Common.{◌≡◌, ◌≢◌, ◌∙◌, ℕ, zero, suc, ◌+◌, ◌<◌, inl, inr, Bool, false, List, [], ◌∷◌}
-use Rattle.std.proofs.Common.{map, length, Option, Some, None, refl, ap, sym, arith}
-use Rattle.std.specs.Prelude.{ℤ, pos, ◌≤◌, ◌==◌, if◌then◌else◌, IsSomeAnd, slice_get}
-use Rattle.std.specs.Option.{option_map}
+use Rattle.std.proofs.Common.{◌≡◌, ◌≢◌, ◌∙◌, ℕ, zero, suc, ◌+◌, ◌<◌, inl, inr, Bool, false, List, [], ◌∷◌, ◌++◌}
+use Rattle.std.proofs.Common.{map, length, Option, Some, None, refl, ap, sym, subst, arith, append-nil}
+use Rattle.std.specs.Prelude.{ℤ, pos, ◌≤◌, ◌==◌, if◌then◌else◌, All, IsSomeAnd, slice_get}
 use Rattle.std.proofs.lemmas.Bool.Decides.{eqb_tells}
 use Rattle.std.proofs.lemmas.Bool.{eq-eqb, ne_eqb}
 use Rattle.std.proofs.lemmas.List.{length-map}
+use Rattle.std.proofs.lemmas.List.Elements.{All-get_or}
 use Rattle.std.proofs.lemmas.Nat.Bits.{bit_at-zero}
-use Rattle.std.proofs.lemmas.Option.{slice_get-map}
+use Rattle.std.proofs.lemmas.Option.{slice_get_within, get_or_from_slice_get}
 use Rattle.js_base.specs.declared.ids.HostId.{HostId}
+use Rattle.js_base.specs.declared.ids.FrameId.{FrameId}
+use Rattle.js_base.specs.declared.ids.SiteId.{SiteId}
+use Rattle.js_base.specs.declared.ids.VarId.{VarId}
 use Rattle.host_decl.specs.Hosts as declared_hosts
-use Rattle.jif_tree.specs.declared.program.Program.{Program}
-use Rattle.jif_tree.specs.declared.program.Method.{Method}
-use Rattle.jif_tree.specs.declared.program.Stmt.{Stmt}
-use Rattle.jif_tree.specs.SourceRun.{configuration_at_start, main_body, body_of}
+use Rattle.jif_tree.specs.LabelRules.{method_at, result_of}
+use Rattle.jif_tree.specs.SourceRun as source
+use Rattle.jif_tree.specs.SourceRun.{Call, configuration_at_start, main_body}
 use Rattle.jif_tree.specs.Store.{row_of}
-use Rattle.jif_tree.specs.Trees.{MethodTree, ProgramTree, block_tree}
-use Rattle.jif_tree.specs.Trees.{method_tree, program_tree}
+use Rattle.jif_tree.specs.Trees.{MethodTree, ProgramTree}
+use Rattle.ics_stack.specs.declared.stack.StackEntry.{StackEntry}
 use Rattle.host_code.specs.declared.code.Entry.{Entry}
-use Rattle.host_code.specs.Code.{CodeShape, CodeFieldShape, halt, entry_at}
+use Rattle.host_code.specs.Code.{CodeShape, CodeFieldShape, halt, entry_at, site_at}
+use Rattle.host_code.specs.Sound.{EntryFits}
 use Rattle.host_stores.specs.Stores.{own_rows}
 use Rattle.host_core.specs.Host.{HostShape, new_token, after_push, after_entering, with_running, thread_at}
 use Rattle.host_core.specs.Start.{main_frame, last_token, idle_host, root_host, host_at_start}
 use Rattle.net_world.specs.World.{AreHostsOf, named_host, world_at_start, state_at, given}
 use Rattle.net_world.specs.World.{is_absent, host_before, hosts_before}
+use Rattle.split_rules.specs.Pace.{PACE}
 use Rattle.split_rules.specs.Positions as positions
-use Rattle.split_rules.specs.Positions.{Position, calm, all_due, statements_of}
-use Rattle.std.proofs.Common.{◌++◌, append-nil, subst}
-use Rattle.std.specs.Prelude.{All}
-use Rattle.std.proofs.lemmas.List.Elements.{All-get_or}
-use Rattle.std.proofs.lemmas.Option.{slice_get_within, get_or_from_slice_get}
-use Rattle.js_base.specs.declared.ids.FrameId.{FrameId}
-use Rattle.js_base.specs.declared.ids.VarId.{VarId}
-use Rattle.ics_stack.specs.declared.stack.StackEntry.{StackEntry}
-use Rattle.host_code.specs.Sound.{EntryFits}
-use Rattle.msg_cost.specs.Moves.{PlannedShape}
+use Rattle.split_rules.specs.Positions.{Position, calm, all_due}
+use Rattle.split_rules.specs.Typing as typing
+use Rattle.simulation.proofs.Views.{Split, Naming, View, Link, place_of}
+use Rattle.simulation.proofs.Chains.{Duty, under, due_at, chain_due, FitsOver}
+use Rattle.simulation.proofs.Threads.{Owed, item_of, duty_of, IsLeft, NoneKept, IsCalling, IsAt}
+use Rattle.simulation.proofs.Variables.{AreFresh, Holds}
+use Rattle.simulation.proofs.Simulates.{AreStacks, runs, Falls, Paced, STEP, weight_at}
+use Rattle.simulation.proofs.Owing.{to_run_all, items_before, duties_before, known_before, plainly_before}
+use Rattle.simulation.proofs.Owing.{returned_before, none_kept, stands_plainly}
+use Rattle.simulation.proofs.CallsMade.{called}
 use Rattle.simulation.proofs.TreeValues.{read_value}
-use Rattle.simulation.proofs.Simulates.{Split, place_of, due_at, chain_due, AreStacks, runs, Falls, Paced, STEP, weight_at}
-use Rattle.simulation.proofs.Transfers.{AreStatements, one_more}
 use Rattle.simulation.proofs.Moved.{same_id}
 use Rattle.simulation.proofs.Pops.{own_stack, other_stack, entry_pace}
-use Rattle.split_rules.specs.Pace.{PACE}
 use Rattle.simulation.proofs.Basics.{some_same}
 
 all_there : {X : Type 0} (P : X → Type 0) (xs : List X) (i : ℕ) (x : X) → All P xs → slice_get xs i ≡ Some x → P x
@@ -171,27 +172,57 @@ own_row_at host store n (first ∷ fields) (suc k) field there same =
 
 -- ---- what is due at the start
 
-block_statements : (planned : PlannedShape) (statements : List Stmt) →
-    AreStatements planned (block_tree statements) statements
-block_statements planned [] = record { due = refl; readers = λ readers. tt }
-block_statements planned (statement ∷ statements) =
-    one_more planned statement (block_tree statements) statements (block_statements planned statements)
+-- `main` was called
+abbrev calls_at_start : Split → List Call
+calls_at_start split = record { caller = 0; method = split.program.main.0; values = λ x. pos 0 } ∷ []
 
-main_statements : (planned : PlannedShape) (found : Option Method) (tree : MethodTree) →
-    option_map method_tree found ≡ Some tree → AreStatements planned tree.body (body_of found)
-main_statements planned None tree is = absurd (cc)
-main_statements planned (Some method) tree is =
-    let same : method_tree method ≡ tree = cc in
-    subst (λ (m : MethodTree). AreStatements planned m.body method.body.items) same
-    (block_statements planned method.body.items)
+-- its statements are still to be done
+abbrev left_at_start : Split → List Owed
+left_at_start split = to_run_all 0 (main_body split.program) ++ []
 
-body_statements : (planned : PlannedShape) (program : Program) → program_tree program ≡ planned.program →
-    (tree : MethodTree) → slice_get planned.program.methods planned.program.main.0 ≡ Some tree →
-    AreStatements planned tree.body (main_body program)
-body_statements planned program same tree is =
-    main_statements planned (slice_get program.methods.items program.main.0) tree
-    (sym (slice_get-map method_tree program.methods.items program.main.0)
-    ∙ ap (λ (p : ProgramTree). slice_get p.methods p.main.0) same ∙ is)
+main_there : (split : Split) → method_at split.planned.program split.program.main ≡ Some split.main_tree
+main_there split =
+    ap (λ (p : ProgramTree). slice_get split.planned.program.methods p.main.0) split.is ∙ split.has_main
+
+pending_at_start : (split : Split) → map (source.run 0) (main_body split.program) ≡ map item_of (left_at_start split)
+pending_at_start split =
+    sym (append-nil (map (source.run 0) (main_body split.program)))
+    ∙ sym (items_before 0 (main_body split.program) [])
+
+due_at_start : (split : Split) → under 0 (all_due split.main_tree.body) ++ [] ≡ map duty_of (left_at_start split)
+due_at_start split =
+    ap (λ (found : Option MethodTree). under 0 (all_due (typing.body_of found)) ++ []) (sym (main_there split))
+    ∙ ap (λ list. under 0 list ++ []) (called split split.program.main).due
+    ∙ sym (duties_before 0 (main_body split.program) [])
+
+-- the whole body of `main` is to be done, and nothing behind it
+main_left : (split : Split) (store : List (List ℤ)) (all : List Duty) →
+    all ≡ under 0 (all_due split.main_tree.body) ++ [] →
+    IsLeft split (configuration_at_start split.program store) split.code.root all
+main_left split store all is =
+    let body = main_body split.program in
+    record {
+      left = left_at_start split;
+      pending = pending_at_start split;
+      due = is ∙ due_at_start split;
+      known = known_before split 0 body [] (called split split.program.main).fit tt;
+      returned = returned_before 0 body [] tt tt;
+      stands = stands_plainly split split.code.root (left_at_start split) (plainly_before 0 body [] tt);
+    }
+
+-- no result is to be kept
+main_plain : (split : Split) (store : List (List ℤ)) → NoneKept (configuration_at_start split.program store)
+main_plain split store =
+    none_kept (configuration_at_start split.program store) (left_at_start split) (pending_at_start split)
+    (plainly_before 0 (main_body split.program) [] tt)
+
+-- `main` gives nothing back
+main_fits : (split : Split) (naming : Naming) (call : ℕ) (chain : List Link) →
+    FitsOver split naming (positions.body (record { 0 = split.planned.program.main.0 })) call chain
+main_fits split naming call chain x gives =
+    let none : result_of (method_at split.planned.program (record { 0 = split.planned.program.main.0 })) ≡ None =
+    ap result_of split.has_main ∙ split.main_gives in
+    absurd (let both : None ≡ Some x = sym none ∙ gives in cc)
 
 -- ---- the start
 
@@ -237,15 +268,37 @@ last_entry code store key = record {
   kept = last_token code.root;
 }
 
+abbrev last_link : CodeShape → List (List ℤ) → List ℕ → Link
+last_link code store key = record { entry = last_entry code store key; call = 0 }
+
+-- only `main` was called
+abbrev naming_at_start : Split → Naming
+naming_at_start split = record {
+  count = 1;
+  frame = λ call. main_frame;
+  caller = λ call. 0;
+  method = λ call. split.program.main.0;
+}
+
+abbrev view_at_start : Split → List (List ℤ) → List ℕ → View
+view_at_start split store key = record {
+  chain = last_link split.code store key ∷ [];
+  out = [];
+  sender = 0;
+  naming = naming_at_start split;
+  values = λ call x. pos 0;
+  keeper = split.code.root;
+}
+
 stacks_at_start : (split : Split) (store : List (List ℤ)) (rows : List declared_hosts.HostShape) (entry : Entry) →
     entry_at split.code split.code.main ≡ Some entry → (key : List ℕ) →
     state_at (world_at_start split.code rows 0 store) split.code.root
     ≡ Some (root_state split.code store key split.code.root entry) →
-    AreStacks (last_entry split.code store key ∷ []) (world_at_start split.code rows 0 store)
+    AreStacks (last_link split.code store key ∷ []) (world_at_start split.code rows 0 store)
 stacks_at_start split store rows entry main key there host state is =
     let code = split.code in
     let world = world_at_start code rows 0 store in
-    let last = last_entry code store key in
+    let last = last_link code store key in
     elim (eqb_tells host.0 code.root.0) [
       | inl same ↦
           let one : host ≡ code.root = same_id host code.root same.1 in
@@ -257,6 +310,92 @@ stacks_at_start split store rows entry main key there host state is =
           (fresh_there split store rows entry main host state is).entries apart.1
           ∙ sym (other_stack code.root host last [] refl apart.1)
     ]
+
+-- ---- what all hosts have
+
+-- sites count from 1, so the frame of `main` is of none
+main_apart : (code : CodeShape) (host : HostId) (site : SiteId) (count : ℕ) → site_at code site ≡ Some host →
+    main_frame ≢ record { site = site; count = count }
+main_apart code host site count there same =
+    let first : SiteId = record { 0 = 0 } in
+    let is : first ≡ site = ap (λ (f : FrameId). f.site) same in
+    let none : site_at code first ≡ Some host = ap (site_at code) is ∙ there in
+    cc
+
+fresh_frames : (split : Split) (store : List (List ℤ)) (rows : List declared_hosts.HostShape) (entry : Entry) →
+    entry_at split.code split.code.main ≡ Some entry →
+    AreFresh split.code (naming_at_start split) (world_at_start split.code rows 0 store)
+fresh_frames split store rows entry main host state site count at there least =
+    record {
+      apart = λ call within. main_apart split.code host site count there;
+      unset = λ other s x is.
+          ap (λ (v : FrameId → VarId → ℤ). v (record { site = site; count = count }) x)
+          (fresh_there split store rows entry main other s is).variables;
+    }
+
+holds_at_start : (split : Split) (store : List (List ℤ)) (rows : List declared_hosts.HostShape) (entry : Entry) →
+    entry_at split.code split.code.main ≡ Some entry → (key : List ℕ) →
+    Holds split (configuration_at_start split.program store) (view_at_start split store key)
+    (world_at_start split.code rows 0 store)
+holds_at_start split store rows entry main key =
+    let fresh_at = fresh_there split store rows entry main in
+    record {
+      fields = λ number field s there at.
+          ap (λ (list : List (List ℤ)). row_of list number) (fresh_at field.host s at).rows
+          ∙ own_row_at field.host store 0 split.code.fields number field there refl
+          ∙ ap (row_of store) (omega arith);
+      known = omega arith;
+      apart = λ one other within too same. omega arith;
+      named = λ call within.
+          let first : call ≡ 0 = omega arith in
+          record {
+            made = record { caller = 0; method = split.program.main.0; values = λ x. pos 0 };
+            is = ap (slice_get (calls_at_start split)) first;
+            caller = refl;
+            method = refl;
+          };
+      fresh = fresh_frames split store rows entry main;
+      valued = λ call x within.
+          let first : call ≡ 0 = omega arith in
+          sym (ap (λ n. source.variable (calls_at_start split) n x) first);
+      agree = λ call host s x within at reads.
+          inr (ap (λ (v : FrameId → VarId → ℤ). v main_frame x) (fresh_at host s at).variables);
+      result = λ call into result behind s pending at. absurd (main_plain split store call into result behind pending);
+    }
+
+-- ---- the thread
+
+main_at : (split : Split) (store : List (List ℤ)) (entry : Entry) → entry_at split.code split.code.main ≡ Some entry →
+    entry.host ≡ split.code.root → (key : List ℕ) →
+    IsAt split (configuration_at_start split.program store) (view_at_start split store key) split.code.root
+    (thread_at entry main_frame (last_entry split.code store key).token)
+main_at split store entry is on_root key =
+    let c = configuration_at_start split.program store in
+    let view = view_at_start split store key in
+    let root = split.code.root in
+    let level = positions.body (record { 0 = split.planned.program.main.0 }) in
+    let place : place_of split root entry.at ≡ calm level (all_due split.main_tree.body) =
+    ap (λ (host : HostId). split.table.at host.0 entry.at) (sym on_root)
+    ∙ entrance_of split entry is split.main_tree split.has_main split.main_entry in
+    let none_behind : due_at (slice_get split.table.entries 0) ≡ [] = ap due_at split.typed.halts in
+    let read = read_value store (source.variable (calls_at_start split) 0) in
+    record {
+      call = 0;
+      made = omega arith;
+      held = refl;
+      left = main_left split store _
+          (ap (λ (p : Position). under 0 p.due ++ chain_due split view.chain) place
+          ∙ ap (λ list. under 0 (all_due split.main_tree.body) ++ (under 0 list ++ [])) none_behind);
+      fits = subst (λ (p : Position). FitsOver split view.naming p.level 0 view.chain) (sym place)
+          (main_fits split view.naming 0 view.chain);
+      calling = subst (λ (p : Position). IsCalling split c view.naming view.values 0 root main_frame main_frame 0 p.due
+          p.calling) (sym place) (refl, refl, refl);
+      forwards = ap (λ (p : Position). p.forwards) place;
+      settled = inl refl;
+      temporaries = sym (ap (λ (p : Position). map read p.reads) place);
+    }
+
+-- ---- the start as a whole
 
 started : (split : Split) (store : List (List ℤ)) (rows : List declared_hosts.HostShape) → AreHostsOf split.code rows →
     (found : Option Entry) → entry_at split.code split.code.main ≡ found →
@@ -274,78 +413,45 @@ started split store rows hosts (Some entry) is on_root =
     in
     let there = there_within code store 0 rows root.0 (omega arith) in
     let start = starts code store rows root there.0 there.1 in
-    let state = root_state code store start.key root entry in
-    let state_is : there.0 ≡ state = start.is ∙ root_is code store start.key root entry refl is in
+    let key = start.key in
+    let state = root_state code store key root entry in
+    let state_is : there.0 ≡ state = start.is ∙ root_is code store key root entry refl is in
     let root_there : state_at world root ≡ Some state = there.1 ∙ ap Some state_is in
-    let number = split.planned.program.main.0 in
-    let place : place_of split root entry.at
-    ≡ calm (positions.body (record { 0 = number })) (all_due split.main_tree.body) =
-    ap (λ (host : HostId). split.table.at host.0 entry.at) (sym on_root)
-    ∙ entrance_of split entry is split.main_tree split.has_main split.main_entry in
-    let body = body_statements split.planned split.program split.is split.main_tree split.has_main in
-    let last = last_entry code store start.key in
-    let none_behind : due_at (slice_get split.table.entries 0) ≡ [] = ap due_at split.typed.halts in
+    let fresh_at = fresh_there split store rows entry is in
     record {
       now = record {
-        chain = last ∷ [];
-        out = [];
+        view = view_at_start split store key;
         holder = runs root;
         orderly = record {
           count = long_start code store 0 rows ∙ many;
           none_bad = λ host. none_absent code store 0 rows host.0;
-          numbers = λ host s at. (fresh_there split store rows entry is host s at).me;
-          ignored = λ host s at. (fresh_there split store rows entry is host s at).ignored;
+          numbers = λ host s at. (fresh_at host s at).me;
+          ignored = λ host s at. (fresh_at host s at).ignored;
         };
-        stacks = stacks_at_start split store rows entry is start.key root_there;
-        idle = λ host s at apart. (
-          (fresh_there split store rows entry is host s at).rest apart,
-          (fresh_there split store rows entry is host s at).waiting,
-        );
-        goes_on = λ host s at. (fresh_there split store rows entry is host s at).halts;
-        fields = λ number field s there at.
-            ap (λ (list : List (List ℤ)). row_of list number) (fresh_there split store rows entry is field.host s at).rows
-            ∙ own_row_at field.host store 0 code.fields number field there refl
-            ∙ ap (row_of store) (omega arith);
-        call = record {
-          call = record { caller = 0; method = split.program.main.0; values = λ x. pos 0 };
-          calls = refl;
-        };
-        agree = λ host s x at reads. inr (ap (λ (v : FrameId → VarId → ℤ). v main_frame x)
-            (fresh_there split store rows entry is host s at).variables);
+        stacks = stacks_at_start split store rows entry is key root_there;
+        idle = λ host s at apart. ((fresh_at host s at).rest apart, (fresh_at host s at).waiting);
+        goes_on = λ host s at. (fresh_at host s at).halts;
+        holds = holds_at_start split store rows entry is key;
         stands = (
           (refl, refl),
           record {
             state = state;
             there = root_there;
-            thread = thread_at entry main_frame last.token;
+            thread = thread_at entry main_frame (last_entry code store key).token;
             running = refl;
             waiting = refl;
             sent = tt;
             flying = refl;
-            at = record {
-              frame = refl;
-              held = refl;
-              left = record {
-                left = main_body split.program;
-                pending = refl;
-                due = ap (λ (p : Position). p.due ++ chain_due split (last ∷ [])) place
-                    ∙ ap (λ list. all_due split.main_tree.body ++ (list ++ [])) none_behind
-                    ∙ append-nil (all_due split.main_tree.body) ∙ body.due;
-                readers = body.readers split.readers;
-              };
-              calling = ap (λ (p : Position). p.calling) place;
-              forwards = ap (λ (p : Position). p.forwards) place;
-              temporaries = sym (ap (λ (p : Position). map (read_value store (λ x. pos 0)) p.reads) place);
-            };
+            at = main_at split store entry is on_root key;
           },
         );
-        fuel = weight_at split (last ∷ []) root entry.at;
+        fuel = weight_at split (last_link code store key ∷ []) root entry.at;
         fueled = λ paced. omega arith;
       };
       less = λ paced. at_main paced;
     }
   where
-    at_main : Paced split → weight_at split (last_entry split.code store [] ∷ []) split.code.root entry.at < STEP + 4
+    at_main : Paced split → weight_at split (last_link split.code store [] ∷ []) split.code.root entry.at < STEP + 4
     at_main paced =
         let number = split.planned.program.main.0 in
         let most : split.pace entry.host.0 entry.at ≤ PACE =

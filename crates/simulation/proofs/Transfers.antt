@@ -1,11 +1,11 @@
 -- What pushes, transfers and branches make of what is still to be done, by the laws of their positions.
-use Rattle.std.proofs.Common.{◌≡◌, ◌≢◌, ◌∙◌, ℕ, zero, suc, ◌+◌, Bool, true, false, List, [], ◌∷◌, ◌++◌, map}
-use Rattle.std.proofs.Common.{Some, refl, ap, sym, subst, append_assoc}
+use Rattle.std.proofs.Common.{◌≡◌, ◌≢◌, ◌∙◌, ℕ, zero, suc, ◌+◌, ◌<◌, inl, inr, Bool, true, false, List, [], ◌∷◌, ◌++◌}
+use Rattle.std.proofs.Common.{map, length, Some, refl, ap, sym, subst, append_assoc}
 use Rattle.std.specs.Prelude.{ℤ, pos, slice_get, not, if◌then◌else◌}
 use Rattle.std.specs.List.{AllByRecursion}
 use Rattle.std.specs.Ordering.{int_eq}
-use Rattle.std.proofs.lemmas.List.{map-append}
 use Rattle.js_base.specs.declared.ids.HostId.{HostId}
+use Rattle.js_base.specs.declared.ids.FrameId.{FrameId}
 use Rattle.js_base.specs.declared.ids.VarId.{VarId}
 use Rattle.js_base.specs.declared.ids.EntryId.{EntryId}
 use Rattle.jif_tree.specs.declared.program.Stmt.{Stmt}
@@ -13,11 +13,9 @@ use Rattle.jif_tree.specs.declared.program.StmtKind.{StmtKind}
 use Rattle.jif_tree.specs.declared.program.StmtKind as kind
 use Rattle.jif_tree.specs.Operators.{is_true}
 use Rattle.jif_tree.specs.SourceRun as source
-use Rattle.jif_tree.specs.SourceRun.{Configuration, IsAtEnd, step, executed, operands, value_of, calls_after}
-use Rattle.jif_tree.specs.SourceRun.{after_item}
-use Rattle.jif_tree.specs.Trees.{Heading, BlockTree, done, branch, loop, statement_tree, row_tree, expr_tree}
+use Rattle.jif_tree.specs.SourceRun.{Configuration, IsAtEnd, step, executed, operands, value_of}
+use Rattle.jif_tree.specs.Trees.{Heading, done, branch, loop, statement_tree, row_tree, expr_tree}
 use Rattle.capability.specs.declared.token.Token.{Token}
-use Rattle.ics_stack.specs.declared.stack.StackEntry.{StackEntry}
 use Rattle.ics_stack.specs.Stack.{top_token}
 use Rattle.host_code.specs.declared.code.Entry.{Entry}
 use Rattle.host_code.specs.declared.code_expr.Node.{Node}
@@ -25,25 +23,21 @@ use Rattle.host_code.specs.declared.instruction.Op.TheVariants as op
 use Rattle.host_code.specs.Code.{halt, entry_at}
 use Rattle.host_code.specs.Thread.{ThreadShape}
 use Rattle.host_core.specs.Host.{with_token, after_step, after_clearing, thread_at}
-use Rattle.host_core.specs.Start.{main_frame}
 use Rattle.host_core.specs.Values.{value_of_nodes}
-use Rattle.msg_cost.specs.Moves.{PlannedShape}
 use Rattle.split_rules.specs.Positions as positions
-use Rattle.split_rules.specs.Positions.{Position, Due, FieldRead, Forward, Entrance, field_reads, own_reads, reads_due}
-use Rattle.split_rules.specs.Positions.{number_of, statement_due, is_on, calm, no_call, with_reads, with_forwards}
-use Rattle.split_rules.specs.Positions.{forwards_of, all_due, statements_of}
-use Rattle.split_rules.specs.Typing.{EntryIs, Cuts, Branches, Divides, Ends, IsCalm, Frames, GivesBack, Argues, Enters}
-use Rattle.split_rules.specs.TypedCode.{IsTypedOp}
-use Rattle.split_rules.specs.Positions.{Argument, arguing}
-use Rattle.js_base.specs.declared.ids.SiteId.{SiteId}
-use Rattle.host_code.specs.declared.instruction.Op.{Op}
-use Rattle.std.specs.Prelude.{⊤}
-use Rattle.simulation.proofs.KnownReaders.{AreReaders}
-use Rattle.simulation.proofs.Simulates.{Split, place_of, alone, due_of, due_at, chain_due, IsChain, IsLeft, IsAt}
-use Rattle.simulation.proofs.Instructions.{next_place, front_of, busy, stepped, cleared, only_value, same_values}
-use Rattle.simulation.proofs.Instructions.{Agrees}
+use Rattle.split_rules.specs.Positions.{Position, Due, Level, Entrance, Forward, statement_due, is_on, calm, no_call}
+use Rattle.split_rules.specs.Positions.{all_due}
+use Rattle.split_rules.specs.Typing.{EntryIs, Cuts, Branches, Divides, Ends, IsCalm}
+use Rattle.simulation.proofs.KnownReaders.{IsFit}
+use Rattle.simulation.proofs.Views.{Split, View, Link, entries_of, place_of, with_chain}
+use Rattle.simulation.proofs.Chains.{Duty, under, due_at, level_at, chain_due, FitsOver, IsChain}
+use Rattle.simulation.proofs.Threads.{alone, Owed, to_run, item_of, duty_of, IsReturn, MayFollow, AreReturned}
+use Rattle.simulation.proofs.Threads.{IsKnown, IsLeft, IsCalling, IsAt, NoneKept}
+use Rattle.simulation.proofs.Owing.{front_of, busy, plainly_behind, none_kept, stands_plainly, BeginsPlainly, to_run_all}
+use Rattle.simulation.proofs.Owing.{row_statements, items_before, duties_before, known_before, plainly_before}
+use Rattle.simulation.proofs.Owing.{returned_before}
+use Rattle.simulation.proofs.Instructions.{next_place, stepped, cleared, only_value, same_values, Agrees}
 use Rattle.simulation.proofs.TreeValues.{read_value}
-use Rattle.simulation.proofs.Basics.{all_both}
 
 -- ---- entries
 
@@ -51,58 +45,97 @@ use Rattle.simulation.proofs.Basics.{all_both}
 calm_out : (here : Position) (out : List Forward) → here.forwards ≡ out → IsCalm here → out ≡ []
 calm_out here out forwards is_calm = sym forwards ∙ ap (λ (p : Position). p.forwards) is_calm
 
-entrance_due : (split : Split) (number : ℕ) (position : Position) (need : ℕ) →
+pub entrance_due : (split : Split) (number : ℕ) (position : Position) (need : ℕ) →
     EntryIs split.table.entries number position need → due_at (slice_get split.table.entries number) ≡ position.due
 entrance_due split number position need is = ap due_at is
 
+pub entrance_level : (split : Split) (number : ℕ) (position : Position) (need : ℕ) →
+    EntryIs split.table.entries number position need →
+    level_at (slice_get split.table.entries number) ≡ position.level
+entrance_level split number position need is = ap level_at is
+
+pub under_both : (call : ℕ) (one other : List Due) → under call (one ++ other) ≡ under call one ++ under call other
+under_both call [] other = refl
+under_both call (item ∷ one) other =
+    ap (λ (list : List Duty). record { call = call; due = item } ∷ list) (under_both call one other)
+
+-- where no call is being made
+pub calm_calling : (split : Split) (c : Configuration) (view : View) (host : HostId) (thread : ThreadShape)
+    (at : IsAt split c view host thread) → (place_of split host thread.at).calling ≡ no_call →
+    (view.naming.count ≡ length c.calls) × (thread.frame ≡ view.naming.frame at.call) × (view.sender ≡ at.call)
+calm_calling split c view host thread at none =
+    subst (IsCalling split c view.naming view.values view.sender host thread.frame thread.new_frame at.call
+    (place_of split host thread.at).due) none at.calling
+
 -- an entry is pushed, on this host or on another
-pub push_at : (split : Split) (c : Configuration) (chain : List StackEntry) (out : List Forward) (host : HostId)
-    (thread : ThreadShape) → IsAt split c chain out host thread → (entry : EntryId) →
+pub push_at : (split : Split) (c : Configuration) (view : View) (host : HostId) (thread : ThreadShape)
+    (at : IsAt split c view host thread) → (entry : EntryId) →
     Cuts split.planned split.table.entries (place_of split host thread.at) entry.0
     (place_of split host (suc thread.at)) →
-    (pushed : StackEntry) → pushed.entry ≡ entry →
-    IsAt split c (pushed ∷ chain) [] host (with_token (Some pushed.token) (after_step thread))
-push_at split c chain out host thread at entry law pushed is =
+    (link : Link) → link.entry.entry ≡ entry → link.call ≡ at.call →
+    IsAt split c (with_chain view (link ∷ view.chain)) host (with_token (Some link.entry.token) (after_step thread))
+push_at split c view host thread at entry law link is number =
     let here = place_of split host thread.at in
     let next = place_of split host (thread.at + 1) in
+    let call = at.call in
     let goes = next_place split host thread ∙ law.goes in
-    let behind : due_at (slice_get split.table.entries pushed.entry.0) ≡ law.behind =
+    let behind : due_at (slice_get split.table.entries link.entry.entry.0) ≡ law.behind =
     ap (λ (e : EntryId). due_at (slice_get split.table.entries e.0)) is ∙ entrance_due split entry.0 _ _ law.pushed in
-    let rest = chain_due split chain in
-    let due : here.due ++ rest
-    ≡ next.due ++ (due_at (slice_get split.table.entries pushed.entry.0) ++ rest) =
-    ap (λ list. list ++ rest) law.due
-    ∙ append_assoc (place_of split host (suc thread.at)).due law.behind rest
-    ∙ ap (λ (p : Position). p.due ++ (law.behind ++ rest)) (sym (next_place split host thread))
-    ∙ ap (λ list. next.due ++ (list ++ rest)) (sym behind) in
-    let read = read_value c.store (source.variable c.calls 0) in
+    let rest = chain_due split view.chain in
+    let due : under call here.due ++ rest
+    ≡ under call next.due
+    ++ (under link.call (due_at (slice_get split.table.entries link.entry.entry.0)) ++ rest) =
+    ap (λ list. under call list ++ rest) law.due
+    ∙ ap (λ list. list ++ rest) (under_both call (place_of split host (suc thread.at)).due law.behind)
+    ∙ append_assoc (under call (place_of split host (suc thread.at)).due) (under call law.behind) rest
+    ∙ ap (λ (p : Position). under call p.due ++ (under call law.behind ++ rest)) (sym (next_place split host thread))
+    ∙ ap (λ list. under call next.due ++ (under call list ++ rest)) (sym behind)
+    ∙ ap (λ n. under call next.due ++ (under n (due_at (slice_get split.table.entries link.entry.entry.0)) ++ rest))
+    (sym number) in
+    let read = read_value c.store (source.variable c.calls call) in
+    let calling = calm_calling split c view host thread at (ap (λ (p : Position). p.calling) law.is_calm) in
     record {
-      frame = at.frame;
+      call = call;
+      made = at.made;
       held = refl;
-      left = subst (IsLeft split c) due at.left;
-      calling = ap (λ (p : Position). p.calling) goes;
-      forwards = ap (λ (p : Position). p.forwards) goes;
+      left = subst (IsLeft split c view.keeper) due at.left;
+      fits = subst (λ (p : Position). FitsOver split view.naming p.level call (link ∷ view.chain)) (sym goes) tt;
+      calling = subst (λ (p : Position). IsCalling split c view.naming view.values view.sender host thread.frame
+          thread.new_frame call p.due p.calling) (sym goes) calling;
+      forwards = ap (λ (p : Position). p.forwards) goes
+          ∙ sym (calm_out here view.out at.forwards law.is_calm);
+      settled = inl (calm_out here view.out at.forwards law.is_calm);
       temporaries = at.temporaries ∙ ap (λ (p : Position). map read p.reads) law.is_calm
           ∙ sym (ap (λ (p : Position). map read p.reads) goes);
     }
 
-pub push_calm : (split : Split) (c : Configuration) (chain : List StackEntry) (out : List Forward) (host : HostId)
-    (thread : ThreadShape) → IsAt split c chain out host thread → (entry : EntryId) →
+-- what stands behind the entry that is pushed fits over the chain
+pub pushed_fits : (split : Split) (c : Configuration) (view : View) (host : HostId) (thread : ThreadShape)
+    (at : IsAt split c view host thread) → (entry : EntryId) →
     Cuts split.planned split.table.entries (place_of split host thread.at) entry.0
     (place_of split host (suc thread.at)) →
-    out ≡ []
-push_calm split c chain out host thread at entry law =
-    calm_out (place_of split host thread.at) out at.forwards law.is_calm
+    FitsOver split view.naming (level_at (slice_get split.table.entries entry.0)) at.call view.chain
+pushed_fits split c view host thread at entry law =
+    subst (λ level. FitsOver split view.naming level at.call view.chain)
+    (sym (entrance_level split entry.0 _ _ law.pushed)) at.fits
+
+pub push_calm : (split : Split) (c : Configuration) (view : View) (host : HostId) (thread : ThreadShape) →
+    IsAt split c view host thread → (entry : EntryId) →
+    Cuts split.planned split.table.entries (place_of split host thread.at) entry.0
+    (place_of split host (suc thread.at)) →
+    view.out ≡ []
+push_calm split c view host thread at entry law =
+    calm_out (place_of split host thread.at) view.out at.forwards law.is_calm
 
 -- the place of an entry of the code has the position of the entry
-record IsPlaced (split : Split) (number : ℕ) (there : Entry) : Type 0 where
-  position : Position
-  need : ℕ
-  is : EntryIs split.table.entries number position need
-  is_calm : IsCalm position
-  stands : place_of split there.host there.at ≡ position
+pub record IsPlaced (split : Split) (number : ℕ) (there : Entry) : Type 0 where
+  pub position : Position
+  pub need : ℕ
+  pub is : EntryIs split.table.entries number position need
+  pub is_calm : IsCalm position
+  pub stands : place_of split there.host there.at ≡ position
 
-placed : (split : Split) (entry : EntryId) (there : Entry) → entry ≢ halt → entry_at split.code entry ≡ Some there →
+pub placed : (split : Split) (entry : EntryId) (there : Entry) → entry ≢ halt → entry_at split.code entry ≡ Some there →
     IsPlaced split entry.0 there
 placed split entry there apart is = at_number entry.0 (λ same. apart (ap make same)) is
   where
@@ -122,364 +155,345 @@ placed split entry there apart is = at_number entry.0 (λ same. apart (ap make s
           stands = typed.stands;
         }
 
+-- what is to be seen where a thread starts for a call
+abbrev pub starting : View → List Link → ℕ → View
+starting view chain call = record view { chain = chain; out = []; sender = call }
+
 -- a thread starts at an entry
-starts_at : (split : Split) (c : Configuration) (chain : List StackEntry) (number : ℕ) (there : Entry) (token : Token) →
-    IsPlaced split number there → Some token ≡ top_token chain →
-    IsLeft split c (due_at (slice_get split.table.entries number) ++ chain_due split chain) →
-    IsAt split c chain [] there.host (thread_at there main_frame token)
-starts_at split c chain number there token is held left =
+pub starts_at : (split : Split) (c : Configuration) (view : View) (chain : List Link) (call : ℕ) (number : ℕ)
+    (there : Entry) (frame : FrameId) (token : Token) → IsPlaced split number there → call < length c.calls →
+    view.naming.count ≡ length c.calls → frame ≡ view.naming.frame call → Some token ≡ top_token (entries_of chain) →
+    FitsOver split view.naming (level_at (slice_get split.table.entries number)) call chain →
+    IsLeft split c view.keeper (under call (due_at (slice_get split.table.entries number)) ++ chain_due split chain) →
+    IsAt split c (starting view chain call) there.host (thread_at there frame token)
+starts_at split c view chain call number there frame token is made count frame_is held fits left =
     let calm_there : place_of split there.host there.at ≡ calm is.position.level is.position.due =
     is.stands ∙ is.is_calm in
     let due : due_at (slice_get split.table.entries number) ≡ (place_of split there.host there.at).due =
     entrance_due split number is.position is.need is.is ∙ sym (ap (λ (p : Position). p.due) is.stands) in
+    let level : level_at (slice_get split.table.entries number) ≡ (place_of split there.host there.at).level =
+    entrance_level split number is.position is.need is.is ∙ sym (ap (λ (p : Position). p.level) is.stands) in
     record {
-      frame = refl;
+      call = call;
+      made = made;
       held = held;
-      left = subst (λ list. IsLeft split c (list ++ chain_due split chain)) due left;
-      calling = ap (λ (p : Position). p.calling) calm_there;
+      left = subst (λ list. IsLeft split c view.keeper (under call list ++ chain_due split chain)) due left;
+      fits = subst (λ l. FitsOver split view.naming l call chain) level fits;
+      calling = subst (λ (p : Position). IsCalling split c view.naming view.values call there.host frame frame call p.due
+          p.calling) (sym calm_there) (count, frame_is, refl);
       forwards = ap (λ (p : Position). p.forwards) calm_there;
-      temporaries = sym (ap (λ (p : Position). map (read_value c.store (source.variable c.calls 0)) p.reads)
+      settled = inl refl;
+      temporaries = sym (ap (λ (p : Position). map (read_value c.store (source.variable c.calls call)) p.reads)
           calm_there);
     }
 
 -- the thread is handed over at an entry
-pub record HandsOver (split : Split) (c : Configuration) (chain : List StackEntry) (out : List Forward)
-    (entry : EntryId)
+pub record HandsOver (split : Split) (c : Configuration) (view : View) (entry : EntryId) (frame : FrameId)
     (token : Token) : Type 0 where
-  pub none_out : out ≡ []
+  pub none_out : view.out ≡ []
+  pub call : ℕ
   pub at : (there : Entry) → entry_at split.code entry ≡ Some there →
-      IsAt split c chain [] there.host (thread_at there main_frame token)
+      IsAt split c (starting view view.chain call) there.host (thread_at there frame token)
 
-pub go_at : (split : Split) (c : Configuration) (chain : List StackEntry) (out : List Forward) (host : HostId)
-    (thread : ThreadShape) → IsAt split c chain out host thread → (entry : EntryId) (on : HostId) → entry ≢ halt →
+pub go_at : (split : Split) (c : Configuration) (view : View) (host : HostId) (thread : ThreadShape) →
+    IsAt split c view host thread → (entry : EntryId) (on : HostId) → entry ≢ halt →
     Ends split.planned split.table.entries (place_of split host thread.at) (op.Go entry on) → (token : Token) →
-    thread.held ≡ Some token → HandsOver split c chain out entry token
-go_at split c chain out host thread at entry on apart law token held =
+    thread.held ≡ Some token → HandsOver split c view entry thread.frame token
+go_at split c view host thread at entry on apart law token held =
     let here = place_of split host thread.at in
+    let calling = calm_calling split c view host thread at (ap (λ (p : Position). p.calling) law.0) in
     record {
-      none_out = calm_out here out at.forwards law.0;
+      none_out = calm_out here view.out at.forwards law.0;
+      call = at.call;
       at = λ there is.
-          let is_placed = placed split entry there apart is in
-          starts_at split c chain entry.0 there token is_placed (sym held ∙ at.held)
-          (subst (λ list. IsLeft split c (list ++ chain_due split chain))
-          (sym (entrance_due split entry.0 here _ law.1))
-          at.left);
+          starts_at split c view view.chain at.call entry.0 there thread.frame token (placed split entry there apart is)
+          at.made calling.0 calling.1 (sym held ∙ at.held)
+          (subst (λ l. FitsOver split view.naming l at.call view.chain)
+          (sym (entrance_level split entry.0 here _ law.1)) at.fits)
+          (subst (λ list. IsLeft split c view.keeper (under at.call list ++ chain_due split view.chain))
+          (sym (entrance_due split entry.0 here _ law.1)) at.left);
     }
 
 -- ---- the way back
 
-pub record GivesUp (split : Split) (c : Configuration) (chain : List StackEntry) (out : List Forward) : Type 0 where
-  pub none_out : out ≡ []
-  pub left : IsLeft split c (chain_due split chain)
+pub record GivesUp (split : Split) (c : Configuration) (view : View) : Type 0 where
+  pub none_out : view.out ≡ []
+  pub count : view.naming.count ≡ length c.calls
+  pub left : IsLeft split c view.keeper (chain_due split view.chain)
 
-pub back_at : (split : Split) (c : Configuration) (chain : List StackEntry) (out : List Forward) (host : HostId)
-    (thread : ThreadShape) → IsAt split c chain out host thread →
-    Ends split.planned split.table.entries (place_of split host thread.at) op.Back → GivesUp split c chain out
-back_at split c chain out host thread at law = record {
+pub back_at : (split : Split) (c : Configuration) (view : View) (host : HostId) (thread : ThreadShape) →
+    IsAt split c view host thread →
+    Ends split.planned split.table.entries (place_of split host thread.at) op.Back → GivesUp split c view
+back_at split c view host thread at law = record {
   none_out = sym at.forwards ∙ ap (λ (p : Position). p.forwards) law;
-  left = subst (λ due. IsLeft split c (due ++ chain_due split chain)) (ap (λ (p : Position). p.due) law) at.left;
+  count = (calm_calling split c view host thread at (ap (λ (p : Position). p.calling) law)).0;
+  left = subst (λ due. IsLeft split c view.keeper (under at.call due ++ chain_due split view.chain))
+      (ap (λ (p : Position). p.due) law) at.left;
 }
 
 -- the thread of an entry that was taken off goes on behind it
-pub pop_at : (split : Split) (c : Configuration) (top next : StackEntry) (below : List StackEntry) →
-    IsChain split (top ∷ next ∷ below) → IsLeft split c (chain_due split (top ∷ next ∷ below)) → (there : Entry) →
-    entry_at split.code top.entry ≡ Some there →
-    IsAt split c (next ∷ below) [] there.host (thread_at there top.frame top.kept)
-pop_at split c top next below chain left there is =
-    subst (λ frame. IsAt split c (next ∷ below) [] there.host (thread_at there frame top.kept)) (sym chain.1)
-    (starts_at split c (next ∷ below) top.entry.0 there top.kept (placed split top.entry there chain.0.0 is)
-    (ap Some chain.2) left)
+pub pop_at : (split : Split) (c : Configuration) (view : View) (top next : Link) (below : List Link) →
+    IsChain split view.naming (top ∷ next ∷ below) → view.naming.count ≡ length c.calls →
+    IsLeft split c view.keeper (chain_due split (top ∷ next ∷ below)) → (there : Entry) →
+    entry_at split.code top.entry.entry ≡ Some there →
+    IsAt split c (starting view (next ∷ below) top.call) there.host (thread_at there top.entry.frame top.entry.kept)
+pop_at split c view top next below chain count left there is =
+    starts_at split c view (next ∷ below) top.call top.entry.entry.0 there top.entry.frame top.entry.kept
+    (placed split top.entry.entry there chain.0.0 is) (subst (λ n. top.call < n) count chain.1.known) count
+    chain.1.frame (ap Some chain.2) chain.3 left
 
-none_left : (c : Configuration) (left : List Stmt) → c.pending ≡ map (source.run 0) left → [] ≡ map due_of left →
+none_left : (c : Configuration) (left : List Owed) → c.pending ≡ map item_of left → [] ≡ map duty_of left →
     IsAtEnd c
 none_left c [] pending due = pending
-none_left c (statement ∷ left) pending due = absurd (cc)
+none_left c (owed ∷ left) pending due = absurd (cc)
 
 -- nothing is left behind the last entry
-pub end_at : (split : Split) (c : Configuration) (last : StackEntry) → IsChain split (last ∷ []) →
-    IsLeft split c (chain_due split (last ∷ [])) → IsAtEnd c
-end_at split c last chain left =
-    let due : due_at (slice_get split.table.entries last.entry.0) ≡ [] =
+pub end_at : (split : Split) (c : Configuration) (view : View) (last : Link) →
+    IsChain split view.naming (last ∷ []) → IsLeft split c view.keeper (chain_due split (last ∷ [])) → IsAtEnd c
+end_at split c view last chain left =
+    let due : due_at (slice_get split.table.entries last.entry.entry.0) ≡ [] =
     ap (λ (e : EntryId). due_at (slice_get split.table.entries e.0)) chain.0
     ∙ entrance_due split 0 _ _ split.typed.halts in
-    none_left c left.left left.pending (sym (ap (λ list. list ++ []) due) ∙ left.due)
+    none_left c left.left left.pending (sym (ap (λ list. under last.call list ++ []) due) ∙ left.due)
 
 -- ---- branches
 
-one_statement : (what : StmtKind) (heading : Heading) (rest : BlockTree) →
-    statements_of (statement_tree what heading rest) ≡ statement_tree what heading done ∷ statements_of rest
-one_statement (kind.Let x value) heading rest = refl
-one_statement (kind.SetField field value) heading rest = refl
-one_statement (kind.SetElement field index value) heading rest = refl
-one_statement (kind.If' guard m first n second) heading rest = refl
-one_statement (kind.While' guard m body) heading rest = refl
-one_statement (kind.Call site method args into) heading rest = refl
-one_statement (kind.Return value) heading rest = refl
-
-record ReadersApart (planned : PlannedShape) (what : StmtKind) (heading : Heading) (rest : BlockTree) : Type 0 where
-  own : AreReaders planned (statement_tree what heading done)
-  behind : AreReaders planned rest
-
-readers_apart : (planned : PlannedShape) (what : StmtKind) (heading : Heading) (rest : BlockTree) →
-    AreReaders planned (statement_tree what heading rest) → ReadersApart planned what heading rest
-readers_apart planned (kind.Let x value) heading rest readers = record { own = (readers.0, tt); behind = readers.1 }
-readers_apart planned (kind.SetField field value) heading rest readers =
-    record { own = (readers.0, tt); behind = readers.1 }
-readers_apart planned (kind.SetElement field index value) heading rest readers =
-    record { own = (readers.0, readers.1, tt); behind = readers.2 }
-readers_apart planned (kind.If' guard m first n second) heading rest readers =
-    record { own = (readers.0, readers.1, readers.2, tt); behind = readers.3 }
-readers_apart planned (kind.While' guard m body) heading rest readers =
-    record { own = (readers.0, readers.1, tt); behind = readers.2 }
-readers_apart planned (kind.Call site method args into) heading rest readers = absurd readers
-readers_apart planned (kind.Return value) heading rest readers = absurd readers
-
--- the statements of a block, with what is known of them
-pub record AreStatements (planned : PlannedShape) (block : BlockTree) (statements : List Stmt) : Type 0 where
-  pub due : all_due block ≡ map due_of statements
-  pub readers : AreReaders planned block → AllByRecursion (λ one. AreReaders planned (alone one)) statements
-
-pub one_more : (planned : PlannedShape) (statement : Stmt) (block : BlockTree) (statements : List Stmt) →
-    AreStatements planned block statements →
-    AreStatements planned
-    (statement_tree statement.kind (record { id = statement.id; line = statement.line }) block)
-    (statement ∷ statements)
-one_more planned statement block statements others =
-    let heading : Heading = record { id = statement.id; line = statement.line } in
-    record {
-      due = ap (map positions.run) (one_statement statement.kind heading block)
-          ∙ ap (λ list. due_of statement ∷ list) others.due;
-      readers = λ readers.
-          let apart = readers_apart planned statement.kind heading block readers in
-          (apart.own, others.readers apart.behind);
-    }
-
-row_statements : (planned : PlannedShape) {n : _} (row : kind.Row_of-Stmt n) →
-    AreStatements planned (row_tree row) (source.statements_of row)
-row_statements planned kind.end_of-Stmt = record { due = refl; readers = λ readers. tt }
-row_statements planned (kind.more_of-Stmt id line what rest) =
-    one_more planned (record { id = id; line = line; kind = what }) (row_tree rest) (source.statements_of rest)
-    (row_statements planned rest)
-
 -- a guard is decided, and the thread goes on behind it or where it branches
-pub record Decides (split : Split) (c : Configuration) (chain : List StackEntry) (out : List Forward) (host : HostId)
-    (thread : ThreadShape) (target : ℕ) (value : ℤ) : Type 0 where
+pub record Decides (split : Split) (c : Configuration) (view : View) (host : HostId) (thread : ThreadShape) (target : ℕ)
+    (value : ℤ) : Type 0 where
   pub busy : ¬ IsAtEnd c
-  pub none_out : out ≡ []
+  pub none_out : view.out ≡ []
   pub store : (step split.program c).store ≡ c.store
   pub calls : (step split.program c).calls ≡ c.calls
-  pub at : IsAt split (step split.program c) chain [] host
+  pub plainly : NoneKept (step split.program c)
+  pub at : IsAt split (step split.program c) view host
       (if int_eq value (pos 0) then record (after_clearing thread) { at = target } else after_clearing thread)
 
 -- what a guard makes of what is to be done
-record Divided (split : Split) (c : Configuration) (statement : Stmt) (behind : List Stmt) (what : StmtKind)
-    (next target : Position) (rest : List Due) (value : ℤ) : Type 0 where
-  taken : List Stmt
-  skipped : List Stmt
-  taken_due : next.due ++ rest ≡ map due_of taken
-  skipped_due : target.due ++ rest ≡ map due_of skipped
-  taken_readers : AllByRecursion (λ one. AreReaders split.planned (alone one)) taken
-  skipped_readers : AllByRecursion (λ one. AreReaders split.planned (alone one)) skipped
-  next_is : next ≡ calm next.level next.due
-  target_is : target ≡ calm target.level target.due
-  steps : executed split.program c 0 (source.run 0 statement) what (map (value_of c 0) (operands what))
-      (map (source.run 0) behind)
-      ≡ record c { pending = map (source.run 0) (if int_eq value (pos 0) then skipped else taken) }
+record Divided (split : Split) (c : Configuration) (call : ℕ) (statement : Stmt) (behind : List Owed) (what : StmtKind)
+    (level : Level) (next target : Position) (rest : List Duty) (value : ℤ) : Type 0 where
+  taken : List Owed
+  skipped : List Owed
+  taken_due : under call next.due ++ rest ≡ map duty_of taken
+  skipped_due : under call target.due ++ rest ≡ map duty_of skipped
+  taken_known : AllByRecursion (IsKnown split) taken
+  skipped_known : AllByRecursion (IsKnown split) skipped
+  taken_plainly : BeginsPlainly taken
+  skipped_plainly : BeginsPlainly skipped
+  taken_returned : AreReturned taken
+  skipped_returned : AreReturned skipped
+  next_is : next ≡ calm level next.due
+  target_is : target ≡ calm level target.due
+  steps : executed split.program c call (source.run call statement) what (map (value_of c call) (operands what))
+      (map item_of behind)
+      ≡ record c { pending = map item_of (if int_eq value (pos 0) then skipped else taken) }
 
 -- the items of a branch
-chosen : (b : Bool) (first second behind : List Stmt) →
-    (if not b then map (source.run 0) first else map (source.run 0) second) ++ map (source.run 0) behind
-    ≡ map (source.run 0) (if b then second ++ behind else first ++ behind)
-chosen true first second behind = sym (map-append (source.run 0) second behind)
-chosen false first second behind = sym (map-append (source.run 0) first behind)
+chosen : (b : Bool) (call : ℕ) (first second : List Stmt) (behind : List Owed) →
+    (if not b then map (source.run call) first else map (source.run call) second) ++ map item_of behind
+    ≡ map item_of (if b then to_run_all call second ++ behind else to_run_all call first ++ behind)
+chosen true call first second behind = sym (items_before call second behind)
+chosen false call first second behind = sym (items_before call first behind)
 
-repeated : (b : Bool) (body : List Stmt) (statement : Stmt) (behind : List Stmt) →
-    (if not b then map (source.run 0) body ++ source.run 0 statement ∷ map (source.run 0) behind
-    else map (source.run 0) behind)
-    ≡ map (source.run 0) (if b then behind else body ++ statement ∷ behind)
-repeated true body statement behind = refl
-repeated false body statement behind = sym (map-append (source.run 0) body (statement ∷ behind))
+repeated : (b : Bool) (call : ℕ) (body : List Stmt) (statement : Stmt) (behind : List Owed) →
+    (if not b then map (source.run call) body ++ source.run call statement ∷ map item_of behind
+    else map item_of behind)
+    ≡ map item_of (if b then behind else to_run_all call body ++ to_run call statement ∷ behind)
+repeated true call body statement behind = refl
+repeated false call body statement behind = sym (items_before call body (to_run call statement ∷ behind))
 
-divided : (split : Split) (c : Configuration) (host : HostId) (thread : ThreadShape) (variables : VarId → ℤ) →
-    Agrees split c host variables → (here : Position) →
-    thread.temporaries ≡ map (read_value c.store (source.variable c.calls 0)) here.reads → (statement : Stmt)
-    (behind : List Stmt) (what : StmtKind) (heading : Heading) (others rest : List Due) (nodes : List Node)
-    (next target : Position) → is_on split.planned host (statement_tree what heading done) ≡ true →
-    AreReaders split.planned (statement_tree what heading done) → AreReaders split.planned (alone statement) →
-    positions.run (statement_tree what heading done) ≡ due_of statement → others ++ rest ≡ map due_of behind →
-    AllByRecursion (λ one. AreReaders split.planned (alone one)) behind →
+-- the statements of a block before others are what is due
+before_is : (call : ℕ) (found : List Due) (list : List Stmt) (rest : List Duty) (behind : List Owed) →
+    found ≡ map (λ one. positions.run (alone one)) list → rest ≡ map duty_of behind →
+    under call found ++ rest ≡ map duty_of (to_run_all call list ++ behind)
+before_is call found list rest behind is due =
+    ap (λ l. under call l ++ rest) is
+    ∙ ap (λ l. under call (map (λ one. positions.run (alone one)) list) ++ l) due
+    ∙ sym (duties_before call list behind)
+
+divided : (split : Split) (c : Configuration) (host : HostId) (call : ℕ) (thread : ThreadShape)
+    (variables : VarId → ℤ) → Agrees split c host call variables → (here : Position) →
+    thread.temporaries ≡ map (read_value c.store (source.variable c.calls call)) here.reads → (statement : Stmt)
+    (behind : List Owed) (what : StmtKind) (heading : Heading) (others : List Due) (rest : List Duty)
+    (nodes : List Node) (next target : Position) →
+    is_on split.planned host (statement_tree what heading done) ≡ true →
+    IsFit split.code split.planned (statement_tree what heading done) →
+    IsFit split.code split.planned (alone statement) →
+    positions.run (statement_tree what heading done) ≡ positions.run (alone statement) →
+    under call others ++ rest ≡ map duty_of behind → AllByRecursion (IsKnown split) behind → BeginsPlainly behind →
+    AreReturned behind → MayFollow (to_run call statement) behind →
     Branches here (positions.run (statement_tree what heading done)) others nodes next target →
-    Divided split c statement behind what next target rest (value_of_nodes variables thread.temporaries nodes)
-divided split c host thread variables agrees here holds statement behind (kind.If' guard m first n second) heading
-    others
-    rest nodes next target on_host readers own own_is due all law =
-    let P = AreReaders split.planned in
+    Divided split c call statement behind what here.level next target rest
+    (value_of_nodes variables thread.temporaries nodes)
+divided split c host call thread variables agrees here holds statement behind (kind.If' guard m first n second) heading
+    others rest nodes next target on_host fit own own_is due known plainly returned follows law =
     let block = branch heading (expr_tree guard) (row_tree first) (row_tree second) done in
-    let same = same_values split c host variables agrees block on_host (expr_tree guard) readers.0 in
-    let value = only_value c variables thread.temporaries here guard nodes same holds law.0 in
-    let one = row_statements split.planned first in
-    let two = row_statements split.planned second in
-    let left : rest ≡ map due_of behind = ap (λ list. list ++ rest) (sym law.1) ∙ due in
-    let goes = λ (list : List Stmt) (at : Position) (found : List Due).
-    λ (is : at ≡ calm here.level found) (are : found ≡ map due_of list).
-    let so : at.due ++ rest ≡ map due_of (list ++ behind) =
-    ap (λ (p : Position). p.due ++ rest) is ∙ ap (λ l. l ++ rest) are ∙ ap (λ l. map due_of list ++ l) left
-    ∙ sym (map-append due_of list behind) in so in
+    let same = same_values split c host call variables agrees block on_host (expr_tree guard) fit.0 in
+    let value = only_value c call variables thread.temporaries here guard nodes same holds law.0 in
+    let one = row_statements split.code split.planned first in
+    let two = row_statements split.code split.planned second in
+    let left : rest ≡ map duty_of behind = ap (λ list. under call list ++ rest) (sym law.1) ∙ due in
+    let next_due : next.due ≡ all_due (row_tree first) = ap (λ (p : Position). p.due) law.2 in
+    let target_due : target.due ≡ all_due (row_tree second) = ap (λ (p : Position). p.due) law.3 in
     record {
-      taken = source.statements_of first ++ behind;
-      skipped = source.statements_of second ++ behind;
-      taken_due = goes (source.statements_of first) next (all_due (row_tree first)) law.2 one.due;
-      skipped_due = goes (source.statements_of second) target (all_due (row_tree second)) law.3 two.due;
-      taken_readers = all_both (λ s. P (alone s)) (source.statements_of first) behind (one.readers readers.1) all;
-      skipped_readers = all_both (λ s. P (alone s)) (source.statements_of second) behind (two.readers readers.2) all;
-      next_is = law.2 ∙ sym (ap (λ (p : Position). calm p.level p.due) law.2);
-      target_is = law.3 ∙ sym (ap (λ (p : Position). calm p.level p.due) law.3);
+      taken = to_run_all call (source.statements_of first) ++ behind;
+      skipped = to_run_all call (source.statements_of second) ++ behind;
+      taken_due = before_is call next.due (source.statements_of first) rest behind (next_due ∙ one.due) left;
+      skipped_due = before_is call target.due (source.statements_of second) rest behind (target_due ∙ two.due) left;
+      taken_known = known_before split call (source.statements_of first) behind (one.fit fit.1) known;
+      skipped_known = known_before split call (source.statements_of second) behind (two.fit fit.2) known;
+      taken_plainly = plainly_before call (source.statements_of first) behind plainly;
+      skipped_plainly = plainly_before call (source.statements_of second) behind plainly;
+      taken_returned = returned_before call (source.statements_of first) behind plainly returned;
+      skipped_returned = returned_before call (source.statements_of second) behind plainly returned;
+      next_is = law.2 ∙ ap (calm here.level) (sym next_due);
+      target_is = law.3 ∙ ap (calm here.level) (sym target_due);
       steps = ap (λ v.
           let after : Configuration = record c {
-            pending = (if is_true v then map (source.run 0) (source.statements_of first)
-                else map (source.run 0) (source.statements_of second)) ++ map (source.run 0) behind;
+            pending = (if is_true v then map (source.run call) (source.statements_of first)
+                else map (source.run call) (source.statements_of second)) ++ map item_of behind;
           } in after) value
           ∙ ap (λ list. let after : Configuration = record c { pending = list } in after)
-          (chosen (int_eq (value_of_nodes variables thread.temporaries nodes) (pos 0)) (source.statements_of first)
-          (source.statements_of second) behind);
+          (chosen (int_eq (value_of_nodes variables thread.temporaries nodes) (pos 0)) call
+          (source.statements_of first) (source.statements_of second) behind);
     }
-divided split c host thread variables agrees here holds statement behind (kind.While' guard m body) heading others rest
-    nodes next target on_host readers own own_is due all law =
-    let P = AreReaders split.planned in
+divided split c host call thread variables agrees here holds statement behind (kind.While' guard m body) heading others
+    rest nodes next target on_host fit own own_is due known plainly returned follows law =
     let block = loop heading (expr_tree guard) (row_tree body) done in
-    let same = same_values split c host variables agrees block on_host (expr_tree guard) readers.0 in
-    let value = only_value c variables thread.temporaries here guard nodes same holds law.0 in
-    let one = row_statements split.planned body in
+    let same = same_values split c host call variables agrees block on_host (expr_tree guard) fit.0 in
+    let value = only_value c call variables thread.temporaries here guard nodes same holds law.0 in
+    let one = row_statements split.code split.planned body in
     let list = source.statements_of body in
+    let next_due : next.due ≡ all_due (row_tree body) ++ positions.run block ∷ others =
+    ap (λ (p : Position). p.due) law.1 in
+    let target_due : target.due ≡ others = ap (λ (p : Position). p.due) law.2 in
+    let again : under call (positions.run block ∷ others) ++ rest ≡ map duty_of (to_run call statement ∷ behind) =
+    ap (λ d. under call (d ∷ others) ++ rest) own_is
+    ∙ ap (λ l. duty_of (to_run call statement) ∷ l) due in
     record {
-      taken = list ++ statement ∷ behind;
+      taken = to_run_all call list ++ to_run call statement ∷ behind;
       skipped = behind;
-      taken_due = ap (λ (p : Position). p.due ++ rest) law.1
-          ∙ append_assoc (all_due (row_tree body)) (positions.run block ∷ others) rest
-          ∙ ap (λ l. l ++ positions.run block ∷ (others ++ rest)) one.due
-          ∙ ap (λ first. map due_of list ++ first ∷ (others ++ rest)) own_is
-          ∙ ap (λ l. map due_of list ++ due_of statement ∷ l) due
-          ∙ sym (map-append due_of list (statement ∷ behind));
-      skipped_due = ap (λ (p : Position). p.due ++ rest) law.2 ∙ due;
-      taken_readers = all_both (λ s. P (alone s)) list (statement ∷ behind) (one.readers readers.1) (own, all);
-      skipped_readers = all;
-      next_is = law.1 ∙ sym (ap (λ (p : Position). calm p.level p.due) law.1);
-      target_is = law.2 ∙ sym (ap (λ (p : Position). calm p.level p.due) law.2);
+      taken_due = ap (λ l. under call l ++ rest) next_due
+          ∙ ap (λ l. l ++ rest) (under_both call (all_due (row_tree body)) (positions.run block ∷ others))
+          ∙ append_assoc (under call (all_due (row_tree body))) (under call (positions.run block ∷ others)) rest
+          ∙ before_is call (all_due (row_tree body)) list (under call (positions.run block ∷ others) ++ rest)
+          (to_run call statement ∷ behind) one.due again;
+      skipped_due = ap (λ l. under call l ++ rest) target_due ∙ due;
+      taken_known = known_before split call list (to_run call statement ∷ behind) (one.fit fit.1) (own, known);
+      skipped_known = known;
+      taken_plainly = plainly_before call list (to_run call statement ∷ behind) tt;
+      skipped_plainly = plainly;
+      taken_returned = returned_before call list (to_run call statement ∷ behind) tt (follows, returned);
+      skipped_returned = returned;
+      next_is = law.1 ∙ ap (calm here.level) (sym next_due);
+      target_is = law.2 ∙ ap (calm here.level) (sym target_due);
       steps = ap (λ v.
           let after : Configuration = record c {
-            pending = if is_true v then map (source.run 0) list ++ source.run 0 statement ∷ map (source.run 0) behind
-                else map (source.run 0) behind;
+            pending = if is_true v then map (source.run call) list ++ source.run call statement ∷ map item_of behind
+                else map item_of behind;
           } in after) value
           ∙ ap (λ items. let after : Configuration = record c { pending = items } in after)
-          (repeated (int_eq (value_of_nodes variables thread.temporaries nodes) (pos 0)) list statement behind);
+          (repeated (int_eq (value_of_nodes variables thread.temporaries nodes) (pos 0)) call list statement behind);
     }
-divided split c host thread variables agrees here holds statement behind _ heading others rest nodes next target on_host
-    readers own own_is due all law = absurd law
+divided split c host call thread variables agrees here holds statement behind _ heading others rest nodes next target
+    on_host fit own own_is due known plainly returned follows law = absurd law
+
+-- no result is given back by a guard
+guards_only : (here : Position) (what : StmtKind) (heading : Heading) (others : List Due) (nodes : List Node)
+    (next target : Position) → Branches here (positions.run (statement_tree what heading done)) others nodes next target →
+    IsReturn what → ⊥
+guards_only here (kind.Return value) heading others nodes next target law returns = law
+guards_only here _ heading others nodes next target law returns = returns
 
 -- the thread goes on at one place or the other
-at_either : (split : Split) (c after : Configuration) (chain : List StackEntry) (out : List Forward) (host : HostId)
-    (thread : ThreadShape) (target : ℕ) (taken skipped : List Stmt) (next aim : Position) (b : Bool) →
-    IsAt split c chain out host thread → place_of split host (thread.at + 1) ≡ next → place_of split host target ≡ aim →
-    next ≡ calm next.level next.due → aim ≡ calm aim.level aim.due →
-    next.due ++ chain_due split chain ≡ map due_of taken → aim.due ++ chain_due split chain ≡ map due_of skipped →
-    AllByRecursion (λ one. AreReaders split.planned (alone one)) taken →
-    AllByRecursion (λ one. AreReaders split.planned (alone one)) skipped →
-    after.pending ≡ map (source.run 0) (if b then skipped else taken) →
-    IsAt split after chain [] host (if b then record (after_clearing thread) { at = target } else after_clearing thread)
-at_either split c after chain out host thread target taken skipped next aim true at is there calm_next calm_aim one
-    two readers
-    others pending =
-    cleared split c after chain out [] host thread skipped aim at target there pending two others
-    (ap (λ (p : Position). p.calling) calm_aim) (ap (λ (p : Position). p.forwards) calm_aim)
-    (ap (λ (p : Position). p.reads) calm_aim)
-at_either split c after chain out host thread target taken skipped next aim false at is there calm_next calm_aim one
-    two readers
-    others pending =
-    cleared split c after chain out [] host thread taken next at (thread.at + 1) is pending one readers
-    (ap (λ (p : Position). p.calling) calm_next) (ap (λ (p : Position). p.forwards) calm_next)
-    (ap (λ (p : Position). p.reads) calm_next)
+at_either : (split : Split) (after : Configuration) (view : View) (host : HostId) (thread : ThreadShape) (target : ℕ)
+    (call : ℕ) (level : Level) (taken skipped : List Owed) (next aim : Position) (b : Bool) →
+    call < length after.calls → thread.held ≡ top_token (entries_of view.chain) →
+    FitsOver split view.naming level call view.chain →
+    (view.naming.count ≡ length after.calls) × (thread.frame ≡ view.naming.frame call) × (view.sender ≡ call) →
+    view.out ≡ [] → place_of split host (thread.at + 1) ≡ next → place_of split host target ≡ aim →
+    next ≡ calm level next.due → aim ≡ calm level aim.due →
+    under call next.due ++ chain_due split view.chain ≡ map duty_of taken →
+    under call aim.due ++ chain_due split view.chain ≡ map duty_of skipped →
+    AllByRecursion (IsKnown split) taken → AllByRecursion (IsKnown split) skipped → BeginsPlainly taken →
+    BeginsPlainly skipped → AreReturned taken → AreReturned skipped →
+    after.pending ≡ map item_of (if b then skipped else taken) →
+    IsAt split after view host (if b then record (after_clearing thread) { at = target } else after_clearing thread)
+at_either split after view host thread target call level taken skipped next aim true made held fits calling none is there
+    calm_next calm_aim one two known also plainly plainly_too returned returned_too pending =
+    cleared split after view host thread aim call made held (record {
+      left = skipped;
+      pending = pending;
+      due = two;
+      known = also;
+      returned = returned_too;
+      stands = stands_plainly split view.keeper skipped plainly_too;
+    }) (subst (λ (p : Position). FitsOver split view.naming p.level call view.chain) (sym calm_aim) fits)
+    (subst (λ (p : Position). IsCalling split after view.naming view.values view.sender host thread.frame
+    thread.new_frame call p.due p.calling) (sym calm_aim) calling)
+    (ap (λ (p : Position). p.forwards) calm_aim ∙ sym none) (inl none) (ap (λ (p : Position). p.reads) calm_aim) target
+    there
+at_either split after view host thread target call level taken skipped next aim false made held fits calling none is there
+    calm_next calm_aim one two known also plainly plainly_too returned returned_too pending =
+    cleared split after view host thread next call made held (record {
+      left = taken;
+      pending = pending;
+      due = one;
+      known = known;
+      returned = returned;
+      stands = stands_plainly split view.keeper taken plainly;
+    }) (subst (λ (p : Position). FitsOver split view.naming p.level call view.chain) (sym calm_next) fits)
+    (subst (λ (p : Position). IsCalling split after view.naming view.values view.sender host thread.frame
+    thread.new_frame call p.due p.calling) (sym calm_next) calling)
+    (ap (λ (p : Position). p.forwards) calm_next ∙ sym none) (inl none) (ap (λ (p : Position). p.reads) calm_next)
+    (thread.at + 1) is
 
-pub branch_at : (split : Split) (c : Configuration) (chain : List StackEntry) (out : List Forward) (host : HostId)
-    (thread : ThreadShape) (variables : VarId → ℤ) → Agrees split c host variables →
-    IsAt split c chain out host thread → (guard : List Node) (target : ℕ) →
+either_plainly : (b : Bool) (taken skipped : List Owed) → BeginsPlainly taken → BeginsPlainly skipped →
+    BeginsPlainly (if b then skipped else taken)
+either_plainly true taken skipped one other = other
+either_plainly false taken skipped one other = one
+
+pub branch_at : (split : Split) (c : Configuration) (view : View) (host : HostId) (thread : ThreadShape)
+    (variables : VarId → ℤ) (at : IsAt split c view host thread) → Agrees split c host at.call variables →
+    (guard : List Node) (target : ℕ) →
     Divides split.planned host (place_of split host thread.at) guard (place_of split host (suc thread.at))
     (place_of split host target) →
-    Decides split c chain out host thread target (value_of_nodes variables thread.temporaries guard)
-branch_at split c chain out host thread variables agrees at guard target law =
+    Decides split c view host thread target (value_of_nodes variables thread.temporaries guard)
+branch_at split c view host thread variables at agrees guard target law =
     let here = place_of split host thread.at in
+    let call = at.call in
     let next = place_of split host (suc thread.at) in
     let aim = place_of split host target in
     let value = value_of_nodes variables thread.temporaries guard in
-    let front = front_of split c here (chain_due split chain) law.0 law.1 law.2.due at.left in
-    let heading : Heading = record { id = front.statement.id; line = front.statement.line } in
-    let on_host = subst (λ first. is_on split.planned host (statement_due first) ≡ true) front.is law.2.on_host in
-    let branches = subst (λ first. Branches here first law.1 guard next aim) front.is law.4 in
-    let parts = divided split c host thread variables agrees here at.temporaries front.statement front.behind
-    front.statement.kind heading law.1 (chain_due split chain) guard next aim on_host front.own front.own refl front.due
-    front.readers branches in
-    let steps = stepped split c front.statement (map (source.run 0) front.behind) front.statement.kind front.pending
-    refl
-    ∙ parts.steps in
-    record {
-      busy = busy c (source.run 0 front.statement) (map (source.run 0) front.behind) front.pending;
-      none_out = sym at.forwards ∙ law.2.forwards;
-      store = ap (λ (k : Configuration). k.store) steps;
-      calls = ap (λ (k : Configuration). k.calls) steps;
-      at = at_either split c (step split.program c) chain out host thread target parts.taken parts.skipped next aim
-          (int_eq value (pos 0)) at (next_place split host thread) refl parts.next_is parts.target_is parts.taken_due
-          parts.skipped_due parts.taken_readers parts.skipped_readers (ap (λ (k : Configuration). k.pending) steps);
-    }
-
--- ---- instructions for calls
-
--- an instruction that is not for calls
-abbrev pub IsPlain : Op → Type 0
-IsPlain (op.Frame site) = ⊥
-IsPlain (op.Arg x value) = ⊥
-IsPlain (op.Pass x to) = ⊥
-IsPlain (op.Call there on) = ⊥
-IsPlain (op.Ret x value) = ⊥
-IsPlain other = ⊤
-
-no_frame : (planned : PlannedShape) (here : Position) (what : StmtKind) (heading : Heading) (site : SiteId)
-    (next : Position) → AreReaders planned (statement_tree what heading done) →
-    Frames planned here (positions.run (statement_tree what heading done)) site next → ⊥
-no_frame planned here (kind.Call own method args into) heading site next readers law = readers
-no_frame planned here _ heading site next readers law = law
-
-no_return : (planned : PlannedShape) (here : Position) (what : StmtKind) (heading : Heading) (nodes : List Node) →
-    AreReaders planned (statement_tree what heading done) →
-    GivesBack here (positions.run (statement_tree what heading done)) nodes → ⊥
-no_return planned here (kind.Return value) heading nodes readers law = readers
-no_return planned here _ heading nodes readers law = law
-
-not_arguing : (here : Position) (statement : BlockTree) (set left : List Argument) → here.calling ≡ no_call →
-    here.calling ≡ arguing statement set left → ⊥
-not_arguing here statement set left none some = cc
-
--- where no call is due and none is made, no instruction for calls stands
-pub is_plain : (split : Split) (c : Configuration) (chain : List StackEntry) (out : List Forward) (host : HostId)
-    (thread : ThreadShape) → IsAt split c chain out host thread → (what : Op) →
-    IsTypedOp split.planned split.table host thread.at what → IsPlain what
-is_plain split c chain out host thread at (op.Frame site) law =
-    let here = place_of split host thread.at in
-    let front = front_of split c here (chain_due split chain) law.0 law.1 law.2.due at.left in
-    let heading : Heading = record { id = front.statement.id; line = front.statement.line } in
-    no_frame split.planned here front.statement.kind heading site _ front.own
-    (subst (λ first. Frames split.planned here first site (place_of split host (suc thread.at))) front.is law.4)
-is_plain split c chain out host thread at (op.Arg x nodes) law =
-    subst (λ calling. Argues split.planned host (place_of split host thread.at) calling x nodes
-    (place_of split host (suc thread.at))) at.calling law
-is_plain split c chain out host thread at (op.Pass x to) law =
-    not_arguing (place_of split host thread.at) law.0 law.1 law.2 at.calling law.3
-is_plain split c chain out host thread at (op.Call there on) law =
-    subst (λ calling. Enters split.planned split.table.entries (place_of split host thread.at) calling there.0)
-    at.calling
-    law
-is_plain split c chain out host thread at (op.Ret x nodes) law =
-    let here = place_of split host thread.at in
-    let front = front_of split c here (chain_due split chain) law.0 [] law.2.due at.left in
-    let heading : Heading = record { id = front.statement.id; line = front.statement.line } in
-    no_return split.planned here front.statement.kind heading nodes front.own
-    (subst (λ first. GivesBack here first nodes) front.is law.4)
-is_plain split c chain out host thread at _ law = tt
+    let after = step split.program c in
+    let calling = calm_calling split c view host thread at law.3 in
+    elim (front_of split c view.keeper call here.due (chain_due split view.chain) law.0 law.1 law.2.due at.left) [
+      | inl runs ↦
+          let heading : Heading = record { id = runs.statement.id; line = runs.statement.line } in
+          let on_host = subst (λ first. is_on split.planned host (statement_due first) ≡ true) runs.is law.2.on_host in
+          let branches = subst (λ first. Branches here first law.1 guard next aim) runs.is law.4 in
+          let plainly = plainly_behind (to_run call runs.statement) runs.behind runs.follows
+          (guards_only here runs.statement.kind heading law.1 guard next aim branches) in
+          let parts = divided split c host call thread variables agrees here at.temporaries runs.statement runs.behind
+          runs.statement.kind heading law.1 (chain_due split view.chain) guard next aim on_host runs.fit runs.fit refl
+          runs.due runs.known plainly runs.returned runs.follows branches in
+          let steps = stepped split c call runs.statement (map item_of runs.behind) runs.statement.kind runs.pending
+          refl ∙ parts.steps in
+          let calls : after.calls ≡ c.calls = ap (λ (k : Configuration). k.calls) steps in
+          let pending = ap (λ (k : Configuration). k.pending) steps in
+          let none = sym at.forwards ∙ law.2.forwards in
+          record {
+            busy = busy c (source.run call runs.statement) (map item_of runs.behind) runs.pending;
+            none_out = none;
+            store = ap (λ (k : Configuration). k.store) steps;
+            calls = calls;
+            plainly = none_kept after _ pending (either_plainly (int_eq value (pos 0)) parts.taken parts.skipped
+                parts.taken_plainly parts.skipped_plainly);
+            at = at_either split after view host thread target call here.level parts.taken parts.skipped next aim
+                (int_eq value (pos 0)) (subst (λ list. call < length list) (sym calls) at.made) at.held at.fits
+                (calling.0 ∙ sym (ap length calls), calling.1, calling.2) none (next_place split host thread) refl
+                parts.next_is parts.target_is parts.taken_due parts.skipped_due parts.taken_known parts.skipped_known
+                parts.taken_plainly parts.skipped_plainly parts.taken_returned parts.skipped_returned pending;
+          }
+      | inr keeps ↦ absurd (subst (λ first. Branches here first law.1 guard next aim) keeps.is law.4)
+    ]

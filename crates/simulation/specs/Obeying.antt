@@ -1,13 +1,13 @@
 -- What hosts that all obey promise together, where they run the code of a split program: their fields follow the plain
 -- run of the program.
-use Rattle.std.specs.Prelude.{◌≡◌, ℕ, ◌+◌, ◌<◌, ◌≤◌, ℤ, List, length, take, Some, slice_get, slice_index, IsSomeAnd}
+use Rattle.std.specs.Prelude.{◌≡◌, ℕ, ◌+◌, ◌<◌, ◌≤◌, ℤ, List, length, take, Some, slice_get, slice_index}
 use Rattle.std.specs.List.Sorted.{IsNonDecreasing}
 use Rattle.host_decl.specs.Hosts as declared_hosts
 use Rattle.host_decl.specs.Hosts.{HostsShape}
 use Rattle.jif_tree.specs.declared.program.Program.{Program}
 use Rattle.jif_tree.specs.Store.{row_of}
 use Rattle.jif_tree.specs.SourceRun.{prefix, HasLength}
-use Rattle.jif_tree.specs.LabelRules.{method_at}
+use Rattle.jif_tree.specs.Results.{AreGivenBack, AreUnread}
 use Rattle.jif_tree.specs.Trees.{program_tree}
 use Rattle.host_code.specs.Code.{CodeShape, CodeFieldShape}
 use Rattle.host_code.specs.Sound.{IsSoundCode}
@@ -17,24 +17,31 @@ use Rattle.need_labels.specs.Labelled.{Labelled}
 use Rattle.need_labels.specs.Needs.{NeedsShape, AreNeedsOf}
 use Rattle.need_labels.specs.Plan.{PlanShape}
 use Rattle.msg_cost.specs.Moves.{planned_of}
+use Rattle.split_rules.specs.Allowed.{IsAllowed}
 use Rattle.split_rules.specs.Asking.{AreGranted}
+use Rattle.split_rules.specs.Held.{IsHeld}
 use Rattle.split_rules.specs.SplitCode.{split_code}
 use Rattle.split_rules.specs.Splittable.{IsSplittable}
 use Rattle.split_rules.specs.Typable.{IsTypable}
 use Rattle.net_world.specs.World.{WorldShape, IsRun, world_at_start, state_at, has_halted}
-use Rattle.simulation.specs.Programs.{IsCallFree}
+use Rattle.simulation.specs.Programs.{AreInOrder}
 
--- A program whose `main` calls nothing, its needs, and a plan by which it can be split, so that hosts are trusted for
--- what their statements start and grant each other's requests.
+-- A program, its needs, and a plan by which it can be split, so that hosts may hold what stands on them, are trusted for
+-- what their statements start, and grant each other's requests. Methods give their results back at their end, and
+-- nothing else reads these.
 pub record IsSet (program : Program) (labelled : Labelled) (needs : NeedsShape) (hosts : HostsShape) (plan : PlanShape)
     : Type 0 where
   pub is : program_tree program ≡ labelled.program
   pub splittable : IsSplittable labelled hosts plan
   pub needs_of : AreNeedsOf hosts.principals labelled needs
+  pub allowed : IsAllowed labelled needs hosts plan
+  pub held : IsHeld labelled needs hosts plan
   pub typable : IsTypable (planned_of labelled needs hosts plan)
   pub sound : IsSoundCode (split_code labelled needs hosts plan)
   pub granted : AreGranted (split_code labelled needs hosts plan)
-  pub call_free : IsSomeAnd (method_at labelled.program labelled.program.main) (λ main. IsCallFree main.body)
+  pub given_back : AreGivenBack labelled.program
+  pub unread : AreUnread labelled.program
+  pub in_order : AreInOrder labelled.program
 
 -- each field has on its host what the store has
 abbrev pub FieldsAre : CodeShape → WorldShape → List (List ℤ) → Type 0

@@ -1,13 +1,10 @@
--- Programs that call no method and give nothing back.
-use Rattle.std.specs.Prelude.{⊤}
-use Rattle.jif_tree.specs.Trees.{BlockTree, done, set_local, set_field, set_element, branch, loop}
+-- What is known of the parameters of a program's methods.
+use Rattle.std.specs.Prelude.{◌≡◌, ℕ, ◌<◌, Some, slice_get}
+use Rattle.js_base.specs.declared.ids.VarId.{VarId}
+use Rattle.jif_tree.specs.Trees.{MethodTree, ProgramTree}
 
--- the statements of a block, and of the blocks in it, neither call a method nor give a value back
-abbrev pub IsCallFree : BlockTree → Type 0
-IsCallFree done = ⊤
-IsCallFree (set_local heading x value rest) = IsCallFree rest
-IsCallFree (set_field heading field value rest) = IsCallFree rest
-IsCallFree (set_element heading field index value rest) = IsCallFree rest
-IsCallFree (branch heading guard first second rest) = IsCallFree first × IsCallFree second × IsCallFree rest
-IsCallFree (loop heading guard body rest) = IsCallFree body × IsCallFree rest
-IsCallFree other = ⊥
+-- the parameters of each method have numbers that rise
+abbrev pub AreInOrder : ProgramTree → Type 0
+AreInOrder program = (place first second : ℕ) (method : MethodTree) (x y : VarId) →
+    slice_get program.methods place ≡ Some method → slice_get method.params first ≡ Some x →
+    slice_get method.params second ≡ Some y → first < second → x.0 < y.0

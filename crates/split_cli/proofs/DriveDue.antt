@@ -1,7 +1,7 @@
 -- What is due for hosts that are driven, by the program and the hosts that were read and what was loaded of the
 -- starting values.
-use Rattle.std.proofs.Common.{◌≡◌, ℕ, List, Ok, Err, refl, sym, ap, ◌∙◌, subst, inl, inr}
-use Rattle.std.specs.Prelude.{ℤ, true, false}
+use Rattle.std.proofs.Common.{◌≡◌, ℕ, List, Ok, Err, sym, ap, ◌∙◌, subst}
+use Rattle.std.specs.Prelude.{ℤ}
 use Rattle.js_base.specs.declared.limits.TheConstants.{SCRIPT_BYTES}
 use Rattle.jif_tree.specs.declared.program.Program.{Program}
 use Rattle.jif_tree.specs.Trees.{program_tree}
@@ -13,29 +13,19 @@ use Rattle.net_world.specs.World.{WorldShape, AreHostsOf, world_at_start}
 use Rattle.split_cli.specs.declared.driving.Driven.{Driven}
 use Rattle.split_cli.specs.declared.load.Loaded.{Loaded}
 use Rattle.split_cli.specs.declared.load.Loaded.TheVariants.{TooLong}
-use Rattle.split_cli.specs.CallFree.{IsCallFreeProgram}
 use Rattle.split_cli.specs.Drive.{code_of, first_world, drive_text, IsDriveReport, DueForHosts, long, bad_line, driven}
 use Rattle.split_cli.specs.Drive.{DueForDrive}
 use Rattle.split_cli.specs.Driven.{AllObey, HasDriven}
 use Rattle.split_cli.specs.Loading.{IsLoaded}
 use Rattle.split_cli.specs.PlacedSources.{PlacedSource}
-use Rattle.split_cli.specs.Verdicts.{VerdictShape, Print, program_not_built, too_long, no_form}
+use Rattle.split_cli.specs.Verdicts.{VerdictShape, Print, too_long, no_form}
 use Rattle.split_cli.proofs.NextEvents.{obey_at_start}
 use Rattle.split_cli.proofs.RunDue.{AreBytes}
 
--- a program whose `main` calls a method
-pub drive_not_built : (file start : List ℕ) (most : ℕ) (placed : PlacedSource) →
-    (IsCallFreeProgram placed.source.tree → false ≡ true) → DueForDrive file start most placed program_not_built
-drive_not_built file start most placed never =
-    inl (λ is. let both : false ≡ true = never is in let none : ⊥ = cc in none, refl)
-
--- and any other
-pub drive_built : (file start : List ℕ) (most : ℕ) (placed : PlacedSource) (program : Program)
+pub hosts_due : (file start : List ℕ) (most : ℕ) (placed : PlacedSource) (program : Program)
     (verdict : VerdictShape) → program_tree program ≡ placed.source.tree →
-    IsCallFreeProgram placed.source.tree →
     DueForHosts file start most placed program verdict → DueForDrive file start most placed verdict
-drive_built file start most placed program verdict same is due =
-    inr (is, (program, same, due))
+hosts_due file start most placed program verdict same due = (program, same, due)
 
 pub hosts_too_long : (file start : List ℕ) (most : ℕ) (placed : PlacedSource) (program : Program) (loaded : Loaded) →
     loaded ≡ TooLong → IsLoaded SCRIPT_BYTES start loaded →

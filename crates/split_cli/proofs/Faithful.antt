@@ -40,7 +40,7 @@ use Rattle.split_cli.specs.Stages.{Outcome, given, stopped, Then}
 use Rattle.split_cli.specs.Sources.{Lexed, Parsed, Drafted, HostsRead, Resolved, Labelled, Accepted}
 use Rattle.split_cli.specs.Sources.{AcceptedWith, Sources}
 use Rattle.split_cli.specs.PlacedSources.{PlacedSource, OnHosts, PlacedSources, labelled_source}
-use Rattle.split_cli.specs.Drive.{code_of, first_world, IsDriveReport, DueForHosts, DueForDrive}
+use Rattle.split_cli.specs.Drive.{code_of, first_world, DueForHosts, DueForDrive}
 use Rattle.split_cli.specs.Drive as drive
 use Rattle.split_cli.specs.Driven.{DrivesTo, rested, spent}
 use Rattle.split_cli.specs.Replay.{events_in, DueForEvents, happened, absent, busy, DueForScript, DueForReplay}
@@ -104,8 +104,8 @@ faithful_run : AllLaws → (program hosts : List ℕ) (placed : PlacedSource) (t
 faithful_run laws program hosts placed tree start events last runnable sound ran =
     let law = laws.obeying tree (labelled_source placed.source) placed.needs placed.source.file placed.plan start events
     last
-    (set_there laws.reading laws.plans laws.splits program hosts placed runnable.accepted tree runnable.tree_is sound
-    runnable.call_free) ran in
+    (set_there laws.reading laws.plans laws.splits program hosts placed runnable.accepted tree runnable.tree_is sound)
+    ran in
     let ended : IsRun (code_of placed) (first_world placed start) (take (length events) events) last =
     subst (λ (es : List Event). IsRun (code_of placed) (first_world placed start) es last)
     (sym (take_all (length events) events (omega arith))) ran in
@@ -211,7 +211,7 @@ is_faithful_drive laws program hosts start most status text driven sound =
           let placed = driven.placed in
           let labelled = labelled_source placed.source in
           let set = set_there laws.reading laws.plans laws.splits program hosts placed driven.runnable.accepted driven.tree
-          driven.runnable.tree_is sound driven.runnable.call_free in
+          driven.runnable.tree_is sound in
           let sized = sized_there laws.reading laws.plans laws.splits program hosts placed driven.runnable.accepted in
           ends_in_time code first most driven.events driven.last status driven.ends (EVENTS * (steps + 1))
           (λ more after ran. laws.ending driven.tree labelled placed.needs placed.source.file placed.plan driven.values steps
@@ -280,9 +280,6 @@ refusal_says IsText verdict refusal = subst (Says IsText) (sym refusal.2) refusa
 input_fails : IsFailure InputRefused
 input_fails = ((λ same. let no : ⊥ = cc in no), (λ same. let no : ⊥ = cc in no))
 
-source_fails : IsFailure SourceRefused
-source_fails = ((λ same. let no : ⊥ = cc in no), (λ same. let no : ⊥ = cc in no))
-
 fault_fails : IsFailure FileFault
 fault_fails = ((λ same. let no : ⊥ = cc in no), (λ same. let no : ⊥ = cc in no))
 
@@ -335,11 +332,8 @@ replay_says : AllLaws → (file program hosts script : List ℕ) (placed : Place
     Says (IsReplayText program hosts script) verdict
 unfolding Says
 replay_says laws file program hosts script placed verdict accepted ends =
-    ⊎_elim
-    (λ not. subst (Says (IsReplayText program hosts script)) (sym not.1) source_fails)
-    (λ built. script_says laws file program hosts script placed built.1.0 verdict
-    (record { accepted = accepted; tree_is = built.1.1; call_free = built.0 }) built.1.2)
-    ends
+    script_says laws file program hosts script placed ends.0 verdict
+    (record { accepted = accepted; tree_is = ends.1 }) ends.2
 
 -- ---- a drive
 
@@ -372,11 +366,8 @@ drive_says : AllLaws → (file program hosts start : List ℕ) (most : ℕ) (pla
     DueForDrive file start most placed verdict → Says (IsDriveText most program hosts start) verdict
 unfolding Says
 drive_says laws file program hosts start most placed verdict accepted ends =
-    ⊎_elim
-    (λ not. subst (Says (IsDriveText most program hosts start)) (sym not.1) source_fails)
-    (λ built. hosts_say laws file program hosts start most placed built.1.0 verdict
-    (record { accepted = accepted; tree_is = built.1.1; call_free = built.0 }) built.1.2)
-    ends
+    hosts_say laws file program hosts start most placed ends.0 verdict
+    (record { accepted = accepted; tree_is = ends.1 }) ends.2
 
 -- ---- a command of three files
 

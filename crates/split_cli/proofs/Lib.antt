@@ -1,7 +1,6 @@
 pub mod Accepted
 pub mod Answering
 pub mod BlockLines
-pub mod CallFreeLists
 pub mod CommandWords
 pub mod DriveDue
 pub mod Faithful

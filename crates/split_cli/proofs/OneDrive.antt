@@ -224,9 +224,5 @@ hosts_once step file start most placed program first second (driven values _ sho
 pub drive_once : OneStep → (file start : List ℕ) (most : ℕ) (placed : PlacedSource) (first second : VerdictShape) →
     DueForDrive file start most placed first → DueForDrive file start most placed second → first ≡ second
 drive_once step file start most placed first second one two =
-    ⊎_elim
-    (λ left. ⊎_elim (λ right. left.1 ∙ sym right.1) (λ right. absurd (left.0 right.0)) two)
-    (λ left. ⊎_elim (λ right. absurd (right.0 left.0))
-    (λ right. hosts_once step file start most placed left.1.0 first second left.1.2
-    (moved file start most placed left.1.0 right.1.0 second (left.1.1 ∙ sym right.1.1) right.1.2)) two)
-    one
+    hosts_once step file start most placed one.0 first second one.2
+    (moved file start most placed one.0 two.0 second (one.1 ∙ sym two.1) two.2)

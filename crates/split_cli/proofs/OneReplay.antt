@@ -120,8 +120,4 @@ script_once laws file script placed first second (read said _ short sound is due
 pub replay_once : StepLaws → (file script : List ℕ) (placed : PlacedSource) (first second : VerdictShape) →
     DueForReplay file script placed first → DueForReplay file script placed second → first ≡ second
 replay_once laws file script placed first second one two =
-    ⊎_elim
-    (λ left. ⊎_elim (λ right. left.1 ∙ sym right.1) (λ right. absurd (left.0 right.0)) two)
-    (λ left. ⊎_elim (λ right. absurd (right.0 left.0))
-    (λ right. script_once laws file script placed first second left.1.2 right.1.2) two)
-    one
+    script_once laws file script placed first second one.2 two.2

@@ -1,6 +1,6 @@
 -- What is due for a script of events, by the program and the hosts that were read and what was loaded of the script.
-use Rattle.std.proofs.Common.{◌≡◌, ℕ, ◌≤◌, List, length, Ok, Err, refl, sym, ap, ◌∙◌, subst, inl, inr}
-use Rattle.std.specs.Prelude.{ℤ, true, false}
+use Rattle.std.proofs.Common.{◌≡◌, ℕ, ◌≤◌, List, length, Ok, Err, sym, ap, ◌∙◌, subst}
+use Rattle.std.specs.Prelude.{ℤ}
 use Rattle.js_base.specs.declared.limits.TheConstants.{SCRIPT_BYTES}
 use Rattle.event_text.specs.declared.event.Event.{Event}
 use Rattle.event_text.specs.Script.{ScriptShape, script_of}
@@ -11,27 +11,17 @@ use Rattle.host_code.specs.Sound.{IsSoundCode}
 use Rattle.net_world.specs.World.{WorldShape, world_at_start}
 use Rattle.split_cli.specs.declared.load.Loaded.{Loaded}
 use Rattle.split_cli.specs.declared.load.Loaded.TheVariants.{TooLong}
-use Rattle.split_cli.specs.CallFree.{IsCallFreeProgram}
 use Rattle.split_cli.specs.Drive.{code_of, first_world}
 use Rattle.split_cli.specs.Loading.{IsLoaded}
 use Rattle.split_cli.specs.PlacedSources.{PlacedSource}
 use Rattle.split_cli.specs.Replay.{DueForEvents, DueForScript, DueForReplay, long, bad_line, read}
-use Rattle.split_cli.specs.Verdicts.{VerdictShape, program_not_built, too_long, no_form}
+use Rattle.split_cli.specs.Verdicts.{VerdictShape, too_long, no_form}
 use Rattle.split_cli.proofs.RunDue.{AreBytes}
 
--- a program whose `main` calls a method
-pub replay_not_built : (file script : List ℕ) (placed : PlacedSource) →
-    (IsCallFreeProgram placed.source.tree → false ≡ true) → DueForReplay file script placed program_not_built
-replay_not_built file script placed never =
-    inl (λ is. let both : false ≡ true = never is in let none : ⊥ = cc in none, refl)
-
--- and any other
 pub replay_scripted : (file script : List ℕ) (placed : PlacedSource) (program : Program) (verdict : VerdictShape) →
     program_tree program ≡ placed.source.tree →
-    IsCallFreeProgram placed.source.tree →
     DueForScript file script placed verdict → DueForReplay file script placed verdict
-replay_scripted file script placed program verdict same is due =
-    inr (is, (program, same, due))
+replay_scripted file script placed program verdict same due = (program, same, due)
 
 pub script_too_long : (file script : List ℕ) (placed : PlacedSource) (loaded : Loaded) → loaded ≡ TooLong →
     IsLoaded SCRIPT_BYTES script loaded → DueForScript file script placed (too_long file)

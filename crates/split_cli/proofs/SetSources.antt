@@ -18,6 +18,7 @@ use Rattle.jif_tree.specs.GuardLabels.{AreAllGuardsLabelled}
 use Rattle.jif_tree.specs.LabelRules.{declared_labels, IsWellLabelled}
 use Rattle.jif_tree.specs.Labelling.{AreLabelledMethods}
 use Rattle.jif_tree.specs.Named.{AreNamed}
+use Rattle.jif_tree.specs.Results.{AreGivenBack, AreUnread}
 use Rattle.jif_tree.specs.Sizes.{IsSized}
 use Rattle.jif_tree.specs.Numbering.{CountsFrom, statement_numbers, site_numbers}
 use Rattle.jif_tree.specs.Trees.{ProgramTree, program_tree}
@@ -42,7 +43,7 @@ use Rattle.split_rules.specs.SplitCode.{split_code}
 use Rattle.split_rules.specs.Splittable.{IsSplittable}
 use Rattle.split_rules.specs.Typable.{IsTypable}
 use Rattle.simulation.specs.Obeying.{IsSet}
-use Rattle.split_cli.specs.CallFree.{IsCallFreeProgram}
+use Rattle.simulation.specs.Programs.{AreInOrder}
 use Rattle.split_cli.specs.PlacedSources.{PlacedSource, AreChosen, PlacedSources, labelled_source}
 use Rattle.split_cli.specs.Sources.{Source, Accepted, AcceptedWith, Drafted, Sources}
 use Rattle.split_cli.specs.Stages.{given, stopped}
@@ -70,6 +71,12 @@ pub record ReadingLaws : Type 0 where
       AreLabelledMethods principals tree (declared_labels tree) tree.methods
   pub guards : (principals : Declared) (draft : DraftShape) (tree : ProgramTree) →
       IsProgramOf principals draft tree → AreAllGuardsLabelled principals tree (declared_labels tree) tree.methods
+  pub given_back : (principals : Declared) (draft : DraftShape) (tree : ProgramTree) →
+      IsLimited draft → IsProgramOf principals draft tree → AreGivenBack tree
+  pub unread : (principals : Declared) (draft : DraftShape) (tree : ProgramTree) →
+      IsProgramOf principals draft tree → AreUnread tree
+  pub in_order : (principals : Declared) (draft : DraftShape) (tree : ProgramTree) →
+      IsProgramOf principals draft tree → AreInOrder tree
 
 pub record PlanLaws : Type 0 where
   pub lengths : (principals : Declared) (labelled : needs.Labelled) (need : NeedsShape) →
@@ -266,15 +273,19 @@ module _ (sources : ReadingLaws) (plans : PlanLaws) (splits : SplitLaws) (progra
   -- hosts that all obey follow the plain run of the program
   pub set_there : (tree : Program) → program_tree tree ≡ placed.source.tree →
       IsSoundCode (split_code (labelled_source placed.source) placed.needs placed.source.file placed.plan) →
-      IsCallFreeProgram placed.source.tree →
       IsSet tree (labelled_source placed.source) placed.needs placed.source.file placed.plan
-  set_there tree is sound free = record {
+  set_there tree is sound = record {
     is = is;
     splittable = splits_there;
     needs_of = choice.needs;
+    allowed = allowed;
+    held = seen;
     typable = splits.typable (labelled_source placed.source) placed.needs placed.source.file placed.plan allowed;
     sound = sound;
     granted = splits.granted (labelled_source placed.source) placed.needs placed.source.file placed.plan splits_there
         allowed seen;
-    call_free = free;
+    given_back = sources.given_back placed.source.file.principals read.draft placed.source.tree
+        (sources.limited read.list read.draft read.parsed) read.resolved;
+    unread = sources.unread placed.source.file.principals read.draft placed.source.tree read.resolved;
+    in_order = sources.in_order placed.source.file.principals read.draft placed.source.tree read.resolved;
   }

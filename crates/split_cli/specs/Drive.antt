@@ -1,5 +1,5 @@
 -- What is due for an accepted program in its places, whose hosts are driven from the starting values of a file.
-use Rattle.std.specs.Prelude.{◌≡◌, ℕ, ◌<◌, ◌≤◌, ◌⊎◌, ℤ, List, ◌∷◌, ◌++◌, codes, length, Ok, Err}
+use Rattle.std.specs.Prelude.{◌≡◌, ℕ, ◌<◌, ◌≤◌, ℤ, List, ◌∷◌, ◌++◌, codes, length, Ok, Err}
 use Rattle.std.specs.Fmt.{decimal}
 use Rattle.js_base.specs.declared.limits.TheConstants.{SCRIPT_BYTES}
 use Rattle.js_base.specs.declared.status.Status.{Status}
@@ -11,11 +11,10 @@ use Rattle.host_code.specs.Code.{CodeShape}
 use Rattle.host_code.specs.Sound.{IsSoundCode}
 use Rattle.split_rules.specs.SplitCode.{split_code}
 use Rattle.net_world.specs.World.{WorldShape, world_at_start}
-use Rattle.split_cli.specs.CallFree.{IsCallFreeProgram}
 use Rattle.split_cli.specs.Driven.{DrivesTo}
 use Rattle.split_cli.specs.PlacedSources.{PlacedSource, labelled_source}
 use Rattle.split_cli.specs.Text.{lines_text}
-use Rattle.split_cli.specs.Verdicts.{VerdictShape, Print, program_not_built, too_long, no_form}
+use Rattle.split_cli.specs.Verdicts.{VerdictShape, Print, too_long, no_form}
 use Rattle.split_cli.specs.WorldReport.{world_lines}
 
 -- the code of all hosts
@@ -55,10 +54,8 @@ pub data DueForHosts (file start : List ℕ) (most : ℕ) (placed : PlacedSource
       start_of program.fields.items start ≡ Ok values → IsDriveReport placed values most verdict →
       DueForHosts file start most placed program verdict
 
--- hosts can't be driven through the program yet, or they are, by all programs with the same tree alike
+-- hosts are driven through the program, by all programs with the same tree alike
 abbrev pub DueForDrive : List ℕ → List ℕ → ℕ → PlacedSource → VerdictShape → Type 0
 DueForDrive file start most placed verdict =
-    (¬ IsCallFreeProgram placed.source.tree × (verdict ≡ program_not_built))
-    ⊎ (IsCallFreeProgram placed.source.tree
-    × ((program : Program) × (program_tree program ≡ placed.source.tree)
-    × DueForHosts file start most placed program verdict))
+    (program : Program) × (program_tree program ≡ placed.source.tree)
+    × DueForHosts file start most placed program verdict

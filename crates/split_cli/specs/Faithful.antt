@@ -19,7 +19,6 @@ use Rattle.net_world.specs.Choice.{NoneRuns, NothingFlies}
 use Rattle.net_world.specs.World.{WorldShape, IsRun, state_at, has_halted}
 use Rattle.simulation.specs.Ending.{EVENTS}
 use Rattle.simulation.specs.Obeying.{FieldsAre, Follows}
-use Rattle.split_cli.specs.CallFree.{IsCallFreeProgram}
 use Rattle.split_cli.specs.Drive.{code_of, first_world, drive_text}
 use Rattle.split_cli.specs.Driven.{DrivesTo}
 use Rattle.split_cli.specs.Loads.{Told}
@@ -27,12 +26,10 @@ use Rattle.split_cli.specs.PlacedSources.{PlacedSource, PlacedSources}
 use Rattle.split_cli.specs.Replay.{events_in, replay_text}
 use Rattle.split_cli.specs.Stages.{given}
 
--- What a program and a host file of these bytes say and what is chosen for it, with the program as a tree, whose hosts
--- can run it.
+-- What a program and a host file of these bytes say and what is chosen for it, with the program as a tree.
 pub record IsRunnable (program hosts : List ℕ) (placed : PlacedSource) (tree : Program) : Type 0 where
   pub accepted : PlacedSources program hosts (given placed)
   pub tree_is : program_tree tree ≡ placed.source.tree
-  pub call_free : IsCallFreeProgram placed.source.tree
 
 -- From these starting values on events left this world, and the hosts followed the plain run, at every moment.
 pub record IsFaithfulRun (placed : PlacedSource) (tree : Program) (start : List (List ℤ)) (events : List Event)

@@ -1,6 +1,5 @@
 pub mod Answers
 pub mod Asked
-pub mod CallFree
 pub mod Check
 pub mod Commands
 pub mod Drive

@@ -10,11 +10,10 @@ use Rattle.event_text.specs.Script.{ScriptShape, script_of}
 use Rattle.host_code.specs.Code.{CodeShape}
 use Rattle.host_code.specs.Sound.{IsSoundCode}
 use Rattle.net_world.specs.World.{WorldShape, Refusal, not_there, host_busy, refusal_of, IsStep, IsRun}
-use Rattle.split_cli.specs.CallFree.{IsCallFreeProgram}
 use Rattle.split_cli.specs.Drive.{code_of, first_world}
 use Rattle.split_cli.specs.PlacedSources.{PlacedSource}
 use Rattle.split_cli.specs.Text.{lines_text}
-use Rattle.split_cli.specs.Verdicts.{VerdictShape, Print, program_not_built, too_long, no_form, event_not_there}
+use Rattle.split_cli.specs.Verdicts.{VerdictShape, Print, too_long, no_form, event_not_there}
 use Rattle.split_cli.specs.Verdicts.{event_host_busy}
 use Rattle.split_cli.specs.WorldReport.{world_lines}
 
@@ -55,12 +54,10 @@ pub data DueForScript (file script : List ℕ) (placed : PlacedSource) : Verdict
       DueForEvents file (code_of placed) (first_world placed said.start) said.events verdict →
       DueForScript file script placed verdict
 
--- hosts can't run the program yet, or they make the script happen; the tree is that of some program
+-- hosts make the script happen; the tree is that of some program
 abbrev pub DueForReplay : List ℕ → List ℕ → PlacedSource → VerdictShape → Type 0
 DueForReplay file script placed verdict =
-    (¬ IsCallFreeProgram placed.source.tree × (verdict ≡ program_not_built))
-    ⊎ (IsCallFreeProgram placed.source.tree
-    × ((program : Program) × (program_tree program ≡ placed.source.tree) × DueForScript file script placed verdict))
+    (program : Program) × (program_tree program ≡ placed.source.tree) × DueForScript file script placed verdict
 
 -- ---- in the program
 

@@ -67,9 +67,6 @@ file_fault file = Refuse FileFault (error_line (codes "file fault: " ++ file))
 abbrev pub program_refused : List ℕ → VerdictShape
 program_refused why = Refuse SourceRefused (error_line (codes "program: " ++ why))
 
-abbrev pub program_not_built : VerdictShape
-program_not_built = program_refused (codes "not built yet")
-
 -- why a text has no tokens
 abbrev pub why_no_tokens : LexError → List ℕ
 why_no_tokens lex.OutOfMemory = codes "no memory"

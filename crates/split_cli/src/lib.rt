@@ -1,7 +1,6 @@
 //! The program `jifsplit`, from words and files to what it puts out.
 #![tactic(auto)]
 
-mod call_free;
 mod commands;
 mod driving;
 mod laws;

@@ -18,7 +18,7 @@ use crate::verdict::Verdict;
 use crate::words::{Command, command_of};
 use host_decl::host_file_laws;
 use jif_parse::named_laws;
-use jif_resolve::{labelling_laws, limit_laws, program_laws, size_laws};
+use jif_resolve::{labelling_laws, limit_laws, program_laws, result_laws, size_laws};
 use js_base::{Files, OutOfMemory, PutError, Sink, Status};
 use need_labels::need_laws;
 use placement::placement_laws;
@@ -33,7 +33,7 @@ use std::alloc::Global;
 /// fault:
 /// - `Usage`: the words ask for no command.
 /// - `SourceRefused`: the program is refused for its text, its names or its labels; or no host may hold some part of
-///   it, or hosts cannot run it yet.
+///   it.
 /// - `InputRefused`: a file is absent, the host file is refused, or the file of starting values or of events is too
 ///   long, or a line of it has no form or asks for what cannot happen.
 /// - `FileFault`: a file could not be read.
@@ -97,6 +97,7 @@ pub fn jifsplit<F: Files, S: Sink, E: Sink>(
     limit_laws();
     program_laws();
     labelling_laws();
+    result_laws();
     need_laws();
     placement_laws();
     trust_laws();

@@ -82,13 +82,6 @@ impl Verdict {
         Verdict::refusal(alloc, Status::SourceRefused, text.as_str())
     }
 
-    /// Hosts cannot run the program yet.
-    pub fn program_not_built(alloc: Global) -> Result<Verdict, OutOfMemory>
-        ensures { IfOk result (λ verdict. verdict_shape verdict ≡ verdicts.program_not_built) }
-    {
-        Verdict::program_refused(alloc, "not built yet")
-    }
-
     /// The program has no tokens.
     ///
     /// # Errors

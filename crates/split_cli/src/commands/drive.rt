@@ -9,7 +9,7 @@ ghost use Rattle.split_rules.specs.Splittable.{IsSplittable};
 ghost use Rattle.split_cli.specs.declared.words.TheConstants.{STEPS};
 ghost use Rattle.split_cli.specs.Commands as command;
 ghost use Rattle.split_cli.specs.Commands.{IsStepCount};
-ghost use Rattle.split_cli.specs.Drive.{DueForDrive, DueForHosts, IsDriveReport};
+ghost use Rattle.split_cli.specs.Drive.{DueForDrive, IsDriveReport};
 ghost use Rattle.split_cli.specs.Due.{DueForBytes, IsDueForCommand};
 ghost use Rattle.split_cli.specs.Loading.{EndsIn, IsLoaded};
 ghost use Rattle.split_cli.specs.PlacedShapes.{placed_shape};
@@ -17,7 +17,6 @@ ghost use Rattle.split_cli.specs.PlacedSources.{labelled_source};
 ghost use Rattle.split_cli.specs.SourceShapes.{source_shape};
 ghost use Rattle.split_cli.specs.Verdicts.{verdict_shape};
 
-use crate::call_free::is_call_free;
 use crate::commands::{host_file, program_file, script_file};
 use crate::driving::drive;
 use crate::load::{Loaded, load_all};
@@ -99,30 +98,6 @@ fn drive_from(
     requires labelled { labelled_of placed.now.source.checked ≡ labelled_source (source_shape placed.now.source) }
     ensures { IfOk result (λ verdict. (s : List ℕ) → IsLoaded SCRIPT_BYTES s start.now →
         DueForDrive name.now s most (placed_shape placed.now) (verdict_shape verdict)) }
-{
-    if !is_call_free(&placed.source.checked.program) {
-        return Verdict::program_not_built(alloc);
-    }
-    hosts_from(alloc, name, start, most, placed)
-}
-
-/// The same where hosts can be driven through the program.
-fn hosts_from(
-    alloc: Global,
-    name: &str,
-    start: &Loaded,
-    most: u64,
-    placed: &PlacedSource,
-) -> Result<Verdict, OutOfMemory>
-    requires most { most ≤ STEPS }
-    requires fields { length placed.now.source.checked.program.fields.items < 2 ^ 32 }
-    requires splittable { IsSplittable (labelled_of placed.now.source.checked) placed.now.source.hosts
-        placed.now.plan }
-    requires sized { IsSized (program_tree placed.now.source.checked.program) }
-    requires labelled { labelled_of placed.now.source.checked ≡ labelled_source (source_shape placed.now.source) }
-    ensures { IfOk result (λ verdict. (s : List ℕ) → IsLoaded SCRIPT_BYTES s start.now →
-        DueForHosts name.now s most (placed_shape placed.now) placed.now.source.checked.program
-        (verdict_shape verdict)) }
 {
     let Loaded::Bytes(bytes) = start else {
         return Verdict::too_long(alloc, name);

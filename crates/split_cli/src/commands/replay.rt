@@ -17,7 +17,6 @@ ghost use Rattle.split_cli.specs.PlacedSources.{labelled_source};
 ghost use Rattle.split_cli.specs.SourceShapes.{source_shape};
 ghost use Rattle.split_cli.specs.Verdicts.{verdict_shape};
 
-use crate::call_free::is_call_free;
 use crate::commands::{host_file, program_file, script_file};
 use crate::load::{Loaded, load_all};
 use crate::placed::{PlacedSource, read_places};
@@ -92,9 +91,6 @@ fn replay_from(
     ensures { IfOk result (λ verdict. (e : List ℕ) → IsLoaded SCRIPT_BYTES e events.now →
         DueForReplay name.now e (placed_shape placed.now) (verdict_shape verdict)) }
 {
-    if !is_call_free(&placed.source.checked.program) {
-        return Verdict::program_not_built(alloc);
-    }
     match events {
         Loaded::Bytes(bytes) => scripted(alloc, name, placed, bytes),
         Loaded::TooLong => Verdict::too_long(alloc, name),

@@ -14,6 +14,9 @@ all_laws g c = record {
     numbered = c.program_laws.ensures.well_numbered;
     labelled = c.labelling_laws.ensures.labelled;
     guards = c.labelling_laws.ensures.guards;
+    given_back = c.result_laws.ensures.given;
+    unread = c.result_laws.ensures.unread;
+    in_order = c.program_laws.ensures.parameters;
   };
   plans = record {
     lengths = c.need_laws.ensures.lengths;

@@ -3,23 +3,15 @@ use Rattle.std.proofs.lemmas.Result.{IfOk-weaker}
 use Rattle.split_cli.specs.PlacedShapes.{placed_shape}
 use Rattle.split_cli.specs.Replay.{DueForReplay}
 use Rattle.split_cli.specs.Verdicts.{verdict_shape}
-use Rattle.split_cli.proofs.ReplayDue.{replay_not_built, replay_scripted, script_too_long, script_loaded}
+use Rattle.split_cli.proofs.ReplayDue.{replay_scripted, script_too_long, script_loaded}
 use Rattle.split_cli.proofs.RunDue.{are_bytes}
 use Rattle.split_cli.proofs.commands.replay.replay_from.Goals as goal
-
-pub returns-then-not-is_call_free : goal.returns-then-not-is_call_free
-returns-then-not-is_call_free c =
-    IfOk-weaker c.program_not_built.result _ _ (λ verdict is e loaded.
-    subst (DueForReplay c.args.name.now e (placed_shape c.args.placed.now)) (sym is)
-    (replay_not_built c.args.name.now e (placed_shape c.args.placed.now) c.if-not-is_call_free.ensures.1))
-    c.program_not_built.ensures
 
 pub returns-in-Bytes : goal.returns-in-Bytes
 returns-in-Bytes c =
     let placed = placed_shape c.args.placed.now in
     IfOk-weaker c.scripted.result _ _ (λ verdict due e loaded.
     replay_scripted c.args.name.now e placed c.args.placed.now.source.checked.program (verdict_shape verdict) refl
-    (c.if-not-is_call_free.ensures.0 refl)
     (script_loaded c.args.name.now e c.deref.result.now placed (verdict_shape verdict)
     (are_bytes e c.deref.result.now c.args.events.now c.in-Bytes.bytes c.in-Bytes.is c.deref.ensures.value loaded) due))
     c.scripted.ensures
@@ -30,6 +22,5 @@ returns-in-TooLong c =
     IfOk-weaker c.too_long.result _ _ (λ verdict is e loaded.
     subst (DueForReplay c.args.name.now e placed) (sym is)
     (replay_scripted c.args.name.now e placed c.args.placed.now.source.checked.program _ refl
-    (c.if-not-is_call_free.ensures.0 refl)
     (script_too_long c.args.name.now e placed c.args.events.now c.in-TooLong.is loaded)))
     c.too_long.ensures

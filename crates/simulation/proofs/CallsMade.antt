@@ -1,0 +1,496 @@
+-- The call that a statement makes: the entry behind it is pushed, and the method is entered.
+use Rattle.std.proofs.Common.{◌≡◌, ◌≢◌, ◌∙◌, ℕ, suc, ◌<◌, inl, inr, true, false, List, [], ◌∷◌, ◌++◌}
+use Rattle.std.proofs.Common.{Vec, Global, map, length, Option, Some, None, refl, ap, sym, subst, arith, append_assoc}
+use Rattle.std.specs.Prelude.{ℤ, slice_get, ◌==◌, if◌then◌else◌}
+use Rattle.std.specs.List.{AllByRecursion}
+use Rattle.std.specs.Option.{option_map}
+use Rattle.std.proofs.lemmas.Option.{slice_get-map}
+use Rattle.js_base.specs.declared.ids.HostId.{HostId}
+use Rattle.js_base.specs.declared.ids.EntryId.{EntryId}
+use Rattle.js_base.specs.declared.ids.MethodId.{MethodId}
+use Rattle.js_base.specs.declared.ids.SiteId.{SiteId}
+use Rattle.js_base.specs.declared.ids.VarId.{VarId}
+use Rattle.jif_tree.specs.declared.program.Method.{Method}
+use Rattle.jif_tree.specs.declared.program.Stmt.{Stmt}
+use Rattle.jif_tree.specs.declared.program.StmtKind.{StmtKind}
+use Rattle.jif_tree.specs.declared.program.StmtKind as kind
+use Rattle.jif_tree.specs.declared.program.Expr.{Expr}
+use Rattle.jif_tree.specs.LabelRules.{method_at, params_of, result_of}
+use Rattle.jif_tree.specs.SourceRun as source
+use Rattle.jif_tree.specs.SourceRun.{Call, Configuration, IsAtEnd, step, value_of, calls_after, passed}
+use Rattle.jif_tree.specs.Trees as trees
+use Rattle.jif_tree.specs.Trees.{ExprTree, Heading, BlockTree, done, MethodTree, ProgramTree, statement_tree, expr_tree}
+use Rattle.jif_tree.specs.Trees.{method_tree, program_tree, block_tree}
+use Rattle.jif_tree.specs.Results.{GivesBack}
+use Rattle.jif_tree.specs.WellNumbered.{is_some}
+use Rattle.capability.specs.declared.token.Token.{Token}
+use Rattle.host_code.specs.declared.code.Entry.{Entry}
+use Rattle.host_code.specs.declared.instruction.Op.TheVariants as op
+use Rattle.host_code.specs.Code.{entry_at, halt}
+use Rattle.host_code.specs.Thread.{ThreadShape}
+use Rattle.host_core.specs.Host.{after_step, thread_at, with_token}
+use Rattle.need_labels.specs.Plan.{statement_host}
+use Rattle.msg_cost.specs.Moves.{PlannedShape}
+use Rattle.split_rules.specs.Positions as positions
+use Rattle.split_rules.specs.Positions.{Position, Due, Level, Argument, Calling, no_call, arguing, entering, arguments_of}
+use Rattle.split_rules.specs.Positions.{field_reads, number_of, statement_due, is_on, calm, kept_due, forwards_of}
+use Rattle.split_rules.specs.Typing as typing
+use Rattle.split_rules.specs.Typing.{Follows, Frames, IsValue, SetsArgument, PushesCall, Enters, IsCalm}
+use Rattle.simulation.proofs.KnownReaders.{IsFit}
+use Rattle.simulation.proofs.Views.{Split, View, Link, place_of, with_chain}
+use Rattle.simulation.proofs.Chains.{under, due_at, level_at, chain_due, FitsOver}
+use Rattle.simulation.proofs.Threads.{alone, Owed, to_run, to_keep, item_of, duty_of, IsLeft, IsCalling, IsAt}
+use Rattle.simulation.proofs.Threads.{NoneKept, IsReturn, IsKnown, AreReturned}
+use Rattle.simulation.proofs.Owing.{front_of, busy, BeginsPlainly, EndsWithReturn, block_statements, to_run_all}
+use Rattle.simulation.proofs.Owing.{plainly_behind, none_kept, stands_plainly, items_before, duties_before}
+use Rattle.simulation.proofs.Owing.{known_before, plainly_before, returned_before, plainly_ending, returned_ending}
+use Rattle.simulation.proofs.Instructions.{next_place, stepped}
+use Rattle.simulation.proofs.Transfers.{entrance_due, entrance_level, under_both, starting, starts_at, placed}
+use Rattle.simulation.proofs.TreeValues.{tree_value, value_is, read_value}
+use Rattle.simulation.proofs.Calls.{long_last}
+use Rattle.simulation.proofs.Basics.{told_equal}
+
+-- ---- methods
+
+-- the method of the program and that of its tree
+called_is : (split : Split) (method : MethodId) →
+    option_map method_tree (source.method_at split.program method.0) ≡ method_at split.planned.program method
+called_is split method =
+    sym (slice_get-map method_tree split.program.methods.items method.0)
+    ∙ ap (λ (p : ProgramTree). slice_get p.methods method.0) split.is
+
+-- a method as it is run and as it is seen
+pub record IsCalled (split : Split) (method : MethodId) (found : Option Method) : Type 0 where
+  pub params : source.params_of found ≡ params_of (method_at split.planned.program method)
+  pub result : source.result_of found ≡ result_of (method_at split.planned.program method)
+  pub due : positions.all_due (typing.body_of (method_at split.planned.program method))
+      ≡ map (λ one. positions.run (alone one)) (source.body_of found)
+  pub fit : AllByRecursion (λ one. IsFit split.code split.planned (alone one)) (source.body_of found)
+  pub ends : (x : VarId) → source.result_of found ≡ Some x → EndsWithReturn (source.body_of found)
+
+last_return : (what : StmtKind) (heading : Heading) → GivesBack (statement_tree what heading done) → IsReturn what
+last_return (kind.Return value) heading gives = tt
+last_return (kind.Let x value) heading gives = gives
+last_return (kind.SetField field value) heading gives = gives
+last_return (kind.SetElement field index value) heading gives = gives
+last_return (kind.If' guard m first n second) heading gives = gives
+last_return (kind.While' guard m body) heading gives = gives
+last_return (kind.Call site method args into) heading gives = gives
+
+behind_first : (what : StmtKind) (heading : Heading) (rest : BlockTree) → (rest ≡ done → ⊥) →
+    GivesBack (statement_tree what heading rest) → GivesBack rest
+behind_first (kind.Return value) heading rest apart gives = absurd (apart gives)
+behind_first (kind.Let x value) heading rest apart gives = gives
+behind_first (kind.SetField field value) heading rest apart gives = gives
+behind_first (kind.SetElement field index value) heading rest apart gives = gives
+behind_first (kind.If' guard m first n second) heading rest apart gives = gives
+behind_first (kind.While' guard m body) heading rest apart gives = gives
+behind_first (kind.Call site method args into) heading rest apart gives = gives
+
+not_done : (what : StmtKind) (heading : Heading) (rest : BlockTree) → statement_tree what heading rest ≡ done → ⊥
+not_done (kind.Let x value) heading rest same = cc
+not_done (kind.SetField field value) heading rest same = cc
+not_done (kind.SetElement field index value) heading rest same = cc
+not_done (kind.If' guard m first n second) heading rest same = cc
+not_done (kind.While' guard m body) heading rest same = cc
+not_done (kind.Call site method args into) heading rest same = cc
+not_done (kind.Return value) heading rest same = cc
+
+ends_native : (statements : List Stmt) → GivesBack (block_tree statements) → EndsWithReturn statements
+ends_native [] gives = gives
+ends_native (statement ∷ []) gives =
+    last_return statement.kind (record { id = statement.id; line = statement.line }) gives
+ends_native (statement ∷ next ∷ others) gives =
+    ends_native (next ∷ others) (behind_first statement.kind (record { id = statement.id; line = statement.line })
+    (block_tree (next ∷ others))
+    (not_done next.kind (record { id = next.id; line = next.line }) (block_tree others)) gives)
+
+pub called : (split : Split) (method : MethodId) → IsCalled split method (source.method_at split.program method.0)
+called split method = by (source.method_at split.program method.0) (called_is split method)
+  where
+    by : (found : Option Method) → option_map method_tree found ≡ method_at split.planned.program method →
+        IsCalled split method found
+    by None is = record {
+      params = ap params_of is;
+      result = ap result_of is;
+      due = ap (λ o. positions.all_due (typing.body_of o)) (sym is);
+      fit = tt;
+      ends = λ x none. absurd (cc);
+    }
+    by (Some own) is =
+        let tree = method_tree own in
+        let there : slice_get split.planned.program.methods method.0 ≡ Some tree = sym is in
+        let body = block_statements split.code split.planned own.body.items in
+        record {
+          params = ap params_of is;
+          result = ap result_of is;
+          due = ap (λ o. positions.all_due (typing.body_of o)) (sym is) ∙ body.due;
+          fit = body.fit (split.bodies method.0 tree there);
+          ends = λ x gives. ends_native own.body.items (split.given_back method.0 tree x there gives);
+        }
+
+-- what is passed for arguments is what is passed for their parameters
+passed_parts : (value : ExprTree → ℤ) (params : List VarId) (values : List ExprTree) (x : ℕ) →
+    passed (map (λ one. one.param) (arguments_of params values))
+    (map (λ (one : Argument). value one.value) (arguments_of params values)) x
+    ≡ passed params (map value values) x
+passed_parts value [] [] x = refl
+passed_parts value (param ∷ params) [] x = refl
+passed_parts value [] (first ∷ values) x = refl
+passed_parts value (param ∷ params) (first ∷ values) x =
+    ap (λ v. if x == param.0 then value first else v) (passed_parts value params values x)
+
+values_are : (c : Configuration) (call : ℕ) (args : List Expr) →
+    map (tree_value c.store (source.variable c.calls call)) (map expr_tree args) ≡ map (value_of c call) args
+values_are c call [] = refl
+values_are c call (arg ∷ args) =
+    ap (λ v. v ∷ map (tree_value c.store (source.variable c.calls call)) (map expr_tree args)) (sym (value_is c call arg))
+    ∙ ap (λ list. value_of c call arg ∷ list) (values_are c call args)
+
+-- a statement that is a call in its tree
+record IsCallKind (what : StmtKind) (method : MethodId) (arguments : List ExprTree) (into : Option VarId) : Type 0 where
+  site : SiteId
+  args : Vec Expr Global
+  is : what ≡ kind.Call site method args into
+  arguments_are : arguments ≡ map expr_tree args.items
+
+call_kind : (what : StmtKind) (heading other : Heading) (site : SiteId) (method : MethodId) (arguments : List ExprTree)
+    (into : Option VarId) → statement_tree what heading done ≡ trees.call other site method arguments into done →
+    IsCallKind what method arguments into
+call_kind (kind.Call own called_method args kept) heading other site method arguments into is =
+    let target : called_method ≡ method = cc in
+    let keeps : kept ≡ into = cc in
+    let values : map expr_tree args.items ≡ arguments = cc in
+    record {
+      site = own;
+      args = args;
+      is = ap (λ m. kind.Call own m args kept) target ∙ ap (kind.Call own method args) keeps;
+      arguments_are = sym values;
+    }
+call_kind (kind.Let x value) heading other site method arguments into is = absurd (cc)
+call_kind (kind.SetField field value) heading other site method arguments into is = absurd (cc)
+call_kind (kind.SetElement field index value) heading other site method arguments into is = absurd (cc)
+call_kind (kind.If' guard m first n second) heading other site method arguments into is = absurd (cc)
+call_kind (kind.While' guard m body) heading other site method arguments into is = absurd (cc)
+call_kind (kind.Return value) heading other site method arguments into is = absurd (cc)
+
+-- a call keeps the result where there is one
+kept_there : (planned : PlannedShape) (heading : Heading) (site : SiteId) (method : MethodId)
+    (arguments : List ExprTree) (into : Option VarId) (x : VarId) →
+    is_some into ≡ is_some (result_of (method_at planned.program method)) →
+    result_of (method_at planned.program method) ≡ Some x →
+    kept_due planned (trees.call heading site method arguments into done)
+    ≡ positions.keep (trees.call heading site method arguments into done) ∷ []
+kept_there planned heading site method arguments None x kept is =
+    absurd (let so : false ≡ true = kept ∙ ap is_some is in cc)
+kept_there planned heading site method arguments (Some into) x kept is = rw is refl
+
+kept_none : (planned : PlannedShape) (heading : Heading) (site : SiteId) (method : MethodId)
+    (arguments : List ExprTree) (into : Option VarId) → result_of (method_at planned.program method) ≡ None →
+    kept_due planned (trees.call heading site method arguments into done) ≡ []
+kept_none planned heading site method arguments into is = rw is refl
+
+-- what is to be done behind the body that a call starts
+record Behind (split : Split) (call n : ℕ) (into result : Option VarId) (body : List Stmt) (behind : List Owed)
+    (due : List Due) : Type 0 where
+  owed : List Owed
+  items : source.kept call into result ++ map item_of behind ≡ map item_of owed
+  duties : under call due ++ map duty_of behind ≡ map duty_of owed
+  known : AllByRecursion (IsKnown split) owed
+  plainly : BeginsPlainly (to_run_all n body ++ owed)
+  returned : AreReturned (to_run_all n body ++ owed)
+
+behind_call : (split : Split) (call n : ℕ) (statement : Stmt) (site : SiteId) (method : MethodId) (args : Vec Expr Global)
+    (into result : Option VarId) (body : List Stmt) (behind : List Owed) →
+    statement.kind ≡ kind.Call site method args into → IsFit split.code split.planned (alone statement) →
+    result ≡ result_of (method_at split.planned.program method) →
+    ((x : VarId) → result ≡ Some x → EndsWithReturn body) → AllByRecursion (IsKnown split) behind →
+    BeginsPlainly behind → AreReturned behind →
+    Behind split call n into result body behind (kept_due split.planned (alone statement))
+behind_call split call n statement site method args into None body behind is fit result ends known plainly returned =
+    let heading : Heading = record { id = statement.id; line = statement.line } in
+    let block = trees.call heading site method (map expr_tree args.items) into done in
+    let none : kept_due split.planned (alone statement) ≡ [] =
+    ap (λ k. kept_due split.planned (statement_tree k heading done)) is
+    ∙ kept_none split.planned heading site method (map expr_tree args.items) into (sym result) in
+    record {
+      owed = behind;
+      items = ap (λ list. list ++ map item_of behind) (nothing_kept call into);
+      duties = ap (λ list. under call list ++ map duty_of behind) none;
+      known = known;
+      plainly = plainly_before n body behind plainly;
+      returned = returned_before n body behind plainly returned;
+    }
+  where
+    nothing_kept : (call : ℕ) (into : Option VarId) → source.kept call into None ≡ []
+    nothing_kept call None = refl
+    nothing_kept call (Some x) = refl
+behind_call split call n statement site method args None (Some x) body behind is fit result ends known plainly returned =
+    let heading : Heading = record { id = statement.id; line = statement.line } in
+    let own : IsFit split.code split.planned (trees.call heading site method (map expr_tree args.items) None done) =
+    subst (λ k. IsFit split.code split.planned (statement_tree k heading done)) is fit in
+    absurd (let so : false ≡ true = own.1 ∙ ap is_some (sym result) in cc)
+behind_call split call n statement site method args (Some into) (Some x) body behind is fit result ends known plainly
+    returned =
+    let heading : Heading = record { id = statement.id; line = statement.line } in
+    let block = trees.call heading site method (map expr_tree args.items) (Some into) done in
+    let same : alone statement ≡ block = ap (λ k. statement_tree k heading done) is in
+    let own : IsFit split.code split.planned block = subst (IsFit split.code split.planned) same fit in
+    let due : kept_due split.planned (alone statement) ≡ positions.keep (alone statement) ∷ [] =
+    ap (kept_due split.planned) same
+    ∙ kept_there split.planned heading site method (map expr_tree args.items) (Some into) x own.1 (sym result)
+    ∙ ap (λ b. positions.keep b ∷ []) (sym same) in
+    record {
+      owed = to_keep call statement into x ∷ behind;
+      items = refl;
+      duties = ap (λ list. under call list ++ map duty_of behind) due;
+      known = (
+        record {
+          site = site;
+          method = method;
+          arguments = map expr_tree args.items;
+          is = same;
+          result_is = sym result;
+          sees = λ host on_host.
+              own.2 x (sym result) host
+              (sym (told_equal (statement_host split.planned.plan statement.id).0 host.0
+              (subst (λ b. is_on split.planned host b ≡ true) same on_host)));
+        },
+        known,
+      );
+      plainly = plainly_ending n body (to_keep call statement into x ∷ behind) (ends x refl);
+      returned = returned_ending n body call statement into x behind (ends x refl) plainly returned;
+    }
+
+-- what is to be done once the call is made
+called_items : (split : Split) (c : Configuration) (call : ℕ) (method : MethodId) (values : List ℤ)
+    (into : Option VarId) (behind : List Owed) (due : List Due)
+    (parts : Behind split call (length c.calls) into (source.result_of (source.method_at split.program method.0))
+    (source.body_of (source.method_at split.program method.0)) behind due) →
+    (source.after_call split.program c call method.0 values into (map item_of behind)).pending
+    ≡ map item_of (to_run_all (length c.calls) (source.body_of (source.method_at split.program method.0)) ++ parts.owed)
+called_items split c call method values into behind due parts =
+    let found = source.method_at split.program method.0 in
+    let body = source.body_of found in
+    append_assoc (map (source.run (length c.calls)) body) (source.kept call into (source.result_of found))
+    (map item_of behind)
+    ∙ ap (λ (list : List source.Item). map (source.run (length c.calls)) body ++ list) parts.items
+    ∙ sym (items_before (length c.calls) body parts.owed)
+
+-- a call is made, and what is behind it is pushed
+pub record MakesCall (split : Split) (c : Configuration) (view : View) (host : HostId) (thread : ThreadShape)
+    (entry : EntryId) : Type 0 where
+  pub busy : ¬ IsAtEnd c
+  pub none_out : view.out ≡ []
+  pub store : (step split.program c).store ≡ c.store
+  pub caller : ℕ
+  pub within : caller < view.naming.count
+  pub frame : thread.frame ≡ view.naming.frame caller
+  pub count : view.naming.count ≡ suc (length c.calls)
+  pub made : Call
+  pub calls : (step split.program c).calls ≡ c.calls ++ made ∷ []
+  pub caller_is : made.caller ≡ view.naming.caller (length c.calls)
+  pub method_is : made.method ≡ view.naming.method (length c.calls)
+  pub values : (x : ℕ) → view.values (length c.calls) x ≡ made.values x
+  pub plainly : NoneKept (step split.program c)
+  pub fits : FitsOver split view.naming (level_at (slice_get split.table.entries entry.0)) caller view.chain
+  pub at : (link : Link) → link.entry.entry ≡ entry → link.call ≡ caller → link.entry.token.host ≡ host →
+      IsAt split (step split.program c) (with_chain view (link ∷ view.chain)) host
+      (with_token (Some link.entry.token) (after_step thread))
+
+pub call_made : (split : Split) (c : Configuration) (view : View) (host : HostId) (thread : ThreadShape) →
+    IsAt split c view host thread → (entry : EntryId) (statement : BlockTree) (set left : List Argument) →
+    (place_of split host thread.at).calling ≡ arguing statement set left →
+    typing.Pushes split.planned split.table.entries (place_of split host thread.at) (arguing statement set left) entry.0
+    (place_of split host (suc thread.at)) → MakesCall split c view host thread entry
+call_made split c view host thread at entry statement set left is pushes =
+    let here = place_of split host thread.at in
+    let call = at.call in
+    let n = length c.calls in
+    let next = step split.program c in
+    let args = subst (IsCalling split c view.naming view.values view.sender host thread.frame thread.new_frame call
+    here.due) is at.calling in
+    let block = trees.call args.heading args.site args.method args.arguments args.into done in
+    let law : PushesCall split.planned split.table.entries here block set args.method args.arguments entry.0
+    (place_of split host (suc thread.at)) =
+    subst (λ b. typing.Pushes split.planned split.table.entries here (arguing b set left) entry.0
+    (place_of split host (suc thread.at))) args.is pushes in
+    let found = source.method_at split.program args.method.0 in
+    let method = called split args.method in
+    elim (front_of split c view.keeper call here.due (chain_due split view.chain) (positions.run block) law.others law.due
+    at.left) [
+      | inl runs ↦
+          let own = runs.statement in
+          let heading : Heading = record { id = own.id; line = own.line } in
+          let same : alone own ≡ block = sym (ap statement_due runs.is) in
+          let what = call_kind own.kind heading args.heading args.site args.method args.arguments args.into same in
+          let native = what.args.items in
+          let plain = plainly_behind (to_run call own) runs.behind runs.follows
+          (λ returns. subst IsReturn what.is returns) in
+          let behind = behind_call split call n own what.site args.method what.args args.into (source.result_of found)
+          (source.body_of found) runs.behind what.is runs.fit method.result method.ends runs.known plain runs.returned in
+          let made : Call = record {
+            caller = call;
+            method = args.method.0;
+            values = passed (source.params_of found) (map (value_of c call) native);
+          } in
+          let steps = stepped split c call own (map item_of runs.behind)
+          (kind.Call what.site args.method what.args args.into) runs.pending what.is in
+          let calls : next.calls ≡ c.calls ++ made ∷ [] = ap (λ (k : Configuration). k.calls) steps in
+          let pending : next.pending ≡ map item_of (to_run_all n (source.body_of found) ++ behind.owed) =
+          ap (λ (k : Configuration). k.pending) steps
+          ∙ called_items split c call args.method (map (value_of c call) native) args.into runs.behind _ behind in
+          let long : length next.calls ≡ suc n = ap length calls ∙ long_last c.calls made in
+          let rest = chain_due split view.chain in
+          let goes = next_place split host thread ∙ law.goes in
+          let fit : IsFit split.code split.planned block = subst (IsFit split.code split.planned) same runs.fit in
+          let valued = λ (e : ExprTree). tree_value c.store (source.variable c.calls call) e in
+          let none = sym at.forwards ∙ law.forwards in
+          let count = args.count in
+          let made_at = at.made in
+          record {
+            busy = busy c (source.run call own) (map item_of runs.behind) runs.pending;
+            none_out = none;
+            store = ap (λ (k : Configuration). k.store) steps;
+            caller = call;
+            within = omega arith;
+            frame = args.frame_is;
+            count = args.count;
+            made = made;
+            calls = calls;
+            caller_is = sym args.caller;
+            method_is = sym args.method_is;
+            values = λ x.
+                args.passed x
+                ∙ ap (λ list. passed (map (λ (one : Argument). one.param) list)
+                (map (λ (one : Argument). valued one.value) list) x) law.all_set
+                ∙ passed_parts valued (params_of (method_at split.planned.program args.method)) args.arguments x
+                ∙ ap (λ list. passed (params_of (method_at split.planned.program args.method)) (map valued list) x)
+                what.arguments_are
+                ∙ ap (λ list. passed (params_of (method_at split.planned.program args.method)) list x)
+                (values_are c call native)
+                ∙ ap (λ list. passed list (map (value_of c call) native) x) (sym method.params);
+            plainly = none_kept next _ pending behind.plainly;
+            fits = subst (λ l. FitsOver split view.naming l call view.chain)
+                (sym (entrance_level split entry.0 _ _ law.pushed)) at.fits;
+            at = λ link entry_is number token.
+                let there : due_at (slice_get split.table.entries link.entry.entry.0)
+                ≡ kept_due split.planned block ++ law.others =
+                ap (λ (e : EntryId). due_at (slice_get split.table.entries e.0)) entry_is
+                ∙ entrance_due split entry.0 _ _ law.pushed in
+                let behind_due : under link.call (due_at (slice_get split.table.entries link.entry.entry.0)) ++ rest
+                ≡ map duty_of behind.owed =
+                ap (λ list. under link.call list ++ rest) there
+                ∙ ap (λ k. under k (kept_due split.planned block ++ law.others) ++ rest) number
+                ∙ ap (λ list. list ++ rest) (under_both call (kept_due split.planned block) law.others)
+                ∙ append_assoc (under call (kept_due split.planned block)) (under call law.others) rest
+                ∙ ap (λ list. under call (kept_due split.planned block) ++ list) runs.due
+                ∙ ap (λ b. under call (kept_due split.planned b) ++ map duty_of runs.behind) (sym same)
+                ∙ behind.duties in
+                record {
+                  call = n;
+                  made = subst (λ k. n < k) (sym long) (omega arith);
+                  held = refl;
+                  left = record {
+                    left = to_run_all n (source.body_of found) ++ behind.owed;
+                    pending = pending;
+                    due = ap (λ (p : Position). under n p.due
+                        ++ (under link.call (due_at (slice_get split.table.entries link.entry.entry.0)) ++ rest)) goes
+                        ∙ ap (λ list. under n list
+                        ++ (under link.call (due_at (slice_get split.table.entries link.entry.entry.0)) ++ rest))
+                        method.due
+                        ∙ ap (λ list. under n (map (λ one. positions.run (alone one)) (source.body_of found)) ++ list)
+                        behind_due
+                        ∙ sym (duties_before n (source.body_of found) behind.owed);
+                    known = known_before split n (source.body_of found) behind.owed method.fit behind.known;
+                    returned = behind.returned;
+                    stands = stands_plainly split view.keeper _ behind.plainly;
+                  };
+                  fits = subst (λ (p : Position). FitsOver split view.naming p.level n (link ∷ view.chain)) (sym goes)
+                      (λ x gives. record {
+                        top = link;
+                        below = view.chain;
+                        is = refl;
+                        heading = args.heading;
+                        site = args.site;
+                        arguments = args.arguments;
+                        into = args.into;
+                        others = law.others;
+                        due = there ∙ ap (λ list. list ++ law.others)
+                            (kept_there split.planned args.heading args.site args.method args.arguments args.into x fit.1
+                            gives);
+                        caller = args.caller ∙ sym number;
+                        method_is = args.method_is;
+                        on_host = subst (λ h. is_on split.planned h block ≡ true) (sym token)
+                            (subst (λ b. is_on split.planned host b ≡ true) args.is args.on_host);
+                      });
+                  calling = subst (λ (p : Position). IsCalling split next view.naming view.values view.sender host
+                      thread.frame thread.new_frame n p.due p.calling) (sym goes)
+                      (args.count ∙ sym long, args.new_frame_is);
+                  forwards = ap (λ (p : Position). p.forwards) goes ∙ sym none;
+                  settled = inl none;
+                  temporaries = at.temporaries
+                      ∙ ap (map (read_value c.store (source.variable c.calls call))) law.reads
+                      ∙ sym (ap (λ (p : Position). map (read_value next.store (source.variable next.calls n)) p.reads)
+                      goes);
+                };
+          }
+      | inr keeps ↦ absurd (let both = keeps.is in cc)
+    ]
+
+-- ---- the way in
+
+-- the called method is entered, here or elsewhere
+pub record EntersMethod (split : Split) (c : Configuration) (view : View) (host : HostId) (thread : ThreadShape)
+    (entry : EntryId) (token : Token) : Type 0 where
+  pub none_out : view.out ≡ []
+  pub call : ℕ
+  pub bare : thread.temporaries ≡ []
+  pub at : (there : Entry) → entry_at split.code entry ≡ Some there →
+      IsAt split c (starting view view.chain call) there.host (thread_at there thread.new_frame token)
+
+entered : (split : Split) (c : Configuration) (view : View) (host : HostId) (thread : ThreadShape) →
+    IsAt split c view host thread → (entry : EntryId) (token : Token) (calling : Calling) → entry ≢ halt →
+    (place_of split host thread.at).calling ≡ calling → thread.held ≡ Some token →
+    Enters split.planned split.table.entries (place_of split host thread.at) calling entry.0 →
+    EntersMethod split c view host thread entry token
+entered split c view host thread at entry token (entering (trees.call heading site method arguments into rest)) apart is
+    held law =
+    let here = place_of split host thread.at in
+    let calling = subst (IsCalling split c view.naming view.values view.sender host thread.frame thread.new_frame at.call
+    here.due) is at.calling in
+    record {
+      none_out = sym at.forwards ∙ law.3;
+      call = at.call;
+      bare = at.temporaries ∙ ap (map (read_value c.store (source.variable c.calls at.call))) law.2;
+      at = λ there found.
+          starts_at split c view view.chain at.call entry.0 there thread.new_frame token
+          (placed split entry there apart found) at.made calling.0 calling.1 (sym held ∙ at.held)
+          (subst (λ l. FitsOver split view.naming l at.call view.chain)
+          (sym (entrance_level split entry.0 (calm here.level here.due) _ law.4)) at.fits)
+          (subst (λ list. IsLeft split c view.keeper (under at.call list ++ chain_due split view.chain))
+          (sym (entrance_due split entry.0 (calm here.level here.due) _ law.4)) at.left);
+    }
+entered split c view host thread at entry token no_call apart is held law = absurd law
+entered split c view host thread at entry token (arguing statement set left) apart is held law = absurd law
+entered split c view host thread at entry token (entering trees.done) apart is held law = absurd law
+entered split c view host thread at entry token (entering (trees.set_local heading x value rest)) apart is held law =
+    absurd law
+entered split c view host thread at entry token (entering (trees.set_field heading field value rest)) apart is held law =
+    absurd law
+entered split c view host thread at entry token (entering (trees.set_element heading field index value rest)) apart is
+    held law = absurd law
+entered split c view host thread at entry token (entering (trees.branch heading guard first second rest)) apart is held
+    law = absurd law
+entered split c view host thread at entry token (entering (trees.loop heading guard body rest)) apart is held law =
+    absurd law
+entered split c view host thread at entry token (entering (trees.give_back heading value rest)) apart is held law =
+    absurd law
+
+pub enter_at : (split : Split) (c : Configuration) (view : View) (host : HostId) (thread : ThreadShape) →
+    IsAt split c view host thread → (entry : EntryId) (on : HostId) (token : Token) → entry ≢ halt →
+    thread.held ≡ Some token →
+    typing.Ends split.planned split.table.entries (place_of split host thread.at) (op.Call entry on) →
+    EntersMethod split c view host thread entry token
+enter_at split c view host thread at entry on token apart held law =
+    entered split c view host thread at entry token (place_of split host thread.at).calling apart refl held law

@@ -1,0 +1,89 @@
+-- What is due behind the entries of a chain, and when they are one.
+use Rattle.std.proofs.Common.{◌≡◌, ℕ, true, List, [], ◌∷◌, ◌++◌, map, Option, Some, None}
+use Rattle.std.specs.Prelude.{◌<◌}
+use Rattle.std.specs.Prelude.{slice_get, ◌==◌, if◌then◌else◌, ⊤}
+use Rattle.js_base.specs.declared.ids.HostId.{HostId}
+use Rattle.js_base.specs.declared.ids.MethodId.{MethodId}
+use Rattle.js_base.specs.declared.ids.SiteId.{SiteId}
+use Rattle.js_base.specs.declared.ids.VarId.{VarId}
+use Rattle.jif_tree.specs.LabelRules.{method_at, result_of}
+use Rattle.jif_tree.specs.Trees as trees
+use Rattle.jif_tree.specs.Trees.{BlockTree, ExprTree, Heading, done, MethodTree, statement_tree, program_tree}
+use Rattle.ics_stack.specs.declared.stack.StackEntry.{StackEntry}
+use Rattle.host_code.specs.Code.{halt}
+use Rattle.host_code.specs.Sound.{IsEntryOn}
+use Rattle.split_rules.specs.Positions as positions
+use Rattle.split_rules.specs.Positions.{Due, Level, Position, Entrance, Forward, Argument, Calling, no_call, arguing}
+use Rattle.split_rules.specs.Positions.{entering, arguments_of, is_on}
+use Rattle.simulation.proofs.Views.{Split, Naming, Link}
+
+-- ---- what is due
+
+-- something that is due, of which call
+pub record Duty : Type 0 where
+  pub call : ℕ
+  pub due : Due
+
+abbrev pub under : ℕ → List Due → List Duty
+under call due = map (λ item. record { call = call; due = item }) due
+
+abbrev pub due_at : Option Entrance → List Due
+due_at None = []
+due_at (Some entrance) = entrance.position.due
+
+abbrev pub level_at : Option Entrance → Level
+level_at None = positions.under 0
+level_at (Some entrance) = entrance.position.level
+
+-- what is due behind the entries of a chain
+abbrev pub chain_due : Split → List Link → List Duty
+chain_due split [] = []
+chain_due split (link ∷ chain) =
+    under link.call (due_at (slice_get split.table.entries link.entry.entry.0)) ++ chain_due split chain
+
+-- ---- the chain of entries
+
+-- The first entry of the chain is that behind a call, which keeps what the method gives back on the host of the entry.
+pub record IsAwaited (split : Split) (naming : Naming) (method : MethodId) (call : ℕ) (chain : List Link) : Type 0 where
+  pub top : Link
+  pub below : List Link
+  pub is : chain ≡ top ∷ below
+  pub heading : Heading
+  pub site : SiteId
+  pub arguments : List ExprTree
+  pub into : Option VarId
+  pub others : List Due
+  pub due : due_at (slice_get split.table.entries top.entry.entry.0)
+      ≡ positions.keep (trees.call heading site method arguments into done) ∷ others
+  pub caller : naming.caller call ≡ top.call
+  pub method_is : naming.method call ≡ method.0
+  pub on_host : is_on split.planned top.entry.token.host (trees.call heading site method arguments into done) ≡ true
+
+-- who holds the token with which a method with a result was entered gives the result back to the first entry
+abbrev pub FitsOver : Split → Naming → Level → ℕ → List Link → Type 0
+FitsOver split naming (positions.body method) call chain = (x : VarId) →
+    result_of (method_at split.planned.program method) ≡ Some x → IsAwaited split naming method call chain
+FitsOver split naming other call chain = ⊤
+
+-- an entry in the frame of its call
+pub record IsLinked (naming : Naming) (link : Link) : Type 0 where
+  pub frame : link.entry.frame ≡ naming.frame link.call
+  pub token : link.entry.token.frame ≡ link.entry.frame
+  pub known : link.call < naming.count
+
+-- The last of them ends the program, on the root. Each of the others stands on the host of its token, and has the
+-- token of the next kept with it.
+abbrev pub IsChain : Split → Naming → List Link → Type 0
+IsChain split naming [] = ⊥
+IsChain split naming (link ∷ []) = (link.entry.entry ≡ halt) × (link.entry.token.host ≡ split.code.root)
+IsChain split naming (link ∷ next ∷ chain) =
+    IsEntryOn split.code link.entry.token.host link.entry.entry × IsLinked naming link
+    × (link.entry.kept ≡ next.entry.token)
+    × FitsOver split naming (level_at (slice_get split.table.entries link.entry.entry.0)) link.call (next ∷ chain)
+    × IsChain split naming (next ∷ chain)
+
+-- those on the stack of a host
+abbrev pub on_stack : HostId → List Link → List StackEntry
+on_stack host [] = []
+on_stack host (link ∷ chain) =
+    if link.entry.token.host.0 == host.0 then link.entry ∷ on_stack host chain else on_stack host chain

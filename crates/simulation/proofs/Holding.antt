@@ -1,0 +1,416 @@
+-- What a step of one host leaves of what all hosts have: fields, variables, and frames that are still unused.
+use Rattle.std.proofs.Common.{◌≡◌, ◌≢◌, ◌∙◌, ℕ, zero, suc, ◌<◌, ◌≤◌, ◌⊎◌, inl, inr, Bool, true, false, List, []}
+use Rattle.std.proofs.Common.{◌∷◌, length, map, Some, refl, ap, sym, subst, arith}
+use Rattle.std.specs.Prelude.{ℤ, pos, cond, ◌==◌, ◌&&◌, not, nat_eq, if◌then◌else◌, slice_get, slice_index}
+use Rattle.std.specs.Prelude.{filter}
+use Rattle.std.specs.List.{range_with_len}
+use Rattle.std.proofs.lemmas.Bool.Decides.{eqb_tells}
+use Rattle.std.proofs.lemmas.Bool.{eq-eqb, ne_eqb}
+use Rattle.js_base.specs.declared.ids.HostId.{HostId}
+use Rattle.js_base.specs.declared.ids.FrameId.{FrameId}
+use Rattle.js_base.specs.declared.ids.SiteId.{SiteId}
+use Rattle.js_base.specs.declared.ids.VarId.{VarId}
+use Rattle.jif_tree.specs.SourceRun as plain
+use Rattle.jif_tree.specs.SourceRun.{Call, Configuration, calls_after}
+use Rattle.jif_tree.specs.Trees.{BlockTree}
+use Rattle.host_code.specs.Code.{CodeShape, site_at}
+use Rattle.host_stores.specs.Stores.{with_variable}
+use Rattle.host_core.specs.Host.{HostShape}
+use Rattle.msg_cost.specs.Terms.{reads_on}
+use Rattle.net_world.specs.Flying.{Flying}
+use Rattle.net_world.specs.World.{WorldShape, state_at}
+use Rattle.split_rules.specs.Positions.{Forward, forwards_of}
+use Rattle.split_rules.proofs.NumberedLists.{number_there}
+use Rattle.simulation.proofs.Views.{Split, Naming, View, values_set}
+use Rattle.simulation.proofs.Variables.{IsOut, AreSent, Sends, Agree, IsUnused, AreFresh, Holds}
+use Rattle.simulation.proofs.Simulates.{IsOrderly}
+use Rattle.simulation.proofs.Moved.{Moved, either, same_id}
+use Rattle.simulation.proofs.Kept.{host_within}
+
+-- ---- variables of frames
+
+same_frame : (one other : FrameId) → one.site.0 ≡ other.site.0 → one.count ≡ other.count → one ≡ other
+same_frame one other site count =
+    let make : ℕ → ℕ → FrameId = λ s n. record { site = record { 0 = s }; count = n } in
+    ap (λ s. make s one.count) site ∙ ap (make other.site.0) count
+
+frames_apart : (one other : FrameId) → one ≢ other →
+    (one.site.0 == other.site.0 && one.count == other.count) ≡ false
+frames_apart one other apart = elim (eqb_tells one.site.0 other.site.0) [
+  | inl site ↦ elim (eqb_tells one.count other.count) [
+    | inl count ↦ absurd (apart (same_frame one other site.1 count.1))
+    | inr count ↦ rw (site.0, count.0) refl
+  ]
+  | inr site ↦ rw site.0 refl
+]
+
+pub other_frame : (variables : FrameId → VarId → ℤ) (frame other : FrameId) (x y : VarId) (value : ℤ) →
+    frame ≢ other → with_variable variables frame x value other y ≡ variables other y
+other_frame variables frame other x y value apart =
+    ap (λ (b : Bool). if b && x.0 == y.0 then value else variables other y) (frames_apart frame other apart)
+
+own_frame : (variables : FrameId → VarId → ℤ) (frame other : FrameId) (x y : VarId) (value : ℤ) → frame ≡ other →
+    with_variable variables frame x value other y ≡ (if x.0 == y.0 then value else variables other y)
+own_frame variables frame other x y value same =
+    ap (λ f. with_variable variables f x value other y) same
+    ∙ ap (λ (b : Bool). if (b && other.count == other.count) && x.0 == y.0 then value else variables other y)
+    (eq-eqb other.site.0 other.site.0 refl)
+    ∙ ap (λ (b : Bool). if b && x.0 == y.0 then value else variables other y) (eq-eqb other.count other.count refl)
+
+same_cell : (one other value : ℤ) (x y : VarId) → one ≡ other →
+    (if x.0 == y.0 then value else one) ≡ (if y.0 == x.0 then value else other)
+same_cell one other value x y same = elim (eqb_tells x.0 y.0) [
+  | inl is ↦ rw (is.0, eq-eqb y.0 x.0 (sym is.1)) refl
+  | inr apart ↦ rw (apart.0, ne_eqb y.0 x.0 (λ at. apart.1 (sym at))) same
+]
+
+-- a variable of a call, in its frame, after one was set
+pub cell_set : (variables : FrameId → VarId → ℤ) (naming : Naming) (values : ℕ → ℕ → ℤ) (call other : ℕ)
+    (x y : VarId) (value : ℤ) → (naming.frame call ≡ naming.frame other → call ≡ other) →
+    variables (naming.frame other) y ≡ values other y.0 →
+    with_variable variables (naming.frame call) x value (naming.frame other) y
+    ≡ values_set values call x.0 value other y.0
+cell_set variables naming values call other x y value apart same =
+    let now = λ (b : Bool). if b then plain.with_value (values other) x.0 value y.0 else values other y.0 in
+    elim (eqb_tells other call) [
+      | inl is ↦
+          own_frame variables (naming.frame call) (naming.frame other) x y value (ap naming.frame (sym is.1))
+          ∙ same_cell (variables (naming.frame other) y) (values other y.0) value x y same ∙ ap now (sym is.0)
+      | inr differs ↦
+          other_frame variables (naming.frame call) (naming.frame other) x y value
+          (λ frames. differs.1 (sym (apart frames)))
+          ∙ same ∙ ap now (sym differs.0)
+    ]
+
+-- the variable itself
+pub own_cell : (variables : FrameId → VarId → ℤ) (naming : Naming) (values : ℕ → ℕ → ℤ) (call : ℕ) (x : VarId)
+    (value : ℤ) → with_variable variables (naming.frame call) x value (naming.frame call) x
+    ≡ values_set values call x.0 value call x.0
+own_cell variables naming values call x value =
+    own_frame variables (naming.frame call) (naming.frame call) x x value refl
+    ∙ ap (λ (b : Bool). if b then value else variables (naming.frame call) x) (eq-eqb x.0 x.0 refl)
+    ∙ ap (λ (b : Bool). if b then value else values call x.0) (sym (eq-eqb x.0 x.0 refl))
+    ∙ ap (λ (b : Bool). if b then plain.with_value (values call) x.0 value x.0 else values call x.0)
+    (sym (eq-eqb call call refl))
+
+-- ---- frames that are unused
+
+pub fresh_moved : (code : CodeShape) (naming : Naming) (world after : WorldShape) (host : HostId)
+    (old state : HostShape) (flying : Flying) → AreFresh code naming world → state_at world host ≡ Some old →
+    Moved world host state flying after →
+    ((site : SiteId) → slice_index old.frames site.0 ≤ slice_index state.frames site.0) →
+    ((frame : FrameId) (x : VarId) → ((call : ℕ) → call < naming.count → naming.frame call ≢ frame) →
+    old.variables frame x ≡ pos 0 → state.variables frame x ≡ pos 0) → AreFresh code naming after
+fresh_moved code naming world after host old state flying fresh obeys moved grows unset other there site count is on least =
+    let frame : FrameId = record { site = site; count = count } in
+    let unused : IsUnused naming world frame =
+    elim (either world after host old state flying obeys moved other there is) [
+      | inl mover ↦
+          let here : site_at code site ≡ Some host = on ∙ ap Some mover.same in
+          let more = grows site in
+          let now : slice_index state.frames site.0 ≤ count =
+          subst (λ (s : HostShape). slice_index s.frames site.0 ≤ count) mover.is least in
+          fresh host old site count obeys here (omega arith)
+      | inr apart ↦ fresh other there site count apart.obeys on least
+    ] in
+    record {
+      apart = unused.apart;
+      unset = λ another there x is. elim (either world after host old state flying obeys moved another there is) [
+        | inl mover ↦
+            ap (λ (s : HostShape). s.variables frame x) mover.is
+            ∙ unset frame x unused.apart (unused.unset host old x obeys)
+        | inr apart ↦ unused.unset another there x apart.obeys
+      ];
+    }
+
+same_counts : (old state : HostShape) → state.frames ≡ old.frames → (site : SiteId) →
+    slice_index old.frames site.0 ≤ slice_index state.frames site.0
+same_counts old state same site =
+    subst (λ list. slice_index old.frames site.0 ≤ slice_index list site.0) (sym same) (omega arith)
+
+pub fresh_same : (code : CodeShape) (naming : Naming) (world after : WorldShape) (host : HostId) (old state : HostShape)
+    (flying : Flying) → AreFresh code naming world → state_at world host ≡ Some old →
+    Moved world host state flying after → state.variables ≡ old.variables → state.frames ≡ old.frames →
+    AreFresh code naming after
+fresh_same code naming world after host old state flying fresh obeys moved variables frames =
+    fresh_moved code naming world after host old state flying fresh obeys moved (same_counts old state frames)
+    (λ frame x apart none. ap (λ (v : FrameId → VarId → ℤ). v frame x) variables ∙ none)
+
+-- a variable of a call was set
+pub fresh_set : (code : CodeShape) (naming : Naming) (world after : WorldShape) (host : HostId) (old state : HostShape)
+    (flying : Flying) (call : ℕ) (x : VarId) (value : ℤ) → AreFresh code naming world →
+    state_at world host ≡ Some old → Moved world host state flying after → call < naming.count →
+    state.variables ≡ with_variable old.variables (naming.frame call) x value → state.frames ≡ old.frames →
+    AreFresh code naming after
+fresh_set code naming world after host old state flying call x value fresh obeys moved known variables frames =
+    fresh_moved code naming world after host old state flying fresh obeys moved (same_counts old state frames)
+    (λ frame y apart none. ap (λ (v : FrameId → VarId → ℤ). v frame y) variables
+    ∙ other_frame old.variables (naming.frame call) frame x y value (apart call known) ∙ none)
+
+-- ---- agreement
+
+agree_moved : (split : Split) (naming : Naming) (values now : ℕ → ℕ → ℤ) (out left : List Forward)
+    (sender next : ℕ) (world after : WorldShape) (host : HostId) (old state : HostShape) (flying : Flying) →
+    Agree split naming values out sender world → state_at world host ≡ Some old →
+    Moved world host state flying after →
+    ((call : ℕ) (x : VarId) → call < naming.count → reads_on split.planned x host.0 ≡ true →
+    ((call ≡ sender) × IsOut out x host) ⊎ (old.variables (naming.frame call) x ≡ values call x.0) →
+    ((call ≡ next) × IsOut left x host) ⊎ (state.variables (naming.frame call) x ≡ now call x.0)) →
+    ((call : ℕ) (other : HostId) (there : HostShape) (x : VarId) → call < naming.count →
+    state_at world other ≡ Some there → other.0 ≢ host.0 → reads_on split.planned x other.0 ≡ true →
+    ((call ≡ sender) × IsOut out x other) ⊎ (there.variables (naming.frame call) x ≡ values call x.0) →
+    ((call ≡ next) × IsOut left x other) ⊎ (there.variables (naming.frame call) x ≡ now call x.0)) →
+    Agree split naming now left next after
+agree_moved split naming values now out left sender next world after host old state flying agree obeys moved own others
+    call other there x known is reads =
+    elim (either world after host old state flying obeys moved other there is) [
+      | inl mover ↦
+          let here = subst (λ h. reads_on split.planned x h.0 ≡ true) mover.same reads in
+          elim (own call x known here (agree call host old x known obeys here)) [
+            | inl out ↦ inl (out.0, subst (IsOut left x) (sym mover.same) out.1)
+            | inr same ↦ inr (ap (λ (s : HostShape). s.variables (naming.frame call) x) mover.is ∙ same)
+          ]
+      | inr apart ↦ others call other there x known apart.obeys apart.apart reads
+          (agree call other there x known apart.obeys reads)
+    ]
+
+-- a step that sets no variable
+pub agree_same : (split : Split) (naming : Naming) (values : ℕ → ℕ → ℤ) (out : List Forward) (sender : ℕ)
+    (world after : WorldShape) (host : HostId) (old state : HostShape) (flying : Flying) →
+    Agree split naming values out sender world → state_at world host ≡ Some old →
+    Moved world host state flying after → state.variables ≡ old.variables →
+    Agree split naming values out sender after
+agree_same split naming values out sender world after host old state flying agree obeys moved variables =
+    agree_moved split naming values values out out sender sender world after host old state flying agree obeys moved
+    (λ call x known reads before. elim before [
+      | inl is_out ↦ inl is_out
+      | inr same ↦ inr (ap (λ (v : FrameId → VarId → ℤ). v (naming.frame call) x) variables ∙ same)
+    ])
+    (λ call other there x known is apart reads before. before)
+
+pub none_out : (x : VarId) (host : HostId) (out : List Forward) → out ≡ [] → IsOut out x host → ⊥
+none_out x host out none is_out = subst (λ list. IsOut list x host) none is_out
+
+-- where nothing is to be sent, it does not matter of which call
+pub agree_calm : (split : Split) (naming : Naming) (values : ℕ → ℕ → ℤ) (out : List Forward) (sender next : ℕ)
+    (world : WorldShape) → Agree split naming values out sender world → out ≡ [] →
+    Agree split naming values [] next world
+agree_calm split naming values out sender next world agree none call host state x known is reads =
+    elim (agree call host state x known is reads) [
+      | inl is_out ↦ absurd (none_out x host out none is_out.1)
+      | inr same ↦ inr same
+    ]
+
+-- ---- what is to be sent
+
+-- a variable for the hosts of these numbers
+abbrev for_hosts : VarId → BlockTree → List ℕ → List Forward
+for_hosts x source numbers =
+    map (λ host. record { variable = x; host = host; source = source }) (map (λ other. record { 0 = other }) numbers)
+
+out_more : (x : VarId) (source : BlockTree) (host : HostId) (first : ℕ) (numbers : List ℕ) (b : Bool) →
+    IsOut (for_hosts x source numbers) x host → IsOut (for_hosts x source (cond b (first ∷ numbers) numbers)) x host
+out_more x source host first numbers true is_out = inr is_out
+out_more x source host first numbers false is_out = is_out
+
+out_first : (x : VarId) (source : BlockTree) (host : HostId) (first : ℕ) (numbers : List ℕ) (b : Bool) → b ≡ true →
+    first ≡ host.0 → IsOut (for_hosts x source (cond b (first ∷ numbers) numbers)) x host
+out_first x source host first numbers true passes same = inl (refl, same_id (record { 0 = first }) host same)
+out_first x source host first numbers false passes same = absurd (cc)
+
+among : (x : VarId) (source : BlockTree) (p : ℕ → Bool) (numbers : List ℕ) (place : ℕ) (host : HostId) →
+    slice_get numbers place ≡ Some host.0 → p host.0 ≡ true → IsOut (for_hosts x source (filter p numbers)) x host
+among x source p [] place host there passes = absurd (cc)
+among x source p (first ∷ numbers) zero host there passes =
+    let same : first ≡ host.0 = cc in
+    out_first x source host first (filter p numbers) (p first) (ap p same ∙ passes) same
+among x source p (first ∷ numbers) (suc place) host there passes =
+    out_more x source host first (filter p numbers) (p first) (among x source p numbers place host there passes)
+
+-- another host that reads the variable is still to be sent it
+is_to_be_sent : (split : Split) (me host : HostId) (source : BlockTree) (x : VarId) →
+    host.0 < length split.planned.hosts.hosts → host.0 ≢ me.0 → reads_on split.planned x host.0 ≡ true →
+    IsOut (forwards_of split.planned me source x) x host
+is_to_be_sent split me host source x within apart reads =
+    let count = length split.planned.hosts.hosts in
+    let passes : (not (nat_eq host.0 me.0) && reads_on split.planned x host.0) ≡ true =
+    rw (ne_eqb host.0 me.0 apart, reads) refl in
+    among x source (λ other. not (nat_eq other me.0) && reads_on split.planned x other) (range_with_len 0 count) host.0
+    host (number_there count host.0 within) passes
+
+sent_more : (values : ℕ → ℤ) (variables : VarId → ℤ) (me : HostId) (x : VarId) (source : BlockTree) (first : ℕ)
+    (numbers : List ℕ) (own : Bool) (q : Bool) → variables x ≡ values x.0 →
+    (own ≡ false → first ≢ me.0) → AreSent values variables me (for_hosts x source numbers) →
+    AreSent values variables me (for_hosts x source (cond (not own && q) (first ∷ numbers) numbers))
+sent_more values variables me x source first numbers true q same apart sent = sent
+sent_more values variables me x source first numbers false true same apart sent = (same, apart refl, sent)
+sent_more values variables me x source first numbers false false same apart sent = sent
+
+apart_false : (a b : ℕ) → nat_eq a b ≡ false → a ≢ b
+apart_false a b told same = let is : nat_eq a b ≡ true = eq-eqb a b same in cc
+
+sent_among : (values : ℕ → ℤ) (variables : VarId → ℤ) (me : HostId) (x : VarId) (source : BlockTree)
+    (q : ℕ → Bool) → variables x ≡ values x.0 → (numbers : List ℕ) →
+    AreSent values variables me (for_hosts x source (filter (λ n. not (nat_eq n me.0) && q n) numbers))
+sent_among values variables me x source q same [] = tt
+sent_among values variables me x source q same (first ∷ numbers) =
+    sent_more values variables me x source first (filter (λ n. not (nat_eq n me.0) && q n) numbers) (nat_eq first me.0)
+    (q first) same (apart_false first me.0) (sent_among values variables me x source q same numbers)
+
+-- what is to be sent has the variable's value, and goes to others
+pub is_sent : (split : Split) (values : ℕ → ℤ) (variables : VarId → ℤ) (me : HostId) (source : BlockTree)
+    (x : VarId) → variables x ≡ values x.0 → AreSent values variables me (forwards_of split.planned me source x)
+is_sent split values variables me source x same =
+    sent_among values variables me x source (reads_on split.planned x) same
+    (range_with_len 0 (length split.planned.hosts.hosts))
+
+pub not_out : (values : ℕ → ℤ) (variables : VarId → ℤ) (host : HostId) (out : List Forward) (x : VarId) →
+    AreSent values variables host out → IsOut out x host → ⊥
+not_out values variables host [] x sent is_out = is_out
+not_out values variables host (forward ∷ out) x sent (inl own) = sent.1 (ap (λ (h : HostId). h.0) own.1)
+not_out values variables host (forward ∷ out) x sent (inr other) = not_out values variables host out x sent.2 other
+
+-- who acts has the variables of a call that it reads
+pub holder_agrees : (split : Split) (c : Configuration) (view : View) (world : WorldShape) (host : HostId)
+    (state : HostShape) (call : ℕ) → Holds split c view world → state_at world host ≡ Some state →
+    Sends view state host → call < length c.calls → (x : VarId) → reads_on split.planned x host.0 ≡ true →
+    state.variables (view.naming.frame call) x ≡ plain.variable c.calls call x.0
+holder_agrees split c view world host state call holds obeys sent made x reads =
+    let known = holds.known in
+    elim (holds.agree call host state x (omega arith) obeys reads) [
+      | inl is_out ↦ absurd (not_out (view.values view.sender) (state.variables (view.naming.frame view.sender)) host
+          view.out x sent is_out.1)
+      | inr same ↦ same ∙ holds.valued call x.0 made
+    ]
+
+-- ---- a variable that was set
+
+-- Who acts set a variable of a call, which is now to be sent to the others that read it.
+pub agree_set : (split : Split) (naming : Naming) (values : ℕ → ℕ → ℤ) (out : List Forward) (sender : ℕ)
+    (world after : WorldShape) (host : HostId) (old state : HostShape) (flying : Flying) (call : ℕ) (x : VarId)
+    (value : ℤ) (source : BlockTree) → IsOrderly split.code world → Agree split naming values out sender world →
+    out ≡ [] → state_at world host ≡ Some old → Moved world host state flying after →
+    ((other : ℕ) → other < naming.count → naming.frame call ≡ naming.frame other → call ≡ other) →
+    state.variables ≡ with_variable old.variables (naming.frame call) x value →
+    Agree split naming (values_set values call x.0 value) (forwards_of split.planned host source x) call after
+agree_set split naming values out sender world after host old state flying call x value source orderly agree none obeys
+    moved apart variables =
+    agree_moved split naming values (values_set values call x.0 value) out (forwards_of split.planned host source x)
+    sender call world after host old state flying agree obeys moved
+    (λ other y known reads before. elim before [
+      | inl is_out ↦ absurd (none_out y host out none is_out.1)
+      | inr same ↦ inr (ap (λ (v : FrameId → VarId → ℤ). v (naming.frame other) y) variables
+          ∙ cell_set old.variables naming values call other x y value (apart other known) same)
+    ])
+    (λ other another there y known is differs reads before. elim before [
+      | inl is_out ↦ absurd (none_out y another out none is_out.1)
+      | inr same ↦ elim (eqb_tells other call) [
+        | inl one ↦ elim (eqb_tells y.0 x.0) [
+          | inl var ↦
+              let within = host_within split.code world another there orderly is in
+              let many = split.many in
+              let var_of : ℕ → VarId = λ n. record { 0 = n } in
+              let equal : y ≡ x = ap var_of var.1 in
+              inl (
+                one.1,
+                subst (λ z. IsOut (forwards_of split.planned host source x) z another) (sym equal)
+                    (is_to_be_sent split host another source x (omega arith) differs
+                    (subst (λ z. reads_on split.planned z another.0 ≡ true) equal reads)),
+              )
+          | inr var ↦ inr (same
+              ∙ ap (λ (b : Bool). if b then value else values other y.0) (sym var.0)
+              ∙ ap (λ (b : Bool). if b then plain.with_value (values other) x.0 value y.0 else values other y.0)
+              (sym one.0))
+        ]
+        | inr one ↦ inr (same
+            ∙ ap (λ (b : Bool). if b then plain.with_value (values other) x.0 value y.0 else values other y.0)
+            (sym one.0))
+      ]
+    ])
+
+-- A host was sent a variable.
+pub agree_forwarded : (split : Split) (naming : Naming) (values : ℕ → ℕ → ℤ) (left : List Forward) (sender : ℕ)
+    (world after : WorldShape) (host : HostId) (old state : HostShape) (flying : Flying) (x : VarId) (value : ℤ)
+    (source : BlockTree) →
+    Agree split naming values (record { variable = x; host = host; source = source } ∷ left) sender world →
+    state_at world host ≡ Some old → Moved world host state flying after →
+    ((other : ℕ) → other < naming.count → naming.frame sender ≡ naming.frame other → sender ≡ other) →
+    state.variables ≡ with_variable old.variables (naming.frame sender) x value → value ≡ values sender x.0 →
+    Agree split naming values left sender after
+agree_forwarded split naming values left sender world after host old state flying x value source agree obeys moved
+    apart variables is =
+    let out = record { variable = x; host = host; source = source } ∷ left in
+    agree_moved split naming values values out left sender sender world after host old state flying agree obeys moved
+    (λ call y known reads before. elim (eqb_tells call sender) [
+      | inl one ↦
+          let seen : state.variables (naming.frame call) y
+          ≡ (if x.0 == y.0 then value else old.variables (naming.frame call) y) =
+          ap (λ (v : FrameId → VarId → ℤ). v (naming.frame call) y) variables
+          ∙ own_frame old.variables (naming.frame sender) (naming.frame call) x y value (ap naming.frame (sym one.1)) in
+          elim (eqb_tells x.0 y.0) [
+            | inl same ↦ inr (seen
+                ∙ ap (λ (b : Bool). if b then value else old.variables (naming.frame call) y) same.0 ∙ is
+                ∙ ap (λ k. values k x.0) (sym one.1) ∙ ap (values call) same.1)
+            | inr differs ↦
+                let kept = seen ∙ ap (λ (b : Bool). if b then value else old.variables (naming.frame call) y) differs.0
+                in
+                elim before [
+                  | inl is_out ↦ elim is_out.1 [
+                    | inl own ↦ absurd (differs.1 (ap (λ (v : VarId). v.0) own.0))
+                    | inr others ↦ inl (is_out.0, others)
+                  ]
+                  | inr same ↦ inr (kept ∙ same)
+                ]
+          ]
+      | inr one ↦ elim before [
+        | inl is_out ↦ absurd (one.1 is_out.0)
+        | inr same ↦ inr (ap (λ (v : FrameId → VarId → ℤ). v (naming.frame call) y) variables
+            ∙ other_frame old.variables (naming.frame sender) (naming.frame call) x y value
+            (λ frames. one.1 (sym (apart call known frames))) ∙ same)
+      ]
+    ])
+    (λ call another there y known at differs reads before. elim before [
+      | inl is_out ↦ elim is_out.1 [
+        | inl own ↦ absurd (differs (ap (λ (h : HostId). h.0) (sym own.1)))
+        | inr others ↦ inl (is_out.0, others)
+      ]
+      | inr same ↦ inr same
+    ])
+
+-- A host was given a variable that nobody reads.
+pub agree_given : (split : Split) (naming : Naming) (values : ℕ → ℕ → ℤ) (out : List Forward) (sender : ℕ)
+    (world after : WorldShape) (host : HostId) (old state : HostShape) (flying : Flying) (call : ℕ) (x : VarId)
+    (value : ℤ) → Agree split naming values out sender world → out ≡ [] → state_at world host ≡ Some old →
+    Moved world host state flying after →
+    ((other : ℕ) → other < naming.count → naming.frame call ≡ naming.frame other → call ≡ other) →
+    state.variables ≡ with_variable old.variables (naming.frame call) x value →
+    ((other : ℕ) → reads_on split.planned x other ≡ true → ⊥) →
+    Agree split naming (values_set values call x.0 value) out sender after
+agree_given split naming values out sender world after host old state flying call x value agree none obeys moved apart
+    variables unread =
+    agree_moved split naming values (values_set values call x.0 value) out out sender sender world after host old state
+    flying agree obeys moved
+    (λ other y known reads before. elim before [
+      | inl is_out ↦ inl is_out
+      | inr same ↦ inr (ap (λ (v : FrameId → VarId → ℤ). v (naming.frame other) y) variables
+          ∙ cell_set old.variables naming values call other x y value (apart other known) same)
+    ])
+    (λ other another there y known is differs reads before. elim before [
+      | inl is_out ↦ inl is_out
+      | inr same ↦ inr (same ∙ kept other y another reads)
+    ])
+  where
+    kept : (other : ℕ) (y : VarId) (another : HostId) → reads_on split.planned y another.0 ≡ true →
+        values other y.0 ≡ values_set values call x.0 value other y.0
+    kept other y another reads =
+        let now = λ (b : Bool). if b then plain.with_value (values other) x.0 value y.0 else values other y.0 in
+        elim (eqb_tells other call) [
+          | inl one ↦ elim (eqb_tells y.0 x.0) [
+            | inl var ↦
+                let var_of : ℕ → VarId = λ n. record { 0 = n } in
+                absurd (unread another.0
+                (subst (λ z. reads_on split.planned z another.0 ≡ true) (ap var_of var.1) reads))
+            | inr var ↦ ap (λ (b : Bool). if b then value else values other y.0) (sym var.0) ∙ ap now (sym one.0)
+          ]
+          | inr one ↦ ap now (sym one.0)
+        ]
