@@ -85,7 +85,6 @@ fn refuses_by_the_first_cause(rt: HostRuntime) -> Result<(), Fail> {
     let unknown = Some("int{} a; void main{}() { c = 1; }");
     let secret = Some("int{Alice:} a; int{} b; void main{}() { b = a; }");
     let array = Some("int{} a[2]; void main{}() { }");
-    let calling = Some("void m{}() { } void main{}() { m(); }");
     let bob_alone = Some(
         "principals = [\"Alice\", \"Bob\"]\n[[host]]\nname = \"B\"\nlabel = \"{Bob:}\"\n",
     );
@@ -125,12 +124,6 @@ fn refuses_by_the_first_cause(rt: HostRuntime) -> Result<(), Fail> {
             [secret, hosts, bad],
             source,
             "statement 1 (line 1): {Alice: Alice} may not flow to {}",
-        ),
-        (
-            replay,
-            [calling, bob_alone, bad],
-            source,
-            "program: not built yet",
         ),
         (replay, [array, bob_alone, bad], input, "E line 1: no form"),
         (

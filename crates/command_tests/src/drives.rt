@@ -22,6 +22,27 @@ const LOCAL: &str = "int{} f = -4;\nvoid main{}() { int x = f * f; f = x - 1; }\
 
 const EMPTY: &str = "void main{}() { }";
 
+/// Makes a frame, pushes where to go on, calls, comes back, and ends.
+const EMPTY_CALL: &str = "void f{}() { } void main{}() { f(); }";
+
+/// Pushes what stands behind the branch, goes past it, comes back, and ends.
+const UNREACHED_CALL: &str = "void f{}() { } void main{}() { if (0) { while (1) { f(); } } }";
+
+/// Twelve instructions for each number above 1, six for 1, and eight of `main`.
+const FACTORIAL: &str = "int{} r;\n\
+    int{} fact{}(int{} n) { int{} v = 1; if (n > 1) { v = fact(n - 1); v = v * n; } return v; }\n\
+    void main{}() { int{} x = 0; x = fact(5); r = x; }\n";
+
+/// The method begins on T, and B alone may add to the field.
+const ADDING: &str = "int{Bob:} b;\n\
+    void add{}(int{?:Alice} n) { b = b + n; }\n\
+    void main{?:Alice}() { add(7); }\n";
+
+/// T is trusted by Alice, and B may see what is Bob's.
+const LENT: &str = "principals = ['Alice', 'Bob']\n\
+    [[host]]\nname = 'T'\nlabel = '{?:Alice}'\n\
+    [[host]]\nname = 'B'\nlabel = '{Bob:}'\n";
+
 /// What stands at the end of a report where A and B do nothing any more.
 const AT_REST: &str = "host A: running 0, waiting 0, stack 0, ignored 0\n\
     host B: running 0, waiting 0, stack 0, ignored 0\n";
@@ -96,6 +117,42 @@ fn drives_hosts_to_their_rest(rt: HostRuntime) -> Result<(), Fail> {
 }
 
 #[test]
+fn drives_hosts_through_calls(rt: HostRuntime) -> Result<(), Fail> {
+    let alone = "host A: running 0, waiting 0, stack 0, ignored 0\n";
+    let both = "host T: running 0, waiting 0, stack 0, ignored 0\n\
+        host B: running 0, waiting 0, stack 0, ignored 0\n";
+    let cases = [
+        (EMPTY_CALL, ONE, "5", "events 5\nhalted yes\n", alone),
+        (UNREACHED_CALL, ONE, "9", "events 4\nhalted yes\n", alone),
+        (
+            FACTORIAL,
+            ONE,
+            "62",
+            "events 62\nhalted yes\nfield r = 120\n",
+            alone,
+        ),
+        (
+            ADDING,
+            LENT,
+            "100",
+            "events 14\nhalted yes\nfield b = 7\n",
+            both,
+        ),
+    ];
+    for (program, hosts, events, fields, rest) in cases {
+        let words = format!(in rt.alloc(); "drive P H E {events}")?;
+        let held = [Some(program), Some(hosts), Some("")];
+        let ended = call(rt.alloc(), words.as_str(), held, [None, None, None])?;
+        let report = format!(in rt.alloc(); "{fields}{rest}")?;
+        assert!(rt;
+            ended.is(Status::Done, report.as_str(), ""),
+            "at {program:?}"
+        );
+    }
+    Ok(())
+}
+
+#[test]
 fn drives_hosts_by_so_many_events(rt: HostRuntime) -> Result<(), Fail> {
     let cases = [
         (
@@ -136,23 +193,11 @@ fn drives_hosts_by_so_many_events(rt: HostRuntime) -> Result<(), Fail> {
 
 #[test]
 fn refuses_what_cannot_be_driven(rt: HostRuntime) -> Result<(), Fail> {
-    let not_built = "program: not built yet";
     let no_form = "E line 1: no form";
     let source = Status::SourceRefused;
     let input = Status::InputRefused;
     let cases = [
-        (
-            "void f{}() { } void main{}() { f(); }",
-            ONE,
-            source,
-            not_built,
-        ),
-        (
-            "void f{}() { } void main{}() { if (0) { while (1) { f(); } } }",
-            ONE,
-            source,
-            not_built,
-        ),
+        ("void f{}() { } void main{}() { f(); }", ONE, input, no_form),
         ("void main{}() { while (0) { } }", ONE, input, no_form),
         (
             "int{} f{}() { return 1; } void main{}() { }",
