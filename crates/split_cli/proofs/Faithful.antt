@@ -48,7 +48,7 @@ use Rattle.split_cli.specs.Replay as replay
 use Rattle.split_cli.specs.Due.{DueForBytes, DueForCommand, Due, no_words, for_command, IsDue}
 use Rattle.split_cli.specs.Due as due
 use Rattle.split_cli.specs.Answers.{SinkChange, Puts, IsAnswered, AnswersTo}
-use Rattle.split_cli.specs.Faithful.{IsRunnable, IsFaithfulRun, IsReplayed, IsFaithful, IsDrivenTo, IsFaithfulDrive}
+use Rattle.split_cli.specs.Faithful.{IsPlacedAs, IsFaithfulRun, IsReplayed, IsFaithful, IsDrivenTo, IsFaithfulDrive}
 use Rattle.split_cli.specs.Faithful.{PutsText, PutsFaithfully, PutsDriven}
 use Rattle.split_cli.proofs.OneDrive.{driven_run}
 use Rattle.split_cli.proofs.OneVerdict.{one_command}
@@ -99,12 +99,12 @@ pub record AllLaws : Type 0 where
   pub ending : EndingLaw
 
 faithful_run : AllLaws → (program hosts : List ℕ) (placed : PlacedSource) (tree : Program) (start : List (List ℤ))
-    (events : List Event) (last : WorldShape) → IsRunnable program hosts placed tree → IsSoundCode (code_of placed) →
+    (events : List Event) (last : WorldShape) → IsPlacedAs program hosts placed tree → IsSoundCode (code_of placed) →
     IsRun (code_of placed) (first_world placed start) events last → IsFaithfulRun placed tree start events last
-faithful_run laws program hosts placed tree start events last runnable sound ran =
+faithful_run laws program hosts placed tree start events last is_placed sound ran =
     let law = laws.obeying tree (labelled_source placed.source) placed.needs placed.source.file placed.plan start events
     last
-    (set_there laws.reading laws.plans laws.splits program hosts placed runnable.accepted tree runnable.tree_is sound)
+    (set_there laws.reading laws.plans laws.splits program hosts placed is_placed.accepted tree is_placed.tree_is sound)
     ran in
     let ended : IsRun (code_of placed) (first_world placed start) (take (length events) events) last =
     subst (λ (es : List Event). IsRun (code_of placed) (first_world placed start) es last)
@@ -151,9 +151,9 @@ is_faithful laws program hosts script text replayed sound =
       replayed = replayed;
       starts = (plain_script code script replayed.said replayed.read).starts
           ∙ ap (λ (rows : List (List ℤ)). after_settings rows settings)
-          (values_of_text replayed.placed replayed.tree replayed.runnable.tree_is);
+          (values_of_text replayed.placed replayed.tree replayed.is_placed.tree_is);
       faithful = faithful_run laws program hosts replayed.placed replayed.tree replayed.said.start
-          (events_in replayed.said.events) replayed.last replayed.runnable sound replayed.runs;
+          (events_in replayed.said.events) replayed.last replayed.is_placed sound replayed.runs;
     }
 
 ends_rested : (code : CodeShape) (world : WorldShape) (most : ℕ) (events : List Event) (last : WorldShape)
@@ -200,7 +200,7 @@ is_faithful_drive laws program hosts start most status text driven sound =
     let code = code_of driven.placed in
     let first = first_world driven.placed driven.values in
     let run = faithful_run laws program hosts driven.placed driven.tree driven.values driven.events driven.last
-    driven.runnable sound (ends_run code first most driven.events driven.last status driven.ends) in
+    driven.is_placed sound (ends_run code first most driven.events driven.last status driven.ends) in
     record {
       driven = driven;
       faithful = run;
@@ -210,9 +210,9 @@ is_faithful_drive laws program hosts start most status text driven sound =
       in_time = λ steps ends enough.
           let placed = driven.placed in
           let labelled = labelled_source placed.source in
-          let set = set_there laws.reading laws.plans laws.splits program hosts placed driven.runnable.accepted driven.tree
-          driven.runnable.tree_is sound in
-          let sized = sized_there laws.reading laws.plans laws.splits program hosts placed driven.runnable.accepted in
+          let set = set_there laws.reading laws.plans laws.splits program hosts placed driven.is_placed.accepted driven.tree
+          driven.is_placed.tree_is sound in
+          let sized = sized_there laws.reading laws.plans laws.splits program hosts placed driven.is_placed.accepted in
           ends_in_time code first most driven.events driven.last status driven.ends (EVENTS * (steps + 1))
           (λ more after ran. laws.ending driven.tree labelled placed.needs placed.source.file placed.plan driven.values steps
           more after set sized ends ran)
@@ -298,15 +298,15 @@ record IsRead (script : List ℕ) (placed : PlacedSource) (said : ScriptShape) :
   read : script_of (code_of placed) script ≡ Ok said
 
 events_say : AllLaws → (file program hosts script : List ℕ) (placed : PlacedSource) (tree : Program)
-    (said : ScriptShape) (verdict : VerdictShape) → IsRunnable program hosts placed tree → IsRead script placed said →
+    (said : ScriptShape) (verdict : VerdictShape) → IsPlacedAs program hosts placed tree → IsRead script placed said →
     DueForEvents file (code_of placed) (first_world placed said.start) said.events verdict →
     Says (IsReplayText program hosts script) verdict
 unfolding Says
-events_say laws file program hosts script placed tree said _ runnable was (happened last ran) =
+events_say laws file program hosts script placed tree said _ is_placed was (happened last ran) =
     is_faithful laws program hosts script _ (record {
       placed = placed;
       tree = tree;
-      runnable = runnable;
+      is_placed = is_placed;
       said = said;
       last = last;
       short = was.short;
@@ -314,17 +314,17 @@ events_say laws file program hosts script placed tree said _ runnable was (happe
       runs = ran;
       text_is = refl;
     }) was.sound
-events_say laws file program hosts script placed tree said _ runnable was (absent line refused) = input_fails
-events_say laws file program hosts script placed tree said _ runnable was (busy line refused) = input_fails
+events_say laws file program hosts script placed tree said _ is_placed was (absent line refused) = input_fails
+events_say laws file program hosts script placed tree said _ is_placed was (busy line refused) = input_fails
 
 script_says : AllLaws → (file program hosts script : List ℕ) (placed : PlacedSource) (tree : Program)
-    (verdict : VerdictShape) → IsRunnable program hosts placed tree → DueForScript file script placed verdict →
+    (verdict : VerdictShape) → IsPlacedAs program hosts placed tree → DueForScript file script placed verdict →
     Says (IsReplayText program hosts script) verdict
 unfolding Says
-script_says laws file program hosts script placed tree _ runnable (replay.long more) = input_fails
-script_says laws file program hosts script placed tree _ runnable (replay.bad_line line short is) = input_fails
-script_says laws file program hosts script placed tree verdict runnable (replay.read said _ short sound read events) =
-    events_say laws file program hosts script placed tree said verdict runnable
+script_says laws file program hosts script placed tree _ is_placed (replay.long more) = input_fails
+script_says laws file program hosts script placed tree _ is_placed (replay.bad_line line short is) = input_fails
+script_says laws file program hosts script placed tree verdict is_placed (replay.read said _ short sound read events) =
+    events_say laws file program hosts script placed tree said verdict is_placed
     (record { short = short; sound = sound; read = read }) events
 
 replay_says : AllLaws → (file program hosts script : List ℕ) (placed : PlacedSource) (verdict : VerdictShape) →
@@ -341,17 +341,17 @@ abbrev IsDriveText : ℕ → List ℕ → List ℕ → List ℕ → Status → L
 IsDriveText most program hosts start status text = IsFaithfulDrive program hosts start most status text
 
 hosts_say : AllLaws → (file program hosts start : List ℕ) (most : ℕ) (placed : PlacedSource) (tree : Program)
-    (verdict : VerdictShape) → IsRunnable program hosts placed tree → DueForHosts file start most placed tree verdict →
+    (verdict : VerdictShape) → IsPlacedAs program hosts placed tree → DueForHosts file start most placed tree verdict →
     Says (IsDriveText most program hosts start) verdict
 unfolding Says
-hosts_say laws file program hosts start most placed tree _ runnable (drive.long more) = input_fails
-hosts_say laws file program hosts start most placed tree _ runnable (drive.bad_line line short is) = input_fails
-hosts_say laws file program hosts start most placed tree verdict runnable (drive.driven values _ short read report) =
+hosts_say laws file program hosts start most placed tree _ is_placed (drive.long more) = input_fails
+hosts_say laws file program hosts start most placed tree _ is_placed (drive.bad_line line short is) = input_fails
+hosts_say laws file program hosts start most placed tree verdict is_placed (drive.driven values _ short read report) =
     subst (Says (IsDriveText most program hosts start)) (sym report.verdict_is)
     (is_faithful_drive laws program hosts start most report.status _ (record {
       placed = placed;
       tree = tree;
-      runnable = runnable;
+      is_placed = is_placed;
       values = values;
       events = report.events;
       last = report.last;

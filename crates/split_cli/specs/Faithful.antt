@@ -27,7 +27,7 @@ use Rattle.split_cli.specs.Replay.{events_in, replay_text}
 use Rattle.split_cli.specs.Stages.{given}
 
 -- What a program and a host file of these bytes say and what is chosen for it, with the program as a tree.
-pub record IsRunnable (program hosts : List ℕ) (placed : PlacedSource) (tree : Program) : Type 0 where
+pub record IsPlacedAs (program hosts : List ℕ) (placed : PlacedSource) (tree : Program) : Type 0 where
   pub accepted : PlacedSources program hosts (given placed)
   pub tree_is : program_tree tree ≡ placed.source.tree
 
@@ -49,7 +49,7 @@ pub record IsFaithfulRun (placed : PlacedSource) (tree : Program) (start : List 
 pub record IsReplayed (program hosts script : List ℕ) (text : List ℕ) : Type 0 where
   pub placed : PlacedSource
   pub tree : Program
-  pub runnable : IsRunnable program hosts placed tree
+  pub is_placed : IsPlacedAs program hosts placed tree
   -- the starting values and the events of the script, and the world that they lead to
   pub said : ScriptShape
   pub last : WorldShape
@@ -74,7 +74,7 @@ pub record IsFaithful (program hosts script : List ℕ) (text : List ℕ) : Type
 pub record IsDrivenTo (program hosts start : List ℕ) (most : ℕ) (status : Status) (text : List ℕ) : Type 0 where
   pub placed : PlacedSource
   pub tree : Program
-  pub runnable : IsRunnable program hosts placed tree
+  pub is_placed : IsPlacedAs program hosts placed tree
   pub values : List (List ℤ)
   pub events : List Event
   pub last : WorldShape

@@ -97,7 +97,7 @@ fn replay_from(
     }
 }
 
-/// What is due for a script of events of this name that is not too long, where hosts can run the program.
+/// What is due for a script of events of this name that is not too long.
 fn scripted(
     alloc: Global,
     name: &str,
