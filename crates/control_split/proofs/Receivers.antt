@@ -1,5 +1,5 @@
 -- The hosts that get a value, and what each of them gives a trace.
-use Rattle.std.proofs.Common.{◌≡◌, ◌≢◌, ◌∙◌, ℕ, ◌+◌, ◌<◌, Bool, true, false, ◌&&◌, not, nat_eq, List, [], ◌∷◌, ◌++◌, length}
+use Rattle.std.proofs.Common.{◌≡◌, ◌≢◌, ◌∙◌, ℕ, ◌+◌, ◌<◌, Bool, true, false, List, [], ◌∷◌, ◌++◌, length}
 use Rattle.std.proofs.Common.{map, filter, take, get_or, cond, refl, sym, ap, ne_eqb, append-nil, zero-add}
 use Rattle.std.proofs.lemmas.List.{map-append, take_more}
 use Rattle.std.proofs.lemmas.List.FromFn.{filter_of_map_range_with_len_more}
@@ -7,18 +7,15 @@ use Rattle.std.specs.List.{range_with_len}
 use Rattle.js_base.specs.declared.ids.HostId.{HostId}
 use Rattle.js_base.specs.declared.ids.VarId.{VarId}
 use Rattle.msg_cost.specs.Moves.{PlannedShape}
-use Rattle.msg_cost.specs.Terms.{reads_on}
+use Rattle.msg_cost.specs.Terms.{reads_on, is_other_reader}
 use Rattle.split_rules.specs.Emissions.{Emission}
 use Rattle.control_split.specs.Trace.{TraceShape, traced, traced_one}
 use Rattle.control_split.proofs.Traces.{traced_append}
 
-abbrev pub gets : PlannedShape → HostId → VarId → ℕ → Bool
-gets planned host x other = not (nat_eq other host.0) && reads_on planned x other
-
 -- those among the first so many hosts
 abbrev pub receivers_below : PlannedShape → HostId → VarId → ℕ → List HostId
 receivers_below planned host x count =
-    map (λ other. record { 0 = other }) (filter (gets planned host x) (range_with_len 0 count))
+    map (λ other. record { 0 = other }) (filter (is_other_reader planned host x) (range_with_len 0 count))
 
 same_numbers : (numbers : List ℕ) → map (λ number. number) numbers ≡ numbers
 same_numbers [] = refl
@@ -27,15 +24,15 @@ same_numbers (first ∷ others) = ap (λ (rest : List ℕ). first ∷ rest) (sam
 to_next : (planned : PlannedShape) (host : HostId) (x : VarId) (n : ℕ) →
     receivers_below planned host x (n + 1)
     ≡ receivers_below planned host x n
-    ++ map (λ other. record { 0 = other }) (cond (gets planned host x n) (n ∷ []) [])
+    ++ map (λ other. record { 0 = other }) (cond (is_other_reader planned host x n) (n ∷ []) [])
 to_next planned host x n =
     let name : ℕ → HostId = λ other. record { 0 = other } in
     let same : ℕ → ℕ = λ number. number in
-    ap (λ others. map name (filter (gets planned host x) others)) (sym (same_numbers (range_with_len 0 (n + 1))))
-    ∙ ap (map name) (filter_of_map_range_with_len_more (gets planned host x) same 0 n n (zero-add n))
-    ∙ ap (λ others. map name (filter (gets planned host x) others ++ cond (gets planned host x n) (n ∷ []) []))
-    (same_numbers (range_with_len 0 n))
-    ∙ map-append name (filter (gets planned host x) (range_with_len 0 n)) (cond (gets planned host x n) (n ∷ []) [])
+    let gets : ℕ → Bool = is_other_reader planned host x in
+    ap (λ others. map name (filter gets others)) (sym (same_numbers (range_with_len 0 (n + 1))))
+    ∙ ap (map name) (filter_of_map_range_with_len_more gets same 0 n n (zero-add n))
+    ∙ ap (λ others. map name (filter gets others ++ cond (gets n) (n ∷ []) [])) (same_numbers (range_with_len 0 n))
+    ∙ map-append name (filter gets (range_with_len 0 n)) (cond (gets n) (n ∷ []) [])
 
 -- a host that reads the variable, and is not the one that sends
 pub one_gets : (planned : PlannedShape) (host : HostId) (x : VarId) (n : ℕ) (before after : List HostId) →
@@ -43,14 +40,14 @@ pub one_gets : (planned : PlannedShape) (host : HostId) (x : VarId) (n : ℕ) (b
     before ≡ receivers_below planned host x n → after ≡ receivers_below planned host x (n + 1)
 one_gets planned host x n before after apart reads is so =
     let name : ℕ → HostId = λ other. record { 0 = other } in
-    let does : gets planned host x n ≡ true = rw (ne_eqb n host.0 apart) reads in
+    let does : is_other_reader planned host x n ≡ true = rw (ne_eqb n host.0 apart) reads in
     is ∙ ap (λ (hosts : List HostId). hosts ++ record { 0 = n } ∷ []) so
     ∙ sym (to_next planned host x n
     ∙ ap (λ some. receivers_below planned host x n ++ map name (cond some (n ∷ []) [])) does)
 
 -- the host that sends, or one that does not read the variable
 pub one_gets_not : (planned : PlannedShape) (host : HostId) (x : VarId) (n : ℕ) (before after : List HostId) →
-    gets planned host x n ≡ false → after ≡ before →
+    is_other_reader planned host x n ≡ false → after ≡ before →
     before ≡ receivers_below planned host x n → after ≡ receivers_below planned host x (n + 1)
 one_gets_not planned host x n before after not_so is so =
     let name : ℕ → HostId = λ other. record { 0 = other } in

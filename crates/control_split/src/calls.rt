@@ -16,10 +16,9 @@ use crate::trace::{Place, Trace};
 use crate::values::{pass, send};
 use crate::walk::Walk;
 use host_code::{CodeExpr, Node, Op};
-use jif_tree::Expr;
+use jif_tree::{Expr, params_of, result_of};
 use js_base::{EntryId, MethodId, OutOfMemory, SiteId, VarId};
 use msg_cost::called_home;
-use need_labels::{params_of, result_of};
 use std::alloc::Global;
 
 /// What a call says.

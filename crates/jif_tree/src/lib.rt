@@ -2,7 +2,9 @@
 #![tactic(auto)]
 
 mod draft;
+mod labels;
 mod laws;
+mod methods;
 mod operators;
 mod program;
 mod store;
@@ -11,7 +13,9 @@ pub use draft::{
     Draft, ExprDraft, FieldDraft, LabelDraft, MethodDraft, NameDraft, ParamDraft, PolicyDraft,
     StmtDraft, StmtKindDraft,
 };
+pub use labels::{begin_label, crossed, field_label};
 pub use laws::tree_laws;
+pub use methods::{params_of, result_of};
 pub use operators::{binary_value, inverted, negated};
 pub use program::{Checked, Expr, Field, Method, Program, Stmt, StmtKind, Var};
 pub use store::{Row, Store};

@@ -14,8 +14,8 @@ use crate::CheckError;
 use crate::constraints::ask_flow;
 use crate::expressions::expr_label;
 use crate::place::Place;
-use crate::variables::{assign_label, field_label, variable_label};
-use jif_tree::Expr;
+use crate::variables::{assign_label, variable_label};
+use jif_tree::{Expr, field_label};
 use js_base::{FieldId, StmtId, VarId};
 use label_lattice::Label;
 

@@ -3,9 +3,9 @@
 ghost use Rattle.std.specs.Prelude.{◌≡◌, ◌++◌, map, OnOk, IfOk, IfErr};
 ghost use Rattle.std.specs.List.{flat_map};
 ghost use Rattle.principals.specs.ActsFor.{Declared};
-ghost use Rattle.jif_tree.specs.Trees.{expr_tree, program_tree};
+ghost use Rattle.jif_tree.specs.Trees.{expr_tree};
 ghost use Rattle.jif_tree.specs.LabelRules.{expr_constraints, expr_label, call_constraints, result_flows};
-ghost use Rattle.jif_tree.specs.LabelRules.{method_at, begin_label, params_of, result_of};
+ghost use Rattle.jif_tree.specs.LabelRules.{method_at};
 ghost use Rattle.label_check.specs.Checking.{IsAuthority};
 ghost use Rattle.label_check.specs.Parts.{asked, AreMet, Refuses, flows_to_params};
 ghost use Rattle.label_check.specs.Places.{setting_at};
@@ -15,40 +15,10 @@ use crate::constraints::{ask_begin, ask_flow};
 use crate::expressions::expr_label;
 use crate::place::Place;
 use crate::variables::variable_label;
-use jif_tree::{Expr, Program};
+use jif_tree::{Expr, begin_label, params_of, result_of};
 use js_base::{MethodId, StmtId, VarId};
 use label_lattice::Label;
 use std::alloc::Global;
-
-/// The begin label of a method, `{}` where there is no such method.
-fn begin_label(program: &Program, method: MethodId) -> Label
-    ensures { result ≡ begin_label (method_at (program_tree program.now) method) }
-{
-    match program.methods.get(method.0 as usize) {
-        Some(method) => method.begin,
-        None => Label::empty(),
-    }
-}
-
-/// The parameters of a method, none where there is no such method.
-fn params_of(program: &Program, method: MethodId) -> &[VarId]
-    ensures { result.now ≡ params_of (method_at (program_tree program.now) method) }
-{
-    match program.methods.get(method.0 as usize) {
-        Some(method) => &method.params,
-        None => &[],
-    }
-}
-
-/// The variable in which a method leaves its result.
-fn result_of(program: &Program, method: MethodId) -> Option<VarId>
-    ensures { result ≡ result_of (method_at (program_tree program.now) method) }
-{
-    match program.methods.get(method.0 as usize) {
-        Some(method) => method.result,
-        None => None,
-    }
-}
 
 /// The labels of the arguments of a call, which are checked.
 fn argument_labels(

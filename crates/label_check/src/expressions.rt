@@ -3,7 +3,7 @@
 ghost use Rattle.std.specs.Prelude.{◌≡◌, OnOk, IfOk, IfErr};
 ghost use Rattle.js_base.specs.declared.binary_operator.BinOp.{BinOp};
 ghost use Rattle.jif_tree.specs.Trees.{expr_tree, element, binary, declassified, endorsed};
-ghost use Rattle.jif_tree.specs.LabelRules.{expr_label, expr_constraints, crossed};
+ghost use Rattle.jif_tree.specs.LabelRules.{expr_label, expr_constraints};
 ghost use Rattle.label_check.specs.Checking.{IsAuthority};
 ghost use Rattle.label_check.specs.Parts.{asked, AreMet, Refuses};
 ghost use Rattle.label_check.specs.Places.{setting_at};
@@ -11,17 +11,10 @@ ghost use Rattle.label_check.specs.Places.{setting_at};
 use crate::CheckError;
 use crate::constraints::{ask_endorse, ask_release};
 use crate::place::Place;
-use crate::variables::{field_label, variable_label};
-use jif_tree::Expr;
+use crate::variables::variable_label;
+use jif_tree::{Expr, crossed, field_label};
 use js_base::{FieldId, StmtId};
 use label_lattice::Label;
-
-/// The confidentiality of the first label and the integrity of the second.
-fn crossed(first: &Label, second: &Label) -> Label
-    ensures { result ≡ crossed first.now second.now }
-{
-    first.join(Label::empty()).meet_integrity(*second)
-}
 
 /// The label of an element, where all is met that its index asks for.
 ///

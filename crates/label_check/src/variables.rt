@@ -1,15 +1,14 @@
-//! The labels of what has a name.
+//! The labels of variables.
 
 ghost use Rattle.std.specs.Prelude.{◌≡◌, IfOk, IfErr, map, unwrap_or};
 ghost use Rattle.label_lattice.specs.Lattice.{empty_label};
 ghost use Rattle.label_check.specs.declared.check_error.CheckError.TheVariants as error;
-ghost use Rattle.jif_tree.specs.LabelRules.{variable_label, field_label, labels_after_assignment};
-ghost use Rattle.jif_tree.specs.LabelRules.{declared_labels};
+ghost use Rattle.jif_tree.specs.LabelRules.{variable_label, labels_after_assignment, declared_labels};
 ghost use Rattle.jif_tree.specs.Trees.{program_tree};
 
 use crate::CheckError;
 use jif_tree::Program;
-use js_base::{FieldId, VarId};
+use js_base::VarId;
 use label_lattice::Label;
 use std::alloc::Global;
 
@@ -29,16 +28,6 @@ pub fn assign_label(labels: &mut Vec<Option<Label>>, var: VarId, label: Label)
 {
     if let Some(None) = labels.get(var.0 as usize) {
         labels[var.0 as usize] = Some(label);
-    }
-}
-
-/// The label of a field.
-pub fn field_label(program: &Program, field: FieldId) -> Label
-    ensures { result ≡ field_label (program_tree program.now) field }
-{
-    match program.fields.get(field.0 as usize) {
-        Some(field) => field.label,
-        None => Label::empty(),
     }
 }
 

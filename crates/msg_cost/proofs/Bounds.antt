@@ -27,8 +27,7 @@ use Rattle.msg_cost.specs.Moves.{PlannedShape, link_cost, is_same, on, end_of, n
 use Rattle.msg_cost.specs.Moves.{home_of, called_home, called_end}
 use Rattle.msg_cost.specs.Terms.{Term, message, exchange, inside, leave_terms, enter_terms, move_terms, expr_terms}
 use Rattle.msg_cost.specs.Terms.{forwards, argument_terms, result_terms, call_terms, block_terms, method_terms}
-use Rattle.msg_cost.specs.Terms.{program_terms}
-use Rattle.msg_cost.proofs.Forwards.{gets}
+use Rattle.msg_cost.specs.Terms.{program_terms, is_other_reader}
 use Rattle.msg_cost.proofs.Sums.{cost-append}
 
 -- the largest weight, and the cost of an exchange of this weight over the costliest links
@@ -151,7 +150,7 @@ forwards_small planned sound weight light host x =
     let many = length-range_with_len 0 (length planned.hosts.hosts) in
     let named = length-map planned.hosts.hosts (λ (one : HostShape). one.name) in
     let few = sound.names.few in
-    let all = sent_small planned.hosts sound weight light host (gets planned host x) hosts in
+    let all = sent_small planned.hosts sound weight light host (is_other_reader planned host x) hosts in
     omega arith
 
 -- ---- moves

@@ -11,17 +11,15 @@ use Rattle.js_base.specs.declared.ids.HostId.{HostId}
 use Rattle.js_base.specs.declared.ids.VarId.{VarId}
 use Rattle.msg_cost.specs.Cost.{cost_of}
 use Rattle.msg_cost.specs.Moves.{PlannedShape}
-use Rattle.msg_cost.specs.Terms.{Term, exchange, reads_on}
+use Rattle.msg_cost.specs.Terms.{Term, exchange, reads_on, is_other_reader}
 use Rattle.msg_cost.specs.Views.{capped}
 use Rattle.msg_cost.proofs.Sums.{Costs, costs_both}
-
-abbrev pub gets : PlannedShape → HostId → VarId → ℕ → Bool
-gets planned host x other = not (nat_eq other host.0) && reads_on planned x other
 
 -- those to the first so many hosts
 abbrev pub forwards_below : PlannedShape → ℕ → HostId → VarId → ℕ → List Term
 forwards_below planned weight host x count =
-    map (λ other. exchange weight host (record { 0 = other })) (filter (gets planned host x) (range_with_len 0 count))
+    map (λ other. exchange weight host (record { 0 = other }))
+    (filter (is_other_reader planned host x) (range_with_len 0 count))
 
 range_more : (first n : ℕ) → range_with_len first (suc n) ≡ range_with_len first n ++ (first + n) ∷ []
 range_more first zero = let same : first ≡ first + 0 = omega arith in ap (λ one. one ∷ []) same
@@ -33,21 +31,22 @@ range_more first (suc n) =
 pub to_next : (planned : PlannedShape) (weight : ℕ) (host : HostId) (x : VarId) (n : ℕ) →
     forwards_below planned weight host x (n + 1)
     ≡ forwards_below planned weight host x n
-    ++ map (λ other. exchange weight host (record { 0 = other })) (filter (gets planned host x) (n ∷ []))
+    ++ map (λ other. exchange weight host (record { 0 = other })) (filter (is_other_reader planned host x) (n ∷ []))
 to_next planned weight host x n =
     let send : ℕ → Term = λ other. exchange weight host (record { 0 = other }) in
+    let gets : ℕ → Bool = is_other_reader planned host x in
     ap (λ count. forwards_below planned weight host x count) (add-one n)
-    ∙ ap (λ others. map send (filter (gets planned host x) others))
+    ∙ ap (λ others. map send (filter gets others))
     (range_more 0 n ∙ ap (λ one. range_with_len 0 n ++ one ∷ []) (zero-add n))
-    ∙ ap (map send) (filter-append (gets planned host x) (range_with_len 0 n) (n ∷ []))
-    ∙ map-append send (filter (gets planned host x) (range_with_len 0 n)) (filter (gets planned host x) (n ∷ []))
+    ∙ ap (map send) (filter-append gets (range_with_len 0 n) (n ∷ []))
+    ∙ map-append send (filter gets (range_with_len 0 n)) (filter gets (n ∷ []))
 
-chosen : (planned : PlannedShape) (host : HostId) (x : VarId) (n : ℕ) → gets planned host x n ≡ true →
-    filter (gets planned host x) (n ∷ []) ≡ n ∷ []
+chosen : (planned : PlannedShape) (host : HostId) (x : VarId) (n : ℕ) → is_other_reader planned host x n ≡ true →
+    filter (is_other_reader planned host x) (n ∷ []) ≡ n ∷ []
 chosen planned host x n does = ap (λ b. cond b (n ∷ []) []) does
 
-not_chosen : (planned : PlannedShape) (host : HostId) (x : VarId) (n : ℕ) → gets planned host x n ≡ false →
-    filter (gets planned host x) (n ∷ []) ≡ []
+not_chosen : (planned : PlannedShape) (host : HostId) (x : VarId) (n : ℕ) → is_other_reader planned host x n ≡ false →
+    filter (is_other_reader planned host x) (n ∷ []) ≡ []
 not_chosen planned host x n not_so = ap (λ b. cond b (n ∷ []) []) not_so
 
 -- a host that reads the variable, and is not the one that sends
@@ -59,14 +58,14 @@ pub one_gets : (planned : PlannedShape) (weight : ℕ) (host : HostId) (x : VarI
 one_gets planned weight host x n total other apart reads cost so =
     let send : ℕ → Term = λ one. exchange weight host (record { 0 = one }) in
     let P : List Term → Type 0 = λ terms. Costs planned.hosts terms (min (total + other) (2 ^ 64 - 1)) in
-    let does : gets planned host x n ≡ true = rw (ne_eqb n host.0 apart) reads in
+    let does : is_other_reader planned host x n ≡ true = rw (ne_eqb n host.0 apart) reads in
     subst P (sym (to_next planned weight host x n
     ∙ ap (λ more. forwards_below planned weight host x n ++ map send more) (chosen planned host x n does)))
     (costs_both planned.hosts (forwards_below planned weight host x n) (send n ∷ []) total other so cost)
 
 -- the host that sends, or one that does not read the variable
 pub one_gets_not : (planned : PlannedShape) (weight : ℕ) (host : HostId) (x : VarId) (n total : ℕ) →
-    gets planned host x n ≡ false →
+    is_other_reader planned host x n ≡ false →
     Costs planned.hosts (forwards_below planned weight host x n) total →
     Costs planned.hosts (forwards_below planned weight host x (n + 1)) total
 one_gets_not planned weight host x n total not_so so =
@@ -84,9 +83,9 @@ no_reader true none test = absurd (none refl)
 no_reader false none test = and-false test
 
 pub not_reading : (planned : PlannedShape) (host : HostId) (x : VarId) (n : ℕ) →
-    (reads_on planned x n ≡ true → ⊥) → gets planned host x n ≡ false
+    (reads_on planned x n ≡ true → ⊥) → is_other_reader planned host x n ≡ false
 not_reading planned host x n none = no_reader (reads_on planned x n) none (not (nat_eq n host.0))
 
 pub the_sender : (planned : PlannedShape) (host : HostId) (x : VarId) (n : ℕ) → n ≡ host.0 →
-    gets planned host x n ≡ false
+    is_other_reader planned host x n ≡ false
 the_sender planned host x n is = rw (eq-eqb n host.0 is) refl

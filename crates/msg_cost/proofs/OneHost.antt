@@ -27,9 +27,10 @@ use Rattle.msg_cost.specs.CostLaws.{StandsOn}
 use Rattle.msg_cost.specs.Moves.{PlannedShape, link_cost, on, end_host, next_spot, own_statements, block_end}
 use Rattle.msg_cost.specs.Moves.{called_home, called_end}
 use Rattle.msg_cost.specs.Terms.{Term, message, exchange, inside, move_terms, expr_terms, reads_on, forwards}
+use Rattle.msg_cost.specs.Terms.{is_other_reader}
 use Rattle.msg_cost.specs.Terms.{argument_terms, result_terms, call_terms, block_terms, method_terms, program_terms}
 use Rattle.msg_cost.proofs.Bounds.{decided, no_row, all_left, all_right}
-use Rattle.msg_cost.proofs.Forwards.{gets, not_reading, the_sender}
+use Rattle.msg_cost.proofs.Forwards.{not_reading, the_sender}
 use Rattle.msg_cost.proofs.Sums.{cost-append}
 use Rattle.msg_cost.proofs.Walks.{stays, unmoved}
 
@@ -122,7 +123,7 @@ no_other_reads planned host stands x other apart reads =
     apart (sym there ∙ sym same ∙ ap (λ (one : HostId). one.0) here)
 
 gets_nothing : (planned : PlannedShape) (host : HostId) → StandsOn planned host → (x : VarId) (other : ℕ) →
-    gets planned host x other ≡ false
+    is_other_reader planned host x other ≡ false
 gets_nothing planned host stands x other =
     elim (eqb_tells other host.0) [
       | inl same ↦ the_sender planned host x other same.1
@@ -138,7 +139,7 @@ forwards_none : (planned : PlannedShape) (host : HostId) → StandsOn planned ho
 forwards_none planned host stands x weight =
     let send : ℕ → Term = λ other. exchange weight host (record { 0 = other }) in
     ap (λ others. cost_of planned.hosts (map send others))
-    (none_pass (gets planned host x) (gets_nothing planned host stands x)
+    (none_pass (is_other_reader planned host x) (gets_nothing planned host stands x)
     (range_with_len 0 (length planned.hosts.hosts)))
 
 -- ---- calls

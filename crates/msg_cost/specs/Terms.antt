@@ -82,12 +82,15 @@ reads_on planned x host =
     list_any (λ statement. nat_eq (statement_host planned.plan statement).0 host)
     (unwrap_or (slice_get planned.needs.readers x.0) [])
 
+-- whether the host of this number is another one, on which a statement reads the variable
+abbrev pub is_other_reader : PlannedShape → HostId → VarId → ℕ → Bool
+is_other_reader planned host x other = not (nat_eq other host.0) && reads_on planned x other
+
 -- a host that gives a variable a value sends it to each other host that reads the variable
 abbrev pub forwards : PlannedShape → ℕ → HostId → VarId → List Term
 forwards planned weight host x =
     map (λ other. exchange weight host (record { 0 = other }))
-    (filter (λ other. not (nat_eq other host.0) && reads_on planned x other)
-    (range_with_len 0 (length planned.hosts.hosts)))
+    (filter (is_other_reader planned host x) (range_with_len 0 (length planned.hosts.hosts)))
 
 -- ---- statements
 

@@ -2,7 +2,7 @@
 
 ghost use Rattle.std.specs.Prelude.{◌≡◌, map};
 ghost use Rattle.jif_tree.specs.Trees.{expr_tree, program_tree};
-ghost use Rattle.jif_tree.specs.LabelRules.{method_at, params_of};
+ghost use Rattle.jif_tree.specs.LabelRules.{method_at};
 ghost use Rattle.msg_cost.specs.Cost.{cost_of};
 ghost use Rattle.msg_cost.specs.Kept.{IsKept};
 ghost use Rattle.msg_cost.specs.Terms.{argument_terms, result_terms, call_terms};
@@ -14,18 +14,8 @@ use crate::messages::{exchange, message};
 use crate::planned::Planned;
 use crate::tokens::called_home;
 use crate::values::{expr_cost, forwards};
-use jif_tree::{Expr, Program};
+use jif_tree::{Expr, params_of};
 use js_base::{HostId, MethodId, VarId};
-
-/// The parameters of a method, none where there is no such method.
-fn params_of(program: &Program, method: MethodId) -> &[VarId]
-    ensures { result.now ≡ params_of (method_at (program_tree program.now) method) }
-{
-    match program.methods.get(method.0 as usize) {
-        Some(method) => &method.params,
-        None => &[],
-    }
-}
 
 /// The cost of the arguments of a call, each with the parameter that gets it.
 fn argument_cost(

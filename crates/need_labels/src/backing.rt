@@ -10,7 +10,8 @@ ghost use Rattle.need_labels.specs.Finding.{AreDeclared, IsBackedBy, setting_at,
 ghost use Rattle.principals.specs.ActsFor.{Declared};
 
 use crate::place::Place;
-use crate::variables::{begin_label, label_of, params_of};
+use crate::variables::label_of;
+use jif_tree::{begin_label, params_of};
 use js_base::bits::with_bit;
 use js_base::{MethodId, VarId};
 use label_lattice::{Label, READERS};

@@ -2,7 +2,7 @@
 
 ghost use Rattle.std.specs.Prelude.{◌≡◌, ◌∷◌, [], map, IfOk, OnOk};
 ghost use Rattle.jif_tree.specs.Trees.{expr_tree, local, scalar, element, inverted, binary, declassified, endorsed};
-ghost use Rattle.jif_tree.specs.LabelRules.{crossed, expr_label};
+ghost use Rattle.jif_tree.specs.LabelRules.{expr_label};
 ghost use Rattle.js_base.specs.declared.binary_operator.BinOp.{BinOp};
 ghost use Rattle.label_lattice.specs.Lattice.{bottom_of, join_of};
 ghost use Rattle.need_labels.specs.Labelled.{all_labels};
@@ -10,17 +10,10 @@ ghost use Rattle.need_labels.specs.Finding.{AddsExprs, setting_at, labelled_at};
 
 use crate::place::{Current, Place, Reads};
 use crate::reads::{read, tell};
-use crate::variables::{field_label, label_of};
-use jif_tree::Expr;
+use crate::variables::label_of;
+use jif_tree::{Expr, crossed, field_label};
 use js_base::{FieldId, OutOfMemory, VarId};
 use label_lattice::Label;
-
-/// The confidentiality of the first label and the integrity of the second.
-fn crossed(first: &Label, second: &Label) -> Label
-    ensures { result ≡ crossed first.now second.now }
-{
-    first.join(Label::empty()).meet_integrity(*second)
-}
 
 /// The execution of the statement tells this label, which is handed back.
 fn telling(current: &mut Current, label: Label) -> Label
@@ -65,7 +58,7 @@ fn add_scalar(place: &Place<'_>, current: &mut Current, reads: &mut Reads, field
     ensures adds { AddsExprs place.now current.old reads.old (scalar field ∷ []) current.new reads.new }
 {
     tell(reads, field, current.pc);
-    telling(current, field_label(place.checked, field))
+    telling(current, field_label(&place.checked.program, field))
 }
 
 /// Adds a read of an element, and answers its label.
@@ -88,7 +81,7 @@ fn add_element(
     let index = add_expr(place, current, reads, index)?;
     tell(reads, array, current.pc);
     tell(reads, array, index);
-    let label = field_label(place.checked, array).join(index);
+    let label = field_label(&place.checked.program, array).join(index);
     Ok(telling(current, label))
 }
 

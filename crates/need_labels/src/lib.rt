@@ -18,4 +18,4 @@ pub use finding::needs_of;
 pub use laws::{need_examples, need_laws};
 pub use needs::Needs;
 pub use plan::Plan;
-pub use variables::{field_label, label_of, params_of, result_of};
+pub use variables::label_of;

@@ -11,8 +11,8 @@ ghost use Rattle.need_labels.specs.Finding.{AreDeclared, AddsUses, enclosing, se
 use crate::backing::{need_of, variable_backing};
 use crate::place::{Found, Place};
 use crate::uses::{add_call, add_use, add_use_of_two};
-use crate::variables::{field_label, label_of};
-use jif_tree::{Stmt, StmtKind, tree_laws};
+use crate::variables::label_of;
+use jif_tree::{Stmt, StmtKind, field_label, tree_laws};
 use js_base::OutOfMemory;
 use label_lattice::Label;
 
@@ -74,7 +74,13 @@ fn add_statement(
             add_use(place, id, value, label_of(place.checked, *var), found)
         }
         StmtKind::SetField { field, value } => {
-            add_use(place, id, value, field_label(place.checked, *field), found)
+            add_use(
+                place,
+                id,
+                value,
+                field_label(&place.checked.program, *field),
+                found,
+            )
         }
         StmtKind::SetElement {
             field,
@@ -86,7 +92,7 @@ fn add_statement(
                 id,
                 index,
                 value,
-                field_label(place.checked, *field),
+                field_label(&place.checked.program, *field),
                 found,
             )
         }

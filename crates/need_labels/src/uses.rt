@@ -14,8 +14,8 @@ ghost use Rattle.need_labels.specs.declared.place.Found.{Found};
 use crate::backing::{call_backing, need_of, with_releases};
 use crate::expressions::{add_expr, add_exprs};
 use crate::place::{Current, Found, Place};
-use crate::variables::{begin_label, label_of, pc_of, result_of};
-use jif_tree::Expr;
+use crate::variables::{label_of, pc_of};
+use jif_tree::{Expr, begin_label, result_of};
 use js_base::{MethodId, OutOfMemory, StmtId, VarId};
 use label_lattice::Label;
 

@@ -16,7 +16,7 @@ use Rattle.jif_tree.specs.Trees.{BlockTree}
 use Rattle.host_code.specs.Code.{CodeShape, site_at}
 use Rattle.host_stores.specs.Stores.{with_variable}
 use Rattle.host_core.specs.Host.{HostShape}
-use Rattle.msg_cost.specs.Terms.{reads_on}
+use Rattle.msg_cost.specs.Terms.{reads_on, is_other_reader}
 use Rattle.net_world.specs.Flying.{Flying}
 use Rattle.net_world.specs.World.{WorldShape, state_at}
 use Rattle.split_rules.specs.Positions.{Forward, forwards_of}
@@ -233,9 +233,9 @@ is_to_be_sent : (split : Split) (me host : HostId) (source : BlockTree) (x : Var
     IsOut (forwards_of split.planned me source x) x host
 is_to_be_sent split me host source x within apart reads =
     let count = length split.planned.hosts.hosts in
-    let passes : (not (nat_eq host.0 me.0) && reads_on split.planned x host.0) ≡ true =
+    let passes : is_other_reader split.planned me x host.0 ≡ true =
     rw (ne_eqb host.0 me.0 apart, reads) refl in
-    among x source (λ other. not (nat_eq other me.0) && reads_on split.planned x other) (range_with_len 0 count) host.0
+    among x source (is_other_reader split.planned me x) (range_with_len 0 count) host.0
     host (number_there count host.0 within) passes
 
 sent_more : (values : ℕ → ℤ) (variables : VarId → ℤ) (me : HostId) (x : VarId) (source : BlockTree) (first : ℕ)

@@ -26,8 +26,8 @@ use Rattle.split_rules.specs.Typable.{IsTypable}
 use Rattle.net_world.specs.World.{WorldShape, IsRun, world_at_start, state_at, has_halted}
 use Rattle.simulation.specs.Programs.{AreInOrder}
 
--- A program, its needs, and a plan by which it can be split, so that hosts may hold what stands on them, are trusted for
--- what their statements start, and grant each other's requests. Methods give their results back at their end, and
+-- A program, its needs, and a plan by which it can be split, so that hosts may hold what stands on them, are trusted
+-- for what their statements start, and grant each other's requests. Methods give their results back at their end, and
 -- nothing else reads these.
 pub record IsSet (program : Program) (labelled : Labelled) (needs : NeedsShape) (hosts : HostsShape) (plan : PlanShape)
     : Type 0 where

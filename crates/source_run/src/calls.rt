@@ -1,7 +1,7 @@
 //! Calls of methods.
 
 ghost use Rattle.std.specs.Prelude.{◌≡◌, IfOk, OnOk, map};
-ghost use Rattle.jif_tree.specs.SourceRun.{method_at, body_of, params_of, result_of};
+ghost use Rattle.jif_tree.specs.SourceRun.{method_at, body_of, params_of};
 ghost use Rattle.source_run.specs.Cells.{value_in};
 ghost use Rattle.source_run.specs.Values.{value_with};
 ghost use Rattle.source_run.specs.Variables.{cells_read};
@@ -11,7 +11,7 @@ ghost use Rattle.source_run.specs.Machine.{target_of};
 use crate::frames::{Frame, Target, Variables};
 use crate::values::value_of;
 use crate::windows::{Window, window_of};
-use jif_tree::{Expr, Method, Program, Stmt, Store};
+use jif_tree::{Expr, Method, Program, Stmt, Store, params_of};
 use js_base::{MethodId, OutOfMemory, VarId};
 use std::alloc::Global;
 
@@ -22,26 +22,6 @@ pub fn body_of(program: &Program, method: MethodId) -> &[Stmt]
     match program.methods.get(method.0 as usize) {
         Some(method) => &method.body,
         None => &[],
-    }
-}
-
-/// The parameters of a method.
-fn params_of(program: &Program, method: MethodId) -> &[VarId]
-    ensures { result.now ≡ params_of (method_at program.now method.0) }
-{
-    match program.methods.get(method.0 as usize) {
-        Some(method) => &method.params,
-        None => &[],
-    }
-}
-
-/// The variable in which a method leaves its result.
-pub fn result_of(program: &Program, method: MethodId) -> Option<VarId>
-    ensures { result ≡ result_of (method_at program.now method.0) }
-{
-    match program.methods.get(method.0 as usize) {
-        Some(method) => method.result,
-        None => None,
     }
 }
 

@@ -13,12 +13,12 @@ ghost use Rattle.source_run.specs.Machine.{tasks_of, frames_after_return, with_b
 ghost use Rattle.source_run.specs.Windows.{with_cells, blank_of};
 ghost use Rattle.source_run.specs.declared.cells.Cell.{Cell};
 
-use crate::calls::{body_of, frame_of_call, result_of, target_of};
+use crate::calls::{body_of, frame_of_call, target_of};
 use crate::frames::Frame;
 use crate::tasks::{Task, give_back, push_block, push_keep};
 use crate::values::value_of;
 use crate::windows::{Window, window_of};
-use jif_tree::{Expr, Program, Stmt, StmtKind, Store};
+use jif_tree::{Expr, Program, Stmt, StmtKind, Store, result_of};
 use js_base::{FieldId, MethodId, OutOfMemory, VarId};
 use std::alloc::Global;
 

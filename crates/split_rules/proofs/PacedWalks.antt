@@ -1,7 +1,7 @@
 -- A walk over a program is paced: between one step and the next it gives no more than the expressions of a statement,
 -- the parameters of a method and the hosts of a program within limits ask for.
 use Rattle.std.proofs.Common.{◌≡◌, ◌∙◌, ℕ, suc, ◌+◌, ◌*◌, ◌≤◌, Bool, true, false, cond, List, [], ◌∷◌, ◌++◌, map}
-use Rattle.std.proofs.Common.{filter, length, refl, subst, arith, length-append, ◌&&◌, not, nat_eq}
+use Rattle.std.proofs.Common.{filter, length, refl, subst, arith, length-append}
 use Rattle.std.specs.Prelude.{Option, Some, None, All, sum}
 use Rattle.std.specs.List.{range_with_len, flat_map}
 use Rattle.std.proofs.lemmas.List.Concat.{flat_map-cons}
@@ -27,7 +27,7 @@ use Rattle.need_labels.specs.Labelled.{Labelled}
 use Rattle.msg_cost.specs.declared.spot.Spot.{Spot}
 use Rattle.jif_tree.specs.Sizes.{expr_nodes, block_nodes}
 use Rattle.msg_cost.specs.Moves.{PlannedShape, is_same, end_of, next_spot, own_statements, home_of}
-use Rattle.msg_cost.specs.Terms.{reads_on}
+use Rattle.msg_cost.specs.Terms.{is_other_reader}
 use Rattle.msg_cost.proofs.Bounds.{all_left, all_right}
 use Rattle.split_rules.specs.Emissions.{Emission, stands, lands, Counts, counts_after}
 use Rattle.split_rules.specs.Expressions.{Reading, reads_in, nodes_of, readings_of, first_element}
@@ -106,7 +106,7 @@ given_paced planned host x make most one few =
     let numbers = range_with_len 0 (length planned.hosts.hosts) in
     let many = length-range_with_len 0 (length planned.hosts.hosts) in
     spends_more (most + 16) most
-    (chosen_paced make one (λ other. not (nat_eq other host.0) && reads_on planned x other) numbers most)
+    (chosen_paced make one (is_other_reader planned host x) numbers most)
     (omega arith) (omega arith)
 
 sends_paced : (planned : PlannedShape) (host : HostId) (pc : Label) (statement : StmtId) (x : VarId) (most : ℕ) →

@@ -20,7 +20,7 @@ use Rattle.need_labels.specs.Labelled.{Labelled}
 use Rattle.need_labels.specs.Plan.{statement_host}
 use Rattle.msg_cost.specs.declared.spot.Spot.{Spot}
 use Rattle.msg_cost.specs.Moves.{PlannedShape, on, next_spot, own_statements, home_of, called_home}
-use Rattle.msg_cost.specs.Terms.{reads_on}
+use Rattle.msg_cost.specs.Terms.{reads_on, is_other_reader}
 use Rattle.split_rules.specs.Emissions.{Emission, stands, lands, Named, Counts, counts_after}
 use Rattle.split_rules.specs.Expressions.{Reading, reads_in, nodes_of, readings_of, first_element}
 use Rattle.split_rules.specs.SplitCode.{entries_in}
@@ -108,7 +108,7 @@ chosen_see planned pc test (one ∷ numbers) see =
 readers_see : (planned : PlannedShape) (pc : Label) (host : HostId) (x : VarId) → ReadersSee planned pc x →
     AreReaders planned pc (other_readers planned host x)
 readers_see planned pc host x see =
-    chosen_see planned pc (λ other. not (nat_eq other host.0) && reads_on planned x other)
+    chosen_see planned pc (is_other_reader planned host x)
     (range_with_len 0 (length planned.hosts.hosts))
     (λ to passes. see (record { 0 = to }) (and_second (not (nat_eq to host.0)) (reads_on planned x to) passes))
 

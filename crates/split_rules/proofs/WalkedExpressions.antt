@@ -20,7 +20,7 @@ use Rattle.host_code.specs.declared.code_expr.Node.TheVariants as node
 use Rattle.host_code.specs.declared.instruction.Op.TheVariants as op
 use Rattle.need_labels.specs.Plan.{statement_host}
 use Rattle.msg_cost.specs.Moves.{PlannedShape}
-use Rattle.msg_cost.specs.Terms.{reads_on}
+use Rattle.msg_cost.specs.Terms.{reads_on, is_other_reader}
 use Rattle.split_rules.specs.Expressions.{Reading, reads_in, nodes_of, readings_of, first_element}
 use Rattle.split_rules.specs.Flow.{Scope, at, Pending, NodeFits, ExpressionFits, IsField, IsVariable, IsOther, Goes}
 use Rattle.split_rules.specs.Walk.{emitted, read_emissions, expr_emissions, other_readers, send_emissions}
@@ -170,36 +170,35 @@ true_not_false : true ≡ false → ⊥
 true_not_false is = cc
 
 other_passes : (scope : Scope) (planned : PlannedShape) (host : HostId) (x : VarId) (other : ℕ) → other < scope.hosts →
-    (not (nat_eq other host.0) && reads_on planned x other) ≡ true → IsOther scope host (record { 0 = other })
+    is_other_reader planned host x other ≡ true → IsOther scope host (record { 0 = other })
 other_passes scope planned host x other within passes = (within, apart)
   where
     apart : record { 0 = other } ≢ host
     apart same =
         let number : other ≡ host.0 = ap (λ (one : HostId). one.0) same in
-        let failed : (not (nat_eq other host.0) && reads_on planned x other) ≡ false =
+        let failed : is_other_reader planned host x other ≡ false =
         ap (λ b. not b && reads_on planned x other) (eq-eqb other host.0 number) in
         true_not_false (sym passes ∙ failed)
 
 others_below : (scope : Scope) (planned : PlannedShape) (host : HostId) (x : VarId) (first count : ℕ) →
     first + count ≤ scope.hosts →
     All (IsOther scope host) (map (λ other. record { 0 = other })
-    (filter (λ other. not (nat_eq other host.0) && reads_on planned x other) (range_with_len first count)))
+    (filter (is_other_reader planned host x) (range_with_len first count)))
 others_below scope planned host x first zero within = All-nil (IsOther scope host)
 others_below scope planned host x first (suc count) within =
     let so : first + suc count ≤ scope.hosts = within in
-    chosen (not (nat_eq first host.0) && reads_on planned x first)
+    chosen (is_other_reader planned host x first)
     (λ passes. other_passes scope planned host x first (omega arith) passes)
     (others_below scope planned host x (first + 1) count (omega arith))
   where
-    gets : ℕ → Bool
-    gets other = not (nat_eq other host.0) && reads_on planned x other
+    others : List ℕ
+    others = filter (is_other_reader planned host x) (range_with_len (first + 1) count)
 
     chosen : (b : Bool) → (b ≡ true → IsOther scope host (record { 0 = first })) →
-        All (IsOther scope host) (map (λ other. record { 0 = other }) (filter gets (range_with_len (first + 1) count))) →
-        All (IsOther scope host) (map (λ other. record { 0 = other })
-        (cond b (first ∷ filter gets (range_with_len (first + 1) count)) (filter gets (range_with_len (first + 1) count))))
-    chosen true is others = All-cons (IsOther scope host) (record { 0 = first }) _ (is refl) others
-    chosen false is others = others
+        All (IsOther scope host) (map (λ other. record { 0 = other }) others) →
+        All (IsOther scope host) (map (λ other. record { 0 = other }) (cond b (first ∷ others) others))
+    chosen true is all = All-cons (IsOther scope host) (record { 0 = first }) _ (is refl) all
+    chosen false is all = all
 
 others_there : (scope : Scope) (program : ProgramTree) (planned : PlannedShape) → IsScopeOf scope program planned →
     (host : HostId) (x : VarId) → All (IsOther scope host) (other_readers planned host x)

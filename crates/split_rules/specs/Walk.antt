@@ -1,7 +1,7 @@
 -- The walk that splits a program: which instruction stands where, and which entries there are, in the order of the
 -- text. Where the right to go on moves is defined with the cost of a plan (msg_cost, Moves). The rules are this
 -- project's own, in the manner of the secure program partitioning of Zdancewic, Zheng, Nystrom and Myers.
-use Rattle.std.specs.Prelude.{ℕ, ◌+◌, suc, ◌&&◌, not, nat_eq, bit_or, if◌then◌else◌}
+use Rattle.std.specs.Prelude.{ℕ, ◌+◌, suc, bit_or, if◌then◌else◌}
 use Rattle.std.specs.Prelude.{List, [], ◌∷◌, ◌++◌, map, filter, length, Option, Some, None, slice_index}
 use Rattle.std.specs.List.{range_with_len}
 use Rattle.js_base.specs.declared.ids.HostId.{HostId}
@@ -22,7 +22,7 @@ use Rattle.need_labels.specs.Labelled.{Labelled, all_labels}
 use Rattle.need_labels.specs.Plan.{statement_host}
 use Rattle.msg_cost.specs.declared.spot.Spot.{Spot}
 use Rattle.msg_cost.specs.Moves.{PlannedShape, is_same, on, end_of, next_spot, own_statements, home_of, called_home}
-use Rattle.msg_cost.specs.Terms.{reads_on}
+use Rattle.msg_cost.specs.Terms.{is_other_reader}
 use Rattle.split_rules.specs.Emissions.{Emission, instruction, entry, stands, lands, Counts, counts_after}
 use Rattle.split_rules.specs.Expressions.{Reading, reads_in, nodes_of, readings_of, first_element}
 
@@ -96,8 +96,7 @@ expr_emissions host label statement first expr = read_emissions host label state
 abbrev pub other_readers : PlannedShape → HostId → VarId → List HostId
 other_readers planned host x =
     map (λ other. record { 0 = other })
-    (filter (λ other. not (nat_eq other host.0) && reads_on planned x other)
-    (range_with_len 0 (length planned.hosts.hosts)))
+    (filter (is_other_reader planned host x) (range_with_len 0 (length planned.hosts.hosts)))
 
 abbrev pub send_emissions : PlannedShape → HostId → Label → StmtId → VarId → List Emission
 send_emissions planned host label statement x =

@@ -28,7 +28,7 @@ returns c = λ left needed.
     let gave : List VarId → List Emission = λ params. argument_emissions walked host label id params args in
     let kept : Option VarId → List Emission = λ given. kept_emissions walked host label id given what.into in
     on_ok_weaker c.keep.result (λ is.
-    is ∙ ap (λ given. traced c.stands.new.self (kept given)) c.result_of.ensures
+    is ∙ ap (λ given. traced c.stands.new.self (kept given)) c.result_of.ensures.tree
     ∙ called c.args.trace.now c.entry.new.self c.instruction.new.self c.arguments.new.trace c.instruction-2.new.self
     c.instruction-3.new.self c.stands.new.self
     (entry (record { host = host; label = label; need = need_of walked.planned (id ∷ left) }))
@@ -39,7 +39,7 @@ returns c = λ left needed.
     (with_one c.args.trace.now c.entry.new.self _ _ c.in_ok-entry.ensures
     (ap (λ (need : ℕ). entry (record { host = host; label = label; need = need })) needed))
     c.in_ok-instruction.ensures
-    (c.in_ok-arguments.ensures ∙ ap (λ params. traced c.instruction.new.self (gave params)) c.params_of.ensures)
+    (c.in_ok-arguments.ensures ∙ ap (λ params. traced c.instruction.new.self (gave params)) c.params_of.ensures.tree)
     (with_one c.arguments.new.trace c.instruction-2.new.self _ _ c.in_ok-instruction-2.ensures
     (ap (λ (number : ℕ). emitted host label id (op.Push (entry_id number))) c.entries-behind.ensures))
     (with_one c.instruction-2.new.self c.instruction-3.new.self _ _ c.in_ok-instruction-3.ensures
