@@ -13,4 +13,4 @@ pub use code_expr::{CodeExpr, MOST_NODES, Node, depth_of};
 pub use instruction::{Instr, Op};
 pub use instruction_texts::instruction_text;
 pub use message::Message;
-pub use message_texts::{message_text, token_text};
+pub use message_texts::{host_name, message_text, token_text};

@@ -175,7 +175,7 @@ fn answer_text(alloc: Global, request: RequestId, token: &str) -> Result<String,
 }
 
 /// The name of a host, empty where there is no such host.
-pub(crate) fn host_name(code: &Code, host: HostId) -> &str
+pub fn host_name(code: &Code, host: HostId) -> &str
     ensures { result.now ≡ text.host_text code.now host }
 {
     match code.host(host) {

@@ -6,7 +6,7 @@ ghost use Rattle.host_core.specs.Fits.{HostFits, TokensFit};
 
 use crate::walk_code::{temporary, variable};
 use capability::Token;
-use host_code::{Code, Message, message_text};
+use host_code::{Code, Message, host_name, message_text};
 use host_core::{Host, Sent};
 use js_base::{EntryId, FieldId, FrameId, HostId, OutOfMemory, RequestId, SiteId, VarId};
 use std::alloc::Global;
@@ -202,10 +202,7 @@ fn sent_text(alloc: Global, code: &Code, sent: Option<Sent>) -> Result<String, F
         return Ok(format!(in alloc; "does not fit")?);
     }
     let text = message_text(alloc, code, &message)?;
-    let name = match code.host(to) {
-        Some(host) => host.name(),
-        None => "nobody",
-    };
+    let name = host_name(code, to);
     Ok(format!(in alloc; "{text} to {name}")?)
 }
 

@@ -1,13 +1,12 @@
 -- The report of a world, as lines.
 use Rattle.std.specs.Prelude.{ℕ, ◌+◌, ℤ, pos, Bool, false, List, [], ◌∷◌, ◌++◌, length, map, codes, is_some}
-use Rattle.std.specs.Prelude.{Option, Some, None, if◌then◌else◌, slice_get, unwrap_or}
+use Rattle.std.specs.Prelude.{Option, Some, None, if◌then◌else◌}
 use Rattle.std.specs.Fmt.{decimal}
 use Rattle.std.specs.List.{flat_map, range_with_len}
-use Rattle.std.specs.Option.{option_map}
 use Rattle.jif_tree.specs.Store.{element_at, row_of}
 use Rattle.host_code.specs.declared.message.Message.{Message}
 use Rattle.host_code.specs.Code.{CodeShape, CodeFieldShape}
-use Rattle.host_code.specs.MessageText.{message_text}
+use Rattle.host_code.specs.MessageText.{host_text, message_text}
 use Rattle.host_core.specs.Host.{HostShape}
 use Rattle.net_world.specs.World.{WorldShape, state_at}
 use Rattle.split_cli.specs.Report.{row_line}
@@ -39,9 +38,6 @@ field_lines w number (field ∷ fields) =
 
 -- ---- hosts
 
-abbrev pub host_name : CodeShape → ℕ → List ℕ
-host_name code number = unwrap_or (option_map (λ host. host.name) (slice_get code.hosts number)) []
-
 -- `host H: running R, waiting W, stack D, ignored I`
 abbrev pub state_line : List ℕ → HostShape → List ℕ
 state_line name host =
@@ -58,7 +54,7 @@ host_line name (Some host) = state_line name host ∷ []
 
 abbrev pub host_lines : CodeShape → WorldShape → List (List ℕ)
 host_lines code w =
-    flat_map (λ number. host_line (host_name code number) (state_at w (record { 0 = number })))
+    flat_map (λ number. host_line (host_text code (record { 0 = number })) (state_at w (record { 0 = number })))
     (range_with_len 0 (length code.hosts))
 
 -- ---- what is in flight
@@ -66,8 +62,8 @@ host_lines code w =
 -- `flying I J K: MESSAGE`, for the message at a place
 abbrev pub flying_line : CodeShape → ℕ → ℕ → ℕ → Message → List ℕ
 flying_line code from to place message =
-    codes "flying " ++ host_name code from ++ codes " " ++ host_name code to ++ codes " " ++ decimal place ++ codes ": "
-    ++ message_text code message
+    codes "flying " ++ host_text code (record { 0 = from }) ++ codes " " ++ host_text code (record { 0 = to })
+    ++ codes " " ++ decimal place ++ codes ": " ++ message_text code message
 
 -- the lines of the messages from a place on
 abbrev pub queue_lines : CodeShape → ℕ → ℕ → ℕ → List Message → List (List ℕ)

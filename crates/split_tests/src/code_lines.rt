@@ -1,7 +1,7 @@
 //! Code as lines of text, and programs beside the lines of their code.
 
 use crate::split_code::{Places, code_of};
-use host_code::{Code, instruction_text};
+use host_code::{Code, host_name, instruction_text};
 use js_base::limits::HOSTS;
 use js_base::{HostId, OutOfMemory};
 use std::alloc::Global;
@@ -25,7 +25,7 @@ pub struct Split {
 fn entry_lines(alloc: Global, code: &Code) -> Result<String, OutOfMemory> {
     let mut lines = String::new(alloc);
     for (number, entry) in code.entries().iter().enumerate() {
-        let host = code.host(entry.host).map_or("", |host| host.name());
+        let host = host_name(code, entry.host);
         let line = match number {
             0 => format!(in alloc; "entry e0 {host} halt\n")?,
             _ => format!(in alloc; "entry e{number} {host} {}\n", entry.at)?,

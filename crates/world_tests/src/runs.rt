@@ -6,7 +6,7 @@ ghost use Rattle.net_world.specs.World.{misbehaves};
 
 use crate::programs::{COUNTER, OTHER, Q, T, TOTAL};
 use event_text::{BadMessage, BadToken, Event, read_events};
-use host_code::{Code, Message, message_text};
+use host_code::{Code, Message, host_name, message_text};
 use host_core::Host;
 use host_decl::read_hosts;
 use js_base::{FieldId, HostId};
@@ -163,16 +163,9 @@ pub fn assert_drive(rt: &impl Abort, code: &Code, world: &mut World) -> u64
     200
 }
 
-fn name_of(code: &Code, host: HostId) -> &str {
-    match code.host(host) {
-        Some(host) => host.name(),
-        None => "nobody",
-    }
-}
-
 /// How an obeying host stands.
 fn host_text(alloc: Global, code: &Code, number: HostId, host: &Host) -> Result<String, Fail> {
-    let name = name_of(code, number);
+    let name = host_name(code, number);
     let field = if number == T { COUNTER } else { TOTAL };
     let (value, running) = (host.field(field, 0), if host.rest() { 0 } else { 1 });
     let (waiting, depth, ignored) = (host.waiting(), host.depth(), host.ignored());
@@ -194,7 +187,7 @@ fn mail_text(
         return Err(Fail::from("a message that does not fit"));
     }
     let text = message_text(alloc, code, message)?;
-    let (from, to) = (name_of(code, from), name_of(code, to));
+    let (from, to) = (host_name(code, from), host_name(code, to));
     Ok(format!(in alloc; "; {word} {from} {to}: {text}")?)
 }
 

@@ -7,8 +7,7 @@ ghost use Rattle.net_world.specs.Fits.{WorldFits, world_of};
 ghost use Rattle.split_cli.specs.WorldReport.{flying_line, flying_lines, lines_from, queue_lines};
 ghost use Rattle.split_cli.specs.Text.{line_text, lines_text};
 
-use crate::world_report::hosts::host_name;
-use host_code::{Code, Message, message_text};
+use host_code::{Code, Message, host_name, message_text};
 use js_base::limits::HOSTS;
 use js_base::{HostId, OutOfMemory};
 use net_world::World;

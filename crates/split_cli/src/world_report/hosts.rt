@@ -2,13 +2,14 @@
 
 ghost use Rattle.std.specs.Prelude.{◌≡◌, ◌++◌, OnOk, is_some, if◌then◌else◌};
 ghost use Rattle.std.specs.String.{string_bytes};
+ghost use Rattle.host_code.specs.MessageText.{host_text};
 ghost use Rattle.host_core.specs.Host.{state_of};
 ghost use Rattle.net_world.specs.Fits.{world_of};
 ghost use Rattle.net_world.specs.World.{state_at};
-ghost use Rattle.split_cli.specs.WorldReport.{host_line, host_lines, host_name, state_line};
+ghost use Rattle.split_cli.specs.WorldReport.{host_line, host_lines, state_line};
 ghost use Rattle.split_cli.specs.Text.{line_text, lines_text};
 
-use host_code::Code;
+use host_code::{Code, host_name};
 use host_core::Host;
 use js_base::limits::HOSTS;
 use js_base::{HostId, OutOfMemory};
@@ -39,7 +40,7 @@ fn push_host(
 ) -> Result<(), OutOfMemory>
     ensures { OnOk result (
         string_bytes text.new ≡ string_bytes text.old
-        ++ lines_text (host_line (host_name code.now number.0) (state_at (world_of world.now) number))) }
+        ++ lines_text (host_line (host_text code.now number) (state_at (world_of world.now) number))) }
 {
     match world.host(number) {
         Some(host) => push_state(text, host_name(code, number), host),
@@ -65,14 +66,4 @@ fn running_threads(host: &Host) -> u8
     ensures { result ≡ (if is_some host.now.running then 1 else 0) }
 {
     if host.rest() { 0 } else { 1 }
-}
-
-/// A host's name, empty for one that the code does not have.
-pub fn host_name(code: &Code, host: HostId) -> &str
-    ensures { result.now ≡ host_name code.now host.0 }
-{
-    match code.host(host) {
-        Some(there) => there.name(),
-        None => "",
-    }
 }

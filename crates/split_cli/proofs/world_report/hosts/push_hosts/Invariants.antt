@@ -3,7 +3,8 @@ use Rattle.std.specs.List.{flat_map, range_with_len}
 use Rattle.std.specs.String.{string_bytes}
 use Rattle.net_world.specs.Fits.{world_of}
 use Rattle.net_world.specs.World.{state_at}
-use Rattle.split_cli.specs.WorldReport.{host_line, host_name}
+use Rattle.host_code.specs.MessageText.{host_text}
+use Rattle.split_cli.specs.WorldReport.{host_line}
 use Rattle.split_cli.specs.Text.{lines_text}
 use Rattle.split_cli.proofs.world_report.hosts.push_hosts.Given as goal
 
@@ -11,5 +12,5 @@ use Rattle.split_cli.proofs.world_report.hosts.push_hosts.Given as goal
 abbrev pub invariant-loop-number : goal.invariant-loop-number
 invariant-loop-number l =
     string_bytes l.text ≡ string_bytes l.initial.text ++ lines_text
-    (flat_map (λ number. host_line (host_name l.code number) (state_at (world_of l.world) (record { 0 = number })))
-    (range_with_len 0 l.number))
+    (flat_map (λ number. host_line (host_text l.code (record { 0 = number }))
+    (state_at (world_of l.world) (record { 0 = number }))) (range_with_len 0 l.number))
