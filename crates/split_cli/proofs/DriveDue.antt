@@ -1,51 +1,16 @@
--- What is due for hosts that are driven, by the program and the hosts that were read and what was loaded of the
--- starting values.
-use Rattle.std.proofs.Common.{◌≡◌, ℕ, List, Ok, Err, sym, ap, ◌∙◌, subst}
+-- The report of hosts that are driven, by the program and the hosts that were read.
+use Rattle.std.proofs.Common.{◌≡◌, ℕ, List, sym, ap, ◌∙◌, subst}
 use Rattle.std.specs.Prelude.{ℤ}
-use Rattle.js_base.specs.declared.limits.TheConstants.{SCRIPT_BYTES}
-use Rattle.jif_tree.specs.declared.program.Program.{Program}
-use Rattle.jif_tree.specs.Trees.{program_tree}
-use Rattle.event_text.specs.Start.{start_of}
 use Rattle.host_decl.specs.Hosts.{HostsShape}
 use Rattle.host_code.specs.Code.{CodeShape}
 use Rattle.host_code.specs.Sound.{IsSoundCode}
 use Rattle.net_world.specs.World.{WorldShape, AreHostsOf, world_at_start}
 use Rattle.split_cli.specs.declared.driving.Driven.{Driven}
-use Rattle.split_cli.specs.declared.load.Loaded.{Loaded}
-use Rattle.split_cli.specs.declared.load.Loaded.TheVariants.{TooLong}
-use Rattle.split_cli.specs.Drive.{code_of, first_world, drive_text, IsDriveReport, DueForHosts, long, bad_line, driven}
-use Rattle.split_cli.specs.Drive.{DueForDrive}
+use Rattle.split_cli.specs.Drive.{code_of, first_world, drive_text, IsDriveReport}
 use Rattle.split_cli.specs.Driven.{AllObey, HasDriven}
-use Rattle.split_cli.specs.Loading.{IsLoaded}
 use Rattle.split_cli.specs.PlacedSources.{PlacedSource}
-use Rattle.split_cli.specs.Verdicts.{VerdictShape, Print, too_long, no_form}
+use Rattle.split_cli.specs.Verdicts.{Print}
 use Rattle.split_cli.proofs.NextEvents.{obey_at_start}
-use Rattle.split_cli.proofs.RunDue.{AreBytes}
-
-pub hosts_due : (file start : List ℕ) (most : ℕ) (placed : PlacedSource) (program : Program)
-    (verdict : VerdictShape) → program_tree program ≡ placed.source.tree →
-    DueForHosts file start most placed program verdict → DueForDrive file start most placed verdict
-hosts_due file start most placed program verdict same due = (program, same, due)
-
-pub hosts_too_long : (file start : List ℕ) (most : ℕ) (placed : PlacedSource) (program : Program) (loaded : Loaded) →
-    loaded ≡ TooLong → IsLoaded SCRIPT_BYTES start loaded →
-    DueForHosts file start most placed program (too_long file)
-hosts_too_long file start most placed program loaded is from = long (subst (IsLoaded SCRIPT_BYTES start) is from)
-
-pub hosts_bad_line : (file start bytes : List ℕ) (most : ℕ) (placed : PlacedSource) (program : Program) (line : ℕ) →
-    AreBytes start bytes → start_of program.fields.items bytes ≡ Err line →
-    DueForHosts file start most placed program (no_form file line)
-hosts_bad_line file start bytes most placed program line are fails =
-    bad_line line are.few (ap (start_of program.fields.items) (sym are.same) ∙ fails)
-
-pub hosts_driven : (file start bytes : List ℕ) (most : ℕ) (placed : PlacedSource) (program : Program)
-    (values : List (List ℤ)) (verdict : VerdictShape) → AreBytes start bytes →
-    start_of program.fields.items bytes ≡ Ok values → IsDriveReport placed values most verdict →
-    DueForHosts file start most placed program verdict
-hosts_driven file start bytes most placed program values verdict are gives report =
-    driven values verdict are.few (ap (start_of program.fields.items) (sym are.same) ∙ gives) report
-
--- ---- the world
 
 -- the hosts of the code are those of the file
 pub code_hosts : (placed : PlacedSource) (code : CodeShape) → code ≡ code_of placed →

@@ -20,6 +20,7 @@ use Rattle.jif_tree.specs.Trees.{FieldTree, ProgramTree, field_tree, program_tre
 use Rattle.event_text.specs.declared.event.Event.{Event}
 use Rattle.event_text.specs.Lines.{said_lines}
 use Rattle.event_text.specs.Script.{ScriptShape, script_of}
+use Rattle.event_text.specs.Start.{start_of}
 use Rattle.event_text.specs.Settings.{form_of, settings_in_front, starting_rows, after_settings}
 use Rattle.host_code.specs.Code.{CodeShape}
 use Rattle.host_code.specs.Sound.{IsSoundCode}
@@ -40,11 +41,12 @@ use Rattle.split_cli.specs.Stages.{Outcome, given, stopped, Then}
 use Rattle.split_cli.specs.Sources.{Lexed, Parsed, Drafted, HostsRead, Resolved, Labelled, Accepted}
 use Rattle.split_cli.specs.Sources.{AcceptedWith, Sources}
 use Rattle.split_cli.specs.PlacedSources.{PlacedSource, OnHosts, PlacedSources, labelled_source}
-use Rattle.split_cli.specs.Drive.{code_of, first_world, DueForHosts, DueForDrive}
-use Rattle.split_cli.specs.Drive as drive
+use Rattle.split_cli.specs.Drive.{code_of, first_world, IsDriveReport, DueForDrive}
 use Rattle.split_cli.specs.Driven.{DrivesTo, rested, spent}
 use Rattle.split_cli.specs.Replay.{events_in, DueForEvents, happened, absent, busy, DueForScript, DueForReplay}
 use Rattle.split_cli.specs.Replay as replay
+use Rattle.split_cli.specs.Starting.{StartingValues}
+use Rattle.split_cli.specs.Starting as starting
 use Rattle.split_cli.specs.Due.{DueForBytes, DueForCommand, Due, no_words, for_command, IsDue}
 use Rattle.split_cli.specs.Due as due
 use Rattle.split_cli.specs.Answers.{SinkChange, Puts, IsAnswered, AnswersTo}
@@ -340,13 +342,31 @@ replay_says laws file program hosts script placed verdict accepted ends =
 abbrev IsDriveText : ℕ → List ℕ → List ℕ → List ℕ → Status → List ℕ → Type 0
 IsDriveText most program hosts start status text = IsFaithfulDrive program hosts start most status text
 
+-- what is known of starting values that a file gives
+record AreRead (start : List ℕ) (fields : List Field) (values : List (List ℤ)) : Type 0 where
+  short : length start ≤ SCRIPT_BYTES
+  read : start_of fields start ≡ Ok values
+
+-- a file of starting values gives some, or what is due for it is no success
+abbrev StartSays : (Status → List ℕ → Type 0) → List ℕ → List Field → Outcome (List (List ℤ)) → Type 0
+StartSays Text start fields (given values) = AreRead start fields values
+StartSays Text start fields (stopped verdict) = Says Text verdict
+
+start_says : (Text : Status → List ℕ → Type 0) (file start : List ℕ) (fields : List Field)
+    (end : Outcome (List (List ℤ))) → StartingValues file start fields end → StartSays Text start fields end
+unfolding Says
+start_says Text file start fields _ (starting.long more) = input_fails
+start_says Text file start fields _ (starting.bad_line line short is) = input_fails
+start_says Text file start fields _ (starting.read values short is) = record { short = short; read = is }
+
 hosts_say : AllLaws → (file program hosts start : List ℕ) (most : ℕ) (placed : PlacedSource) (tree : Program)
-    (verdict : VerdictShape) → IsPlacedAs program hosts placed tree → DueForHosts file start most placed tree verdict →
+    (values : List (List ℤ)) (verdict : VerdictShape) → IsPlacedAs program hosts placed tree →
+    StartingValues file start tree.fields.items (given values) → IsDriveReport placed values most verdict →
     Says (IsDriveText most program hosts start) verdict
 unfolding Says
-hosts_say laws file program hosts start most placed tree _ is_placed (drive.long more) = input_fails
-hosts_say laws file program hosts start most placed tree _ is_placed (drive.bad_line line short is) = input_fails
-hosts_say laws file program hosts start most placed tree verdict is_placed (drive.driven values _ short read report) =
+hosts_say laws file program hosts start most placed tree values verdict is_placed gives report =
+    let read =
+    start_says (IsDriveText most program hosts start) file start tree.fields.items (given values) gives in
     subst (Says (IsDriveText most program hosts start)) (sym report.verdict_is)
     (is_faithful_drive laws program hosts start most report.status _ (record {
       placed = placed;
@@ -355,8 +375,8 @@ hosts_say laws file program hosts start most placed tree verdict is_placed (driv
       values = values;
       events = report.events;
       last = report.last;
-      short = short;
-      read = read;
+      short = read.short;
+      read = read.read;
       ends = report.ends;
       text_is = refl;
     }) report.sound)
@@ -366,8 +386,12 @@ drive_says : AllLaws → (file program hosts start : List ℕ) (most : ℕ) (pla
     DueForDrive file start most placed verdict → Says (IsDriveText most program hosts start) verdict
 unfolding Says
 drive_says laws file program hosts start most placed verdict accepted ends =
-    hosts_say laws file program hosts start most placed ends.0 verdict
-    (record { accepted = accepted; tree_is = ends.1 }) ends.2
+    let tree = ends.0 in
+    ⊎_elim
+    (λ read. hosts_say laws file program hosts start most placed tree read.0 verdict
+    (record { accepted = accepted; tree_is = ends.1 }) read.1 read.2)
+    (λ stops. start_says (IsDriveText most program hosts start) file start tree.fields.items (stopped verdict) stops)
+    ends.2
 
 -- ---- a command of three files
 

@@ -14,6 +14,7 @@ pub mod OnePlaced
 pub mod OneReplay
 pub mod OneRun
 pub mod OneSource
+pub mod OneStart
 pub mod OneVerdict
 pub mod PlacedLists
 pub mod Places
@@ -30,6 +31,7 @@ pub mod RunReport
 pub mod SeenItems
 pub mod SetSources
 pub mod Stages
+pub mod StartingDue
 pub mod StepCounts
 pub mod Stops
 pub mod WorldLines

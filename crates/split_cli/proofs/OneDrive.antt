@@ -5,19 +5,18 @@ use Rattle.std.specs.Prelude.{◌⊎◌, ℤ}
 use Rattle.std.proofs.lemmas.Bool.{cases_lt}
 use Rattle.js_base.specs.declared.ids.HostId.{HostId}
 use Rattle.js_base.specs.declared.status.Status.{Status}
-use Rattle.jif_tree.specs.declared.program.Program.{Program}
-use Rattle.jif_tree.specs.Trees.{program_tree}
 use Rattle.event_text.specs.declared.event.Event.{Event}
 use Rattle.event_text.specs.declared.event.Event.TheVariants.{Take, Turn, Act}
 use Rattle.host_code.specs.Code.{CodeShape}
 use Rattle.net_world.specs.Choice.{IsNextEvent, IsFirstRunning, IsFirstFrom, IsFirstFlying}
 use Rattle.net_world.specs.World.{WorldShape, IsStep, IsRun}
-use Rattle.split_cli.specs.Drive.{code_of, first_world, drive_text, IsDriveReport, DueForHosts, long, bad_line, driven}
-use Rattle.split_cli.specs.Drive.{DueForDrive}
+use Rattle.split_cli.specs.Drive.{code_of, first_world, drive_text, IsDriveReport, DueForDrive}
 use Rattle.split_cli.specs.Driven.{IsDriven, DrivesTo, rested, spent}
 use Rattle.split_cli.specs.PlacedSources.{PlacedSource}
-use Rattle.split_cli.specs.Verdicts.{VerdictShape, Print, no_form}
-use Rattle.split_cli.proofs.OneRun.{same_values}
+use Rattle.split_cli.specs.Starting.{StartingValues}
+use Rattle.split_cli.specs.Verdicts.{VerdictShape, Print}
+use Rattle.split_cli.proofs.OneStart.{start_moved, start_once}
+use Rattle.split_cli.proofs.Stages.{one_due, due_moved}
 
 -- what is known of steps
 abbrev pub OneStep : Type 0
@@ -187,42 +186,13 @@ report_once step placed values most first second one two =
 
 -- ---- what is due
 
--- what is due for a program is due for another with the same tree
-moved : (file start : List ℕ) (most : ℕ) (placed : PlacedSource) (program other : Program) (verdict : VerdictShape) →
-    program_tree program ≡ program_tree other → DueForHosts file start most placed other verdict →
-    DueForHosts file start most placed program verdict
-moved file start most placed program other _ same (long more) = long more
-moved file start most placed program other _ same (bad_line line short is) =
-    bad_line line short (same_values program other start same ∙ is)
-moved file start most placed program other verdict same (driven values _ short is report) =
-    driven values verdict short (same_values program other start same ∙ is) report
-
-hosts_once : OneStep → (file start : List ℕ) (most : ℕ) (placed : PlacedSource) (program : Program)
-    (first second : VerdictShape) → DueForHosts file start most placed program first →
-    DueForHosts file start most placed program second → first ≡ second
-hosts_once step file start most placed program _ _ (long more) (long also) = refl
-hosts_once step file start most placed program _ _ (long more) (bad_line line short is) = absurd (omega arith)
-hosts_once step file start most placed program _ second (long more) (driven values _ short is report) =
-    absurd (omega arith)
-hosts_once step file start most placed program _ _ (bad_line line short is) (long more) = absurd (omega arith)
-hosts_once step file start most placed program _ _ (bad_line line short is) (bad_line other also_short also) =
-    let both = sym is ∙ also in
-    ap (no_form file) (let same : line ≡ other = cc in same)
-hosts_once step file start most placed program _ second (bad_line line short is)
-    (driven values _ also_short also report) = absurd (let no = sym is ∙ also in cc)
-hosts_once step file start most placed program first _ (driven values _ short is report) (long more) =
-    absurd (omega arith)
-hosts_once step file start most placed program first _ (driven values _ short is report)
-    (bad_line line also_short also) = absurd (let no = sym is ∙ also in cc)
-hosts_once step file start most placed program first second (driven values _ short is report)
-    (driven others _ also_short also report_too) =
-    let both = sym is ∙ also in
-    let same : others ≡ values = cc in
-    report_once step placed values most first second report
-    (subst (λ (start_values : List (List ℤ)). IsDriveReport placed start_values most second) same report_too)
-
 pub drive_once : OneStep → (file start : List ℕ) (most : ℕ) (placed : PlacedSource) (first second : VerdictShape) →
     DueForDrive file start most placed first → DueForDrive file start most placed second → first ≡ second
 drive_once step file start most placed first second one two =
-    hosts_once step file start most placed one.0 first second one.2
-    (moved file start most placed one.0 two.0 second (one.1 ∙ sym two.1) two.2)
+    let program = one.0 in
+    let report : List (List ℤ) → VerdictShape → Type 0 = λ values. IsDriveReport placed values most in
+    one_due (StartingValues file start program.fields.items) report first second
+    (start_once file start program.fields.items)
+    (λ values was. report_once step placed values most first second) one.2
+    (due_moved (StartingValues file start two.0.fields.items) (StartingValues file start program.fields.items) report
+    report second (λ end. start_moved file start program two.0 end (one.1 ∙ sym two.1)) (λ values is. is) two.2)

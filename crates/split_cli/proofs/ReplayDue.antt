@@ -16,7 +16,7 @@ use Rattle.split_cli.specs.Loading.{IsLoaded}
 use Rattle.split_cli.specs.PlacedSources.{PlacedSource}
 use Rattle.split_cli.specs.Replay.{DueForEvents, DueForScript, DueForReplay, long, bad_line, read}
 use Rattle.split_cli.specs.Verdicts.{VerdictShape, too_long, no_form}
-use Rattle.split_cli.proofs.RunDue.{AreBytes}
+use Rattle.split_cli.proofs.StartingDue.{AreBytes}
 
 pub replay_scripted : (file script : List ℕ) (placed : PlacedSource) (program : Program) (verdict : VerdictShape) →
     program_tree program ≡ placed.source.tree →

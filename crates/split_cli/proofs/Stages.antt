@@ -57,6 +57,14 @@ pub due_stops : {X : Type 0} (First : Outcome X → Type 0) (Last : X → Verdic
 due_stops First Last why stops =
     stops_weaker (λ verdict. First (stopped verdict)) (DueThen First Last) why (λ verdict was. inr was) stops
 
+-- a stage and what is due for what it gave, where other such are put for both
+pub due_moved : {X : Type 0} (First Other : Outcome X → Type 0) (Last Least : X → VerdictShape → Type 0)
+    (verdict : VerdictShape) → ((end : Outcome X) → First end → Other end) →
+    ((x : X) → Last x verdict → Least x verdict) → DueThen First Last verdict → DueThen Other Least verdict
+due_moved First Other Last Least verdict first last due =
+    ⊎_elim (λ left. inl (left.0, first (given left.0) left.1, last left.0 left.2))
+    (λ right. inr (first (stopped verdict) right)) due
+
 -- ---- a stop that is handed on as it is
 
 pub handed_on : {X Y : Type 0} (view : X → Y) (P : Outcome Y → Type 0) (why : Stop) (result : Result X Stop) →

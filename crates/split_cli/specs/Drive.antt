@@ -1,20 +1,20 @@
 -- What is due for an accepted program in its places, whose hosts are driven from the starting values of a file.
-use Rattle.std.specs.Prelude.{◌≡◌, ℕ, ◌<◌, ◌≤◌, ℤ, List, ◌∷◌, ◌++◌, codes, length, Ok, Err}
+use Rattle.std.specs.Prelude.{◌≡◌, ℕ, ℤ, List, ◌∷◌, ◌++◌, codes, length}
 use Rattle.std.specs.Fmt.{decimal}
-use Rattle.js_base.specs.declared.limits.TheConstants.{SCRIPT_BYTES}
 use Rattle.js_base.specs.declared.status.Status.{Status}
 use Rattle.jif_tree.specs.declared.program.Program.{Program}
 use Rattle.jif_tree.specs.Trees.{program_tree}
 use Rattle.event_text.specs.declared.event.Event.{Event}
-use Rattle.event_text.specs.Start.{start_of}
 use Rattle.host_code.specs.Code.{CodeShape}
 use Rattle.host_code.specs.Sound.{IsSoundCode}
 use Rattle.split_rules.specs.SplitCode.{split_code}
 use Rattle.net_world.specs.World.{WorldShape, world_at_start}
 use Rattle.split_cli.specs.Driven.{DrivesTo}
 use Rattle.split_cli.specs.PlacedSources.{PlacedSource, labelled_source}
+use Rattle.split_cli.specs.Stages.{DueThen}
+use Rattle.split_cli.specs.Starting.{StartingValues}
 use Rattle.split_cli.specs.Text.{lines_text}
-use Rattle.split_cli.specs.Verdicts.{VerdictShape, Print, too_long, no_form}
+use Rattle.split_cli.specs.Verdicts.{VerdictShape, Print}
 use Rattle.split_cli.specs.WorldReport.{world_lines}
 
 -- the code of all hosts
@@ -45,17 +45,8 @@ pub record IsDriveReport (placed : PlacedSource) (values : List (List ℤ)) (mos
 
 -- ---- what is due, where the third file has this name and holds these bytes
 
-pub data DueForHosts (file start : List ℕ) (most : ℕ) (placed : PlacedSource) (program : Program) : VerdictShape →
-    Type 0 where
-  long : SCRIPT_BYTES < length start → DueForHosts file start most placed program (too_long file)
-  bad_line : (line : ℕ) → length start ≤ SCRIPT_BYTES → start_of program.fields.items start ≡ Err line →
-      DueForHosts file start most placed program (no_form file line)
-  driven : (values : List (List ℤ)) (verdict : VerdictShape) → length start ≤ SCRIPT_BYTES →
-      start_of program.fields.items start ≡ Ok values → IsDriveReport placed values most verdict →
-      DueForHosts file start most placed program verdict
-
 -- hosts are driven through the program, by all programs with the same tree alike
 abbrev pub DueForDrive : List ℕ → List ℕ → ℕ → PlacedSource → VerdictShape → Type 0
 DueForDrive file start most placed verdict =
     (program : Program) × (program_tree program ≡ placed.source.tree)
-    × DueForHosts file start most placed program verdict
+    × DueThen (StartingValues file start program.fields.items) (λ values. IsDriveReport placed values most) verdict

@@ -18,6 +18,7 @@ pub mod Report
 pub mod SourceShapes
 pub mod Sources
 pub mod Stages
+pub mod Starting
 pub mod StatementLines
 pub mod StepCounts
 pub mod Text

@@ -1,18 +1,18 @@
 -- What is due for a run of an accepted program from the starting values of a file.
-use Rattle.std.specs.Prelude.{◌≡◌, ℕ, ◌<◌, ◌≤◌, ℤ, List, [], ◌∷◌, ◌++◌, codes, length, Ok, Err}
+use Rattle.std.specs.Prelude.{◌≡◌, ℕ, ℤ, List, [], ◌∷◌, ◌++◌, codes}
 use Rattle.std.specs.Fmt.{decimal}
-use Rattle.js_base.specs.declared.limits.TheConstants.{SCRIPT_BYTES}
 use Rattle.js_base.specs.declared.status.Status.{Status}
 use Rattle.js_base.specs.declared.status.Status.TheVariants.{Done, Spent}
 use Rattle.jif_tree.specs.declared.program.Program.{Program}
 use Rattle.jif_tree.specs.Trees.{FieldTree, ProgramTree, program_tree}
-use Rattle.event_text.specs.Start.{start_of}
 use Rattle.source_run.specs.declared.plain.RunEnd.{RunEnd}
 use Rattle.source_run.specs.declared.plain.RunEnd.TheVariants.{Ended, NotYet}
 use Rattle.source_run.specs.Runs.{RunsTo}
 use Rattle.split_cli.specs.Report.{row_line}
+use Rattle.split_cli.specs.Stages.{DueThen}
+use Rattle.split_cli.specs.Starting.{StartingValues}
 use Rattle.split_cli.specs.Text.{lines_text}
-use Rattle.split_cli.specs.Verdicts.{VerdictShape, Print, too_long, no_form}
+use Rattle.split_cli.specs.Verdicts.{VerdictShape, Print}
 
 -- ---- the report
 
@@ -35,17 +35,17 @@ abbrev pub run_report : List FieldTree → ℕ → RunEnd → List (List ℤ) �
 run_report fields steps end rows =
     Print (end_status end) (lines_text (end_line steps end ∷ store_lines fields rows))
 
--- ---- what is due, where the third file has this name and holds these bytes
+-- the report of at most so many steps from these starting values
+pub record IsRunReport (program : Program) (steps : ℕ) (values : List (List ℤ)) (verdict : VerdictShape) : Type 0 where
+  pub end : RunEnd
+  pub rows : List (List ℤ)
+  pub runs : RunsTo program values steps end rows
+  pub verdict_is : verdict ≡ run_report (program_tree program).fields steps end rows
 
-pub data DueForProgram (file start : List ℕ) (steps : ℕ) (program : Program) : VerdictShape → Type 0 where
-  long : SCRIPT_BYTES < length start → DueForProgram file start steps program (too_long file)
-  bad_line : (line : ℕ) → length start ≤ SCRIPT_BYTES → start_of program.fields.items start ≡ Err line →
-      DueForProgram file start steps program (no_form file line)
-  ran : (values rows : List (List ℤ)) (end : RunEnd) → length start ≤ SCRIPT_BYTES →
-      start_of program.fields.items start ≡ Ok values → RunsTo program values steps end rows →
-      DueForProgram file start steps program (run_report (program_tree program).fields steps end rows)
+-- ---- what is due, where the third file has this name and holds these bytes
 
 -- all programs with the same tree run alike
 abbrev pub DueForRun : List ℕ → List ℕ → ℕ → ProgramTree → VerdictShape → Type 0
 DueForRun file start steps tree verdict =
-    (program : Program) × (program_tree program ≡ tree) × DueForProgram file start steps program verdict
+    (program : Program) × (program_tree program ≡ tree)
+    × DueThen (StartingValues file start program.fields.items) (IsRunReport program steps) verdict

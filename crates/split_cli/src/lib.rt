@@ -11,6 +11,7 @@ mod placed_code;
 mod replaying;
 mod row_line;
 mod sources;
+mod starting;
 mod statement_lines;
 mod stop;
 mod top;

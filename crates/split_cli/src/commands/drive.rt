@@ -1,6 +1,6 @@
 //! The command `drive`.
 
-ghost use Rattle.std.specs.Prelude.{◌≡◌, ◌≤◌, ◌<◌, ◌^◌, ◌+◌, ◌∷◌, [], ℕ, List, IfOk, length};
+ghost use Rattle.std.specs.Prelude.{◌≡◌, ◌≤◌, ◌+◌, ◌∷◌, [], ℕ, List, IfOk};
 ghost use Rattle.js_base.specs.declared.limits.TheConstants.{PROGRAM_BYTES, HOSTS_BYTES, SCRIPT_BYTES};
 ghost use Rattle.jif_tree.specs.Trees.{program_tree};
 ghost use Rattle.jif_tree.specs.Sizes.{IsSized};
@@ -9,7 +9,7 @@ ghost use Rattle.split_rules.specs.Splittable.{IsSplittable};
 ghost use Rattle.split_cli.specs.declared.words.TheConstants.{STEPS};
 ghost use Rattle.split_cli.specs.Commands as command;
 ghost use Rattle.split_cli.specs.Commands.{IsStepCount};
-ghost use Rattle.split_cli.specs.Drive.{DueForDrive, IsDriveReport};
+ghost use Rattle.split_cli.specs.Drive.{IsDriveReport};
 ghost use Rattle.split_cli.specs.Due.{DueForBytes, IsDueForCommand};
 ghost use Rattle.split_cli.specs.Loading.{EndsIn, IsLoaded};
 ghost use Rattle.split_cli.specs.PlacedShapes.{placed_shape};
@@ -22,10 +22,10 @@ use crate::driving::drive;
 use crate::load::{Loaded, load_all};
 use crate::placed::{PlacedSource, read_places};
 use crate::placed_code::code_of;
+use crate::starting::starting_values;
 use crate::stop::Stop;
 use crate::verdict::Verdict;
 use crate::world_report::drive_text;
-use event_text::{EventsError, read_start};
 use jif_tree::Store;
 use js_base::{Files, OutOfMemory};
 use net_world::World;
@@ -78,37 +78,8 @@ fn due_for_loaded(
         EndsIn (DueForBytes (command.Drive names others name.now most) (p ∷ h ∷ s ∷ [])) result }
 {
     let placed = read_places(alloc, program, hosts)?;
-    Ok(drive_from(alloc, name, start, most, &placed)?)
-}
-
-/// What is due for at most so many events from the starting values of a file of this name, for a program in its places
-/// on the hosts that were read.
-fn drive_from(
-    alloc: Global,
-    name: &str,
-    start: &Loaded,
-    most: u64,
-    placed: &PlacedSource,
-) -> Result<Verdict, OutOfMemory>
-    requires most { most ≤ STEPS }
-    requires fields { length placed.now.source.checked.program.fields.items < 2 ^ 32 }
-    requires splittable { IsSplittable (labelled_of placed.now.source.checked) placed.now.source.hosts
-        placed.now.plan }
-    requires sized { IsSized (program_tree placed.now.source.checked.program) }
-    requires labelled { labelled_of placed.now.source.checked ≡ labelled_source (source_shape placed.now.source) }
-    ensures { IfOk result (λ verdict. (s : List ℕ) → IsLoaded SCRIPT_BYTES s start.now →
-        DueForDrive name.now s most (placed_shape placed.now) (verdict_shape verdict)) }
-{
-    let Loaded::Bytes(bytes) = start else {
-        return Verdict::too_long(alloc, name);
-    };
-    let store = match read_start(alloc, &placed.source.checked.program, bytes) {
-        Ok(store) => store,
-        Err(EventsError::BadLine(line)) => return Verdict::no_form(alloc, name, line),
-        Err(EventsError::TooLong) => return Verdict::too_long(alloc, name),
-        Err(EventsError::OutOfMemory) => return Err(OutOfMemory),
-    };
-    driven(alloc, placed, &store, most)
+    let store = starting_values(alloc, name, start, &placed.source.checked.program)?;
+    Ok(driven(alloc, &placed, &store, most)?)
 }
 
 /// The report of the hosts of a program in its places, after at most so many events from these starting values.

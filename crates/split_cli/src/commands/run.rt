@@ -1,13 +1,13 @@
 //! The command `run`.
 
-ghost use Rattle.std.specs.Prelude.{◌≡◌, ◌≤◌, ◌<◌, ◌^◌, ◌+◌, ◌++◌, ◌∷◌, [], ℕ, List, IfOk, OnOk, length, map};
+ghost use Rattle.std.specs.Prelude.{◌≡◌, ◌≤◌, ◌+◌, ◌++◌, ◌∷◌, [], ℕ, List, IfOk, OnOk, map};
 ghost use Rattle.std.specs.String.{string_bytes};
 ghost use Rattle.js_base.specs.declared.limits.TheConstants.{PROGRAM_BYTES, HOSTS_BYTES, SCRIPT_BYTES};
-ghost use Rattle.jif_tree.specs.Trees.{field_tree, program_tree};
+ghost use Rattle.jif_tree.specs.Trees.{field_tree};
 ghost use Rattle.split_cli.specs.Commands as command;
 ghost use Rattle.split_cli.specs.Due.{DueForBytes, IsDueForCommand};
 ghost use Rattle.split_cli.specs.Loading.{EndsIn, IsLoaded};
-ghost use Rattle.split_cli.specs.PlainRun.{DueForRun, end_line, end_status, run_report, store_lines};
+ghost use Rattle.split_cli.specs.PlainRun.{IsRunReport, end_line, end_status, run_report, store_lines};
 ghost use Rattle.split_cli.specs.Text.{line_text, lines_text};
 ghost use Rattle.split_cli.specs.Verdicts.{verdict_shape};
 
@@ -15,9 +15,9 @@ use crate::commands::{host_file, program_file, script_file};
 use crate::load::{Loaded, load_all};
 use crate::row_line::push_row_line;
 use crate::sources::read_sources;
+use crate::starting::starting_values;
 use crate::stop::Stop;
 use crate::verdict::Verdict;
-use event_text::{EventsError, read_start};
 use jif_tree::{Field, Program, Row, Store};
 use js_base::{Files, OutOfMemory, Status};
 use source_run::RunEnd;
@@ -69,30 +69,21 @@ fn due_for_loaded(
         EndsIn (DueForBytes (command.Run names others name.now steps) (p ∷ h ∷ s ∷ [])) result }
 {
     let source = read_sources(alloc, program, hosts)?;
-    Ok(run_from(alloc, name, start, steps, &source.checked.program)?)
+    let program = &source.checked.program;
+    let store = starting_values(alloc, name, start, program)?;
+    Ok(run_from(alloc, program, store, steps)?)
 }
 
-/// What is due for a run of at most so many steps, from the starting values of a file of this name.
+/// The report of a run of at most so many steps from these starting values.
 fn run_from(
     alloc: Global,
-    name: &str,
-    start: &Loaded,
-    steps: u64,
     program: &Program,
+    start: Store,
+    steps: u64,
 ) -> Result<Verdict, OutOfMemory>
-    requires { length program.now.fields.items < 2 ^ 32 }
-    ensures { IfOk result (λ verdict. (s : List ℕ) → IsLoaded SCRIPT_BYTES s start.now →
-        DueForRun name.now s steps (program_tree program.now) (verdict_shape verdict)) }
+    ensures { IfOk result (λ verdict. IsRunReport program.now steps start (verdict_shape verdict)) }
 {
-    let Loaded::Bytes(bytes) = start else {
-        return Verdict::too_long(alloc, name);
-    };
-    let mut store = match read_start(alloc, program, bytes) {
-        Ok(store) => store,
-        Err(EventsError::BadLine(line)) => return Verdict::no_form(alloc, name, line),
-        Err(EventsError::TooLong) => return Verdict::too_long(alloc, name),
-        Err(EventsError::OutOfMemory) => return Err(OutOfMemory),
-    };
+    let mut store = start;
     let end = source_run::run(alloc, program, &mut store, steps)?;
     run_report(alloc, &program.fields, steps, end, &store)
 }

@@ -1,10 +1,12 @@
-use Rattle.std.proofs.Common.{[], ◌∷◌, inl}
+use Rattle.std.proofs.Common.{[], ◌∷◌, inl, inr, refl}
 use Rattle.split_cli.specs.Commands.{Drive}
 use Rattle.split_cli.specs.Due.{DueForBytes}
 use Rattle.split_cli.specs.PlacedShapes.{placed_shape}
 use Rattle.split_cli.specs.PlacedSources.{PlacedSources}
 use Rattle.split_cli.specs.Drive.{DueForDrive}
-use Rattle.split_cli.proofs.Stages.{due_handed_on, due_stops, memory_ran_out}
+use Rattle.split_cli.specs.Stages.{stopped}
+use Rattle.split_cli.specs.Starting.{StartingValues}
+use Rattle.split_cli.proofs.Stages.{due_handed_on, due_stops, memory_ran_out, stops_weaker}
 use Rattle.split_cli.proofs.commands.drive.due_for_loaded.Goals as goal
 
 pub returns-in_err-placed : goal.returns-in_err-placed
@@ -14,15 +16,33 @@ returns-in_err-placed c = λ names others p h s loaded_p loaded_h loaded_s.
     (due_stops (PlacedSources p h) (DueForDrive c.args.name.now s c.args.most) c.in_err-placed.field-0.0
     (c.in_err-placed.ensures.places p h loaded_p loaded_h))
 
-pub returns-in_err-drive_from : goal.returns-in_err-drive_from
-returns-in_err-drive_from c = λ names others p h s loaded_p loaded_h loaded_s.
+pub returns-in_err-store : goal.returns-in_err-store
+returns-in_err-store c = λ names others p h s loaded_p loaded_h loaded_s.
+    let program = c.in_ok-placed.placed.source.checked.program in
+    due_handed_on (DueForBytes (Drive names others c.args.name.now c.args.most) (p ∷ h ∷ s ∷ []))
+    c.in_err-store.field-0.0 c.from_residual-in_err-store.result c.from_residual-in_err-store.ensures
+    (stops_weaker (λ verdict. StartingValues c.args.name.now s program.fields.items (stopped verdict))
+    (DueForBytes (Drive names others c.args.name.now c.args.most) (p ∷ h ∷ s ∷ [])) c.in_err-store.field-0.0
+    (λ verdict stops. inl (
+      placed_shape c.in_ok-placed.placed,
+      c.in_ok-placed.ensures.places p h loaded_p loaded_h,
+      (program, refl, inr stops),
+    ))
+    (c.in_err-store.ensures s loaded_s))
+
+pub returns-in_err-driven : goal.returns-in_err-driven
+returns-in_err-driven c = λ names others p h s loaded_p loaded_h loaded_s.
     memory_ran_out (DueForBytes (Drive names others c.args.name.now c.args.most) (p ∷ h ∷ s ∷ []))
-    c.from_residual-in_err-drive_from.result c.from_residual-in_err-drive_from.ensures
+    c.from_residual-in_err-driven.result c.from_residual-in_err-driven.ensures
 
 pub returns : goal.returns
 returns c = λ names others p h s loaded_p loaded_h loaded_s.
     inl (
       placed_shape c.in_ok-placed.placed,
       c.in_ok-placed.ensures.places p h loaded_p loaded_h,
-      c.in_ok-drive_from.ensures s loaded_s,
+      (
+        c.in_ok-placed.placed.source.checked.program,
+        refl,
+        inl (c.in_ok-store.store, c.in_ok-store.ensures s loaded_s, c.in_ok-driven.ensures),
+      ),
     )

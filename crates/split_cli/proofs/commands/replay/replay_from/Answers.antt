@@ -4,7 +4,7 @@ use Rattle.split_cli.specs.PlacedShapes.{placed_shape}
 use Rattle.split_cli.specs.Replay.{DueForReplay}
 use Rattle.split_cli.specs.Verdicts.{verdict_shape}
 use Rattle.split_cli.proofs.ReplayDue.{replay_scripted, script_too_long, script_loaded}
-use Rattle.split_cli.proofs.RunDue.{are_bytes}
+use Rattle.split_cli.proofs.StartingDue.{are_bytes}
 use Rattle.split_cli.proofs.commands.replay.replay_from.Goals as goal
 
 pub returns-in-Bytes : goal.returns-in-Bytes

@@ -1,10 +1,12 @@
-use Rattle.std.proofs.Common.{[], ◌∷◌, inl}
+use Rattle.std.proofs.Common.{[], ◌∷◌, inl, inr, refl}
 use Rattle.split_cli.specs.Commands.{Run}
 use Rattle.split_cli.specs.Due.{DueForBytes}
 use Rattle.split_cli.specs.PlainRun.{DueForRun}
 use Rattle.split_cli.specs.SourceShapes.{source_shape}
 use Rattle.split_cli.specs.Sources.{Source, Sources}
-use Rattle.split_cli.proofs.Stages.{due_handed_on, due_stops}
+use Rattle.split_cli.specs.Stages.{stopped}
+use Rattle.split_cli.specs.Starting.{StartingValues}
+use Rattle.split_cli.proofs.Stages.{due_handed_on, due_stops, memory_ran_out, stops_weaker}
 use Rattle.split_cli.proofs.commands.run.due_for_loaded.Goals as goal
 
 pub returns-in_err-source : goal.returns-in_err-source
@@ -14,10 +16,33 @@ returns-in_err-source c = λ names others p h s loaded_p loaded_h loaded_s.
     (due_stops (Sources p h) (λ (source : Source). DueForRun c.args.name.now s c.args.steps source.tree)
     c.in_err-source.field-0.0 (c.in_err-source.ensures.sources p h loaded_p loaded_h))
 
+pub returns-in_err-store : goal.returns-in_err-store
+returns-in_err-store c = λ names others p h s loaded_p loaded_h loaded_s.
+    let program = c.in_ok-source.source.checked.program in
+    due_handed_on (DueForBytes (Run names others c.args.name.now c.args.steps) (p ∷ h ∷ s ∷ []))
+    c.in_err-store.field-0.0 c.from_residual-in_err-store.result c.from_residual-in_err-store.ensures
+    (stops_weaker (λ verdict. StartingValues c.args.name.now s program.fields.items (stopped verdict))
+    (DueForBytes (Run names others c.args.name.now c.args.steps) (p ∷ h ∷ s ∷ [])) c.in_err-store.field-0.0
+    (λ verdict stops. inl (
+      source_shape c.in_ok-source.source,
+      c.in_ok-source.ensures.sources p h loaded_p loaded_h,
+      (program, refl, inr stops),
+    ))
+    (c.in_err-store.ensures s loaded_s))
+
+pub returns-in_err-run_from : goal.returns-in_err-run_from
+returns-in_err-run_from c = λ names others p h s loaded_p loaded_h loaded_s.
+    memory_ran_out (DueForBytes (Run names others c.args.name.now c.args.steps) (p ∷ h ∷ s ∷ []))
+    c.from_residual-in_err-run_from.result c.from_residual-in_err-run_from.ensures
+
 pub returns : goal.returns
 returns c = λ names others p h s loaded_p loaded_h loaded_s.
     inl (
       source_shape c.in_ok-source.source,
       c.in_ok-source.ensures.sources p h loaded_p loaded_h,
-      c.in_ok-run_from.ensures s loaded_s,
+      (
+        c.in_ok-source.source.checked.program,
+        refl,
+        inl (c.in_ok-store.store, c.in_ok-store.ensures s loaded_s, c.in_ok-run_from.ensures),
+      ),
     )
