@@ -27,7 +27,8 @@ use Rattle.net_world.specs.Fits.{WorldModel, WorldFits, FlightFits, HasOwnToken,
 use Rattle.net_world.specs.Steps.{HasMade, HaveMade, IsStuck}
 use Rattle.net_world.specs.Choice.{IsNextEvent}
 use Rattle.split_cli.specs.declared.words.TheConstants.{STEPS}
-use Rattle.split_cli.specs.Driven.{IsDriven, rested, spent, AllObey, LeavesWith, at_rest, unended, HasDriven}
+use Rattle.simulation.specs.Driven.{IsDriven}
+use Rattle.split_cli.specs.Driven.{rested, spent, AllObey, LeavesWith, at_rest, unended, HasDriven}
 
 -- ---- one event more
 

@@ -11,7 +11,8 @@ use Rattle.host_code.specs.Code.{CodeShape}
 use Rattle.net_world.specs.Choice.{IsNextEvent, IsFirstRunning, IsFirstFrom, IsFirstFlying}
 use Rattle.net_world.specs.World.{WorldShape, IsStep, IsRun}
 use Rattle.split_cli.specs.Drive.{code_of, first_world, drive_text, IsDriveReport, DueForDrive}
-use Rattle.split_cli.specs.Driven.{IsDriven, DrivesTo, rested, spent}
+use Rattle.simulation.specs.Driven.{IsDriven}
+use Rattle.split_cli.specs.Driven.{DrivesTo, rested, spent}
 use Rattle.split_cli.specs.PlacedSources.{PlacedSource}
 use Rattle.split_cli.specs.Starting.{StartingValues}
 use Rattle.split_cli.specs.Verdicts.{VerdictShape, Print}

@@ -1,20 +1,14 @@
--- Worlds in which nobody chooses: the event that comes next happens, again and again.
-use Rattle.std.specs.Prelude.{◌≡◌, ℕ, ◌≤◌, false, List, [], ◌∷◌, length, Some, None}
+-- How a world ends in which nobody chooses: the event that comes next happens, again and again.
+use Rattle.std.specs.Prelude.{◌≡◌, ℕ, ◌≤◌, false, List, length, Some, None}
 use Rattle.js_base.specs.declared.ids.HostId.{HostId}
 use Rattle.js_base.specs.declared.status.Status.{Status}
 use Rattle.js_base.specs.declared.status.Status.TheVariants.{Done, Spent}
 use Rattle.event_text.specs.declared.event.Event.{Event}
 use Rattle.host_code.specs.Code.{CodeShape}
 use Rattle.net_world.specs.Choice.{IsNextEvent}
-use Rattle.net_world.specs.World.{WorldShape, IsStep, misbehaves}
+use Rattle.net_world.specs.World.{WorldShape, misbehaves}
+use Rattle.simulation.specs.Driven.{IsDriven}
 use Rattle.split_cli.specs.declared.driving.Driven.{Driven}
-
--- events happen one after the other, each the one that comes next, and leave this world
-abbrev pub IsDriven : CodeShape → WorldShape → List Event → WorldShape → Type 0
-IsDriven code world [] after = world ≡ after
-IsDriven code world (event ∷ events) after =
-    IsNextEvent world (Some event)
-    × ((next : WorldShape) × IsStep code world event next × IsDriven code next events after)
 
 -- How a world ends that is driven by at most so many events: it is at rest, or so many have happened and one more would
 -- come next.

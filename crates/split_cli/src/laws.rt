@@ -5,7 +5,7 @@ ghost use Rattle.js_base.specs.Counts.{last_count};
 ghost use Rattle.event_text.specs.declared.event.Event.{Event};
 ghost use Rattle.host_code.specs.Code.{CodeShape};
 ghost use Rattle.net_world.specs.World.{WorldShape, IsRun};
-ghost use Rattle.split_cli.specs.Driven.{IsDriven};
+ghost use Rattle.simulation.specs.Driven.{IsDriven};
 ghost use Rattle.split_cli.specs.Verdicts.{VerdictShape};
 ghost use Rattle.split_cli.specs.Loads.{FilesChange, IsFileFault};
 ghost use Rattle.split_cli.specs.Due.{Due, IsDue};
