@@ -7,9 +7,11 @@ pub mod WellNumbered
 pub mod Named
 pub mod LabelRules
 pub mod WrittenLabels
-pub mod Limits
 pub mod Sizes
+pub mod Limits
+pub mod Numbers
 pub mod Returns
 pub mod Labelling
-pub mod GuardLabels
+pub mod ValueLabels
 pub mod Results
+pub mod Altered

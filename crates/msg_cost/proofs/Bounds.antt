@@ -19,7 +19,8 @@ use Rattle.jif_tree.specs.Numbering.{block_statements}
 use Rattle.jif_tree.specs.Trees.{ExprTree, number, local, scalar, element, inverted, negated, binary, declassified}
 use Rattle.jif_tree.specs.Trees.{endorsed, BlockTree, done, set_local, set_field, set_element, branch, loop}
 use Rattle.jif_tree.specs.Trees.{call, give_back, MethodTree, ProgramTree}
-use Rattle.jif_tree.specs.Sizes.{IsSized, expr_nodes, block_nodes}
+use Rattle.jif_tree.specs.Limits.{IsWithinLimits}
+use Rattle.jif_tree.specs.Sizes.{expr_nodes, block_nodes}
 use Rattle.need_labels.specs.Plan.{field_host, statement_host}
 use Rattle.msg_cost.specs.declared.spot.Spot.{Spot}
 use Rattle.msg_cost.specs.Cost.{cost_of}
@@ -469,13 +470,13 @@ methods_small planned sound few (method ∷ methods) nodes =
     omega arith
 
 -- the cost of a program within the limits fits a number of 64 bits
-pub program_small : (planned : PlannedShape) → AreHosts planned.hosts → IsSized planned.program →
+pub program_small : (planned : PlannedShape) → AreHosts planned.hosts → IsWithinLimits planned.program →
     cost_of planned.hosts (program_terms planned) < 2 ^ 64
 program_small planned sound sized =
     let main = method_at planned.program planned.program.main in
-    let all = methods_small planned sound sized.within.params planned.program.methods sized.nodes in
+    let all = methods_small planned sound sized.params planned.program.methods sized.nodes in
     let last = message_small planned.hosts sound 1 (lit≤ tt) (called_end planned main) (called_home planned main) in
     let sum_is = cost-append planned.hosts (flat_map (method_terms planned) planned.program.methods)
     (message 1 (called_end planned main) (called_home planned main) ∷ []) in
-    let few = sized.within.statements in
+    let few = sized.statements in
     omega arith

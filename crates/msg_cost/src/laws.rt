@@ -6,7 +6,7 @@ ghost use Rattle.label_lattice.specs.declared.label.Label.{Label};
 ghost use Rattle.label_lattice.specs.Label.{IsTrustedBy};
 ghost use Rattle.host_decl.specs.Hosts.{HostsShape, AreHosts};
 ghost use Rattle.jif_tree.specs.WellNumbered.{IsWellNumbered};
-ghost use Rattle.jif_tree.specs.Sizes.{IsSized};
+ghost use Rattle.jif_tree.specs.Limits.{IsWithinLimits};
 ghost use Rattle.need_labels.specs.Labelled.{Labelled};
 ghost use Rattle.need_labels.specs.Needs.{NeedsShape};
 ghost use Rattle.need_labels.specs.Plan.{PlanShape};
@@ -25,7 +25,7 @@ pub fn cost_laws()
         plan_cost labelled needs hosts plan ≡ 0 }
     // The cost of a program within the limits fits a number of 64 bits.
     ensures fits { (labelled : Labelled) (needs : NeedsShape) (hosts : HostsShape) (plan : PlanShape) →
-        AreHosts hosts → IsSized labelled.program → plan_cost labelled needs hosts plan < 2 ^ 64 }
+        AreHosts hosts → IsWithinLimits labelled.program → plan_cost labelled needs hosts plan < 2 ^ 64 }
     // The test of trust means trust.
     ensures trusted { (label : Label) (word : ℕ) → IsTrue (is_trusted_by label word) ↔ IsTrustedBy label word }
     // One loop deeper the weight is eight to a power that is greater by one, and six counts at most.

@@ -3,7 +3,7 @@
 ghost use Rattle.std.specs.Prelude.{◌≡◌, ◌≤◌, length};
 ghost use Rattle.std.specs.List.{flat_map};
 ghost use Rattle.jif_tree.specs.Trees.{program_tree};
-ghost use Rattle.jif_tree.specs.Sizes.{IsSized};
+ghost use Rattle.jif_tree.specs.Limits.{IsWithinLimits};
 ghost use Rattle.need_labels.specs.Labelled.{labelled_of};
 ghost use Rattle.msg_cost.specs.Cost.{cost_of, plan_cost};
 ghost use Rattle.js_base.specs.declared.limits.TheConstants.{METHODS};
@@ -58,7 +58,7 @@ fn program_cost(planned: &Planned<'_>) -> u64
 /// The cost of the messages that a program sends under a plan: the sum of the costs of their links, each times eight to
 /// the power of the number of loops around it, of which six count.
 pub fn cost(checked: &Checked, needs: &Needs, hosts: &Hosts, plan: &Plan) -> u64
-    requires { IsSized (program_tree checked.now.program) }
+    requires { IsWithinLimits (program_tree checked.now.program) }
     ensures { result ≡ plan_cost (labelled_of checked.now) needs.now hosts.now plan.now }
 {
     let planned = Planned {

@@ -3,7 +3,7 @@
 ghost use Rattle.std.specs.Prelude.{◌≡◌, ◌<◌, All, IfOk, length};
 ghost use Rattle.js_base.specs.declared.limits.TheConstants.{HOSTS};
 ghost use Rattle.jif_tree.specs.Trees.{program_tree};
-ghost use Rattle.jif_tree.specs.Sizes.{IsSized};
+ghost use Rattle.jif_tree.specs.Limits.{IsWithinLimits};
 ghost use Rattle.need_labels.specs.Labelled.{labelled_of};
 ghost use Rattle.msg_cost.specs.Cost.{plan_cost};
 ghost use Rattle.place_rules.specs.PlaceRules.{IsWordOfSome};
@@ -33,7 +33,7 @@ pub fn cheapest_start(
     hosts: &Hosts,
     allowed: &Allowed,
 ) -> Result<Plan, OutOfMemory>
-    requires sized { IsSized (program_tree checked.now.program) }
+    requires within { IsWithinLimits (program_tree checked.now.program) }
     requires fields { All (IsWordOfSome (length hosts.now.hosts)) allowed.now.fields }
     requires statements { All (IsWordOfSome (length hosts.now.hosts)) allowed.now.statements }
     ensures { IfOk result (IsCheapestStart (plan_cost (labelled_of checked.now) needs.now hosts.now) allowed.now
@@ -58,7 +58,7 @@ fn costed_start(
     allowed: &Allowed,
     host: HostId,
 ) -> Result<Costed, OutOfMemory>
-    requires sized { IsSized (program_tree checked.now.program) }
+    requires within { IsWithinLimits (program_tree checked.now.program) }
     requires fields { All (IsWordOfSome (length hosts.now.hosts)) allowed.now.fields }
     requires statements { All (IsWordOfSome (length hosts.now.hosts)) allowed.now.statements }
     requires host { host.0 < HOSTS }

@@ -2,7 +2,7 @@
 
 ghost use Rattle.std.specs.Prelude.{IfOk, IfErr};
 ghost use Rattle.jif_tree.specs.Trees.{program_tree};
-ghost use Rattle.jif_tree.specs.Sizes.{IsSized};
+ghost use Rattle.jif_tree.specs.Limits.{IsWithinLimits};
 ghost use Rattle.need_labels.specs.Labelled.{labelled_of};
 ghost use Rattle.place_rules.specs.Refusal.{IsRefused};
 ghost use Rattle.placement.specs.Placing.{IsPlaced};
@@ -27,7 +27,7 @@ pub fn place(
     needs: &Needs,
     hosts: &Hosts,
 ) -> Result<(Allowed, Plan), PlaceError>
-    requires { IsSized (program_tree checked.now.program) }
+    requires { IsWithinLimits (program_tree checked.now.program) }
     ensures placed { IfOk result (λ placed.
         IsPlaced (labelled_of checked.now) needs.now hosts.now placed.0 placed.1) }
     ensures refused { IfErr result (IsRefused (labelled_of checked.now) needs.now hosts.now) }

@@ -1,0 +1,5 @@
+use Rattle.jif_tree.proofs.PlainRuns.{plain_run}
+use Rattle.jif_tree.proofs.laws.altered_laws.Goals as goal
+
+pub returns : goal.returns
+returns c = record { plain = plain_run }
