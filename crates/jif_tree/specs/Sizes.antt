@@ -34,36 +34,36 @@ block_nodes (give_back heading value rest) = expr_nodes value ∷ block_nodes re
 
 -- Index brackets, signs before an operand, `declassify` and `endorse`. Parentheses of the text leave nothing in a tree.
 abbrev pub IsExprNested : ℕ → ExprTree → Type 0
-IsExprNested open (number value) = ⊤
-IsExprNested open (local x) = ⊤
-IsExprNested open (scalar field) = ⊤
-IsExprNested open (element field index) = (open < NESTING) × IsExprNested (open + 1) index
-IsExprNested open (inverted operand) = (open < NESTING) × IsExprNested (open + 1) operand
-IsExprNested open (negated operand) = (open < NESTING) × IsExprNested (open + 1) operand
-IsExprNested open (binary operator left right) = IsExprNested open left × IsExprNested open right
-IsExprNested open (declassified operand label) = (open < NESTING) × IsExprNested (open + 1) operand
-IsExprNested open (endorsed operand label) = (open < NESTING) × IsExprNested (open + 1) operand
+IsExprNested around (number value) = ⊤
+IsExprNested around (local x) = ⊤
+IsExprNested around (scalar field) = ⊤
+IsExprNested around (element field index) = (around < NESTING) × IsExprNested (around + 1) index
+IsExprNested around (inverted operand) = (around < NESTING) × IsExprNested (around + 1) operand
+IsExprNested around (negated operand) = (around < NESTING) × IsExprNested (around + 1) operand
+IsExprNested around (binary operator left right) = IsExprNested around left × IsExprNested around right
+IsExprNested around (declassified operand label) = (around < NESTING) × IsExprNested (around + 1) operand
+IsExprNested around (endorsed operand label) = (around < NESTING) × IsExprNested (around + 1) operand
 
 -- The blocks of statements too. The index bracket of an assignment belongs to its statement, and opens nothing.
 abbrev pub IsBlockNested : ℕ → BlockTree → Type 0
-IsBlockNested open done = ⊤
-IsBlockNested open (set_local heading variable value rest) = IsExprNested open value × IsBlockNested open rest
-IsBlockNested open (set_field heading field value rest) = IsExprNested open value × IsBlockNested open rest
-IsBlockNested open (set_element heading field index value rest) =
-    IsExprNested open index × IsExprNested open value × IsBlockNested open rest
-IsBlockNested open (branch heading guard first second rest) =
-    IsExprNested open guard × (open < NESTING) × IsBlockNested (open + 1) first × IsBlockNested (open + 1) second
-    × IsBlockNested open rest
-IsBlockNested open (loop heading guard body rest) =
-    IsExprNested open guard × (open < NESTING) × IsBlockNested (open + 1) body × IsBlockNested open rest
-IsBlockNested open (call heading site method arguments into rest) =
-    AllByRecursion (IsExprNested open) arguments × IsBlockNested open rest
-IsBlockNested open (give_back heading value rest) = IsExprNested open value × IsBlockNested open rest
+IsBlockNested around done = ⊤
+IsBlockNested around (set_local heading variable value rest) = IsExprNested around value × IsBlockNested around rest
+IsBlockNested around (set_field heading field value rest) = IsExprNested around value × IsBlockNested around rest
+IsBlockNested around (set_element heading field index value rest) =
+    IsExprNested around index × IsExprNested around value × IsBlockNested around rest
+IsBlockNested around (branch heading guard first second rest) =
+    IsExprNested around guard × (around < NESTING) × IsBlockNested (around + 1) first × IsBlockNested (around + 1) second
+    × IsBlockNested around rest
+IsBlockNested around (loop heading guard body rest) =
+    IsExprNested around guard × (around < NESTING) × IsBlockNested (around + 1) body × IsBlockNested around rest
+IsBlockNested around (call heading site method arguments into rest) =
+    AllByRecursion (IsExprNested around) arguments × IsBlockNested around rest
+IsBlockNested around (give_back heading value rest) = IsExprNested around value × IsBlockNested around rest
 
 -- ---- the variables of a method
 
 abbrev pub variables_in : ProgramTree → ℕ → List VarTree
-variables_in program number = filter (λ variable. variable.method.0 == number) program.vars
+variables_in program method = filter (λ variable. variable.method.0 == method) program.vars
 
 abbrev pub results_in : Option VarId → ℕ
 results_in None = 0
