@@ -6,3 +6,4 @@ pub mod Arguments
 pub mod Exits
 pub mod Passing
 pub mod LabelOrder
+pub mod SomeAnswer

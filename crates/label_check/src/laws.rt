@@ -1,6 +1,6 @@
 //! Laws of the label check, for whoever reasons about refusals. The call does nothing.
 
-ghost use Rattle.std.specs.Prelude.{◌≡◌, ◌≢◌, List, [], ◌∷◌, All};
+ghost use Rattle.std.specs.Prelude.{◌≡◌, ◌≢◌, ◌⊎◌, List, [], ◌∷◌, All};
 ghost use Rattle.principals.specs.ActsFor.{Declared};
 ghost use Rattle.jif_tree.specs.LabelRules.{Obligation, Meets, IsFirstFailure, IsWellLabelled, obligations};
 ghost use Rattle.label_lattice.specs.declared.label.Label.{Label};
@@ -18,8 +18,8 @@ ghost use Rattle.label_check.specs.RuleExamples.{release_asks, release_trust, re
 
 use label_lattice::label_laws;
 
-/// Of a list of obligations one fails first at most, and none where all are met. So a program is refused for one cause
-/// at most, and for none where it is well labelled. That memory ran out is no cause here.
+/// Of a list of obligations one fails first at most, and none where all are met. So a program is well labelled or is
+/// refused for one cause, and never both. That memory ran out is no cause here.
 pub fn failure_laws()
     ensures one_failure { (principals : Declared) (all : List Obligation) (first second : Obligation) →
         IsFirstFailure principals all first → IsFirstFailure principals all second → first ≡ second }
@@ -30,6 +30,8 @@ pub fn failure_laws()
         first ≢ error.OutOfMemory → second ≢ error.OutOfMemory → first ≡ second }
     ensures never_both { (principals : Declared) (program : ProgramTree) (why : CheckError) →
         IsWellLabelled principals program → IsRefusedFor principals program why → why ≡ error.OutOfMemory }
+    ensures accepted_or_refused { (principals : Declared) (program : ProgramTree) → IsWellLabelled principals program
+        ⊎ ((why : CheckError) × (why ≢ error.OutOfMemory) × IsRefusedFor principals program why) }
 {}
 
 /// Laws of the rules, where all labels are labels over the declared principals.

@@ -1,4 +1,5 @@
 pub mod AnyLemmas
+pub mod Decisions
 pub mod Joins
 pub mod JoinLaws
 pub mod KnownNames

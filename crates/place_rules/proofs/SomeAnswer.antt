@@ -4,13 +4,12 @@ use Rattle.std.proofs.Common.{length, position, refl, sym, ap, subst, arith, inl
 use Rattle.std.specs.Int.{bit_at}
 use Rattle.std.proofs.Math.Nat.{two-pow-succ}
 use Rattle.std.proofs.Math.Pow.{pow_mono}
-use Rattle.std.proofs.lemmas.Bool.{cases_eq}
 use Rattle.std.proofs.lemmas.Nat.Bits.{bit_at-zero, bit_at-suc, bit_at_lowest}
-use Rattle.js_base.specs.declared.limits.TheConstants.{HOSTS, PRINCIPALS}
+use Rattle.js_base.specs.declared.limits.TheConstants.{HOSTS}
 use Rattle.label_lattice.specs.declared.label.Label.{Label}
-use Rattle.label_lattice.specs.declared.label.TheConstants.{READERS}
-use Rattle.label_lattice.specs.Label.{ConfFlows, IsTrustedBy, Forbids, Trusts}
 use Rattle.label_lattice.specs.Lattice.{join_of}
+use Rattle.label_lattice.proofs.Decisions.{conf_flows, is_trusted}
+use Rattle.principals.proofs.Decisions.{Decided, both}
 use Rattle.host_decl.specs.Hosts.{HostShape, HostsShape}
 use Rattle.jif_tree.specs.Trees.{FieldTree}
 use Rattle.need_labels.specs.Labelled.{Labelled}
@@ -23,46 +22,6 @@ use Rattle.place_rules.specs.declared.place_error.PlaceError.TheVariants as erro
 use Rattle.place_rules.proofs.Held.{AreWordsOf, is_empty, all_held, first_unheld}
 
 -- ---- whether a host may hold it
-
-abbrev Decided : Type 0 → Type 0
-Decided fact = fact ⊎ ¬ fact
-
-all_below : (n : ℕ) (P : ℕ → Type 0) → ((k : ℕ) → Decided (P k)) → Decided ((k : ℕ) → k < n → P k)
-all_below zero P each = inl (λ k lt. absurd (omega arith))
-all_below (suc n) P each = elim (all_below n P each) [
-  | inl below ↦ elim (each n) [
-    | inl here ↦ inl (λ k lt. elim (cases_eq k n) [
-      | inl same ↦ subst P (sym same) here
-      | inr other ↦ below k (omega arith)
-    ])
-    | inr not ↦ inr (λ all. not (all n (omega arith)))
-  ]
-  | inr not ↦ inr (λ all. not (λ k lt. all k (omega arith)))
-]
-
-implied : (P Q : Type 0) → Decided P → Decided Q → Decided (P → Q)
-implied P Q one (inl is) = inl (λ _. is)
-implied P Q (inl is) (inr not) = inr (λ follows. not (follows is))
-implied P Q (inr never) (inr not) = inl (λ is. absurd (never is))
-
-both : (P Q : Type 0) → Decided P → Decided Q → Decided (P × Q)
-both P Q (inl is) (inl also) = inl (is, also)
-both P Q (inl is) (inr not) = inr (λ pair. not pair.1)
-both P Q (inr not) other = inr (λ pair. not pair.0)
-
-conf_flows : (from to : Label) → Decided (ConfFlows from to)
-conf_flows from to =
-    let Row : ℕ → Type 0 = λ owner. (reader : ℕ) → reader < READERS → Forbids from owner reader → Forbids to owner reader in
-    elim (all_below PRINCIPALS Row (λ owner. all_below READERS _ (λ reader.
-    implied (Forbids from owner reader) (Forbids to owner reader) (cases_eq _ 0) (cases_eq _ 0)))) [
-      | inl flows ↦ inl (λ owner reader lt less. flows owner lt reader less)
-      | inr not ↦ inr (λ flows. not (λ owner lt reader less. flows owner reader lt less))
-    ]
-
-is_trusted : (label : Label) (word : ℕ) → Decided (IsTrustedBy label word)
-is_trusted label word =
-    all_below READERS (λ principal. bit_at word principal ≡ 1 → Trusts label principal)
-    (λ principal. implied (bit_at word principal ≡ 1) (Trusts label principal) (cases_eq _ 1) (cases_eq _ 1))
 
 field_decided : (one : FieldTree × Label) (host : HostShape) → Decided (MayHoldField one host)
 field_decided one host =
