@@ -1,3 +1,4 @@
 pub mod Starts
 pub mod Cheapest
 pub mod Held
+pub mod SomePlan

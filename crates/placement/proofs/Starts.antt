@@ -31,7 +31,7 @@ lowest_small word some fits =
     let below : trailing_zeros w16 word < 16 = lowest.0 in
     omega arith
 
-some_word : (count word : ℕ) → IsWordOfSome count word → word ≢ 0
+pub some_word : (count word : ℕ) → IsWordOfSome count word → word ≢ 0
 some_word count word is none =
     let set : bit_at word is.some.0 ≡ 1 = is.some.1 in
     let clear : bit_at word is.some.0 ≡ 0 = ap (λ one. bit_at one is.some.0) none ∙ bit_at-zero is.some.0 in

@@ -1,11 +1,12 @@
 //! Laws of plans.
 
-ghost use Rattle.std.specs.Prelude.{◌≡◌};
+ghost use Rattle.std.specs.Prelude.{◌≡◌, ◌<◌, length};
 ghost use Rattle.host_decl.specs.Hosts.{HostsShape};
 ghost use Rattle.need_labels.specs.Labelled.{Labelled};
 ghost use Rattle.need_labels.specs.Needs.{NeedsShape};
 ghost use Rattle.need_labels.specs.Plan.{PlanShape};
 ghost use Rattle.place_rules.specs.Allowed.{AllowedShape};
+ghost use Rattle.place_rules.specs.PlaceRules.{AreAllowed};
 ghost use Rattle.placement.specs.Placing.{IsPlaced, IsAllowedPlan, HasHosts};
 
 use place_rules::place_rule_laws;
@@ -17,6 +18,11 @@ pub fn placement_laws()
         (allowed other : AllowedShape) (first second : PlanShape) →
         IsPlaced labelled needs hosts allowed first → IsPlaced labelled needs hosts other second →
         (allowed ≡ other) × (first ≡ second) }
+
+    // Where each part has a host that may hold it, there is a plan.
+    ensures some_plan { (labelled : Labelled) (needs : NeedsShape) (hosts : HostsShape) (allowed : AllowedShape) →
+        0 < length hosts.hosts → AreAllowed labelled needs hosts allowed →
+        (plan : PlanShape) × IsPlaced labelled needs hosts allowed plan }
 
     // Each field and each statement stands on a host that may hold it.
     ensures allowed { (labelled : Labelled) (needs : NeedsShape) (hosts : HostsShape) (allowed : AllowedShape)

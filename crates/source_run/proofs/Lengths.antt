@@ -1,5 +1,5 @@
--- A run has one length at most, and what it answers is determined.
-use Rattle.std.proofs.Common.{◌≡◌, ◌∙◌, ℕ, zero, suc, ◌≤◌, ℤ, List, inl, inr, arith, refl, ap, sym, subst}
+-- A run has one length at most, and what it answers is there and is determined.
+use Rattle.std.proofs.Common.{◌≡◌, ◌⊎◌, ◌∙◌, ℕ, zero, suc, ◌<◌, ◌≤◌, ℤ, List, [], ◌∷◌, inl, inr, arith, refl, ap, sym, subst}
 use Rattle.std.proofs.lemmas.Bool.{cases_order}
 use Rattle.jif_tree.specs.declared.program.Program.{Program}
 use Rattle.jif_tree.specs.SourceRun.{Item, Configuration, after_item, step, prefix, IsAtEnd, HasLength}
@@ -48,3 +48,45 @@ one_answer program start steps NotYet (Ended n) one other (goes_on, left) (few, 
     absurd (goes_on (stays_at_end program start n steps few long.ends))
 one_answer program start steps NotYet NotYet one other (goes_on, left) (also_goes_on, also_left) =
     (refl, left ∙ sym also_left)
+
+-- ---- something is answered
+
+at_end_or_not : (items : List Item) → (items ≡ []) ⊎ ¬ (items ≡ [])
+at_end_or_not [] = inl refl
+at_end_or_not (item ∷ items) = inr (λ same. let none : ⊥ = cc in none)
+
+-- so many steps ended it, or did not
+abbrev EndsBy : Program → List (List ℤ) → ℕ → Type 0
+EndsBy program start steps = (n : ℕ) × (n ≤ steps) × HasLength program start n
+
+abbrev GoesOn : Program → List (List ℤ) → ℕ → Type 0
+GoesOn program start steps = (m : ℕ) → m ≤ steps → ¬ IsAtEnd (prefix program start m)
+
+ends_or_goes_on : (program : Program) (start : List (List ℤ)) (steps : ℕ) →
+    EndsBy program start steps ⊎ GoesOn program start steps
+ends_or_goes_on program start zero = elim (at_end_or_not (prefix program start 0).pending) [
+  | inl ends ↦ inl (0, omega arith, record { ends = ends; not_before = λ m less. absurd (omega arith) })
+  | inr not ↦ inr (λ m few ends.
+      let same : m ≡ 0 = omega arith in not (subst (λ k. IsAtEnd (prefix program start k)) same ends))
+]
+ends_or_goes_on program start (suc steps) = elim (ends_or_goes_on program start steps) [
+  | inl (n, few, long) ↦ inl (n, omega arith, long)
+  | inr goes_on ↦ elim (at_end_or_not (prefix program start (suc steps)).pending) [
+    | inl ends ↦ inl (suc steps, omega arith, record {
+      ends = ends;
+      not_before = λ m less. goes_on m (omega arith);
+    })
+    | inr not ↦ inr (λ m few ends. elim (cases_order m (suc steps)) [
+      | inl same ↦ not (subst (λ k. IsAtEnd (prefix program start k)) same ends)
+      | inr (inl less) ↦ goes_on m (omega arith) ends
+      | inr (inr more) ↦ absurd (omega arith)
+    ])
+  ]
+]
+
+pub some_answer : (program : Program) (start : List (List ℤ)) (steps : ℕ) →
+    (end : RunEnd) × (stop : List (List ℤ)) × RunsTo program start steps end stop
+some_answer program start steps = elim (ends_or_goes_on program start steps) [
+  | inl (n, few, long) ↦ (Ended n, (prefix program start n).store, (few, long, refl))
+  | inr goes_on ↦ (NotYet, (prefix program start steps).store, (goes_on steps (omega arith), refl))
+]

@@ -11,8 +11,8 @@ ghost use Rattle.source_run.specs.Origins.{HaveOrigins};
 ghost use Rattle.source_run.specs.Runs.{RunsTo};
 ghost use Rattle.source_run.specs.declared.plain.RunEnd.{RunEnd};
 
-/// Programs with the same tree run alike, and a run has one length at most. What `run` answers, and the store that it
-/// leaves, are determined by the program, the starting values and the steps, but for want of memory.
+/// Programs with the same tree run alike, and a run has one length at most. For the program, the starting values and the
+/// steps there is one answer of `run`, with one store that it leaves, but for want of memory.
 pub fn run_laws()
     ensures same_runs { (program other : Program) → program_tree program ≡ program_tree other →
         RunAlike program other }
@@ -21,6 +21,8 @@ pub fn run_laws()
     ensures one_answer { (program : Program) (start : List (List ℤ)) (steps : ℕ) (first second : RunEnd)
         (one other : List (List ℤ)) → RunsTo program start steps first one →
         RunsTo program start steps second other → (first ≡ second) × (one ≡ other) }
+    ensures some_answer { (program : Program) (start : List (List ℤ)) (steps : ℕ) →
+        (end : RunEnd) × (stop : List (List ℤ)) × RunsTo program start steps end stop }
 {}
 
 /// What is pending behind other items is left alone until these are done: until then each step is one of a run of these

@@ -5,6 +5,7 @@ use Rattle.place_rules.specs.PlaceRules.{MayHoldField, MayHoldStatement, told_fi
 use Rattle.placement.specs.Starting.{IsCheapestStart}
 use Rattle.placement.proofs.Cheapest.{one_cheapest}
 use Rattle.placement.proofs.Held.{holds_row, known_row}
+use Rattle.placement.proofs.SomePlan.{some_plan}
 use Rattle.placement.proofs.laws.placement_laws.Goals as goal
 
 pub returns-clause-one_plan : goal.returns-clause-one_plan
@@ -35,3 +36,8 @@ returns-clause-hosts c labelled needs hosts allowed plan placed =
       statements = known_row (length hosts.hosts) placed.start.host allowed.statements plan.statements some.1
           placed.start.start.statements;
     }
+
+pub returns-clause-some_plan : goal.returns-clause-some_plan
+returns-clause-some_plan c labelled needs hosts allowed some words =
+    some_plan labelled needs hosts allowed some words
+    (c.place_rule_laws.ensures.some_host labelled needs hosts allowed words)
