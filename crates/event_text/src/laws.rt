@@ -1,0 +1,30 @@
+//! The laws of scripts: what bytes say, or why they say nothing.
+
+ghost use Rattle.std.specs.Prelude.{◌≡◌, ◌≢◌, ◌≤◌, ◌⊎◌, ℕ, ℤ, List, length, Ok, Err};
+ghost use Rattle.jif_tree.specs.declared.program.Field.{Field};
+ghost use Rattle.host_code.specs.Code.{CodeShape};
+ghost use Rattle.event_text.specs.declared.script.EventsError.{EventsError};
+ghost use Rattle.event_text.specs.declared.script.EventsError.TheVariants.{OutOfMemory};
+ghost use Rattle.event_text.specs.Script.{ScriptShape, script_of, EventsFail};
+ghost use Rattle.event_text.specs.Start.{start_of, StartFails};
+
+use js_base::limits::SCRIPT_BYTES;
+
+/// Laws of scripts and of files of starting values, for whoever reasons about them. The call does nothing.
+pub fn script_laws()
+    // All bytes are a script, or are too long, or have a first line that is bad.
+    ensures some_script { (code : CodeShape) (bytes : List ℕ) →
+        ((script : ScriptShape) × (length bytes ≤ SCRIPT_BYTES) × (script_of code bytes ≡ Ok script))
+        ⊎ ((why : EventsError) × (why ≢ OutOfMemory) × EventsFail code bytes why) }
+
+    // So do all bytes give starting values.
+    ensures some_start { (fields : List Field) (bytes : List ℕ) →
+        ((start : List (List ℤ)) × (length bytes ≤ SCRIPT_BYTES) × (start_of fields bytes ≡ Ok start))
+        ⊎ ((why : EventsError) × (why ≢ OutOfMemory) × StartFails fields bytes why) }
+
+    // A bad line is one of those of the text.
+    ensures script_line { (code : CodeShape) (bytes : List ℕ) (line : ℕ) → script_of code bytes ≡ Err line →
+        (1 ≤ line) × (line ≤ length bytes) }
+    ensures start_line { (fields : List Field) (bytes : List ℕ) (line : ℕ) → start_of fields bytes ≡ Err line →
+        (1 ≤ line) × (line ≤ length bytes) }
+{}
