@@ -4,6 +4,7 @@ pub mod Joins
 pub mod JoinLaws
 pub mod KnownNames
 pub mod LatticeLemmas
+pub mod MadeLabels
 pub mod NamesLoop
 pub mod OneLabel
 pub mod OverLemmas

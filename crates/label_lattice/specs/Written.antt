@@ -1,8 +1,8 @@
 -- How a label is written: `{`, parts joined by `;`, and `}`. A part is a policy, `owner: readers`, or says who trusts,
 -- `?: members`, where names are joined by `,`. Only the last part may say who trusts.
 use Rattle.std.specs.Prelude.{◌≡◌, ℕ, ◌<◌, ◌↔◌, List, [], ◌∷◌, ◌++◌, map, Any, Some}
-use Rattle.std.specs.Prelude.{slice_get, ⊤}
-use Rattle.std.specs.List.{AllZip}
+use Rattle.std.specs.Prelude.{slice_get, Contains, ⊤}
+use Rattle.std.specs.List.{AllByRecursion, AllZip}
 use Rattle.js_base.specs.declared.ids.PrincipalId.{PrincipalId}
 use Rattle.jif_lex.specs.declared.token.Token.{Token}
 use Rattle.jif_lex.specs.declared.token.TokenKind.{TokenKind}
@@ -52,6 +52,12 @@ abbrev pub TrustIsLast : List Part → Type 0
 TrustIsLast [] = ⊤
 TrustIsLast (policy owner readers ∷ parts) = TrustIsLast parts
 TrustIsLast (trust members ∷ parts) = parts ≡ []
+
+-- each name in the part is one of the declared
+abbrev pub HasDeclaredNames : Declared → Part → Type 0
+HasDeclaredNames principals (policy owner readers) =
+    Contains principals.names owner × AllByRecursion (Contains principals.names) readers
+HasDeclaredNames principals (trust members) = AllByRecursion (Contains principals.names) members
 
 abbrev pub parts_tokens : List Part → List TokenKind
 parts_tokens parts = with_separator (symbol Semicolon) (map part_tokens parts)

@@ -1,6 +1,7 @@
 //! Laws of labels.
 
 ghost use Rattle.std.specs.Prelude.{◌≡◌, ℕ, ◌<◌, ◌↔◌, List, [], All, IsTrue, length, codes};
+ghost use Rattle.std.specs.List.{AllByRecursion, AllZip};
 ghost use Rattle.js_base.specs.declared.ids.PrincipalId.{PrincipalId};
 ghost use Rattle.principals.specs.ActsFor.{Declared, ActsFor, IsDeclared};
 ghost use Rattle.jif_lex.specs.declared.token.Token.{Token};
@@ -9,7 +10,7 @@ ghost use Rattle.label_lattice.specs.Label.{IsLabel, Forbids, Trusts, ConfFlows,
 ghost use Rattle.label_lattice.specs.Label.{ForbidsNothing, IsUntrusted, IsBottom, IsPolicy, AddsPolicy};
 ghost use Rattle.label_lattice.specs.Lattice.{IsJoin, IsIntegrityMeet, empty_label, bottom_of, join_of, meet_of};
 ghost use Rattle.label_lattice.specs.Over.{IsLabelOver};
-ghost use Rattle.label_lattice.specs.Written.{IsLabelOf};
+ghost use Rattle.label_lattice.specs.Written.{Part, HasDeclaredNames, KnownPart, IsKnownPart, IsMadeOf, IsLabelOf};
 ghost use Rattle.label_lattice.specs.Printed.{allows, forbids_some, is_trusted_by, printed_label, ReadsBack};
 ghost use Rattle.label_lattice.specs.PrintedExamples.{alice_and_bob, keeps_bob_out, keeps_all_out};
 
@@ -135,4 +136,15 @@ pub fn text_laws()
     lex_laws();
     spelled_laws();
     label_laws();
+}
+
+/// Laws of written labels. The call does nothing.
+pub fn written_laws()
+    // Parts with names of declared principals make a label.
+    ensures parts_make { (principals : Declared) (parts : List Part) → IsDeclared principals →
+        AllByRecursion (HasDeclaredNames principals) parts →
+        (known : List KnownPart) × (label : Label) × AllZip (IsKnownPart principals) parts known
+        × IsMadeOf principals known label × IsLabelOver principals label }
+{
+    acts_for_laws();
 }

@@ -8,6 +8,6 @@ mod printed;
 mod tokens;
 
 pub use label::{Label, READERS};
-pub use laws::{label_laws, text_laws};
+pub use laws::{label_laws, text_laws, written_laws};
 pub use printed::label_text;
 pub use tokens::read_label;
