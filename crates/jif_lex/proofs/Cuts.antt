@@ -29,7 +29,7 @@ same_cut text (p ∷ ps) (q ∷ qs) r s first second here there =
     let others : ps ≡ qs = tails.0 in
     (cc, tails.1)
 
-bad_number_some : (text : List ℕ) → BeginsBadNumber text → text ≡ [] → ⊥
+pub bad_number_some : (text : List ℕ) → BeginsBadNumber text → text ≡ [] → ⊥
 bad_number_some text bad none =
     let there : class_of text ≡ digit =
     ap class_of bad.written

@@ -8,5 +8,7 @@ pub mod Fronts
 pub mod Skips
 pub mod Texts
 pub mod Reading
+pub mod FoundLexemes
+pub mod SomeReading
 pub mod Sizes
 pub mod Spelling

@@ -122,10 +122,10 @@ lexeme_no_blank a x is there = elim is [
   ]
 ]
 
-abbrev Comment : List ℕ → List ℕ → Type 0
+abbrev pub Comment : List ℕ → List ℕ → Type 0
 Comment a x = IsLineComment a x ⊎ IsBlockComment a
 
-comment_opens : (a x : List ℕ) → Comment a x → OpensComment (a ++ x)
+pub comment_opens : (a x : List ℕ) → Comment a x → OpensComment (a ++ x)
 comment_opens a x is = elim is [
   | inl line ↦ (line.body ++ x, inl (line_opens a x line))
   | inr block ↦ ((block.body ++ codes "*/") ++ x, inr (block_opens a x block))

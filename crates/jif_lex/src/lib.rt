@@ -11,7 +11,7 @@ mod symbols;
 mod token;
 mod words;
 
-pub use laws::{lex_laws, spelled_laws, token_laws};
+pub use laws::{lex_laws, reading_laws, spelled_laws, token_laws};
 pub use lexer::{LexError, lex};
 pub use name::Name;
 pub use token::{Symbol, Token, TokenKind, Word};
