@@ -8,26 +8,22 @@ use Rattle.std.proofs.lemmas.List.Sums.{sum_by-cons}
 use Rattle.js_base.specs.declared.limits.TheConstants.{EXPRESSION_NODES}
 use Rattle.principals.specs.ActsFor.{Declared}
 use Rattle.jif_tree.specs.Sizes.{expr_nodes, block_nodes}
-use Rattle.jif_tree.specs.Sizes as trees
 use Rattle.jif_tree.specs.Trees.{ExprTree, local, scalar, Heading, BlockTree, set_local, set_field, MethodTree}
-use Rattle.jif_tree.specs.Trees.{ProgramTree}
 use Rattle.jif_grammar.specs.DraftShapes.{ExprShape, number_shape, variable_shape}
 use Rattle.jif_grammar.specs.DraftShapes.{element_shape, complement_shape, negation_shape, binary_shape}
 use Rattle.jif_grammar.specs.DraftShapes.{release_shape, endorsement_shape, BlockShape, end_shape}
 use Rattle.jif_grammar.specs.DraftShapes.{declaration_shape, assignment_shape, element_assignment_shape}
 use Rattle.jif_grammar.specs.DraftShapes.{branch_shape, loop_shape, call_shape, return_shape}
-use Rattle.jif_grammar.specs.DraftShapes.{MethodShape, DraftShape}
+use Rattle.jif_grammar.specs.DraftShapes.{MethodShape}
 use Rattle.jif_resolve.specs.declared.meaning.Meaning.{Meaning}
 use Rattle.jif_resolve.specs.declared.meaning.Meaning.TheVariants as sense
 use Rattle.jif_resolve.specs.Counts.{nodes_in, nodes_in_all}
 use Rattle.jif_resolve.specs.Faults.{setting_of}
-use Rattle.jif_resolve.specs.Meanings.{Global, globals_of}
+use Rattle.jif_resolve.specs.Meanings.{Global}
 use Rattle.jif_resolve.specs.Places.{Setting, Place, after_statement, after_block, after_call, after_declaration}
 use Rattle.jif_resolve.specs.Places.{meaning_at, body_place, head_after}
 use Rattle.jif_resolve.specs.Resolved.{variable_tree, assignment_tree, heading_of, IsExprFor, IsBlockFor, AreMethodsFor}
-use Rattle.jif_resolve.specs.Sizes.{HasFewNodes, IsLimitedMethod, IsSized, IsLimited}
-use Rattle.jif_resolve.specs.Verdicts.{IsProgramOf}
-use Rattle.jif_resolve.proofs.WithinLimits.{within_limits}
+use Rattle.jif_resolve.specs.Sizes.{HasFewNodes, MethodKeepsLimits}
 
 -- ---- expressions
 
@@ -140,26 +136,17 @@ few_in_block setting place (return_shape start value rest) tree is few =
 
 -- ---- programs
 
-few_in_methods : (principals : Declared) (globals : List Global) (before methods : List MethodShape)
+pub few_nodes : (principals : Declared) (globals : List Global) (before methods : List MethodShape)
     (trees : List MethodTree) → AreMethodsFor principals globals before methods trees →
-    All IsLimitedMethod methods → All IsFew (flat_map (λ (method : MethodTree). block_nodes method.body) trees)
-few_in_methods principals globals before [] trees are limited =
+    All MethodKeepsLimits methods → All IsFew (flat_map (λ (method : MethodTree). block_nodes method.body) trees)
+few_nodes principals globals before [] trees are kept =
     subst (λ (all : List MethodTree). All IsFew (flat_map (λ (method : MethodTree). block_nodes method.body) all))
     (sym are) (All-nil IsFew)
-few_in_methods principals globals before (method ∷ methods) trees are limited =
-    let first = limited 0 method (omega arith) in
+few_nodes principals globals before (method ∷ methods) trees are kept =
+    let first = kept 0 method (omega arith) in
     subst (λ (all : List MethodTree). All IsFew (flat_map (λ (one : MethodTree). block_nodes one.body) all))
     (sym are.2)
     (All-append IsFew (block_nodes are.0.body) _
     (few_in_block (setting_of principals globals method) (body_place (head_after before) method) method.body are.0.body
     are.3.body first.nodes)
-    (few_in_methods principals globals (before ++ method ∷ []) methods are.1 are.4
-    (λ k d lt. limited (suc k) d (omega arith))))
-
--- the statements of a resolved program are as small as those of its draft
-pub few_nodes : (principals : Declared) (draft : DraftShape) (tree : ProgramTree) → IsSized draft → IsLimited draft →
-    IsProgramOf principals draft tree → trees.IsSized tree
-few_nodes principals draft tree sized limited is = record {
-  within = within_limits principals draft tree sized is.is_tree;
-  nodes = few_in_methods principals (globals_of draft) [] draft.methods tree.methods is.is_tree.methods limited.each;
-}
+    (few_nodes principals globals (before ++ method ∷ []) methods are.1 are.4 (λ k d lt. kept (suc k) d (omega arith))))

@@ -23,7 +23,7 @@ use Rattle.jif_resolve.specs.declared.globals.FirstName.{FirstName}
 use Rattle.jif_resolve.specs.Meanings.{Global, earlier_of, first_named, fields_from, methods_from, field_meaning}
 use Rattle.jif_resolve.specs.Meanings.{method_meaning}
 use Rattle.jif_resolve.specs.Faults.{is_global_before}
-use Rattle.jif_resolve.specs.Sizes.{IsSizedMethod}
+use Rattle.jif_resolve.specs.Sizes.{MethodKeepsLimits}
 use Rattle.jif_resolve.specs.GlobalNames.{global_shape, first_name, FirstNames, name_in, HasFirst, IsAdded, is_sooner}
 use Rattle.jif_resolve.proofs.Cleanly.{shapes_more}
 use Rattle.jif_resolve.proofs.Usable.{true_or_false}
@@ -114,14 +114,14 @@ pub method_pushed : (done start : List DeclaredName) (made : DeclaredName) (meth
 method_pushed done start made methods i x less is read made_is =
     one_longer done start made _ _ _ is made_is (methods_step methods i x less read)
 
-pub few_params : (methods : List MethodDraft) → All IsSizedMethod (map method_shape methods) → (i : ℕ)
+pub few_params : (methods : List MethodDraft) → All MethodKeepsLimits (map method_shape methods) → (i : ℕ)
     (d : MethodDraft) → i < length methods → d ≡ get_or methods i d → length d.params.items < 2 ^ 32
 few_params methods each i d less read =
     let within : i < length (map method_shape methods) = rw length-map less in
     let same : get_or (map method_shape methods) i (method_shape d) ≡ method_shape d =
     get_or-map method_shape methods i d (method_shape d) less ∙ ap method_shape (sym read) in
-    let sized : IsSizedMethod (method_shape d) = subst IsSizedMethod same (each i (method_shape d) within) in
-    let few : length (map param_shape d.params.items) ≤ PARAMETERS = sized.parameters in
+    let kept : MethodKeepsLimits (method_shape d) = subst MethodKeepsLimits same (each i (method_shape d) within) in
+    let few : length (map param_shape d.params.items) ≤ PARAMETERS = kept.parameters in
     let long : length (map param_shape d.params.items) ≡ length d.params.items = length-map _ _ in
     omega (arith, few, long)
 

@@ -17,7 +17,7 @@ use Rattle.jif_resolve.specs.Faults.{setting_of}
 use Rattle.jif_resolve.specs.Meanings.{Global, fields_from, methods_from, globals_of}
 use Rattle.jif_resolve.specs.Places.{head_after, body_place}
 use Rattle.jif_resolve.specs.Resolved.{AreMethodsFor}
-use Rattle.jif_resolve.specs.Sizes.{IsLimited}
+use Rattle.jif_resolve.specs.Returns.{AreReturnedLast}
 use Rattle.jif_resolve.specs.Variables.{param_ids}
 use Rattle.jif_resolve.specs.Verdicts.{IsProgramOf}
 use Rattle.jif_resolve.proofs.BeginLabels.{begins_over, readers}
@@ -103,9 +103,9 @@ methods_labelled principals program globals none heads number labels stay before
     )
 
 pub methods_are_labelled : (principals : Declared) (draft : DraftShape) (tree : ProgramTree) → IsDeclared principals →
-    IsLimited draft → IsProgramOf principals draft tree →
+    AreReturnedLast draft → IsProgramOf principals draft tree →
     AreLabelledMethods principals tree (declared_labels tree) tree.methods
-methods_are_labelled principals draft tree declared limited is =
+methods_are_labelled principals draft tree declared returned is =
     let heads = heads_labelled principals draft tree is in
     methods_labelled principals tree (globals_of draft) (no_locals draft) heads 0 (declared_labels tree)
     (stay_same (declared_labels tree)) [] draft.methods tree.methods is.is_tree.methods heads
@@ -113,5 +113,5 @@ methods_are_labelled principals draft tree declared limited is =
     (λ k d less. record {
       begins = begins_over principals draft tree is k d less;
       authority = readers principals draft tree declared is k d less;
-      returns = returns_last principals draft tree limited is k d less;
+      returns = returns_last principals draft tree returned is k d less;
     })

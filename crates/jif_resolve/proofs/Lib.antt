@@ -5,8 +5,10 @@ mod Blocks
 mod CleanDrafts
 mod Cleanly
 mod DeclaredLabels
+pub mod EachMethod
 mod ExprSizes
 mod FewNodes
+mod FewVariables
 mod FirstByTest
 mod FirstFault
 mod GlobalLists
@@ -19,6 +21,8 @@ mod Limited
 mod Meant
 mod MethodWalks
 mod Methods
+mod Nested
+mod NestedPrograms
 mod Numbers
 mod OneProgram
 mod ParametersInOrder
@@ -27,6 +31,7 @@ mod PrincipalNames
 mod Ranges
 mod ResultsGiven
 mod ResultsUnread
+mod ReturnedLast
 mod Returning
 mod Sized
 mod Sooner

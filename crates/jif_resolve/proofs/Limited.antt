@@ -1,5 +1,4 @@
--- The draft of a program that passes no limit keeps the limits of its arrays, of its elements and of the nodes of its
--- statements, and returns only where a method ends.
+-- The draft of a program that passes no limit keeps the limits of drafts.
 use Rattle.std.proofs.Common.{◌≡◌, ℕ, suc, ◌+◌, ◌≤◌, true, false, All, List, [], ◌∷◌, ◌++◌, length}
 use Rattle.std.proofs.Common.{Option, Some, None, refl, sym, subst, ap, ◌∙◌, arith}
 use Rattle.std.proofs.lemmas.List.Elements.{All-nil, All-cons}
@@ -28,49 +27,18 @@ use Rattle.jif_grammar.specs.Drafts.{expr_at, args_at, expr_width, block_at, blo
 use Rattle.jif_grammar.specs.Drafts.{size_of, method_at, after_item, fields_at, methods_at}
 use Rattle.jif_grammar.specs.Programs.{IsWithin, IsProgramOf, line_at}
 use Rattle.jif_resolve.specs.Counts.{nodes_in, nodes_in_all}
-use Rattle.jif_resolve.specs.Sizes.{IsSizedField, elements_in, HasFewNodes, HasNoReturn, ReturnsLast}
-use Rattle.jif_resolve.specs.Sizes.{IsLimitedMethod, IsLimited}
+use Rattle.jif_resolve.specs.Sizes.{IsSizedField, elements_in, HasFewNodes, MethodKeepsLimits, KeepsLimits}
 use Rattle.jif_resolve.proofs.Begun.{begun, begun_append, of_optional_label, of_expr, of_args}
 use Rattle.jif_resolve.proofs.Begun.{worth_is}
 use Rattle.jif_resolve.proofs.Tallies.{read_after, tokens_behind, never_begun, IsRenewed, elements_of, a_node, other_nodes}
 use Rattle.jif_resolve.proofs.Tallies.{elements_read, nodes_read, StaysWithin}
 use Rattle.jif_resolve.proofs.Tallies.{within_at_end, within_at_start, program_within, few_elements, small_array}
 use Rattle.jif_resolve.proofs.Tallies.{few_nodes, parted}
-use Rattle.jif_resolve.proofs.Sized.{field_begun, method_begun}
-
--- ---- returns
-
-no_return : (lines : ℕ → ℕ) (block : BlockPhrase) (at : ℕ) → HasNoReturn (block_at lines at block end_shape)
-no_return lines end at = tt
-no_return lines (declaration label name value rest) at = no_return lines rest _
-no_return lines (assignment name value rest) at = no_return lines rest _
-no_return lines (element_assignment name index value rest) at = no_return lines rest _
-no_return lines (call name args rest) at = no_return lines rest _
-no_return lines (call_into into name args rest) at = no_return lines rest _
-no_return lines (branch guard first rest) at = (no_return lines first _, tt, no_return lines rest _)
-no_return lines (branch_else guard first second rest) at =
-    (no_return lines first _, no_return lines second _, no_return lines rest _)
-no_return lines (loop guard body rest) at = (no_return lines body _, no_return lines rest _)
-
-returns_behind : (lines : ℕ → ℕ) (block : BlockPhrase) (behind : BlockShape) (at : ℕ) → ReturnsLast behind →
-    ReturnsLast (block_at lines at block behind)
-returns_behind lines end behind at last = last
-returns_behind lines (declaration label name value rest) behind at last = returns_behind lines rest behind _ last
-returns_behind lines (assignment name value rest) behind at last = returns_behind lines rest behind _ last
-returns_behind lines (element_assignment name index value rest) behind at last =
-    returns_behind lines rest behind _ last
-returns_behind lines (call name args rest) behind at last = returns_behind lines rest behind _ last
-returns_behind lines (call_into into name args rest) behind at last = returns_behind lines rest behind _ last
-returns_behind lines (branch guard first rest) behind at last =
-    (no_return lines first _, tt, returns_behind lines rest behind _ last)
-returns_behind lines (branch_else guard first second rest) behind at last =
-    (no_return lines first _, no_return lines second _, returns_behind lines rest behind _ last)
-returns_behind lines (loop guard body rest) behind at last =
-    (no_return lines body _, returns_behind lines rest behind _ last)
-
-result_is_last : (lines : ℕ → ℕ) (at : ℕ) (result : Option ExprPhrase) → ReturnsLast (result_at lines at result)
-result_is_last lines at None = tt
-result_is_last lines at (Some value) = refl
+use Rattle.jif_resolve.proofs.Tallies.{few_fields, few_methods, few_statements, fields_read, methods_read}
+use Rattle.jif_resolve.proofs.Tallies.{statements_read}
+use Rattle.jif_resolve.proofs.Sized.{field_begun, method_begun, few_declared, fields_begun, methods_begun}
+use Rattle.jif_resolve.proofs.Sized.{statements_begun}
+use Rattle.jif_resolve.proofs.Nested.{shallow, block_nested, result_nested}
 
 -- ---- nodes of statements
 
@@ -256,9 +224,9 @@ few_in_block lines depth at (loop guard block rest) behind t first within few =
 
 -- ---- methods
 
-limited_method : (lines : ℕ → ℕ) (at : ℕ) (phrase : MethodPhrase) (t : Tally) → IsWithin t →
-    StaysWithin t (method_spelling phrase) → IsLimitedMethod (method_at lines at phrase)
-limited_method lines at phrase t first within =
+method_keeps : (lines : ℕ → ℕ) (at : ℕ) (phrase : MethodPhrase) (t : Tally) → IsWithin t →
+    StaysWithin t (method_spelling phrase) → MethodKeepsLimits (method_at lines at phrase)
+method_keeps lines at phrase t first within =
     let head = head_spelling phrase.kind phrase.name phrase.begin in
     let params = plain 0 (symbol LeftParenthesis) ∷ params_spelling phrase.params in
     let authority = plain 0 (symbol RightParenthesis) ∷ authority_spelling phrase.authority in
@@ -273,26 +241,31 @@ limited_method lines at phrase t first within =
     let authority_place = params_place + length (params_spelling phrase.params) + 1 in
     let body_place = authority_place + length (authority_spelling phrase.authority) + 1 in
     let result_place = body_place + block_width phrase.body in
+    let declared = few_declared lines at phrase t first within in
     record {
+      parameters = declared.0;
+      variables = declared.1;
       nodes = few_in_block lines 0 body_place phrase.body (result_at lines result_place phrase.result) inside
           here.more_is.0 here.more_is.1
           (few_in_result lines result_place phrase.result (after_tokens t (front ++ body)) ends.between ends.more_is);
-      returns = returns_behind lines phrase.body (result_at lines result_place phrase.result) body_place
-          (result_is_last lines result_place phrase.result);
+      nesting = block_nested lines 0 0 body_place phrase.body (result_at lines result_place phrase.result)
+          (omega arith) (shallow inside (block_spelling 0 phrase.body) here.more_is.1)
+          (result_nested lines result_place phrase.result
+          (shallow (after_tokens t (front ++ body)) result ends.more_is));
     }
 
-limited_methods : (lines : ℕ → ℕ) (at : ℕ) (program : ProgramPhrase) (t : Tally) → IsWithin t →
-    StaysWithin t (spelling program) → All IsLimitedMethod (methods_at lines at program)
-limited_methods lines at [] t first within = All-nil IsLimitedMethod
-limited_methods lines at (field phrase ∷ items) t first within =
+methods_keep : (lines : ℕ → ℕ) (at : ℕ) (program : ProgramPhrase) (t : Tally) → IsWithin t →
+    StaysWithin t (spelling program) → All MethodKeepsLimits (methods_at lines at program)
+methods_keep lines at [] t first within = All-nil MethodKeepsLimits
+methods_keep lines at (field phrase ∷ items) t first within =
     let here = parted t (field_spelling phrase) (spelling items) first within in
-    limited_methods lines (after_item at (field phrase)) items (after_tokens t (field_spelling phrase)) here.between
+    methods_keep lines (after_item at (field phrase)) items (after_tokens t (field_spelling phrase)) here.between
     here.more_is
-limited_methods lines at (method phrase ∷ items) t first within =
+methods_keep lines at (method phrase ∷ items) t first within =
     let here = parted t (method_spelling phrase) (spelling items) first within in
-    All-cons IsLimitedMethod (method_at lines at phrase) (methods_at lines (after_item at (method phrase)) items)
-    (limited_method lines at phrase t first here.front_is)
-    (limited_methods lines (after_item at (method phrase)) items (after_tokens t (method_spelling phrase))
+    All-cons MethodKeepsLimits (method_at lines at phrase) (methods_at lines (after_item at (method phrase)) items)
+    (method_keeps lines at phrase t first here.front_is)
+    (methods_keep lines (after_item at (method phrase)) items (after_tokens t (method_spelling phrase))
     here.between here.more_is)
 
 -- ---- fields
@@ -360,20 +333,42 @@ elements_begun at (method phrase ∷ items) =
       elements_begun (after_item at (method phrase)) items,
     )
 
-pub limited_program : (list : List Token) (draft : DraftShape) → IsProgramOf list draft → IsLimited draft
-limited_program list draft program =
+-- ---- programs
+
+pub draft_keeps : (list : List Token) (draft : DraftShape) → IsProgramOf list draft → KeepsLimits draft
+draft_keeps list draft program =
     let phrases = program.program in
     let lines = line_at list in
+    let tokens = spelling phrases in
     let within = program_within phrases program.text.limits in
-    let last = after_tokens tally_at_start (spelling phrases) in
-    let end_within = within_at_end tally_at_start (spelling phrases) within_at_start within in
-    subst IsLimited (sym program.draft_is) (record {
+    let last = after_tokens tally_at_start tokens in
+    let end_within = within_at_end tally_at_start tokens within_at_start within in
+    let on = never_begun tokens in
+    subst KeepsLimits (sym program.draft_is) (record {
+      fields = omega (
+        arith,
+        few_fields last end_within,
+        fields_begun 0 phrases,
+        read_after fields_read tally_at_start tokens on,
+      );
       sizes = sized_fields 0 phrases tally_at_start program.text.spells.is_program within_at_start within;
       elements = omega (
         arith,
         few_elements last end_within,
         elements_begun 0 phrases,
-        read_after elements_read tally_at_start (spelling phrases) (never_begun (spelling phrases)),
+        read_after elements_read tally_at_start tokens on,
       );
-      each = limited_methods lines 0 phrases tally_at_start within_at_start within;
+      methods = omega (
+        arith,
+        few_methods last end_within,
+        methods_begun lines 0 phrases,
+        read_after methods_read tally_at_start tokens on,
+      );
+      each = methods_keep lines 0 phrases tally_at_start within_at_start within;
+      statements = omega (
+        arith,
+        few_statements last end_within,
+        statements_begun lines 0 phrases,
+        read_after statements_read tally_at_start tokens on,
+      );
     })

@@ -31,7 +31,7 @@ use Rattle.jif_resolve.specs.Faults.{label_faults, params_faults, ends_in_return
 use Rattle.jif_resolve.specs.Faults.{method_faults, methods_faults, global_faults, faults_of}
 use Rattle.jif_resolve.specs.First.{with_faults}
 use Rattle.jif_resolve.specs.KnownNames.{IsCounted, after_method}
-use Rattle.jif_resolve.specs.Sizes.{IsSized, IsSizedMethod}
+use Rattle.jif_resolve.specs.Sizes.{KeepsLimits, MethodKeepsLimits}
 use Rattle.jif_resolve.specs.Walks.{is_return}
 use Rattle.jif_resolve.proofs.Cleanly.{shapes_more}
 use Rattle.jif_resolve.proofs.Walks.{at_place}
@@ -239,13 +239,13 @@ result_few : (b : Bool) → (if b then 1 else 0) ≤ 1
 result_few true = omega arith
 result_few false = omega arith
 
-variables_few : (methods : List MethodShape) → All IsSizedMethod methods →
+variables_few : (methods : List MethodShape) → All MethodKeepsLimits methods →
     counted variables_in methods ≤ (VARIABLES + 1) * length methods
 variables_few [] each = omega arith
 variables_few (m ∷ methods) each =
-    let one = (All-head IsSizedMethod m methods each).variables in
+    let one = (All-head MethodKeepsLimits m methods each).variables in
     let result = result_few (has_result m.result) in
-    let rest = variables_few methods (All-tail IsSizedMethod m methods each) in
+    let rest = variables_few methods (All-tail MethodKeepsLimits m methods each) in
     let all : counted variables_in (m ∷ methods) ≡ variables_in m + counted variables_in methods =
     sum_by-cons variables_in m methods in
     omega (arith, one, result, rest, all)
@@ -256,13 +256,13 @@ pub record FewBefore (p : Place) : Type 0 where
   pub statements : p.statement ≤ STATEMENTS
   pub sites : p.site ≤ STATEMENTS + 1
 
-pub few_before : (draft : DraftShape) → IsSized draft → (k : ℕ) → FewBefore (head_after (take k draft.methods))
-few_before draft sized k =
+pub few_before : (draft : DraftShape) → KeepsLimits draft → (k : ℕ) → FewBefore (head_after (take k draft.methods))
+few_before draft kept k =
     let ms = draft.methods in
     let calls : MethodShape → ℕ = λ method. calls_in method.body in
-    let long = sized.methods in
-    let all = sized.statements in
-    let variables = variables_few ms sized.each in
+    let long = kept.methods in
+    let all = kept.statements in
+    let variables = variables_few ms kept.each in
     let some_variables = sum_by-take-le variables_in ms k in
     let some_statements = sum_by-take-le numbered_in ms k in
     let some_sites = sum_by-take-le calls ms k in
@@ -295,39 +295,39 @@ next_place {principals} {globals} {first} {methods} {i} {p} {found} x so_far les
     ∙ ap head_after (sym (shapes_more method_shape methods i x less read))
 
 pub method_few : {principals : Declared} {globals : List Global} {first : Option Fault} {i : ℕ}
-    {p : Place} {found : Option Fault} (draft : Draft) (methods : List MethodDraft) (x : MethodDraft) → IsSized (draft_shape draft) → methods ≡ draft.methods.items →
+    {p : Place} {found : Option Fault} (draft : Draft) (methods : List MethodDraft) (x : MethodDraft) → KeepsLimits (draft_shape draft) → methods ≡ draft.methods.items →
     MethodsSoFar principals globals first methods i p found → i < length methods →
     x ≡ get_or methods i x →
     FewBefore (after_method (has_result (method_shape x).result)
     (after_block (body_place p (method_shape x)) (method_shape x).body))
-method_few {principals} {globals} {first} {i} {p} {found} draft methods x sized are so_far less read =
+method_few {principals} {globals} {first} {i} {p} {found} draft methods x kept are so_far less read =
     let few = subst (λ ms. FewBefore (head_after (take (i + 1) (map method_shape ms)))) (sym are)
-    (few_before (draft_shape draft) sized (i + 1)) in
+    (few_before (draft_shape draft) kept (i + 1)) in
     let same : take (i + 1) (map method_shape methods) ≡ map method_shape (take (i + 1) methods) =
     take-map method_shape (i + 1) methods in
     let head = ap head_after same in
     subst FewBefore (sym (next_place x so_far less read)) (subst FewBefore head few)
 
 pub method_counted : {principals : Declared} {globals : List Global} {first : Option Fault} {i : ℕ}
-    {p : Place} {found : Option Fault} (draft : Draft) (methods : List MethodDraft) (x : MethodDraft) → IsSized (draft_shape draft) → methods ≡ draft.methods.items →
+    {p : Place} {found : Option Fault} (draft : Draft) (methods : List MethodDraft) (x : MethodDraft) → KeepsLimits (draft_shape draft) → methods ≡ draft.methods.items →
     MethodsSoFar principals globals first methods i p found → i < length methods →
     x ≡ get_or methods i x →
     IsCounted (after_block (body_place p (method_shape x)) (method_shape x).body)
-method_counted draft methods x sized are so_far less read =
-    let few = method_few draft methods x sized are so_far less read in
+method_counted draft methods x kept are so_far less read =
+    let few = method_few draft methods x kept are so_far less read in
     let a = few.variables in
     let b = few.statements in
     let c = few.sites in
     record { variables = omega (arith, a); statements = omega (arith, b); sites = omega (arith, c) }
 
 pub next_fits : {principals : Declared} {globals : List Global} {first : Option Fault} {i : ℕ} {p : Place}
-    {found : Option Fault} (draft : Draft) (methods : List MethodDraft) (x : MethodDraft) (behind : Place) → IsSized (draft_shape draft) → methods ≡ draft.methods.items →
+    {found : Option Fault} (draft : Draft) (methods : List MethodDraft) (x : MethodDraft) (behind : Place) → KeepsLimits (draft_shape draft) → methods ≡ draft.methods.items →
     MethodsSoFar principals globals first methods i p found → i < length methods →
     x ≡ get_or methods i x →
     behind ≡ after_block (body_place p (method_shape x)) (method_shape x).body →
     behind.first + length behind.earlier + 1 < 2 ^ 32
-next_fits draft methods x behind sized are so_far less read passed =
-    let few = method_few draft methods x sized are so_far less read in
+next_fits draft methods x behind kept are so_far less read passed =
+    let few = method_few draft methods x kept are so_far less read in
     let a = few.variables in
     let same = ap (λ (q : Place). q.first + length q.earlier) passed in
     omega (arith, a, same)

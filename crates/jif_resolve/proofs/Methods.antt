@@ -1,8 +1,8 @@
 -- The methods of a program, made one by one.
-use Rattle.std.proofs.Common.{◌≡◌, ℕ, suc, ◌+◌, ◌^◌, ◌<◌, ◌≤◌, Bool, List, [], ◌∷◌, ◌++◌, map, length, take, drop}
+use Rattle.std.proofs.Common.{◌≡◌, ℕ, ◌+◌, ◌^◌, ◌<◌, Bool, List, [], ◌∷◌, ◌++◌, map, length, take, drop}
 use Rattle.std.proofs.Common.{get_or, refl, ap}
 use Rattle.std.proofs.Common.{sym, ◌∙◌, subst, arith}
-use Rattle.std.proofs.lemmas.List.{append-nil, append_assoc, map-append, length-append, length-map, drop_all}
+use Rattle.std.proofs.lemmas.List.{append-nil, append_assoc, map-append, length-append, length-map}
 use Rattle.js_base.specs.declared.ids.VarId.{VarId}
 use Rattle.js_base.specs.declared.ids.StmtId.{StmtId}
 use Rattle.principals.specs.ActsFor.{Declared}
@@ -19,7 +19,7 @@ use Rattle.jif_resolve.specs.Places.{Setting, Place, next_variable, after_variab
 use Rattle.jif_resolve.specs.Places.{head_after, body_place}
 use Rattle.jif_resolve.specs.Faults.{setting_of, method_faults, methods_faults}
 use Rattle.jif_resolve.specs.KnownNames.{IsCounted, after_method}
-use Rattle.jif_resolve.specs.Sizes.{IsSized}
+use Rattle.jif_resolve.specs.Sizes.{KeepsLimits}
 use Rattle.jif_resolve.specs.Variables.{param_ids}
 use Rattle.jif_resolve.specs.Resolved.{IsBlockFor, IsMethodFor, AreMethodsFor}
 use Rattle.jif_resolve.proofs.Usable.{none_in_two}
@@ -32,13 +32,6 @@ pub record ParamIdsSoFar (start : Place) (params : List ParamDraft) (i : ℕ) (p
   pub place : after_params p (map param_shape (drop i params)) ≡ after_params start (map param_shape params)
   pub numbers : ids ++ param_ids (p.first + length p.earlier) (map param_shape (drop i params))
       ≡ param_ids (start.first + length start.earlier) (map param_shape params)
-
-pub param_ids_begin : (start : Place) (params : List ParamDraft) (ids : List VarId) → ids ≡ [] →
-    ParamIdsSoFar start params 0 start ids
-param_ids_begin start params ids none = record {
-  place = refl;
-  numbers = ap (λ xs. xs ++ param_ids (start.first + length start.earlier) (map param_shape params)) none;
-}
 
 pub param_id_counted : {start : Place} {params : List ParamDraft} {i : ℕ} {p : Place} {ids : List VarId}
     (x : ParamDraft) → IsCounted (after_params start (map param_shape params)) → ParamIdsSoFar start params i p ids →
@@ -55,39 +48,6 @@ has_room p name counted =
     let long = length-append p.earlier (name.text ∷ []) in
     let all = counted.variables in
     omega (arith, long, all)
-
-pub param_ids_more : {start : Place} {params : List ParamDraft} {i : ℕ} {p : Place} {ids : List VarId}
-    (x : ParamDraft) (next : Place) (id : VarId) → ParamIdsSoFar start params i p ids → i < length params →
-    x ≡ get_or params i x → id ≡ next_variable p → next ≡ after_variable p (param_shape x).name →
-    ParamIdsSoFar start params (i + 1) next (ids ++ id ∷ [])
-param_ids_more {start} {params} {i} {p} {ids} x next id so_far less read id_is place =
-    let rest = map param_shape (drop (i + 1) params) in
-    let here = after_variable p (param_shape x).name in
-    let step = shapes_from param_shape params i x less read in
-    let long = length-append p.earlier ((param_shape x).name.text ∷ []) in
-    let count : here.first + length here.earlier ≡ suc (p.first + length p.earlier) = omega (arith, long) in
-    record {
-      place = ap (λ q. after_params q rest) place ∙ ap (after_params p) (sym step) ∙ so_far.place;
-      numbers = ap (λ (q : Place). (ids ++ id ∷ []) ++ param_ids (q.first + length q.earlier) rest) place
-          ∙ append_assoc ids (id ∷ []) (param_ids (here.first + length here.earlier) rest)
-          ∙ ap (λ n. ids ++ id ∷ param_ids n rest) count
-          ∙ ap (λ d. ids ++ d ∷ param_ids (suc (p.first + length p.earlier)) rest) id_is
-          ∙ ap (λ ys. ids ++ param_ids (p.first + length p.earlier) ys) (sym step)
-          ∙ so_far.numbers;
-    }
-
-pub param_ids_all : {start : Place} {params : List ParamDraft} {i : ℕ} {p : Place} {ids : List VarId} →
-    ParamIdsSoFar start params i p ids → length params ≤ i →
-    ids ≡ param_ids (start.first + length start.earlier) (map param_shape params)
-param_ids_all {start} {params} {i} {p} {ids} so_far over =
-    sym (append-nil ids)
-    ∙ ap (λ ys. ids ++ param_ids (p.first + length p.earlier) (map param_shape ys)) (sym (drop_all i params over))
-    ∙ so_far.numbers
-
-pub params_done : {start : Place} {params : List ParamDraft} {i : ℕ} {p : Place} {ids : List VarId} →
-    ParamIdsSoFar start params i p ids → length params ≤ i → p ≡ after_params start (map param_shape params)
-params_done {start} {params} {i} {p} {ids} so_far over =
-    ap (λ ys. after_params p (map param_shape ys)) (sym (drop_all i params over)) ∙ so_far.place
 
 -- ---- a method
 
@@ -185,12 +145,12 @@ front_taken [] back = refl
 front_taken (x ∷ front) back = ap (λ xs. x ∷ xs) (front_taken front back)
 
 pub few_next : {principals : Declared} {globals : List Global} {all front back : List MethodDraft} {p : Place}
-    {methods : List Method} (x : MethodDraft) (rest : List MethodDraft) (draft : DraftShape) → IsSized draft →
+    {methods : List Method} (x : MethodDraft) (rest : List MethodDraft) (draft : DraftShape) → KeepsLimits draft →
     draft.methods ≡ map method_shape all → MethodsMade principals globals all front back p methods →
     back ≡ x ∷ rest →
     FewBefore (after_method (has_result (method_shape x).result)
     (after_block (body_place p (method_shape x)) (method_shape x).body))
-few_next {principals} {globals} {all} {front} {back} {p} {methods} x rest draft sized are so_far next =
+few_next {principals} {globals} {all} {front} {back} {p} {methods} x rest draft kept are so_far next =
     let m = method_shape x in
     let shapes = map method_shape front ++ m ∷ [] in
     let split : draft.methods ≡ shapes ++ map method_shape rest =
@@ -202,14 +162,14 @@ few_next {principals} {globals} {all} {front} {back} {p} {methods} x rest draft 
     let place : after_method (has_result m.result) (after_block (body_place p m) m.body) ≡ head_after shapes =
     ap (λ q. after_method (has_result m.result) (after_block (body_place q m) m.body)) so_far.place
     ∙ next_head (map method_shape front) m in
-    subst FewBefore (head ∙ sym place) (few_before draft sized (length shapes))
+    subst FewBefore (head ∙ sym place) (few_before draft kept (length shapes))
 
 pub next_counted : {principals : Declared} {globals : List Global} {all front back : List MethodDraft} {p : Place}
-    {methods : List Method} (x : MethodDraft) (rest : List MethodDraft) (draft : DraftShape) → IsSized draft →
+    {methods : List Method} (x : MethodDraft) (rest : List MethodDraft) (draft : DraftShape) → KeepsLimits draft →
     draft.methods ≡ map method_shape all → MethodsMade principals globals all front back p methods →
     back ≡ x ∷ rest → IsCounted (after_block (body_place p (method_shape x)) (method_shape x).body)
-next_counted x rest draft sized are so_far next =
-    let few = few_next x rest draft sized are so_far next in
+next_counted x rest draft kept are so_far next =
+    let few = few_next x rest draft kept are so_far next in
     let a = few.variables in
     let b = few.statements in
     let c = few.sites in
@@ -217,11 +177,11 @@ next_counted x rest draft sized are so_far next =
 
 pub next_has_room : {principals : Declared} {globals : List Global} {all front back : List MethodDraft} {p : Place}
     {methods : List Method} (x : MethodDraft) (rest : List MethodDraft) (behind : Place) (draft : DraftShape) →
-    IsSized draft → draft.methods ≡ map method_shape all → MethodsMade principals globals all front back p methods →
+    KeepsLimits draft → draft.methods ≡ map method_shape all → MethodsMade principals globals all front back p methods →
     back ≡ x ∷ rest → behind ≡ after_block (body_place p (method_shape x)) (method_shape x).body →
     behind.first + length behind.earlier + 1 < 2 ^ 32
-next_has_room x rest behind draft sized are so_far next passed =
-    let few = few_next x rest draft sized are so_far next in
+next_has_room x rest behind draft kept are so_far next passed =
+    let few = few_next x rest draft kept are so_far next in
     let a = few.variables in
     let same = ap (λ (q : Place). q.first + length q.earlier) passed in
     omega (arith, a, same)

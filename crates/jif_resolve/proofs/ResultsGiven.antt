@@ -16,7 +16,7 @@ use Rattle.jif_resolve.specs.Meanings.{Global, has_result, globals_of}
 use Rattle.jif_resolve.specs.Places.{Setting, Place, after_statement, after_call, after_declaration, after_block}
 use Rattle.jif_resolve.specs.Places.{meaning_at, head_after, body_place}
 use Rattle.jif_resolve.specs.Resolved.{assignment_tree, heading_of, IsBlockFor, IsMethodFor, AreMethodsFor}
-use Rattle.jif_resolve.specs.Sizes.{ReturnsLast, IsLimitedMethod, IsLimited}
+use Rattle.jif_resolve.specs.Returns.{ReturnsLast, MethodReturnsLast, AreReturnedLast}
 use Rattle.jif_resolve.specs.Verdicts.{IsProgramOf}
 use Rattle.jif_resolve.specs.declared.fault.FaultKind.TheVariants.{WrongType}
 use Rattle.jif_resolve.proofs.CleanDrafts.{clean_draft}
@@ -70,24 +70,24 @@ ends_where false ends is fits = absurd (false≢true is)
 
 method_gives : (principals : Declared) (globals : List Global) (head : Place) (method : MethodShape)
     (tree : MethodTree) (result : VarId) → IsMethodFor (setting_of principals globals method) head method tree →
-    IsLimitedMethod method → method_faults (setting_of principals globals method) head method ≡ [] →
+    ReturnsLast method.body → method_faults (setting_of principals globals method) head method ≡ [] →
     tree.result ≡ Some result → GivesBack tree.body
-method_gives principals globals head method tree result is limited none has =
+method_gives principals globals head method tree result is last none has =
     let s = setting_of principals globals method in
     let ends = ends_in_return method.body in
     let gives : has_result method.result ≡ true = sym (gives_result s head method tree is) ∙ ap is_some has in
     let fits = none_where (has_result method.result && not ends) WrongType method.name.at
     (clean_parts s head method none).4 in
-    block_gives s (body_place head method) method.body tree.body is.body limited.returns
+    block_gives s (body_place head method) method.body tree.body is.body last
     (ends_where (has_result method.result) ends gives fits)
 
 methods_give : (principals : Declared) (globals : List Global) (before methods : List MethodShape)
-    (trees : List MethodTree) → AreMethodsFor principals globals before methods trees → All IsLimitedMethod methods →
+    (trees : List MethodTree) → AreMethodsFor principals globals before methods trees → All MethodReturnsLast methods →
     methods_faults principals globals before methods ≡ [] → (place : ℕ) (tree : MethodTree) (result : VarId) →
     slice_get trees place ≡ Some tree → tree.result ≡ Some result → GivesBack tree.body
-methods_give principals globals before [] trees is limited none place tree result at has =
+methods_give principals globals before [] trees is returned none place tree result at has =
     let nothing : slice_get [] place ≡ Some tree = ap (λ ts. slice_get ts place) (sym is) ∙ at in absurd cc
-methods_give principals globals before (method ∷ methods) trees (first, others, same, one, behind) limited none zero
+methods_give principals globals before (method ∷ methods) trees (first, others, same, one, behind) returned none zero
     tree result at has =
     let both = none_in_two (method_faults (setting_of principals globals method) (head_after before) method)
     (methods_faults principals globals (before ++ method ∷ []) methods) none in
@@ -95,17 +95,17 @@ methods_give principals globals before (method ∷ methods) trees (first, others
     let is_it : first ≡ tree = cc in
     method_gives principals globals (head_after before) method tree result
     (subst (IsMethodFor (setting_of principals globals method) (head_after before) method) is_it one)
-    (limited 0 method (omega arith)) both.0 has
-methods_give principals globals before (method ∷ methods) trees (first, others, same, one, behind) limited none
+    (returned 0 method (omega arith)) both.0 has
+methods_give principals globals before (method ∷ methods) trees (first, others, same, one, behind) returned none
     (suc place) tree result at has =
     let both = none_in_two (method_faults (setting_of principals globals method) (head_after before) method)
     (methods_faults principals globals (before ++ method ∷ []) methods) none in
     methods_give principals globals (before ++ method ∷ []) methods others behind
-    (λ k d less. limited (suc k) d (omega arith)) both.1 place tree result
+    (λ k d less. returned (suc k) d (omega arith)) both.1 place tree result
     (ap (λ ts. slice_get ts (suc place)) (sym same) ∙ at) has
 
-pub given_back : (principals : Declared) (draft : DraftShape) (tree : ProgramTree) → IsLimited draft →
+pub given_back : (principals : Declared) (draft : DraftShape) (tree : ProgramTree) → AreReturnedLast draft →
     IsProgramOf principals draft tree → AreGivenBack tree
-given_back principals draft tree limited is place method result at has =
-    methods_give principals (globals_of draft) [] draft.methods tree.methods is.is_tree.methods limited.each
+given_back principals draft tree returned is place method result at has =
+    methods_give principals (globals_of draft) [] draft.methods tree.methods is.is_tree.methods returned
     (clean_draft principals draft is.no_faults).1 place method result at has

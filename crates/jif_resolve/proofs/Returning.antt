@@ -1,21 +1,20 @@
 -- A `return` of a resolved program stands where one stands in its draft.
-use Rattle.std.proofs.Common.{◌≡◌, suc, Bool, true, false, List, [], ◌∷◌, ◌++◌, All, Option, Some, None, refl, sym, subst}
-use Rattle.std.proofs.Common.{arith}
-use Rattle.std.proofs.lemmas.List.Elements.{All-nil, All-cons}
+use Rattle.std.proofs.Common.{◌≡◌, Bool, true, false, [], All, Option, Some, None, refl, sym, subst}
 use Rattle.principals.specs.ActsFor.{Declared}
 use Rattle.jif_tree.specs.Returns.{ReturnsLast}
-use Rattle.jif_tree.specs.Trees.{ExprTree, Heading, BlockTree, done, set_local, set_field, MethodTree, ProgramTree}
+use Rattle.jif_tree.specs.Trees.{ExprTree, Heading, BlockTree, done, set_local, set_field, ProgramTree}
 use Rattle.jif_grammar.specs.DraftShapes.{BlockShape, end_shape, declaration_shape, assignment_shape}
 use Rattle.jif_grammar.specs.DraftShapes.{element_assignment_shape, branch_shape, loop_shape, call_shape, return_shape}
-use Rattle.jif_grammar.specs.DraftShapes.{MethodShape, DraftShape}
+use Rattle.jif_grammar.specs.DraftShapes.{DraftShape}
 use Rattle.jif_resolve.specs.Faults.{setting_of}
-use Rattle.jif_resolve.specs.Meanings.{Global, globals_of}
+use Rattle.jif_resolve.specs.Meanings.{globals_of}
 use Rattle.jif_resolve.specs.Places.{Setting, Place, after_statement, after_call, after_declaration, after_block}
-use Rattle.jif_resolve.specs.Places.{meaning_at, head_after, body_place}
-use Rattle.jif_resolve.specs.Resolved.{assignment_tree, heading_of, IsBlockFor, AreMethodsFor}
-use Rattle.jif_resolve.specs.Sizes.{HasNoReturn, IsLimitedMethod, IsLimited}
-use Rattle.jif_resolve.specs.Sizes as drafts
+use Rattle.jif_resolve.specs.Places.{meaning_at, body_place}
+use Rattle.jif_resolve.specs.Resolved.{assignment_tree, heading_of, IsBlockFor}
+use Rattle.jif_resolve.specs.Returns.{HasNoReturn, MethodReturnsLast, AreReturnedLast}
+use Rattle.jif_resolve.specs.Returns as drafts
 use Rattle.jif_resolve.specs.Verdicts.{IsProgramOf}
+use Rattle.jif_resolve.proofs.EachMethod.{each_method}
 use Rattle.jif_resolve.specs.declared.meaning.Meaning.{Meaning}
 use Rattle.jif_resolve.specs.declared.meaning.Meaning.TheVariants as sense
 
@@ -96,24 +95,10 @@ block_returns s p (return_shape start value rest) tree (x, r, same, one, behind)
 
 -- ---- all methods
 
-abbrev MethodReturns : MethodTree → Type 0
-MethodReturns method = ReturnsLast true method.body
-
-methods_return : (principals : Declared) (globals : List Global) (before methods : List MethodShape)
-    (trees : List MethodTree) → AreMethodsFor principals globals before methods trees → All IsLimitedMethod methods →
-    All MethodReturns trees
-methods_return principals globals before [] trees none limited =
-    subst (All MethodReturns) (sym none) (All-nil MethodReturns)
-methods_return principals globals before (method ∷ methods) trees (first, others, same, one, behind) limited =
-    let last = limited 0 method (omega arith) in
-    subst (All MethodReturns) (sym same)
-    (All-cons MethodReturns first others
-    (block_returns (setting_of principals globals method) (body_place (head_after before) method) method.body first.body
-    one.body last.returns)
-    (methods_return principals globals (before ++ method ∷ []) methods others behind
-    (λ k d less. limited (suc k) d (omega arith))))
-
-pub returns_last : (principals : Declared) (draft : DraftShape) (tree : ProgramTree) → IsLimited draft →
+pub returns_last : (principals : Declared) (draft : DraftShape) (tree : ProgramTree) → AreReturnedLast draft →
     IsProgramOf principals draft tree → All (λ method. ReturnsLast true method.body) tree.methods
-returns_last principals draft tree limited is =
-    methods_return principals (globals_of draft) [] draft.methods tree.methods is.is_tree.methods limited.each
+returns_last principals draft tree returned is =
+    each_method MethodReturnsLast _ principals (globals_of draft)
+    (λ head method one made last. block_returns (setting_of principals (globals_of draft) method)
+    (body_place head method) method.body one.body made.body last)
+    [] draft.methods tree.methods is.is_tree.methods returned

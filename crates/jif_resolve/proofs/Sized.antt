@@ -1,9 +1,8 @@
--- The draft of a program that passes no limit keeps the limits of drafts.
-use Rattle.std.proofs.Common.{◌≡◌, ℕ, ◌+◌, ◌*◌, All, List, [], ◌∷◌, ◌++◌, length, Option, Some, None, refl}
-use Rattle.std.proofs.Common.{true, false, map, ap, sym, ◌∙◌, subst, arith}
-use Rattle.std.proofs.lemmas.List.Elements.{All-nil, All-cons}
+-- What begins in the items of a program, and how many parameters and variables its methods have.
+use Rattle.js_base.specs.declared.limits.TheConstants.{PARAMETERS, VARIABLES}
+use Rattle.std.proofs.Common.{◌≡◌, ℕ, ◌+◌, ◌*◌, ◌≤◌, List, [], ◌∷◌, ◌++◌, length, Option, Some, None, refl}
+use Rattle.std.proofs.Common.{true, false, map, ap, ◌∙◌, arith}
 use Rattle.std.proofs.lemmas.List.Sums.{sum_by-cons}
-use Rattle.jif_lex.specs.declared.token.Token.{Token}
 use Rattle.jif_lex.specs.declared.token.TokenKind.TheVariants.{Name, Word}
 use Rattle.jif_lex.specs.declared.token.Symbol.TheVariants.{LeftBrace, RightBrace, LeftParenthesis, RightParenthesis}
 use Rattle.jif_lex.specs.declared.token.Word.TheVariants.{Int, Void}
@@ -17,19 +16,19 @@ use Rattle.jif_grammar.specs.Marks.{parameter, after_beginning, after_token, aft
 use Rattle.jif_grammar.specs.Spelling.{label_spelling, block_spelling, field_end_spelling, field_spelling}
 use Rattle.jif_grammar.specs.Spelling.{params_spelling, authority_spelling, result_spelling, head_spelling}
 use Rattle.jif_grammar.specs.Spelling.{method_spelling, spelling}
-use Rattle.jif_grammar.specs.DraftShapes.{end_shape, DraftShape}
+use Rattle.jif_grammar.specs.DraftShapes.{end_shape}
 use Rattle.jif_grammar.specs.Drafts.{result_at, method_at, after_item, fields_at, methods_at}
 use Rattle.jif_grammar.specs.Drafts.{block_at, block_width, method_name_place}
-use Rattle.jif_grammar.specs.Programs.{IsWithin, IsProgramOf, line_at}
+use Rattle.jif_grammar.specs.Programs.{IsWithin}
 use Rattle.jif_resolve.specs.Places.{numbered_in, counted}
-use Rattle.jif_resolve.specs.Sizes.{IsSizedMethod, IsSized}
+use Rattle.jif_resolve.specs.Sizes.{declared_in}
 use Rattle.jif_resolve.proofs.Begun.{begun, begun_append, of_label, of_params, of_authority, of_block, worth}
 use Rattle.jif_resolve.proofs.Begun.{begun_plain, worth_is, CountsNoNodes, expr_counts_nothing}
-use Rattle.jif_resolve.proofs.Tallies.{Reading, read_after, tokens_behind, IsRenewed, renewed_append, never_begun}
-use Rattle.jif_resolve.proofs.Tallies.{a_field, a_method, a_statement, a_parameter, a_variable, fields_read, methods_read}
-use Rattle.jif_resolve.proofs.Tallies.{statements_read, parameters_read, variables_read, StaysWithin, within_front}
-use Rattle.jif_resolve.proofs.Tallies.{within_behind, within_at_end, within_at_start, program_within, few_fields}
-use Rattle.jif_resolve.proofs.Tallies.{few_methods, few_statements, few_parameters, few_variables}
+use Rattle.jif_resolve.proofs.Tallies.{Reading, read_after, tokens_behind, IsRenewed, renewed_append}
+use Rattle.jif_resolve.proofs.Tallies.{a_field, a_method, a_statement, a_parameter, a_variable}
+use Rattle.jif_resolve.proofs.Tallies.{parameters_read, variables_read, StaysWithin}
+use Rattle.jif_resolve.proofs.Tallies.{within_at_end}
+use Rattle.jif_resolve.proofs.Tallies.{few_parameters, few_variables}
 
 -- ---- fields and methods
 
@@ -133,9 +132,11 @@ method_renewed r phrase on head =
     (on (result_spelling phrase.result) (result_in_method phrase.result)) in
     renewed_append r _ (plain 0 (symbol RightBrace) ∷ []) to_result (on (plain 0 (symbol RightBrace) ∷ []) refl)
 
-sized_method : (lines : ℕ → ℕ) (at : ℕ) (phrase : MethodPhrase) (t : Tally) → IsWithin t →
-    StaysWithin t (method_spelling phrase) → IsSizedMethod (method_at lines at phrase)
-sized_method lines at phrase t first within =
+-- the parameters of a method, and these with its locals
+pub few_declared : (lines : ℕ → ℕ) (at : ℕ) (phrase : MethodPhrase) (t : Tally) → IsWithin t →
+    StaysWithin t (method_spelling phrase) →
+    (length (method_at lines at phrase).params ≤ PARAMETERS) × (declared_in (method_at lines at phrase) ≤ VARIABLES)
+few_declared lines at phrase t first within =
     let last = after_tokens t (method_spelling phrase) in
     let end_within = within_at_end t (method_spelling phrase) first within in
     let shape = method_at lines at phrase in
@@ -146,43 +147,26 @@ sized_method lines at phrase t first within =
     let parameters_begun = method_begun a_parameter lines at phrase
     (record { nothing_is = refl; node_is = refl; arguments_is = refl }) in
     let variables_begun = method_begun a_variable lines at phrase
-    (record { nothing_is = refl; node_is = refl; arguments_is = refl }) in
-    record {
-      parameters = omega (
+    (record { nothing_is = refl; node_is = refl; arguments_is = refl }) in (
+      omega (
         arith,
         few_parameters last end_within,
         parameters_are,
         parameters_begun,
         worth_is a_parameter shape.body,
-      );
-      variables = omega (
+      ),
+      omega (
         arith,
         few_variables last end_within,
         variables_are,
         variables_begun,
         worth_is a_variable shape.body,
-      );
-    }
-
-sized_methods : (lines : ℕ → ℕ) (at : ℕ) (program : ProgramPhrase) (t : Tally) → IsWithin t →
-    StaysWithin t (spelling program) → All IsSizedMethod (methods_at lines at program)
-sized_methods lines at [] t first within = All-nil IsSizedMethod
-sized_methods lines at (field phrase ∷ items) t first within =
-    let item = field_spelling phrase in
-    sized_methods lines (after_item at (field phrase)) items (after_tokens t item)
-    (within_at_end t item first (within_front t item (spelling items) within))
-    (within_behind t item (spelling items) within)
-sized_methods lines at (method phrase ∷ items) t first within =
-    let item = method_spelling phrase in
-    let here = within_front t item (spelling items) within in
-    All-cons IsSizedMethod (method_at lines at phrase) (methods_at lines (after_item at (method phrase)) items)
-    (sized_method lines at phrase t first here)
-    (sized_methods lines (after_item at (method phrase)) items (after_tokens t item) (within_at_end t item first here)
-    (within_behind t item (spelling items) within))
+      ),
+    )
 
 -- ---- fields, methods and statements of a program
 
-fields_begun : (at : ℕ) (program : ProgramPhrase) →
+pub fields_begun : (at : ℕ) (program : ProgramPhrase) →
     begun a_field (spelling program) ≡ length (fields_at at program)
 fields_begun at [] = refl
 fields_begun at (field phrase ∷ items) =
@@ -222,7 +206,7 @@ field_is_none amount phrase none plain_is array_is elements_are =
     ending_is (set true first) = omega (arith, none, plain_is)
     ending_is (set false first) = omega (arith, none, plain_is)
 
-methods_begun : (lines : ℕ → ℕ) (at : ℕ) (program : ProgramPhrase) →
+pub methods_begun : (lines : ℕ → ℕ) (at : ℕ) (program : ProgramPhrase) →
     begun a_method (spelling program) ≡ length (methods_at lines at program)
 methods_begun lines at [] = refl
 methods_begun lines at (field phrase ∷ items) =
@@ -242,7 +226,7 @@ methods_begun lines at (method phrase ∷ items) =
       methods_begun lines (after_item at (method phrase)) items,
     )
 
-statements_begun : (lines : ℕ → ℕ) (at : ℕ) (program : ProgramPhrase) →
+pub statements_begun : (lines : ℕ → ℕ) (at : ℕ) (program : ProgramPhrase) →
     begun a_statement (spelling program) ≡ counted numbered_in (methods_at lines at program)
 statements_begun lines at [] = refl
 statements_begun lines at (field phrase ∷ items) =
@@ -262,32 +246,3 @@ statements_begun lines at (method phrase ∷ items) =
       statements_begun lines (after_item at (method phrase)) items,
       sum_by-cons numbered_in shape (methods_at lines (after_item at (method phrase)) items),
     )
-
-pub sized_program : (list : List Token) (draft : DraftShape) → IsProgramOf list draft → IsSized draft
-sized_program list draft program =
-    let phrases = program.program in
-    let lines = line_at list in
-    let within = program_within phrases program.text.limits in
-    let last = after_tokens tally_at_start (spelling phrases) in
-    let end_within = within_at_end tally_at_start (spelling phrases) within_at_start within in
-    subst IsSized (sym program.draft_is) (record {
-      fields = omega (
-        arith,
-        few_fields last end_within,
-        fields_begun 0 phrases,
-        read_after fields_read tally_at_start (spelling phrases) (never_begun (spelling phrases)),
-      );
-      methods = omega (
-        arith,
-        few_methods last end_within,
-        methods_begun lines 0 phrases,
-        read_after methods_read tally_at_start (spelling phrases) (never_begun (spelling phrases)),
-      );
-      each = sized_methods lines 0 phrases tally_at_start within_at_start within;
-      statements = omega (
-        arith,
-        few_statements last end_within,
-        statements_begun lines 0 phrases,
-        read_after statements_read tally_at_start (spelling phrases) (never_begun (spelling phrases)),
-      );
-    })

@@ -56,10 +56,6 @@ pub record AddedSoFar (principals : Declared) (all left : List VariableShape) (o
   pub labelled : AreLabelled principals left
   pub front : (later : List Var) → AddsVariables principals left now later → AddsVariables principals all old later
 
-pub added_begins : (principals : Declared) (all : List VariableShape) (old : List Var) → AreLabelled principals all →
-    AddedSoFar principals all all old old
-added_begins principals all old labelled = record { labelled = labelled; front = λ later added. added }
-
 pub added_next : {principals : Declared} {all left : List VariableShape} {old now : List Var}
     (one rest : List VariableShape) → AddedSoFar principals all left old now → left ≡ one ++ rest →
     AreLabelled principals one

@@ -11,6 +11,7 @@ pub mod Resolved
 pub mod Verdicts
 pub mod Worked
 pub mod Sizes
+pub mod Returns
 pub mod GlobalNames
 pub mod KnownNames
 pub mod Walks

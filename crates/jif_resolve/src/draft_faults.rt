@@ -6,7 +6,7 @@ ghost use Rattle.jif_grammar.specs.DraftShapes.{field_shape, method_shape, draft
 ghost use Rattle.jif_resolve.specs.First.{with_faults};
 ghost use Rattle.jif_resolve.specs.Meanings.{globals_of, is_main, main_from, main_of};
 ghost use Rattle.jif_resolve.specs.Faults.{label_faults, faults_of};
-ghost use Rattle.jif_resolve.specs.Sizes.{IsSized};
+ghost use Rattle.jif_resolve.specs.Sizes.{KeepsLimits};
 
 use crate::fault::Fault;
 use crate::globals::Globals;
@@ -24,7 +24,7 @@ pub fn first_fault(
     principals: &Principals,
     globals: &Globals,
 ) -> Result<Option<Fault>, OutOfMemory>
-    requires sized { IsSized (draft_shape draft.now) }
+    requires limits { KeepsLimits (draft_shape draft.now) }
     requires names { globals.now ≡ globals_of (draft_shape draft.now) }
     ensures { IfOk result (λ found. found ≡ with_faults None (faults_of principals.now (draft_shape draft.now))) }
 {
@@ -52,7 +52,7 @@ fn with_fields(
 
 /// The method where a program begins: `void main` without parameters.
 pub fn main_of(draft: &Draft) -> Option<MethodId>
-    requires { IsSized (draft_shape draft.now) }
+    requires { KeepsLimits (draft_shape draft.now) }
     ensures { result ≡ main_of (draft_shape draft.now) }
 {
     main_in(&draft.methods)

@@ -9,7 +9,7 @@ ghost use Rattle.jif_resolve.specs.Meanings.{Global, field_meaning, method_meani
 ghost use Rattle.jif_resolve.specs.Meanings.{globals_of, global_meaning};
 ghost use Rattle.jif_resolve.specs.Faults.{is_global_before, global_faults};
 ghost use Rattle.jif_resolve.specs.First.{with_faults};
-ghost use Rattle.jif_resolve.specs.Sizes.{IsSized, IsSizedMethod};
+ghost use Rattle.jif_resolve.specs.Sizes.{KeepsLimits, MethodKeepsLimits};
 
 use crate::fault::{Fault, FaultKind};
 use crate::meaning::Meaning;
@@ -56,7 +56,7 @@ impl Model for Globals {
 
 /// The names of a draft.
 pub fn globals_of(alloc: Global, draft: &Draft) -> Result<Globals, OutOfMemory>
-    requires { IsSized (draft_shape draft.now) }
+    requires { KeepsLimits (draft_shape draft.now) }
     ensures { IfOk result (λ globals. globals ≡ globals_of (draft_shape draft.now)) }
 {
     let mut declared = Vec::new(alloc);
@@ -159,7 +159,7 @@ fn push_methods(
     methods: &[MethodDraft],
 ) -> Result<(), OutOfMemory>
     requires few { length methods.now < 2 ^ 32 }
-    requires each { All IsSizedMethod (map method_shape methods.now) }
+    requires each { All MethodKeepsLimits (map method_shape methods.now) }
     ensures { OnOk result (map global_shape declared.new.items
         ≡ map global_shape declared.old.items ++ methods_from 0 (map method_shape methods.now)) }
 {

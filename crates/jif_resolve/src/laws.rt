@@ -8,9 +8,9 @@ ghost use Rattle.label_lattice.specs.declared.label.TheConstants.{READERS};
 ghost use Rattle.jif_tree.specs.LabelRules.{declared_labels};
 ghost use Rattle.jif_tree.specs.Labelling.{AreLabelledMethods};
 ghost use Rattle.jif_tree.specs.GuardLabels.{AreAllGuardsLabelled};
+ghost use Rattle.jif_tree.specs.Limits.{IsWithinLimits};
 ghost use Rattle.jif_tree.specs.Results.{AreGivenBack, AreUnread};
 ghost use Rattle.jif_tree.specs.Returns.{ReturnsLast};
-ghost use Rattle.jif_tree.specs.Sizes as trees;
 ghost use Rattle.jif_tree.specs.Trees.{MethodTree, ProgramTree};
 ghost use Rattle.jif_tree.specs.WellNumbered.{IsWellNumbered};
 ghost use Rattle.jif_lex.specs.declared.token.Token.{Token};
@@ -23,7 +23,8 @@ ghost use Rattle.jif_resolve.specs.Faults.{fault, faults_of};
 ghost use Rattle.jif_resolve.specs.First.{rank, with_faults};
 ghost use Rattle.jif_tree.specs.Numbering.{CountsFrom, statement_numbers, site_numbers};
 ghost use Rattle.jif_resolve.specs.Verdicts.{Refusal, IsRefused, IsProgramOf, HasLabels, IsFirst};
-ghost use Rattle.jif_resolve.specs.Sizes.{IsSized, IsLimited};
+ghost use Rattle.jif_resolve.specs.Returns.{AreReturnedLast};
+ghost use Rattle.jif_resolve.specs.Sizes.{KeepsLimits};
 ghost use Rattle.jif_resolve.specs.Worked.{only_alice, used_after_its_block, used_before_it_is_known};
 ghost use Rattle.jif_resolve.specs.Worked.{declared_in_both_blocks, called_badly, calls_itself, variable_names};
 
@@ -65,24 +66,21 @@ pub fn program_laws()
         slice_get method.params second ≡ Some y → first < second → x.0 < y.0 }
 {}
 
-/// A draft of the parser keeps the limits that `resolve` asks for.
-pub fn size_laws()
-    ensures { (list : List Token) (draft : DraftShape) → grammar.IsProgramOf list draft → IsSized draft }
-{}
-
-/// What else a draft of the parser keeps: the sizes of its arrays, its elements, the nodes of its statements, and where
-/// a method returns. Its program has no more statements and nodes.
+/// A draft of the parser keeps the limits that `resolve` asks for, and returns only where a method ends. The program of a
+/// draft that keeps its limits is within those of programs.
 pub fn limit_laws()
-    ensures limited { (list : List Token) (draft : DraftShape) → grammar.IsProgramOf list draft → IsLimited draft }
-    ensures sized { (principals : Declared) (draft : DraftShape) (tree : ProgramTree) →
-        IsSized draft → IsLimited draft → IsProgramOf principals draft tree → trees.IsSized tree }
+    ensures kept { (list : List Token) (draft : DraftShape) → grammar.IsProgramOf list draft → KeepsLimits draft }
+    ensures returns { (list : List Token) (draft : DraftShape) → grammar.IsProgramOf list draft →
+        AreReturnedLast draft }
+    ensures within { (principals : Declared) (draft : DraftShape) (tree : ProgramTree) →
+        KeepsLimits draft → IsProgramOf principals draft tree → IsWithinLimits tree }
 {}
 
-/// What typed code asks of a program beside the label check and a plan. The draft keeps the limits of the parser.
+/// What typed code asks of a program beside the label check and a plan.
 pub fn labelling_laws()
     // A `return` stands last in a body, and in no block inside it.
     ensures returns { (principals : Declared) (draft : DraftShape) (tree : ProgramTree) →
-        IsLimited draft → IsProgramOf principals draft tree →
+        AreReturnedLast draft → IsProgramOf principals draft tree →
         All (λ method. ReturnsLast true method.body) tree.methods }
     // Those who trust a begin label are declared, and with each of them all trust it for whom it acts.
     ensures begins { (principals : Declared) (draft : DraftShape) (tree : ProgramTree) →
@@ -92,7 +90,7 @@ pub fn labelling_laws()
         All (λ method. All (λ member. member.0 < READERS) method.authority) tree.methods }
     // All of these, and parameters, results and what keeps a result have labels where they are set.
     ensures labelled { (principals : Declared) (draft : DraftShape) (tree : ProgramTree) →
-        IsDeclared principals → IsLimited draft → IsProgramOf principals draft tree →
+        IsDeclared principals → AreReturnedLast draft → IsProgramOf principals draft tree →
         AreLabelledMethods principals tree (declared_labels tree) tree.methods }
     // Each variable that a guard reads has a label where the guard stands.
     ensures guards { (principals : Declared) (draft : DraftShape) (tree : ProgramTree) →
@@ -104,7 +102,7 @@ pub fn labelling_laws()
 pub fn result_laws()
     // Each method with a result gives it back at its end.
     ensures given { (principals : Declared) (draft : DraftShape) (tree : ProgramTree) →
-        IsLimited draft → IsProgramOf principals draft tree → AreGivenBack tree }
+        AreReturnedLast draft → IsProgramOf principals draft tree → AreGivenBack tree }
     // No expression reads a result: names stand for fields, parameters and locals.
     ensures unread { (principals : Declared) (draft : DraftShape) (tree : ProgramTree) →
         IsProgramOf principals draft tree → AreUnread tree }

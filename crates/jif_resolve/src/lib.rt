@@ -28,8 +28,8 @@ mod variables;
 pub use fault::{Fault, FaultKind};
 pub use globals::Globals;
 pub use laws::{
-    first_laws, labelling_laws, limit_laws, program_laws, resolve_laws, result_laws, size_laws,
-    verdict_laws, worked_laws,
+    first_laws, labelling_laws, limit_laws, program_laws, resolve_laws, result_laws, verdict_laws,
+    worked_laws,
 };
 pub use meaning::Meaning;
 pub use resolve_error::ResolveError;

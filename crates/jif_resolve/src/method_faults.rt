@@ -9,7 +9,7 @@ ghost use Rattle.jif_resolve.specs.KnownNames.{IsCounted};
 ghost use Rattle.jif_resolve.specs.Places.{after_variable, after_params, after_block, body_place};
 ghost use Rattle.jif_resolve.specs.Faults.{label_faults, local_faults, params_faults, ends_in_return, method_faults};
 ghost use Rattle.jif_resolve.specs.Faults.{methods_faults};
-ghost use Rattle.jif_resolve.specs.Sizes.{IsSized};
+ghost use Rattle.jif_resolve.specs.Sizes.{KeepsLimits};
 ghost use Rattle.jif_resolve.specs.Walks.{is_return};
 
 use crate::context::Context;
@@ -117,7 +117,7 @@ pub fn with_methods(
     principals: &Principals,
     globals: &Globals,
 ) -> Result<Option<Fault>, OutOfMemory>
-    requires { IsSized (draft_shape draft.now) }
+    requires { KeepsLimits (draft_shape draft.now) }
     ensures { IfOk result (λ found. found
         ≡ with_faults first (methods_faults principals.now globals.now [] (draft_shape draft.now).methods)) }
 {

@@ -8,7 +8,7 @@ ghost use Rattle.jif_resolve.specs.Meanings.{has_result};
 ghost use Rattle.jif_resolve.specs.Places.{next_variable, after_params, after_block, body_place};
 ghost use Rattle.jif_resolve.specs.Faults.{method_faults, methods_faults};
 ghost use Rattle.jif_resolve.specs.KnownNames.{IsCounted, largest};
-ghost use Rattle.jif_resolve.specs.Sizes.{IsSized};
+ghost use Rattle.jif_resolve.specs.Sizes.{KeepsLimits};
 ghost use Rattle.jif_resolve.specs.Variables.{param_ids};
 ghost use Rattle.jif_resolve.specs.Resolved.{IsMethodFor, AreMethodsFor};
 ghost use Rattle.jif_resolve.specs.Contexts.{setting_in};
@@ -99,7 +99,7 @@ pub fn methods_of(
     globals: &Globals,
 ) -> Result<Vec<Method>, OutOfMemory>
     requires clean { methods_faults principals.now globals.now [] (map method_shape drafts.items) ≡ [] }
-    requires sized { (draft : DraftShape) × IsSized draft × (draft.methods ≡ map method_shape drafts.items) }
+    requires limits { (draft : DraftShape) × KeepsLimits draft × (draft.methods ≡ map method_shape drafts.items) }
     ensures { IfOk result (λ methods. AreMethodsFor principals.now globals.now []
         (map method_shape drafts.items) (map method_tree methods.items)) }
 {

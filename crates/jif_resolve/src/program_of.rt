@@ -5,7 +5,7 @@ ghost use Rattle.jif_tree.specs.Trees.{program_tree};
 ghost use Rattle.jif_grammar.specs.DraftShapes.{draft_shape};
 ghost use Rattle.jif_resolve.specs.Meanings.{globals_of, main_of};
 ghost use Rattle.jif_resolve.specs.Faults.{faults_of};
-ghost use Rattle.jif_resolve.specs.Sizes.{IsSized};
+ghost use Rattle.jif_resolve.specs.Sizes.{KeepsLimits};
 ghost use Rattle.jif_resolve.specs.Resolved.{IsTreeOf};
 
 use crate::fields::fields_of;
@@ -25,7 +25,7 @@ pub fn program_of(
     globals: &Globals,
     main: MethodId,
 ) -> Result<Program, OutOfMemory>
-    requires sized { IsSized (draft_shape draft) }
+    requires limits { KeepsLimits (draft_shape draft) }
     requires sound { faults_of principals.now (draft_shape draft) ≡ [] }
     requires main { main_of (draft_shape draft) ≡ Some main }
     requires globals { globals.now ≡ globals_of (draft_shape draft) }

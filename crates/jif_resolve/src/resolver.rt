@@ -4,7 +4,7 @@ ghost use Rattle.std.specs.Prelude.{◌≡◌, IfOk, IfErr};
 ghost use Rattle.jif_grammar.specs.DraftShapes.{draft_shape};
 ghost use Rattle.jif_tree.specs.Limits.{IsWithinLimits};
 ghost use Rattle.jif_tree.specs.Trees.{program_tree};
-ghost use Rattle.jif_resolve.specs.Sizes.{IsSized};
+ghost use Rattle.jif_resolve.specs.Sizes.{KeepsLimits};
 ghost use Rattle.jif_resolve.specs.Refusals.{IsRefusedFor, error_for};
 ghost use Rattle.jif_resolve.specs.Verdicts.{IsProgramOf};
 
@@ -30,7 +30,7 @@ pub fn resolve(
     draft: Draft,
     principals: &Principals,
 ) -> Result<Program, ResolveError>
-    requires { IsSized (draft_shape draft) }
+    requires { KeepsLimits (draft_shape draft) }
     ensures found { IfOk result (λ program.
         IsProgramOf principals.now (draft_shape draft) (program_tree program)) }
     ensures limits { IfOk result (λ program. IsWithinLimits (program_tree program)) }

@@ -14,13 +14,13 @@ method_of-requires-clause-clean c =
 
 pub method_of-requires-clause-counted : goal.method_of-requires-clause-counted
 method_of-requires-clause-counted c =
-    next_counted c.in-Some.draft c.next.new.self.rest.items c.requires.sized.0 c.requires.sized.1 c.requires.sized.2
+    next_counted c.in-Some.draft c.next.new.self.rest.items c.requires.limits.0 c.requires.limits.1 c.requires.limits.2
     c.loop-draft.invariant c.in-Some.ensures.steps.0
 
 pub next_method-requires : goal.next_method-requires
 next_method-requires c =
-    next_has_room c.in-Some.draft c.next.new.self.rest.items c.method_of.new.scope c.requires.sized.0 c.requires.sized.1
-    c.requires.sized.2 c.loop-draft.invariant c.in-Some.ensures.steps.0 c.in_ok-method_of.ensures.place
+    next_has_room c.in-Some.draft c.next.new.self.rest.items c.method_of.new.scope c.requires.limits.0 c.requires.limits.1
+    c.requires.limits.2 c.loop-draft.invariant c.in-Some.ensures.steps.0 c.in_ok-method_of.ensures.place
 
 pub loop-draft-preserved : goal.loop-draft-preserved
 loop-draft-preserved c =
