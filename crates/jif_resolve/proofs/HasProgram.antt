@@ -31,10 +31,10 @@ use Rattle.jif_resolve.specs.Variables.{VariableShape, variables_from, method_va
 use Rattle.jif_resolve.specs.Variables.{result_id}
 use Rattle.jif_resolve.specs.Resolved.{IsExprFor, heading_of, into_tree, IsBlockFor, IsFieldFor}
 use Rattle.jif_resolve.specs.Resolved.{IsVariableFor, IsMethodFor, AreMethodsFor}
-use Rattle.jif_resolve.specs.Verdicts.{Refusal, for_fault, no_main, IsRefused, IsProgramOf, HasLabels, IsFirst}
+use Rattle.jif_resolve.specs.Verdicts.{Refusal, for_fault, no_main, IsRefused, IsProgramOf, IsFirst}
 use Rattle.jif_resolve.proofs.FirstFault.{first_fault}
 use Rattle.jif_resolve.proofs.Usable.{none_in_two, none_in_three, none_in_four, none_in_six, none_joined, each_made}
-use Rattle.jif_resolve.proofs.Usable.{principals_of}
+use Rattle.jif_resolve.proofs.Usable.{principals_of, HasLabels}
 use Rattle.jif_resolve.proofs.Usable.{optional_label, use_variable, use_assigned, use_array, use_keeper, use_called}
 
 -- ---- expressions

@@ -15,8 +15,9 @@ mod GlobalLists
 mod HasProgram
 mod KnownLists
 mod LabelledBlocks
-mod LabelledGuards
 mod LabelledPrograms
+mod LabelledValues
+mod LabelsMade
 mod Limited
 mod Meant
 mod MethodWalks

@@ -20,10 +20,9 @@ use Rattle.jif_resolve.specs.declared.fault.Fault.{Fault}
 use Rattle.jif_resolve.specs.declared.fault.FaultKind.{FaultKind}
 use Rattle.jif_resolve.specs.Faults.{fault_where, principal_faults, principals_faults}
 use Rattle.jif_resolve.specs.Faults.{variable_faults, array_faults, keeper_faults, called_faults}
-use Rattle.jif_resolve.specs.Faults.{optional_label_faults}
-use Rattle.jif_resolve.specs.Labels.{texts, IsOptionalLabelFor}
+use Rattle.jif_resolve.specs.Faults.{label_faults, optional_label_faults}
+use Rattle.jif_resolve.specs.Labels.{texts, IsLabelFor, IsOptionalLabelFor}
 use Rattle.jif_resolve.specs.Resolved.{variable_tree, array_of, local_of, method_of, assignment_tree}
-use Rattle.jif_resolve.specs.Verdicts.{HasLabels}
 use Rattle.jif_resolve.specs.declared.meaning.Meaning.{Meaning}
 use Rattle.jif_resolve.specs.declared.meaning.Meaning.TheVariants as sense
 
@@ -113,6 +112,11 @@ principals_of principals (name ∷ names) none =
     let head = principal_of principals name both.0 in
     let rest = principals_of principals names both.1 in
     (head.0 ∷ rest.0, (head.1, rest.1))
+
+-- the names of each label without faults make a label
+abbrev pub HasLabels : Declared → Type 0
+HasLabels principals = (written : LabelShape) → label_faults principals written ≡ [] →
+    (label : Label) × IsLabelFor principals written label
 
 pub optional_label : (principals : Declared) → HasLabels principals → (written : Option LabelShape) →
     optional_label_faults principals written ≡ [] →

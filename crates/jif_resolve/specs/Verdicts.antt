@@ -1,14 +1,12 @@
 -- What becomes of a draft: a program, or one refusal.
 use Rattle.std.specs.Prelude.{◌≡◌, ◌<◌, ◌⊎◌, List, [], All, Contains, None}
 use Rattle.principals.specs.ActsFor.{Declared}
-use Rattle.label_lattice.specs.declared.label.Label.{Label}
 use Rattle.jif_tree.specs.Trees.{ProgramTree}
-use Rattle.jif_grammar.specs.DraftShapes.{LabelShape, DraftShape}
+use Rattle.jif_grammar.specs.DraftShapes.{DraftShape}
 use Rattle.jif_resolve.specs.declared.fault.Fault.{Fault}
 use Rattle.jif_resolve.specs.First.{rank}
-use Rattle.jif_resolve.specs.Faults.{label_faults, faults_of}
+use Rattle.jif_resolve.specs.Faults.{faults_of}
 use Rattle.jif_resolve.specs.Meanings.{main_of}
-use Rattle.jif_resolve.specs.Labels.{IsLabelFor}
 use Rattle.jif_resolve.specs.Resolved.{IsTreeOf}
 
 -- the one at the earlier token comes first, and at one token the one of the lower rank
@@ -33,8 +31,3 @@ IsRefused principals draft no_main = (faults_of principals draft ≡ []) × (mai
 pub record IsProgramOf (principals : Declared) (draft : DraftShape) (tree : ProgramTree) : Type 0 where
   pub no_faults : faults_of principals draft ≡ []
   pub is_tree : IsTreeOf principals draft tree
-
--- the names of each label make a label, where they are declared
-abbrev pub HasLabels : Declared → Type 0
-HasLabels principals = (written : LabelShape) → label_faults principals written ≡ [] →
-    (label : Label) × IsLabelFor principals written label

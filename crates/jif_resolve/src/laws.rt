@@ -7,8 +7,8 @@ ghost use Rattle.label_lattice.specs.Over.{TrustsOver};
 ghost use Rattle.label_lattice.specs.declared.label.TheConstants.{READERS};
 ghost use Rattle.jif_tree.specs.LabelRules.{declared_labels};
 ghost use Rattle.jif_tree.specs.Labelling.{AreLabelledMethods};
-ghost use Rattle.jif_tree.specs.GuardLabels.{AreAllGuardsLabelled};
 ghost use Rattle.jif_tree.specs.Limits.{IsWithinLimits};
+ghost use Rattle.jif_tree.specs.ValueLabels.{AreAllValuesLabelled};
 ghost use Rattle.jif_tree.specs.Results.{AreGivenBack, AreUnread};
 ghost use Rattle.jif_tree.specs.Returns.{ReturnsLast};
 ghost use Rattle.jif_tree.specs.Trees.{MethodTree, ProgramTree};
@@ -22,11 +22,13 @@ ghost use Rattle.jif_resolve.specs.declared.fault.FaultKind.TheVariants.{Unknown
 ghost use Rattle.jif_resolve.specs.Faults.{fault, faults_of};
 ghost use Rattle.jif_resolve.specs.First.{rank, with_faults};
 ghost use Rattle.jif_tree.specs.Numbering.{CountsFrom, statement_numbers, site_numbers};
-ghost use Rattle.jif_resolve.specs.Verdicts.{Refusal, IsRefused, IsProgramOf, HasLabels, IsFirst};
+ghost use Rattle.jif_resolve.specs.Verdicts.{Refusal, IsRefused, IsProgramOf, IsFirst};
 ghost use Rattle.jif_resolve.specs.Returns.{AreReturnedLast};
 ghost use Rattle.jif_resolve.specs.Sizes.{KeepsLimits};
 ghost use Rattle.jif_resolve.specs.Worked.{only_alice, used_after_its_block, used_before_it_is_known};
 ghost use Rattle.jif_resolve.specs.Worked.{declared_in_both_blocks, called_badly, calls_itself, variable_names};
+
+use label_lattice::written_laws;
 
 /// A draft has one program or is refused for one cause, and never both.
 pub fn resolve_laws()
@@ -36,12 +38,14 @@ pub fn resolve_laws()
         IsProgramOf principals draft tree → ¬ IsRefused principals draft refusal }
 {}
 
-/// No draft is neither: where the names of its labels make labels, it has a program or is refused.
+/// No draft is neither: it has a program or is refused.
 pub fn verdict_laws()
-    ensures program_or_refusal { (principals : Declared) (draft : DraftShape) → HasLabels principals →
+    ensures program_or_refusal { (principals : Declared) (draft : DraftShape) → IsDeclared principals →
         ((tree : ProgramTree) × IsProgramOf principals draft tree)
         ⊎ ((refusal : Refusal) × IsRefused principals draft refusal) }
-{}
+{
+    written_laws();
+}
 
 /// A draft has one program. Its statements and call sites are numbered in the order of the text, and each number in it
 /// stands for something of the right kind. The principals of each authority are declared, as the label check asks.
@@ -92,10 +96,10 @@ pub fn labelling_laws()
     ensures labelled { (principals : Declared) (draft : DraftShape) (tree : ProgramTree) →
         IsDeclared principals → AreReturnedLast draft → IsProgramOf principals draft tree →
         AreLabelledMethods principals tree (declared_labels tree) tree.methods }
-    // Each variable that a guard reads has a label where the guard stands.
-    ensures guards { (principals : Declared) (draft : DraftShape) (tree : ProgramTree) →
+    // Each variable that a statement reads has a label where the statement stands.
+    ensures values { (principals : Declared) (draft : DraftShape) (tree : ProgramTree) →
         IsProgramOf principals draft tree →
-        AreAllGuardsLabelled principals tree (declared_labels tree) tree.methods }
+        AreAllValuesLabelled principals tree (declared_labels tree) tree.methods }
 {}
 
 /// What becomes of results: a method that has one gives it back, and no expression reads it.

@@ -1,5 +1,5 @@
 use Rattle.jif_resolve.proofs.BeginLabels.{begins_over, readers}
-use Rattle.jif_resolve.proofs.LabelledGuards.{guards_are_labelled}
+use Rattle.jif_resolve.proofs.LabelledValues.{values_are_labelled}
 use Rattle.jif_resolve.proofs.LabelledPrograms.{methods_are_labelled}
 use Rattle.jif_resolve.proofs.Returning.{returns_last}
 use Rattle.jif_resolve.proofs.laws.labelling_laws.Goals as goal
@@ -10,5 +10,5 @@ returns c = record {
   begins = begins_over;
   readers = readers;
   labelled = methods_are_labelled;
-  guards = guards_are_labelled;
+  values = values_are_labelled;
 }
