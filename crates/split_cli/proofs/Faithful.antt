@@ -13,7 +13,6 @@ use Rattle.js_base.specs.declared.status.Status.TheVariants.{Done, Spent, Source
 use Rattle.host_decl.specs.Hosts.{HostsShape}
 use Rattle.jif_tree.specs.declared.program.Field.{Field}
 use Rattle.jif_tree.specs.declared.program.Program.{Program}
-use Rattle.jif_tree.specs.Sizes.{IsSized}
 use Rattle.jif_tree.specs.SourceRun.{HasLength}
 use Rattle.jif_tree.specs.Store.{starting_values}
 use Rattle.jif_tree.specs.Trees.{FieldTree, ProgramTree, field_tree, program_tree}
@@ -23,7 +22,6 @@ use Rattle.event_text.specs.Script.{ScriptShape, script_of}
 use Rattle.event_text.specs.Start.{start_of}
 use Rattle.event_text.specs.Settings.{form_of, settings_in_front, starting_rows, after_settings}
 use Rattle.host_code.specs.Code.{CodeShape}
-use Rattle.host_code.specs.Sound.{IsSoundCode}
 use Rattle.host_core.specs.Host.{HostShape}
 use Rattle.label_lattice.specs.declared.label.Label.{Label}
 use Rattle.need_labels.specs.Labelled as needs
@@ -43,7 +41,7 @@ use Rattle.split_cli.specs.Sources.{AcceptedWith, Sources}
 use Rattle.split_cli.specs.PlacedSources.{PlacedSource, OnHosts, PlacedSources, labelled_source}
 use Rattle.split_cli.specs.Drive.{code_of, first_world, IsDriveReport, DueForDrive}
 use Rattle.split_cli.specs.Driven.{DrivesTo, rested, spent}
-use Rattle.split_cli.specs.Replay.{events_in, DueForEvents, happened, absent, busy, DueForScript, DueForReplay}
+use Rattle.split_cli.specs.Replay.{events_in, replay_text, ScriptRead, EventsHappen, DueForReplay}
 use Rattle.split_cli.specs.Replay as replay
 use Rattle.split_cli.specs.Starting.{StartingValues}
 use Rattle.split_cli.specs.Starting as starting
@@ -51,11 +49,11 @@ use Rattle.split_cli.specs.Due.{DueForBytes, DueForCommand, Due, no_words, for_c
 use Rattle.split_cli.specs.Due as due
 use Rattle.split_cli.specs.Answers.{SinkChange, Puts, IsAnswered, AnswersTo}
 use Rattle.split_cli.specs.Faithful.{IsPlacedAs, IsFaithfulRun, IsReplayed, IsFaithful, IsDrivenTo, IsFaithfulDrive}
-use Rattle.split_cli.specs.Faithful.{PutsText, PutsFaithfully, PutsDriven}
+use Rattle.split_cli.specs.Faithful.{PutsText, Only, PutsFaithfully, PutsDriven}
 use Rattle.split_cli.proofs.OneDrive.{driven_run}
 use Rattle.split_cli.proofs.OneVerdict.{one_command}
 use Rattle.split_cli.proofs.ReplayedEvents.{plain_script}
-use Rattle.split_cli.proofs.SetSources.{ReadingLaws, PlanLaws, SplitLaws, set_there, sized_there}
+use Rattle.split_cli.proofs.SetSources.{ReadingLaws, PlanLaws, GrantedLaw, set_there}
 use Rattle.split_cli.proofs.Stages.{stop_with}
 
 -- ---- hosts that all obey
@@ -78,7 +76,7 @@ ObeyingLaws = (tree : Program) (labelled : needs.Labelled) (need : NeedsShape) (
 abbrev pub EndingLaw : Type 0
 EndingLaw = (tree : Program) (labelled : needs.Labelled) (need : NeedsShape) (file : HostsShape) (plan : PlanShape)
     (store : List (List ℤ)) (steps : ℕ) (events : List Event) (world : WorldShape) →
-    IsSet tree labelled need file plan → IsSized labelled.program → HasLength tree store steps →
+    IsSet tree labelled need file plan → HasLength tree store steps →
     IsRun (split_code labelled need file plan) (world_at_start (split_code labelled need file plan) file.hosts 0 store)
     events world → length events ≤ EVENTS * (steps + 1)
 
@@ -95,21 +93,21 @@ NextLaw = (tree : Program) (labelled : needs.Labelled) (need : NeedsShape) (file
 pub record AllLaws : Type 0 where
   pub reading : ReadingLaws
   pub plans : PlanLaws
-  pub splits : SplitLaws
+  pub granted : GrantedLaw
   pub obeying : ObeyingLaws
   pub next : NextLaw
   pub ending : EndingLaw
 
 faithful_run : AllLaws → (program hosts : List ℕ) (placed : PlacedSource) (tree : Program) (start : List (List ℤ))
-    (events : List Event) (last : WorldShape) → IsPlacedAs program hosts placed tree → IsSoundCode (code_of placed) →
-    IsRun (code_of placed) (first_world placed start) events last → IsFaithfulRun placed tree start events last
-faithful_run laws program hosts placed tree start events last is_placed sound ran =
+    (events : List Event) (last : WorldShape) → IsPlacedAs program hosts placed tree →
+    IsRun (code_of placed) (first_world placed 0 start) events last → IsFaithfulRun placed tree start events last
+faithful_run laws program hosts placed tree start events last is_placed ran =
     let law = laws.obeying tree (labelled_source placed.source) placed.needs placed.source.file placed.plan start events
     last
-    (set_there laws.reading laws.plans laws.splits program hosts placed is_placed.accepted tree is_placed.tree_is sound)
+    (set_there laws.reading laws.plans laws.granted program hosts placed is_placed.accepted tree is_placed.tree_is)
     ran in
-    let ended : IsRun (code_of placed) (first_world placed start) (take (length events) events) last =
-    subst (λ (es : List Event). IsRun (code_of placed) (first_world placed start) es last)
+    let ended : IsRun (code_of placed) (first_world placed 0 start) (take (length events) events) last =
+    subst (λ (es : List Event). IsRun (code_of placed) (first_world placed 0 start) es last)
     (sym (take_all (length events) events (omega arith))) ran in
     record {
       follows = law.follows;
@@ -145,17 +143,20 @@ values_of_text placed tree is =
 -- ---- what is reported
 
 is_faithful : AllLaws → (program hosts script text : List ℕ) (replayed : IsReplayed program hosts script text) →
-    IsSoundCode (code_of replayed.placed) → IsFaithful program hosts script text
-is_faithful laws program hosts script text replayed sound =
+    IsFaithful program hosts script text
+is_faithful laws program hosts script text replayed =
     let code = code_of replayed.placed in
+    let plain = plain_script code script replayed.said replayed.read in
+    let runs = subst (λ bad. IsRun code (first_world replayed.placed bad replayed.said.start)
+    (events_in replayed.said.events) replayed.last) plain.nobody replayed.runs in
     let settings = settings_in_front (map form_of code.fields) (said_lines script) in
     record {
       replayed = replayed;
-      starts = (plain_script code script replayed.said replayed.read).starts
+      starts = plain.starts
           ∙ ap (λ (rows : List (List ℤ)). after_settings rows settings)
           (values_of_text replayed.placed replayed.tree replayed.is_placed.tree_is);
       faithful = faithful_run laws program hosts replayed.placed replayed.tree replayed.said.start
-          (events_in replayed.said.events) replayed.last replayed.is_placed sound replayed.runs;
+          (events_in replayed.said.events) replayed.last replayed.is_placed runs;
     }
 
 ends_rested : (code : CodeShape) (world : WorldShape) (most : ℕ) (events : List Event) (last : WorldShape)
@@ -196,13 +197,13 @@ ends_in_time code world most events last _ (spent event all driven more) bound e
     (ends (events ++ event ∷ []) step.0 (runs_on code world last step.0 events event run step.1)) all enough)
 
 is_faithful_drive : AllLaws → (program hosts start : List ℕ) (most : ℕ) (status : Status) (text : List ℕ)
-    (driven : IsDrivenTo program hosts start most status text) → IsSoundCode (code_of driven.placed) →
+    (driven : IsDrivenTo program hosts start most status text) →
     IsFaithfulDrive program hosts start most status text
-is_faithful_drive laws program hosts start most status text driven sound =
+is_faithful_drive laws program hosts start most status text driven =
     let code = code_of driven.placed in
-    let first = first_world driven.placed driven.values in
+    let first = first_world driven.placed 0 driven.values in
     let run = faithful_run laws program hosts driven.placed driven.tree driven.values driven.events driven.last
-    driven.is_placed sound (ends_run code first most driven.events driven.last status driven.ends) in
+    driven.is_placed (ends_run code first most driven.events driven.last status driven.ends) in
     record {
       driven = driven;
       faithful = run;
@@ -212,12 +213,11 @@ is_faithful_drive laws program hosts start most status text driven sound =
       in_time = λ steps ends enough.
           let placed = driven.placed in
           let labelled = labelled_source placed.source in
-          let set = set_there laws.reading laws.plans laws.splits program hosts placed driven.is_placed.accepted driven.tree
-          driven.is_placed.tree_is sound in
-          let sized = sized_there laws.reading laws.plans laws.splits program hosts placed driven.is_placed.accepted in
+          let set = set_there laws.reading laws.plans laws.granted program hosts placed driven.is_placed.accepted
+          driven.tree driven.is_placed.tree_is in
           ends_in_time code first most driven.events driven.last status driven.ends (EVENTS * (steps + 1))
           (λ more after ran. laws.ending driven.tree labelled placed.needs placed.source.file placed.plan driven.values steps
-          more after set sized ends ran)
+          more after set ends ran)
           (λ event ran comes. laws.next driven.tree labelled placed.needs placed.source.file placed.plan driven.values
           driven.events driven.last event set ran comes) enough;
     }
@@ -296,16 +296,40 @@ IsReplayText program hosts script status text = IsFaithful program hosts script 
 -- a script that was read
 record IsRead (script : List ℕ) (placed : PlacedSource) (said : ScriptShape) : Type 0 where
   short : length script ≤ SCRIPT_BYTES
-  sound : IsSoundCode (code_of placed)
   read : script_of (code_of placed) script ≡ Ok said
 
-events_say : AllLaws → (file program hosts script : List ℕ) (placed : PlacedSource) (tree : Program)
-    (said : ScriptShape) (verdict : VerdictShape) → IsPlacedAs program hosts placed tree → IsRead script placed said →
-    DueForEvents file (code_of placed) (first_world placed said.start) said.events verdict →
-    Says (IsReplayText program hosts script) verdict
+-- a script says something, or what is due for it is no success
+abbrev ScriptSays : (Status → List ℕ → Type 0) → List ℕ → PlacedSource → Outcome ScriptShape → Type 0
+ScriptSays Text script placed (given said) = IsRead script placed said
+ScriptSays Text script placed (stopped verdict) = Says Text verdict
+
+script_says : (Text : Status → List ℕ → Type 0) (file script : List ℕ) (placed : PlacedSource)
+    (end : Outcome ScriptShape) → ScriptRead file script (code_of placed) end → ScriptSays Text script placed end
 unfolding Says
-events_say laws file program hosts script placed tree said _ is_placed was (happened last ran) =
-    is_faithful laws program hosts script _ (record {
+script_says Text file script placed _ (replay.long more) = input_fails
+script_says Text file script placed _ (replay.bad_line line short is) = input_fails
+script_says Text file script placed _ (replay.read said short is) = record { short = short; read = is }
+
+-- its events leave a world, or what is due is no success
+abbrev EventsSay : (Status → List ℕ → Type 0) → CodeShape → WorldShape → List (ℕ × Event) → Outcome WorldShape → Type 0
+EventsSay Text code world said (given last) = IsRun code world (events_in said) last
+EventsSay Text code world said (stopped verdict) = Says Text verdict
+
+events_say : (Text : Status → List ℕ → Type 0) (file : List ℕ) (code : CodeShape) (world : WorldShape)
+    (said : List (ℕ × Event)) (end : Outcome WorldShape) → EventsHappen file code world said end →
+    EventsSay Text code world said end
+unfolding Says
+events_say Text file code world said _ (replay.happened last ran) = ran
+events_say Text file code world said _ (replay.absent line refused) = input_fails
+events_say Text file code world said _ (replay.busy line refused) = input_fails
+
+report_says : AllLaws → (program hosts script : List ℕ) (placed : PlacedSource) (tree : Program) (said : ScriptShape)
+    (last : WorldShape) (verdict : VerdictShape) → IsPlacedAs program hosts placed tree → IsRead script placed said →
+    IsRun (code_of placed) (first_world placed said.bad said.start) (events_in said.events) last →
+    verdict ≡ Print Done (replay_text (code_of placed) last) → Says (IsReplayText program hosts script) verdict
+unfolding Says
+report_says laws program hosts script placed tree said last verdict is_placed was ran is =
+    subst (Says (IsReplayText program hosts script)) (sym is) (is_faithful laws program hosts script _ (record {
       placed = placed;
       tree = tree;
       is_placed = is_placed;
@@ -315,27 +339,26 @@ events_say laws file program hosts script placed tree said _ is_placed was (happ
       read = was.read;
       runs = ran;
       text_is = refl;
-    }) was.sound
-events_say laws file program hosts script placed tree said _ is_placed was (absent line refused) = input_fails
-events_say laws file program hosts script placed tree said _ is_placed was (busy line refused) = input_fails
-
-script_says : AllLaws → (file program hosts script : List ℕ) (placed : PlacedSource) (tree : Program)
-    (verdict : VerdictShape) → IsPlacedAs program hosts placed tree → DueForScript file script placed verdict →
-    Says (IsReplayText program hosts script) verdict
-unfolding Says
-script_says laws file program hosts script placed tree _ is_placed (replay.long more) = input_fails
-script_says laws file program hosts script placed tree _ is_placed (replay.bad_line line short is) = input_fails
-script_says laws file program hosts script placed tree verdict is_placed (replay.read said _ short sound read events) =
-    events_say laws file program hosts script placed tree said verdict is_placed
-    (record { short = short; sound = sound; read = read }) events
+    }))
 
 replay_says : AllLaws → (file program hosts script : List ℕ) (placed : PlacedSource) (verdict : VerdictShape) →
     PlacedSources program hosts (given placed) → DueForReplay file script placed verdict →
     Says (IsReplayText program hosts script) verdict
-unfolding Says
 replay_says laws file program hosts script placed verdict accepted ends =
-    script_says laws file program hosts script placed ends.0 verdict
-    (record { accepted = accepted; tree_is = ends.1 }) ends.2
+    let Text = IsReplayText program hosts script in
+    let code = code_of placed in
+    ⊎_elim
+    (λ read.
+    let said = read.0 in
+    let world = first_world placed said.bad said.start in
+    ⊎_elim
+    (λ all. report_says laws program hosts script placed ends.0 said all.0 verdict
+    (record { accepted = accepted; tree_is = ends.1 }) (script_says Text file script placed (given said) read.1)
+    (events_say Text file code world said.events (given all.0) all.1) all.2)
+    (λ stops. events_say Text file code world said.events (stopped verdict) stops)
+    read.2)
+    (λ stops. script_says Text file script placed (stopped verdict) stops)
+    ends.2
 
 -- ---- a drive
 
@@ -379,7 +402,7 @@ hosts_say laws file program hosts start most placed tree values verdict is_place
       read = read.read;
       ends = report.ends;
       text_is = refl;
-    }) report.sound)
+    }))
 
 drive_says : AllLaws → (file program hosts start : List ℕ) (most : ℕ) (placed : PlacedSource)
     (verdict : VerdictShape) → PlacedSources program hosts (given placed) →
@@ -393,93 +416,91 @@ drive_says laws file program hosts start most placed verdict accepted ends =
     (λ stops. start_says (IsDriveText most program hosts start) file start tree.fields.items (stopped verdict) stops)
     ends.2
 
--- ---- a command of three files
+-- ---- a command of a program, a host file and others
 
--- what is reported for a program, a host file and a third file of these bytes, with its status
+-- what is reported for a program, a host file and other files of these bytes, with its status
 abbrev Kind : Type 1
-Kind = List ℕ → List ℕ → List ℕ → Status → List ℕ → Type 0
+Kind = List ℕ → List ℕ → List (List ℕ) → Status → List ℕ → Type 0
 
--- what is due for the bytes of three files is such a report, or a failure
+-- what is due for the bytes of the files is such a report, or a failure
 abbrev SaysOfBytes : Kind → CommandShape → Type 0
-SaysOfBytes Text command = (p h t : List ℕ) (verdict : VerdictShape) → DueForBytes command (p ∷ h ∷ t ∷ []) verdict →
-    Says (Text p h t) verdict
+SaysOfBytes Text command = (p h : List ℕ) (others : List (List ℕ)) (verdict : VerdictShape) →
+    DueForBytes command (p ∷ h ∷ others) verdict → Says (Text p h others) verdict
 
 -- what the names stand for has this report
-record IsPrinted (Text : Kind) (program hosts third : List ℕ) (held : Option (List ℕ → Option (List ℕ)))
-    (status : Status) (text : List ℕ) : Type 0 where
+record IsPrinted (Text : Kind) (program hosts : List ℕ) (others : List (List ℕ))
+    (held : Option (List ℕ → Option (List ℕ))) (status : Status) (text : List ℕ) : Type 0 where
   program_bytes : List ℕ
   hosts_bytes : List ℕ
-  third_bytes : List ℕ
+  others_bytes : List (List ℕ)
   program_told : Told held program (Some program_bytes)
   hosts_told : Told held hosts (Some hosts_bytes)
-  third_told : Told held third (Some third_bytes)
-  is : Text program_bytes hosts_bytes third_bytes status text
+  others_told : AllZip (λ file content. Told held file (Some content)) others others_bytes
+  is : Text program_bytes hosts_bytes others_bytes status text
 
 -- for the names: a refusal is no success, and a report is one of their files
-SaysOfFiles : (Text : Kind) (program hosts third : List ℕ) → Option (List ℕ → Option (List ℕ)) → VerdictShape → Type 0
-SaysOfFiles Text program hosts third held (Refuse status line) = IsFailure status
-SaysOfFiles Text program hosts third held (Print status text) = IsPrinted Text program hosts third held status text
+SaysOfFiles : (Text : Kind) (program hosts : List ℕ) (others : List (List ℕ)) → Option (List ℕ → Option (List ℕ)) → VerdictShape → Type 0
+SaysOfFiles Text program hosts others held (Refuse status line) = IsFailure status
+SaysOfFiles Text program hosts others held (Print status text) = IsPrinted Text program hosts others held status text
 
-printed_says : (Text : Kind) (program hosts third : List ℕ) (held : Option (List ℕ → Option (List ℕ)))
-    (p h t : List ℕ) (verdict : VerdictShape) → Told held program (Some p) → Told held hosts (Some h) →
-    Told held third (Some t) → Says (Text p h t) verdict → SaysOfFiles Text program hosts third held verdict
+printed_says : (Text : Kind) (program hosts : List ℕ) (others : List (List ℕ)) (held : Option (List ℕ → Option (List ℕ)))
+    (p h : List ℕ) (t : List (List ℕ)) (verdict : VerdictShape) → Told held program (Some p) → Told held hosts (Some h) →
+    AllZip (λ file content. Told held file (Some content)) others t → Says (Text p h t) verdict → SaysOfFiles Text program hosts others held verdict
 unfolding Says SaysOfFiles
-printed_says Text program hosts third held p h t (Refuse status line) told_p told_h told_t says = says
-printed_says Text program hosts third held p h t (Print status text) told_p told_h told_t says = record {
+printed_says Text program hosts others held p h t (Refuse status line) told_p told_h told_t says = says
+printed_says Text program hosts others held p h t (Print status text) told_p told_h told_t says = record {
   program_bytes = p;
   hosts_bytes = h;
-  third_bytes = t;
+  others_bytes = t;
   program_told = told_p;
   hosts_told = told_h;
-  third_told = told_t;
+  others_told = told_t;
   is = says;
 }
 
-files_say : (Text : Kind) (command : CommandShape) (program hosts third : List ℕ)
+files_say : (Text : Kind) (command : CommandShape) (program hosts : List ℕ) (others : List (List ℕ))
     (held : Option (List ℕ → Option (List ℕ))) → SaysOfBytes Text command → (bytes : List (List ℕ))
     (verdict : VerdictShape) →
-    AllZip (λ file content. Told held file (Some content)) (program ∷ hosts ∷ third ∷ []) bytes →
-    DueForBytes command bytes verdict → SaysOfFiles Text program hosts third held verdict
-files_say Text command program hosts third held says [] verdict told ends = absurd told
-files_say Text command program hosts third held says (p ∷ []) verdict told ends = absurd told.1
-files_say Text command program hosts third held says (p ∷ h ∷ []) verdict told ends = absurd told.1.1
-files_say Text command program hosts third held says (p ∷ h ∷ t ∷ []) verdict told ends =
-    printed_says Text program hosts third held p h t verdict told.0 told.1.0 told.1.1.0 (says p h t verdict ends)
-files_say Text command program hosts third held says (p ∷ h ∷ t ∷ x ∷ more) verdict told ends = absurd told.1.1.1
+    AllZip (λ file content. Told held file (Some content)) (program ∷ hosts ∷ others) bytes →
+    DueForBytes command bytes verdict → SaysOfFiles Text program hosts others held verdict
+files_say Text command program hosts others held says [] verdict told ends = absurd told
+files_say Text command program hosts others held says (p ∷ []) verdict told ends = absurd told.1
+files_say Text command program hosts others held says (p ∷ h ∷ t) verdict told ends =
+    printed_says Text program hosts others held p h t verdict told.0 told.1.0 told.1.1 (says p h t verdict ends)
 
-command_says : (Text : Kind) (command : CommandShape) (program hosts third : List ℕ)
-    (held : Option (List ℕ → Option (List ℕ))) → files_of command ≡ program ∷ hosts ∷ third ∷ [] →
+command_says : (Text : Kind) (command : CommandShape) (program hosts : List ℕ) (others : List (List ℕ))
+    (held : Option (List ℕ → Option (List ℕ))) → files_of command ≡ program ∷ hosts ∷ others →
     SaysOfBytes Text command → (number : ℕ) (verdict : VerdictShape) → DueForCommand held command number verdict →
-    SaysOfFiles Text program hosts third held verdict
+    SaysOfFiles Text program hosts others held verdict
 unfolding SaysOfFiles
-command_says Text command program hosts third held files says _ _ (due.absent place file first) = input_fails
-command_says Text command program hosts third held files says _ verdict (due.loaded _ ends) =
-    files_say Text command program hosts third held says ends.bytes verdict
+command_says Text command program hosts others held files says _ _ (due.absent place file first) = input_fails
+command_says Text command program hosts others held files says _ verdict (due.loaded _ ends) =
+    files_say Text command program hosts others held says ends.bytes verdict
     (subst (λ (names : List (List ℕ)). AllZip (λ file content. Told held file (Some content)) names ends.bytes) files
     ends.told)
     ends.due
 
-words_say : (Text : Kind) (command : CommandShape) (program hosts third : List ℕ) (words : List (List ℕ))
-    (held : Option (List ℕ → Option (List ℕ))) → IsCommand command → files_of command ≡ program ∷ hosts ∷ third ∷ [] →
+words_say : (Text : Kind) (command : CommandShape) (program hosts : List ℕ) (others : List (List ℕ)) (words : List (List ℕ))
+    (held : Option (List ℕ → Option (List ℕ))) → IsCommand command → files_of command ≡ program ∷ hosts ∷ others →
     SaysOfBytes Text command → (number : ℕ) (verdict : VerdictShape) → words ≡ words_of command →
-    Due words held number verdict → SaysOfFiles Text program hosts third held verdict
+    Due words held number verdict → SaysOfFiles Text program hosts others held verdict
 unfolding SaysOfFiles
-words_say Text command program hosts third words held is files says _ _ asked (no_words none) = usage_fails
-words_say Text command program hosts third words held is files says number verdict asked
+words_say Text command program hosts others words held is files says _ _ asked (no_words none) = usage_fails
+words_say Text command program hosts others words held is files says number verdict asked
     (for_command other _ _ is_too also ends) =
-    command_says Text command program hosts third held files says number verdict
+    command_says Text command program hosts others held files says number verdict
     (subst (λ (c : CommandShape). DueForCommand held c number verdict)
     (one_command other command is_too is (sym also ∙ asked)) ends)
 
-due_says : (Text : Kind) (command : CommandShape) (program hosts third : List ℕ) (words : List (List ℕ))
+due_says : (Text : Kind) (command : CommandShape) (program hosts : List ℕ) (others : List (List ℕ)) (words : List (List ℕ))
     (files : FilesChange) (verdict : VerdictShape) → IsCommand command →
-    files_of command ≡ program ∷ hosts ∷ third ∷ [] → SaysOfBytes Text command → words ≡ words_of command →
-    IsDue words files verdict → SaysOfFiles Text program hosts third files.held verdict
+    files_of command ≡ program ∷ hosts ∷ others → SaysOfBytes Text command → words ≡ words_of command →
+    IsDue words files verdict → SaysOfFiles Text program hosts others files.held verdict
 unfolding SaysOfFiles
-due_says Text command program hosts third words files verdict is names says asked ends =
+due_says Text command program hosts others words files verdict is names says asked ends =
     ⊎_elim
-    (λ whole. words_say Text command program hosts third words files.held is names says whole.0 verdict asked whole.1)
-    (λ fault. subst (SaysOfFiles Text program hosts third files.held) (sym fault.3.verdict_is) fault_fails)
+    (λ whole. words_say Text command program hosts others words files.held is names says whole.0 verdict asked whole.1)
+    (λ fault. subst (SaysOfFiles Text program hosts others files.held) (sym fault.3.verdict_is) fault_fails)
     ends
 
 -- ---- the answer
@@ -499,62 +520,76 @@ puts_text text status answer sink success puts =
     (λ spent. let out = fault.0 in let no : ⊥ = cc in no) success))
     puts
 
-verdict_put : (Text : Kind) (program hosts third : List ℕ) (held : Option (List ℕ → Option (List ℕ)))
+verdict_put : (Text : Kind) (program hosts : List ℕ) (others : List (List ℕ)) (held : Option (List ℕ → Option (List ℕ)))
     (answer : Status) (out err : SinkChange) (verdict : VerdictShape) → IsSuccess answer →
-    SaysOfFiles Text program hosts third held verdict → IsAnswered verdict answer out err →
-    PutsText (λ p h t text. Text p h t answer text) program hosts third held out.taken_before out.taken_after
+    SaysOfFiles Text program hosts others held verdict → IsAnswered verdict answer out err →
+    PutsText (λ p h t text. Text p h t answer text) program hosts others held out.taken_before out.taken_after
 unfolding SaysOfFiles
-verdict_put Text program hosts third held answer out err (Refuse status line) success says answered =
+verdict_put Text program hosts others held answer out err (Refuse status line) success says answered =
     absurd (never_both status says
     (subst IsSuccess (puts_text line status answer err success answered.1).0 success))
-verdict_put Text program hosts third held answer out err (Print status text) success says answered =
+verdict_put Text program hosts others held answer out err (Print status text) success says answered =
     let put = puts_text text status answer out success answered.1 in
     record {
       program_bytes = says.program_bytes;
       hosts_bytes = says.hosts_bytes;
-      third_bytes = says.third_bytes;
+      others_bytes = says.others_bytes;
       program_told = says.program_told;
       hosts_told = says.hosts_told;
-      third_told = says.third_told;
+      others_told = says.others_told;
       text = text;
-      is = subst (λ (s : Status). Text says.program_bytes says.hosts_bytes says.third_bytes s text) (sym put.0) says.is;
+      is = subst (λ (s : Status). Text says.program_bytes says.hosts_bytes says.others_bytes s text) (sym put.0) says.is;
       put = put.1;
     }
 
-answer_put : (Text : Kind) (command : CommandShape) (program hosts third : List ℕ) (words : List (List ℕ))
+answer_put : (Text : Kind) (command : CommandShape) (program hosts : List ℕ) (others : List (List ℕ)) (words : List (List ℕ))
     (files : FilesChange) (answer : Status) (out err : SinkChange) → IsCommand command →
-    files_of command ≡ program ∷ hosts ∷ third ∷ [] → SaysOfBytes Text command →
+    files_of command ≡ program ∷ hosts ∷ others → SaysOfBytes Text command →
     AnswersTo words files answer out err → words ≡ words_of command → IsSuccess answer →
-    PutsText (λ p h t text. Text p h t answer text) program hosts third files.held out.taken_before out.taken_after
-answer_put Text command program hosts third words files answer out err is names says answers asked success =
+    PutsText (λ p h t text. Text p h t answer text) program hosts others files.held out.taken_before out.taken_after
+answer_put Text command program hosts others words files answer out err is names says answers asked success =
     ⊎_elim
     (λ memory. absurd (⊎_elim (λ done. let out_of = memory.0 in let no : ⊥ = cc in no)
     (λ spent. let out_of = memory.0 in let no : ⊥ = cc in no) success))
-    (λ whole. verdict_put Text program hosts third files.held answer out err whole.0 success
-    (due_says Text command program hosts third words files whole.0 is names says asked whole.1) whole.2)
+    (λ whole. verdict_put Text program hosts others files.held answer out err whole.0 success
+    (due_says Text command program hosts others words files whole.0 is names says asked whole.1) whole.2)
     answers
 
 -- ---- the headline, from the answer
+
+abbrev ReplayKind : Kind
+ReplayKind p h others status text = Only (λ e. IsFaithful p h e text) others
+
+abbrev DriveKind : ℕ → Kind
+DriveKind most p h others status text = Only (λ s. IsFaithfulDrive p h s most status text) others
+
+replay_bytes : AllLaws → (program hosts events : List ℕ) → SaysOfBytes ReplayKind (Replay program hosts events)
+replay_bytes laws program hosts events p h [] verdict ends = absurd ends
+replay_bytes laws program hosts events p h (e ∷ []) verdict ends = ⊎_elim
+    (λ both. replay_says laws events p h e both.0 verdict both.1 both.2)
+    (λ no. refusal_says (IsReplayText p h e) verdict (placed_refuse p h verdict no)) ends
+replay_bytes laws program hosts events p h (e ∷ x ∷ more) verdict ends = absurd ends
+
+drive_bytes : AllLaws → (program hosts start : List ℕ) (most : ℕ) →
+    SaysOfBytes (DriveKind most) (Drive program hosts start most)
+drive_bytes laws program hosts start most p h [] verdict ends = absurd ends
+drive_bytes laws program hosts start most p h (s ∷ []) verdict ends = ⊎_elim
+    (λ both. drive_says laws start p h s most both.0 verdict both.1 both.2)
+    (λ no. refusal_says (IsDriveText most p h s) verdict (placed_refuse p h verdict no)) ends
+drive_bytes laws program hosts start most p h (s ∷ x ∷ more) verdict ends = absurd ends
 
 pub replay_is_faithful : AllLaws → (words : List (List ℕ)) (files : FilesChange) (answer : Status)
     (out err : SinkChange) (program hosts events : List ℕ) → AnswersTo words files answer out err →
     words ≡ words_of (Replay program hosts events) → answer ≡ Done →
     PutsFaithfully program hosts events files.held out.taken_before out.taken_after
 replay_is_faithful laws words files answer out err program hosts events answers asked done =
-    answer_put IsReplayText (Replay program hosts events) program hosts events words files answer out err tt refl
-    (λ p h e verdict ends. ⊎_elim
-    (λ both. replay_says laws events p h e both.0 verdict both.1 both.2)
-    (λ no. refusal_says (IsReplayText p h e) verdict (placed_refuse p h verdict no)) ends)
-    answers asked (inl done)
+    answer_put ReplayKind (Replay program hosts events) program hosts (events ∷ []) words files answer out err tt refl
+    (replay_bytes laws program hosts events) answers asked (inl done)
 
 pub drive_is_faithful : AllLaws → (words : List (List ℕ)) (files : FilesChange) (answer : Status)
     (out err : SinkChange) (program hosts start : List ℕ) (most : ℕ) → AnswersTo words files answer out err →
     IsStepCount most → words ≡ words_of (Drive program hosts start most) → (answer ≡ Done) ⊎ (answer ≡ Spent) →
     PutsDriven program hosts start most answer files.held out.taken_before out.taken_after
 drive_is_faithful laws words files answer out err program hosts start most answers few asked success =
-    answer_put (IsDriveText most) (Drive program hosts start most) program hosts start words files answer out err few
-    refl
-    (λ p h s verdict ends. ⊎_elim
-    (λ both. drive_says laws start p h s most both.0 verdict both.1 both.2)
-    (λ no. refusal_says (IsDriveText most p h s) verdict (placed_refuse p h verdict no)) ends)
-    answers asked success
+    answer_put (DriveKind most) (Drive program hosts start most) program hosts (start ∷ []) words files answer out err
+    few refl (drive_bytes laws program hosts start most) answers asked success

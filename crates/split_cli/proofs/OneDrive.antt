@@ -171,7 +171,7 @@ report_once : OneStep → (placed : PlacedSource) (values : List (List ℤ)) (mo
     IsDriveReport placed values most first → IsDriveReport placed values most second → first ≡ second
 report_once step placed values most first second one two =
     let code = code_of placed in
-    let world = first_world placed values in
+    let world = first_world placed 0 values in
     let a = ended code world most one.events one.last one.status one.ends in
     let b = ended code world most two.events two.last two.status two.ends in
     let same =

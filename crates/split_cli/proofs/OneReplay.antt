@@ -8,10 +8,11 @@ use Rattle.host_code.specs.Code.{CodeShape}
 use Rattle.net_world.specs.World.{WorldShape, IsStep, IsRun, Refusal, not_there, host_busy, refusal_of}
 use Rattle.split_cli.specs.Drive.{code_of, first_world}
 use Rattle.split_cli.specs.PlacedSources.{PlacedSource}
-use Rattle.split_cli.specs.Replay.{events_in, IsRefusedAt, replay_text, DueForEvents, happened, absent, busy}
-use Rattle.split_cli.specs.Replay.{DueForScript, long, bad_line, read, DueForReplay}
+use Rattle.split_cli.specs.Replay.{events_in, IsRefusedAt, replay_text, EventsHappen, happened, absent, busy}
+use Rattle.split_cli.specs.Replay.{ScriptRead, long, bad_line, read, DueForEvents, DueForReplay}
 use Rattle.split_cli.specs.Verdicts.{VerdictShape, Print, no_form, event_not_there, event_host_busy}
 use Rattle.split_cli.proofs.OneDrive.{OneStep}
+use Rattle.split_cli.proofs.Stages.{IsOne, give, stop_with, one_due}
 
 -- what is known of steps
 pub record StepLaws : Type 0 where
@@ -70,12 +71,10 @@ ran_once step code world one two (event ∷ events) a b =
 
 -- ---- what is due
 
-events_once : StepLaws → (file : List ℕ) (code : CodeShape) (world : WorldShape) (said : List (ℕ × Event))
-    (first second : VerdictShape) → DueForEvents file code world said first →
-    DueForEvents file code world said second → first ≡ second
+events_once : StepLaws → (file : List ℕ) (code : CodeShape) (world : WorldShape) (said : List (ℕ × Event)) →
+    IsOne (EventsHappen file code world said)
 events_once laws file code world said _ _ (happened last ran) (happened other also) =
-    ap (λ (w : WorldShape). Print Done (replay_text code w))
-    (ran_once laws.one code world last other (events_in said) ran also)
+    ap give (ran_once laws.one code world last other (events_in said) ran also)
 events_once laws file code world said _ _ (happened last ran) (absent line refused) =
     absurd (ran_or_refused laws code world last said line not_there ran refused)
 events_once laws file code world said _ _ (happened last ran) (busy line refused) =
@@ -83,7 +82,8 @@ events_once laws file code world said _ _ (happened last ran) (busy line refused
 events_once laws file code world said _ _ (absent line refused) (happened last ran) =
     absurd (ran_or_refused laws code world last said line not_there ran refused)
 events_once laws file code world said _ _ (absent line refused) (absent other also) =
-    ap (event_not_there file) (refused_once laws code world said line other not_there not_there refused also).lines
+    ap (λ (n : ℕ). stop_with {X = WorldShape} (event_not_there file n))
+    (refused_once laws code world said line other not_there not_there refused also).lines
 events_once laws file code world said _ _ (absent line refused) (busy other also) =
     let causes = (refused_once laws code world said line other not_there host_busy refused also).causes in
     absurd (let no : ⊥ = cc in no)
@@ -93,31 +93,38 @@ events_once laws file code world said _ _ (busy line refused) (absent other also
     let causes = (refused_once laws code world said line other host_busy not_there refused also).causes in
     absurd (let no : ⊥ = cc in no)
 events_once laws file code world said _ _ (busy line refused) (busy other also) =
-    ap (event_host_busy file) (refused_once laws code world said line other host_busy host_busy refused also).lines
+    ap (λ (n : ℕ). stop_with {X = WorldShape} (event_host_busy file n))
+    (refused_once laws code world said line other host_busy host_busy refused also).lines
 
-script_once : StepLaws → (file script : List ℕ) (placed : PlacedSource) (first second : VerdictShape) →
-    DueForScript file script placed first → DueForScript file script placed second → first ≡ second
-script_once laws file script placed _ _ (long more) (long also) = refl
-script_once laws file script placed _ _ (long more) (bad_line line short is) = absurd (omega arith)
-script_once laws file script placed _ second (long more) (read said _ short sound is due) = absurd (omega arith)
-script_once laws file script placed _ _ (bad_line line short is) (long more) = absurd (omega arith)
-script_once laws file script placed _ _ (bad_line line short is) (bad_line other also_short also) =
+script_once : (file script : List ℕ) (code : CodeShape) → IsOne (ScriptRead file script code)
+script_once file script code _ _ (long more) (long also) = refl
+script_once file script code _ _ (long more) (bad_line line short is) = absurd (omega arith)
+script_once file script code _ _ (long more) (read said short is) = absurd (omega arith)
+script_once file script code _ _ (bad_line line short is) (long more) = absurd (omega arith)
+script_once file script code _ _ (bad_line line short is) (bad_line other also_short also) =
     let both = sym is ∙ also in
-    ap (no_form file) (let same : line ≡ other = cc in same)
-script_once laws file script placed _ second (bad_line line short is) (read said _ also_short sound also due) =
+    ap (λ (n : ℕ). stop_with {X = ScriptShape} (no_form file n)) (let same : line ≡ other = cc in same)
+script_once file script code _ _ (bad_line line short is) (read said also_short also) =
     absurd (let no = sym is ∙ also in cc)
-script_once laws file script placed first _ (read said _ short sound is due) (long more) = absurd (omega arith)
-script_once laws file script placed first _ (read said _ short sound is due) (bad_line line also_short also) =
+script_once file script code _ _ (read said short is) (long more) = absurd (omega arith)
+script_once file script code _ _ (read said short is) (bad_line line also_short also) =
     absurd (let no = sym is ∙ also in cc)
-script_once laws file script placed first second (read said _ short sound is due)
-    (read others _ also_short sound_too also due_too) =
+script_once file script code _ _ (read said short is) (read other also_short also) =
     let both = sym is ∙ also in
-    let same : others ≡ said = cc in
-    events_once laws file (code_of placed) (first_world placed said.start) said.events first second due
-    (subst (λ (one : ScriptShape). DueForEvents file (code_of placed) (first_world placed one.start) one.events second)
-    same due_too)
+    ap give (let same : said ≡ other = cc in same)
+
+due_for_events_once : StepLaws → (file : List ℕ) (code : CodeShape) (world : WorldShape) (said : List (ℕ × Event))
+    (first second : VerdictShape) → DueForEvents file code world said first →
+    DueForEvents file code world said second → first ≡ second
+due_for_events_once laws file code world said first second =
+    one_due (EventsHappen file code world said) (λ last verdict. verdict ≡ Print Done (replay_text code last)) first
+    second (events_once laws file code world said) (λ last happens one two. one ∙ sym two)
 
 pub replay_once : StepLaws → (file script : List ℕ) (placed : PlacedSource) (first second : VerdictShape) →
     DueForReplay file script placed first → DueForReplay file script placed second → first ≡ second
 replay_once laws file script placed first second one two =
-    script_once laws file script placed first second one.2 two.2
+    one_due (ScriptRead file script (code_of placed))
+    (λ said. DueForEvents file (code_of placed) (first_world placed said.bad said.start) said.events) first second
+    (script_once file script (code_of placed))
+    (λ said was. due_for_events_once laws file (code_of placed) (first_world placed said.bad said.start) said.events
+    first second) one.2 two.2

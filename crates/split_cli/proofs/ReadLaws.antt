@@ -5,6 +5,7 @@ use Rattle.jif_lex.specs.TokenLists.{AreTokens}
 use Rattle.jif_grammar.specs.DraftShapes.{DraftShape}
 use Rattle.jif_grammar.specs.Programs as grammar
 use Rattle.jif_resolve.specs.Verdicts.{IsProgramOf}
+use Rattle.jif_tree.specs.Limits.{IsWithinLimits}
 use Rattle.jif_tree.specs.Named.{AreNamed}
 use Rattle.jif_tree.specs.Numbering.{CountsFrom, site_numbers}
 use Rattle.jif_tree.specs.Trees.{ProgramTree}
@@ -28,12 +29,13 @@ NamedLaw = (list : List Token) (principals : Declared) (draft : DraftShape) (pro
 pub read_program : NamedLaw → (file : HostsShape) (tree : ProgramTree) (draft : DraftShape) (labelled : Labelled) →
     labelled ≡ labelled_source (record { file = file; tree = tree }) → IsReadDraft draft →
     IsProgramOf file.principals draft tree → IsWellNumbered tree → CountsFrom 1 (site_numbers tree) →
-    IsReadProgram labelled
-read_program law file tree draft labelled is read resolved numbered sites =
+    IsWithinLimits tree → IsReadProgram labelled
+read_program law file tree draft labelled is read resolved numbered sites within =
     subst IsReadProgram (sym is) (record {
       numbered = numbered;
       sites = sites;
       named = law read.list file.principals draft tree read.tokens read.parsed resolved;
+      within = within;
       var_labels = variable_count file.principals tree;
     })
 
@@ -44,6 +46,7 @@ splittable labelled hosts plan read are_hosts has = record {
   numbered = read.numbered;
   sites = read.sites;
   named = read.named;
+  within = read.within;
   var_labels = read.var_labels;
   stands = record { fields = has.fields; statements = has.statements };
 }

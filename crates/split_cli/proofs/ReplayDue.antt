@@ -1,57 +1,84 @@
--- What is due for a script of events, by the program and the hosts that were read and what was loaded of the script.
-use Rattle.std.proofs.Common.{◌≡◌, ℕ, ◌≤◌, List, length, Ok, Err, sym, ap, ◌∙◌, subst}
+-- What a script says, by what was loaded and read of it, and what its events leave in the world of a program.
+use Rattle.std.proofs.Common.{◌≡◌, ℕ, List, Ok, Err, sym, ap, ◌∙◌, subst, inl, inr}
 use Rattle.std.specs.Prelude.{ℤ}
 use Rattle.js_base.specs.declared.limits.TheConstants.{SCRIPT_BYTES}
+use Rattle.js_base.specs.declared.status.Status.TheVariants.{Done}
 use Rattle.event_text.specs.declared.event.Event.{Event}
 use Rattle.event_text.specs.Script.{ScriptShape, script_of}
+use Rattle.host_code.specs.Code.{CodeShape}
 use Rattle.jif_tree.specs.declared.program.Program.{Program}
 use Rattle.jif_tree.specs.Trees.{program_tree}
-use Rattle.host_code.specs.Code.{CodeShape}
-use Rattle.host_code.specs.Sound.{IsSoundCode}
 use Rattle.net_world.specs.World.{WorldShape, world_at_start}
 use Rattle.split_cli.specs.declared.load.Loaded.{Loaded}
 use Rattle.split_cli.specs.declared.load.Loaded.TheVariants.{TooLong}
 use Rattle.split_cli.specs.Drive.{code_of, first_world}
 use Rattle.split_cli.specs.Loading.{IsLoaded}
 use Rattle.split_cli.specs.PlacedSources.{PlacedSource}
-use Rattle.split_cli.specs.Replay.{DueForEvents, DueForScript, DueForReplay, long, bad_line, read}
-use Rattle.split_cli.specs.Verdicts.{VerdictShape, too_long, no_form}
+use Rattle.split_cli.specs.Replay.{replay_text, ScriptRead, long, bad_line, read, EventsHappen, DueForReplay}
+use Rattle.split_cli.specs.Stages.{Outcome, given, stopped}
+use Rattle.split_cli.specs.Verdicts.{VerdictShape, Print, too_long, no_form}
 use Rattle.split_cli.proofs.StartingDue.{AreBytes}
 
-pub replay_scripted : (file script : List ℕ) (placed : PlacedSource) (program : Program) (verdict : VerdictShape) →
-    program_tree program ≡ placed.source.tree →
-    DueForScript file script placed verdict → DueForReplay file script placed verdict
-replay_scripted file script placed program verdict same due = (program, same, due)
+-- ---- the script
 
-pub script_too_long : (file script : List ℕ) (placed : PlacedSource) (loaded : Loaded) → loaded ≡ TooLong →
-    IsLoaded SCRIPT_BYTES script loaded → DueForScript file script placed (too_long file)
-script_too_long file script placed loaded is from = long (subst (IsLoaded SCRIPT_BYTES script) is from)
+pub script_too_long : (file script : List ℕ) (code : CodeShape) (loaded : Loaded) → loaded ≡ TooLong →
+    IsLoaded SCRIPT_BYTES script loaded → ScriptRead file script code (stopped (too_long file))
+script_too_long file script code loaded is from = long (subst (IsLoaded SCRIPT_BYTES script) is from)
 
-pub script_loaded : (file script bytes : List ℕ) (placed : PlacedSource) (verdict : VerdictShape) →
-    AreBytes script bytes → DueForScript file bytes placed verdict → DueForScript file script placed verdict
-script_loaded file script bytes placed verdict are due =
-    subst (λ (held : List ℕ). DueForScript file held placed verdict) are.same due
+pub script_has_bad_line : (file script bytes : List ℕ) (code : CodeShape) (line : ℕ) → AreBytes script bytes →
+    script_of code bytes ≡ Err line → ScriptRead file script code (stopped (no_form file line))
+script_has_bad_line file script bytes code line are fails =
+    bad_line line are.few (ap (script_of code) (sym are.same) ∙ fails)
 
--- ---- the code
+pub script_says : (file script bytes : List ℕ) (code : CodeShape) (said : ScriptShape) → AreBytes script bytes →
+    script_of code bytes ≡ Ok said → ScriptRead file script code (given said)
+script_says file script bytes code said are says = read said are.few (ap (script_of code) (sym are.same) ∙ says)
 
-pub script_bad : (file script : List ℕ) (placed : PlacedSource) (code : CodeShape) (line : ℕ) →
-    code ≡ code_of placed → (length script ≤ SCRIPT_BYTES) × (script_of code script ≡ Err line) →
-    DueForScript file script placed (no_form file line)
-script_bad file script placed code line same fails =
-    bad_line line fails.0 (ap (λ (c : CodeShape). script_of c script) (sym same) ∙ fails.1)
+-- ---- of a program in its places
 
-pub script_read : (file script : List ℕ) (placed : PlacedSource) (code : CodeShape) (said : ScriptShape)
-    (first : WorldShape) (start : List (List ℤ)) (events : List (ℕ × Event)) (verdict : VerdictShape) →
-    code ≡ code_of placed → IsSoundCode code →
-    (length script ≤ SCRIPT_BYTES) × (script_of code script ≡ Ok said) →
-    first ≡ world_at_start code placed.source.file.hosts 0 start → start ≡ said.start → events ≡ said.events →
-    DueForEvents file code first events verdict → DueForScript file script placed verdict
-script_read file script placed code said first start events verdict same sound reads first_is start_is events_are due =
-    let world : first ≡ first_world placed said.start =
-    first_is ∙ ap (λ (values : List (List ℤ)). world_at_start code placed.source.file.hosts 0 values) start_is
-    ∙ ap (λ (c : CodeShape). world_at_start c placed.source.file.hosts 0 said.start) same in
-    read said verdict reads.0 (subst IsSoundCode same sound)
-    (ap (λ (c : CodeShape). script_of c script) (sym same) ∙ reads.1)
-    (subst (λ (c : CodeShape). DueForEvents file c (first_world placed said.start) said.events verdict) same
-    (subst (λ (w : WorldShape). DueForEvents file code w said.events verdict) world
-    (subst (λ (es : List (ℕ × Event)). DueForEvents file code first es verdict) events_are due)))
+-- what was read by a code that is that of the program
+pub script_of_program : (file script : List ℕ) (placed : PlacedSource) (code : CodeShape) (end : Outcome ScriptShape) →
+    code ≡ code_of placed → ScriptRead file script code end → ScriptRead file script (code_of placed) end
+script_of_program file script placed code end same was =
+    subst (λ (c : CodeShape). ScriptRead file script c end) same was
+
+-- what happened in a world that is its first
+pub events_of_program : (file : List ℕ) (placed : PlacedSource) (code : CodeShape) (said : ScriptShape)
+    (first : WorldShape) (bad : ℕ) (start : List (List ℤ)) (events : List (ℕ × Event)) (end : Outcome WorldShape) →
+    code ≡ code_of placed → first ≡ world_at_start code placed.source.file.hosts bad start → bad ≡ said.bad →
+    start ≡ said.start → events ≡ said.events → EventsHappen file code first events end →
+    EventsHappen file (code_of placed) (first_world placed said.bad said.start) said.events end
+events_of_program file placed code said first bad start events end same starts bad_is start_is events_are was =
+    let world : first ≡ first_world placed said.bad said.start =
+    starts ∙ ap (λ (values : List (List ℤ)). world_at_start code placed.source.file.hosts bad values) start_is
+    ∙ ap (λ (word : ℕ). world_at_start code placed.source.file.hosts word said.start) bad_is
+    ∙ ap (λ (c : CodeShape). world_at_start c placed.source.file.hosts said.bad said.start) same in
+    subst (λ (c : CodeShape). EventsHappen file c (first_world placed said.bad said.start) said.events end) same
+    (subst (λ (w : WorldShape). EventsHappen file code w said.events end) world
+    (subst (λ (es : List (ℕ × Event)). EventsHappen file code first es end) events_are was))
+
+-- ---- what is due
+
+-- where the script stops the command
+pub script_stops : (file script : List ℕ) (placed : PlacedSource) (program : Program) (verdict : VerdictShape) →
+    program_tree program ≡ placed.source.tree → ScriptRead file script (code_of placed) (stopped verdict) →
+    DueForReplay file script placed verdict
+script_stops file script placed program verdict same was = (program, same, inr was)
+
+-- where one of its events does
+pub events_stop : (file script : List ℕ) (placed : PlacedSource) (program : Program) (said : ScriptShape)
+    (verdict : VerdictShape) → program_tree program ≡ placed.source.tree →
+    ScriptRead file script (code_of placed) (given said) →
+    EventsHappen file (code_of placed) (first_world placed said.bad said.start) said.events (stopped verdict) →
+    DueForReplay file script placed verdict
+events_stop file script placed program said verdict same was stops = (program, same, inl (said, was, inr stops))
+
+-- the report, where they all happen
+pub events_reported : (file script : List ℕ) (placed : PlacedSource) (program : Program) (code : CodeShape)
+    (said : ScriptShape) (last : WorldShape) (text : List ℕ) → program_tree program ≡ placed.source.tree →
+    code ≡ code_of placed → ScriptRead file script (code_of placed) (given said) →
+    EventsHappen file (code_of placed) (first_world placed said.bad said.start) said.events (given last) →
+    text ≡ replay_text code last → DueForReplay file script placed (Print Done text)
+events_reported file script placed program code said last text same code_is was happen is =
+    (program, same, inl (said, was, inl (last, happen,
+    ap (Print Done) (is ∙ ap (λ (c : CodeShape). replay_text c last) code_is))))

@@ -177,6 +177,7 @@ lines_obey hosts (line ∷ lines) said is =
 
 -- what is known of a script that was read
 pub record IsPlainScript (start : List (List ℤ)) (said : ScriptShape) : Type 0 where
+  pub nobody : said.bad ≡ 0
   pub starts : said.start ≡ start
   pub obeying : All (λ one. IsObeying one.1) said.events
 
@@ -188,6 +189,7 @@ script_with start (Ok events) said obey is =
     let made : ScriptShape = record { bad = 0; start = start; events = events } in
     let same : made ≡ said = cc in
     subst (IsPlainScript start) same (record {
+      nobody = refl;
       starts = refl;
       obeying = All-from_recursion (λ (one : ℕ × Event). IsObeying one.1) events (obey events refl);
     })

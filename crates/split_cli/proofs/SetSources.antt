@@ -12,22 +12,21 @@ use Rattle.label_lattice.specs.declared.label.Label.{Label}
 use Rattle.label_lattice.specs.Label.{IsTrustedBy}
 use Rattle.host_decl.specs.Hosts.{HostShape, HostsShape, AreHosts}
 use Rattle.host_decl.specs.Reading.{ReadsHosts}
-use Rattle.host_code.specs.Sound.{IsSoundCode}
 use Rattle.jif_tree.specs.declared.program.Program.{Program}
-use Rattle.jif_tree.specs.GuardLabels.{AreAllGuardsLabelled}
 use Rattle.jif_tree.specs.LabelRules.{declared_labels, IsWellLabelled}
 use Rattle.jif_tree.specs.Labelling.{AreLabelledMethods}
 use Rattle.jif_tree.specs.Named.{AreNamed}
 use Rattle.jif_tree.specs.Results.{AreGivenBack, AreUnread}
-use Rattle.jif_tree.specs.Sizes.{IsSized}
+use Rattle.jif_tree.specs.Limits.{IsWithinLimits}
 use Rattle.jif_tree.specs.Numbering.{CountsFrom, statement_numbers, site_numbers}
 use Rattle.jif_tree.specs.Trees.{ProgramTree, program_tree}
+use Rattle.jif_tree.specs.ValueLabels.{AreAllValuesLabelled}
 use Rattle.jif_tree.specs.WellNumbered.{IsWellNumbered}
 use Rattle.jif_tree.proofs.VariableCounts.{variable_count}
 use Rattle.jif_grammar.specs.DraftShapes.{DraftShape}
 use Rattle.jif_grammar.specs.Programs as grammar
-use Rattle.jif_resolve.specs.Sizes.{IsLimited}
-use Rattle.jif_resolve.specs.Sizes as drafts
+use Rattle.jif_resolve.specs.Returns.{AreReturnedLast}
+use Rattle.jif_resolve.specs.Sizes.{KeepsLimits}
 use Rattle.jif_resolve.specs.Verdicts.{IsProgramOf}
 use Rattle.need_labels.specs.Labelled as needs
 use Rattle.need_labels.specs.Needs.{NeedsShape, AreNeedsOf}
@@ -35,13 +34,11 @@ use Rattle.need_labels.specs.Plan.{PlanShape}
 use Rattle.place_rules.specs.Allowed.{AllowedShape}
 use Rattle.place_rules.specs.PlaceRules.{HoldsOn, MayHoldStatement}
 use Rattle.placement.specs.Placing.{IsPlaced, IsAllowedPlan, HasHosts}
-use Rattle.msg_cost.specs.Moves.{planned_of}
 use Rattle.split_rules.specs.Allowed.{IsTrustedHost, IsAllowed}
 use Rattle.split_rules.specs.Asking.{AreGranted}
 use Rattle.split_rules.specs.Held.{IsHeld}
 use Rattle.split_rules.specs.SplitCode.{split_code}
 use Rattle.split_rules.specs.Splittable.{IsSplittable}
-use Rattle.split_rules.specs.Typable.{IsTypable}
 use Rattle.simulation.specs.Obeying.{IsSet}
 use Rattle.simulation.specs.Programs.{AreInOrder}
 use Rattle.split_cli.specs.PlacedSources.{PlacedSource, AreChosen, PlacedSources, labelled_source}
@@ -56,10 +53,10 @@ pub record ReadingLaws : Type 0 where
   pub named : (text : List ℕ) (list : List Token) (principals : Declared) (draft : DraftShape) (program : ProgramTree) →
       length text ≤ PROGRAM_BYTES → ReadsAs text (tokens list) → grammar.IsProgramOf list draft →
       IsProgramOf principals draft program → AreNamed program
-  pub limited : (list : List Token) (draft : DraftShape) → grammar.IsProgramOf list draft → IsLimited draft
-  pub few : (list : List Token) (draft : DraftShape) → grammar.IsProgramOf list draft → drafts.IsSized draft
-  pub sized : (principals : Declared) (draft : DraftShape) (tree : ProgramTree) → drafts.IsSized draft →
-      IsLimited draft → IsProgramOf principals draft tree → IsSized tree
+  pub kept : (list : List Token) (draft : DraftShape) → grammar.IsProgramOf list draft → KeepsLimits draft
+  pub returned : (list : List Token) (draft : DraftShape) → grammar.IsProgramOf list draft → AreReturnedLast draft
+  pub within : (principals : Declared) (draft : DraftShape) (tree : ProgramTree) → KeepsLimits draft →
+      IsProgramOf principals draft tree → IsWithinLimits tree
   pub statements : (principals : Declared) (draft : DraftShape) (tree : ProgramTree) →
       IsProgramOf principals draft tree → CountsFrom 0 (statement_numbers tree)
   pub sites : (principals : Declared) (draft : DraftShape) (tree : ProgramTree) →
@@ -67,12 +64,12 @@ pub record ReadingLaws : Type 0 where
   pub numbered : (principals : Declared) (draft : DraftShape) (tree : ProgramTree) →
       IsProgramOf principals draft tree → IsWellNumbered tree
   pub labelled : (principals : Declared) (draft : DraftShape) (tree : ProgramTree) →
-      IsDeclared principals → IsLimited draft → IsProgramOf principals draft tree →
+      IsDeclared principals → AreReturnedLast draft → IsProgramOf principals draft tree →
       AreLabelledMethods principals tree (declared_labels tree) tree.methods
-  pub guards : (principals : Declared) (draft : DraftShape) (tree : ProgramTree) →
-      IsProgramOf principals draft tree → AreAllGuardsLabelled principals tree (declared_labels tree) tree.methods
+  pub values : (principals : Declared) (draft : DraftShape) (tree : ProgramTree) →
+      IsProgramOf principals draft tree → AreAllValuesLabelled principals tree (declared_labels tree) tree.methods
   pub given_back : (principals : Declared) (draft : DraftShape) (tree : ProgramTree) →
-      IsLimited draft → IsProgramOf principals draft tree → AreGivenBack tree
+      AreReturnedLast draft → IsProgramOf principals draft tree → AreGivenBack tree
   pub unread : (principals : Declared) (draft : DraftShape) (tree : ProgramTree) →
       IsProgramOf principals draft tree → AreUnread tree
   pub in_order : (principals : Declared) (draft : DraftShape) (tree : ProgramTree) →
@@ -90,12 +87,10 @@ pub record PlanLaws : Type 0 where
   pub hosts : (labelled : needs.Labelled) (need : NeedsShape) (hosts : HostsShape) (allowed : AllowedShape)
       (plan : PlanShape) → IsPlaced labelled need hosts allowed plan → HasHosts hosts plan
 
-pub record SplitLaws : Type 0 where
-  pub typable : (labelled : needs.Labelled) (need : NeedsShape) (hosts : HostsShape) (plan : PlanShape) →
-      IsAllowed labelled need hosts plan → IsTypable (planned_of labelled need hosts plan)
-  pub granted : (labelled : needs.Labelled) (need : NeedsShape) (hosts : HostsShape) (plan : PlanShape) →
-      IsSplittable labelled hosts plan → IsAllowed labelled need hosts plan → IsHeld labelled need hosts plan →
-      AreGranted (split_code labelled need hosts plan)
+abbrev pub GrantedLaw : Type 0
+GrantedLaw = (labelled : needs.Labelled) (need : NeedsShape) (hosts : HostsShape) (plan : PlanShape) →
+    IsSplittable labelled hosts plan → IsAllowed labelled need hosts plan → IsHeld labelled need hosts plan →
+    AreGranted (split_code labelled need hosts plan)
 
 -- ---- what the stages gave
 
@@ -202,7 +197,7 @@ trusted_from hosts (u ∷ used) (n ∷ need) (host ∷ places) same all = (
 
 -- ---- the whole
 
-module _ (sources : ReadingLaws) (plans : PlanLaws) (splits : SplitLaws) (program hosts : List ℕ) (placed : PlacedSource)
+module _ (sources : ReadingLaws) (plans : PlanLaws) (granted : GrantedLaw) (program hosts : List ℕ) (placed : PlacedSource)
     (accepted : PlacedSources program hosts (given placed)) where
   read : IsReadSource program hosts placed.source
   read = read_source program hosts placed.source (source_given program hosts placed accepted)
@@ -226,10 +221,13 @@ module _ (sources : ReadingLaws) (plans : PlanLaws) (splits : SplitLaws) (progra
   statements : CountsFrom 0 (statement_numbers placed.source.tree)
   statements = sources.statements placed.source.file.principals read.draft placed.source.tree read.resolved
 
-  pub sized_there : IsSized placed.source.tree
-  sized_there =
-      sources.sized placed.source.file.principals read.draft placed.source.tree
-      (sources.few read.list read.draft read.parsed) (sources.limited read.list read.draft read.parsed) read.resolved
+  returned : AreReturnedLast read.draft
+  returned = sources.returned read.list read.draft read.parsed
+
+  within : IsWithinLimits placed.source.tree
+  within =
+      sources.within placed.source.file.principals read.draft placed.source.tree
+      (sources.kept read.list read.draft read.parsed) read.resolved
 
   numbered : IsWellNumbered placed.source.tree
   numbered = sources.numbered placed.source.file.principals read.draft placed.source.tree read.resolved
@@ -241,6 +239,7 @@ module _ (sources : ReadingLaws) (plans : PlanLaws) (splits : SplitLaws) (progra
         sites = sources.sites placed.source.file.principals read.draft placed.source.tree read.resolved;
         named = sources.named program read.list placed.source.file.principals read.draft placed.source.tree read.few
             read.read read.parsed read.resolved;
+        within = within;
         var_labels = variable_count placed.source.file.principals placed.source.tree;
       }) are_hosts
       (plans.hosts (labelled_source placed.source) placed.needs placed.source.file placed.allowed placed.plan choice.plan)
@@ -257,7 +256,7 @@ module _ (sources : ReadingLaws) (plans : PlanLaws) (splits : SplitLaws) (progra
     well_labelled = read.labels;
     var_labels = refl;
     methods = sources.labelled placed.source.file.principals read.draft placed.source.tree are_hosts.declared
-        (sources.limited read.list read.draft read.parsed) read.resolved;
+        returned read.resolved;
     needs_of = choice.needs;
     trusted = trusted;
   }
@@ -265,27 +264,24 @@ module _ (sources : ReadingLaws) (plans : PlanLaws) (splits : SplitLaws) (progra
   seen : IsHeld (labelled_source placed.source) placed.needs placed.source.file placed.plan
   seen = record {
     pc = refl;
-    guards = sources.guards placed.source.file.principals read.draft placed.source.tree read.resolved;
+    values = sources.values placed.source.file.principals read.draft placed.source.tree read.resolved;
     fields = held.fields;
     statements = held.statements;
   }
 
   -- hosts that all obey follow the plain run of the program
   pub set_there : (tree : Program) → program_tree tree ≡ placed.source.tree →
-      IsSoundCode (split_code (labelled_source placed.source) placed.needs placed.source.file placed.plan) →
       IsSet tree (labelled_source placed.source) placed.needs placed.source.file placed.plan
-  set_there tree is sound = record {
+  set_there tree is = record {
     is = is;
     splittable = splits_there;
     needs_of = choice.needs;
     allowed = allowed;
     held = seen;
-    typable = splits.typable (labelled_source placed.source) placed.needs placed.source.file placed.plan allowed;
-    sound = sound;
-    granted = splits.granted (labelled_source placed.source) placed.needs placed.source.file placed.plan splits_there
+    granted = granted (labelled_source placed.source) placed.needs placed.source.file placed.plan splits_there
         allowed seen;
     given_back = sources.given_back placed.source.file.principals read.draft placed.source.tree
-        (sources.limited read.list read.draft read.parsed) read.resolved;
+        returned read.resolved;
     unread = sources.unread placed.source.file.principals read.draft placed.source.tree read.resolved;
     in_order = sources.in_order placed.source.file.principals read.draft placed.source.tree read.resolved;
   }

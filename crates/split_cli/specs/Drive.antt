@@ -6,7 +6,6 @@ use Rattle.jif_tree.specs.declared.program.Program.{Program}
 use Rattle.jif_tree.specs.Trees.{program_tree}
 use Rattle.event_text.specs.declared.event.Event.{Event}
 use Rattle.host_code.specs.Code.{CodeShape}
-use Rattle.host_code.specs.Sound.{IsSoundCode}
 use Rattle.split_rules.specs.SplitCode.{split_code}
 use Rattle.net_world.specs.World.{WorldShape, world_at_start}
 use Rattle.split_cli.specs.Driven.{DrivesTo}
@@ -21,9 +20,9 @@ use Rattle.split_cli.specs.WorldReport.{world_lines}
 abbrev pub code_of : PlacedSource → CodeShape
 code_of placed = split_code (labelled_source placed.source) placed.needs placed.source.file placed.plan
 
--- the world before the first event, in which no host misbehaves
-abbrev pub first_world : PlacedSource → List (List ℤ) → WorldShape
-first_world placed values = world_at_start (code_of placed) placed.source.file.hosts 0 values
+-- the world before the first event; bit h of the word says that host h misbehaves
+abbrev pub first_world : PlacedSource → ℕ → List (List ℤ) → WorldShape
+first_world placed bad values = world_at_start (code_of placed) placed.source.file.hosts bad values
 
 -- `events M`, the number of events that were made
 abbrev pub events_line : ℕ → List ℕ
@@ -33,14 +32,13 @@ events_line made = codes "events " ++ decimal made
 abbrev pub drive_text : CodeShape → ℕ → WorldShape → List ℕ
 drive_text code made w = lines_text (events_line made ∷ world_lines code w)
 
--- the report of at most so many events from these starting values, each the one that comes next
+-- the report of at most so many events from these starting values, each the one that comes next; no host misbehaves
 pub record IsDriveReport (placed : PlacedSource) (values : List (List ℤ)) (most : ℕ) (verdict : VerdictShape) : Type 0
   where
     pub events : List Event
     pub last : WorldShape
     pub status : Status
-    pub sound : IsSoundCode (code_of placed)
-    pub ends : DrivesTo (code_of placed) (first_world placed values) most events last status
+    pub ends : DrivesTo (code_of placed) (first_world placed 0 values) most events last status
     pub verdict_is : verdict ≡ Print status (drive_text (code_of placed) (length events) last)
 
 -- ---- what is due, where the third file has this name and holds these bytes

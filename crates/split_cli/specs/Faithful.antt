@@ -1,5 +1,7 @@
 -- The headline for hosts that all obey: what is reported of them is a world whose fields follow the plain run.
-use Rattle.std.specs.Prelude.{◌≡◌, ℕ, ◌+◌, ◌*◌, ◌≤◌, ℤ, List, length, map, Option, Some, Ok}
+use Rattle.std.specs.Prelude.{◌≡◌, ℕ, ◌+◌, ◌*◌, ◌≤◌, ℤ, List, [], ◌∷◌, length, map, Option, Some}
+use Rattle.std.specs.Prelude.{Ok}
+use Rattle.std.specs.List.{AllZip}
 use Rattle.js_base.specs.declared.ids.HostId.{HostId}
 use Rattle.js_base.specs.declared.limits.TheConstants.{SCRIPT_BYTES}
 use Rattle.js_base.specs.declared.status.Status.{Status}
@@ -55,7 +57,7 @@ pub record IsReplayed (program hosts script : List ℕ) (text : List ℕ) : Type
   pub last : WorldShape
   pub short : length script ≤ SCRIPT_BYTES
   pub read : script_of (code_of placed) script ≡ Ok said
-  pub runs : IsRun (code_of placed) (first_world placed said.start) (events_in said.events) last
+  pub runs : IsRun (code_of placed) (first_world placed said.bad said.start) (events_in said.events) last
   pub text_is : text ≡ replay_text (code_of placed) last
 
 -- The replay follows the plain run of its program.
@@ -80,7 +82,7 @@ pub record IsDrivenTo (program hosts start : List ℕ) (most : ℕ) (status : St
   pub last : WorldShape
   pub short : length start ≤ SCRIPT_BYTES
   pub read : start_of tree.fields.items start ≡ Ok values
-  pub ends : DrivesTo (code_of placed) (first_world placed values) most events last status
+  pub ends : DrivesTo (code_of placed) (first_world placed 0 values) most events last status
   pub text_is : text ≡ drive_text (code_of placed) (length events) last
 
 -- The drive follows the plain run of its program from these starting values, and where it came to rest the program has
@@ -94,26 +96,34 @@ pub record IsFaithfulDrive (program hosts start : List ℕ) (most : ℕ) (status
 
 -- ---- what is put
 
--- what was put is a text of this kind for what the three files hold
-pub record PutsText (IsText : (program hosts third text : List ℕ) → Type 0) (program hosts third : List ℕ)
-    (held : Option (List ℕ → Option (List ℕ))) (before after : Option (List ℕ)) : Type 0 where
+-- What was put is a text of this kind for what a program, a host file and the files behind them hold.
+pub record PutsText (IsText : (program hosts : List ℕ) (others : List (List ℕ)) (text : List ℕ) → Type 0)
+    (program hosts : List ℕ) (others : List (List ℕ)) (held : Option (List ℕ → Option (List ℕ)))
+    (before after : Option (List ℕ)) : Type 0 where
   pub program_bytes : List ℕ
   pub hosts_bytes : List ℕ
-  pub third_bytes : List ℕ
+  pub others_bytes : List (List ℕ)
   pub program_told : Told held program (Some program_bytes)
   pub hosts_told : Told held hosts (Some hosts_bytes)
-  pub third_told : Told held third (Some third_bytes)
+  pub others_told : AllZip (λ file content. Told held file (Some content)) others others_bytes
   pub text : List ℕ
-  pub is : IsText program_bytes hosts_bytes third_bytes text
+  pub is : IsText program_bytes hosts_bytes others_bytes text
   pub put : Takes text before after
+
+-- there is one file, and it holds such bytes
+abbrev pub Only : (List ℕ → Type 0) → List (List ℕ) → Type 0
+Only Holds (bytes ∷ []) = Holds bytes
+Only Holds files = ⊥
 
 -- the faithful report of a replay
 abbrev pub PutsFaithfully : (program hosts events : List ℕ) → Option (List ℕ → Option (List ℕ)) →
     (before after : Option (List ℕ)) → Type 0
-PutsFaithfully program hosts events held before after = PutsText IsFaithful program hosts events held before after
+PutsFaithfully program hosts events held before after =
+    PutsText (λ p h others text. Only (λ e. IsFaithful p h e text) others) program hosts (events ∷ []) held before after
 
 -- the faithful report of a drive that ended with this status
 abbrev pub PutsDriven : (program hosts start : List ℕ) (most : ℕ) (status : Status) →
     Option (List ℕ → Option (List ℕ)) → (before after : Option (List ℕ)) → Type 0
 PutsDriven program hosts start most status held before after =
-    PutsText (λ p h s text. IsFaithfulDrive p h s most status text) program hosts start held before after
+    PutsText (λ p h others text. Only (λ s. IsFaithfulDrive p h s most status text) others) program hosts (start ∷ [])
+    held before after

@@ -4,6 +4,7 @@ use Rattle.jif_lex.specs.declared.token.Token.{Token}
 use Rattle.jif_lex.specs.TokenLists.{AreTokens}
 use Rattle.jif_grammar.specs.DraftShapes.{DraftShape}
 use Rattle.jif_grammar.specs.Programs as grammar
+use Rattle.jif_tree.specs.Limits.{IsWithinLimits}
 use Rattle.jif_tree.specs.Named.{AreNamed}
 use Rattle.jif_tree.specs.Numbering.{CountsFrom, site_numbers}
 use Rattle.jif_tree.specs.WellNumbered.{IsWellNumbered}
@@ -15,9 +16,10 @@ pub record IsReadDraft (draft : DraftShape) : Type 0 where
   pub tokens : AreTokens list
   pub parsed : grammar.IsProgramOf list draft
 
--- its statements and sites are numbered, all has names, and each variable has a label
+-- its statements and sites are numbered, all has names, it is within the limits, and each variable has a label
 pub record IsReadProgram (labelled : Labelled) : Type 0 where
   pub numbered : IsWellNumbered labelled.program
   pub sites : CountsFrom 1 (site_numbers labelled.program)
   pub named : AreNamed labelled.program
+  pub within : IsWithinLimits labelled.program
   pub var_labels : length labelled.var_labels ≡ length labelled.program.vars

@@ -8,10 +8,10 @@ use Rattle.event_text.specs.declared.event.Event.{Event}
 use Rattle.event_text.specs.declared.event.Event.TheVariants.{Act}
 use Rattle.event_text.specs.Script.{ScriptShape, script_of}
 use Rattle.host_code.specs.Code.{CodeShape}
-use Rattle.host_code.specs.Sound.{IsSoundCode}
 use Rattle.net_world.specs.World.{WorldShape, Refusal, not_there, host_busy, refusal_of, IsStep, IsRun}
 use Rattle.split_cli.specs.Drive.{code_of, first_world}
 use Rattle.split_cli.specs.PlacedSources.{PlacedSource}
+use Rattle.split_cli.specs.Stages.{Outcome, given, stopped, DueThen}
 use Rattle.split_cli.specs.Text.{lines_text}
 use Rattle.split_cli.specs.Verdicts.{VerdictShape, Print, too_long, no_form, event_not_there}
 use Rattle.split_cli.specs.Verdicts.{event_host_busy}
@@ -32,27 +32,38 @@ IsRefusedAt code world (one ∷ said) line why =
 abbrev pub replay_text : CodeShape → WorldShape → List ℕ
 replay_text code world = lines_text (world_lines code world)
 
--- Events happen one after the other, and the report is that of the world that they leave; or the first is refused that
--- is not there, or whose host is busy.
-pub data DueForEvents (file : List ℕ) (code : CodeShape) (world : WorldShape) (said : List (ℕ × Event)) :
-    VerdictShape → Type 0 where
+-- ---- the stages, where the third file has this name and holds these bytes
+
+-- what the script says
+pub data ScriptRead (file script : List ℕ) (code : CodeShape) : Outcome ScriptShape → Type 0 where
+  long : SCRIPT_BYTES < length script → ScriptRead file script code (stopped (too_long file))
+  bad_line : (line : ℕ) → length script ≤ SCRIPT_BYTES → script_of code script ≡ Err line →
+      ScriptRead file script code (stopped (no_form file line))
+  read : (said : ScriptShape) → length script ≤ SCRIPT_BYTES → script_of code script ≡ Ok said →
+      ScriptRead file script code (given said)
+
+-- Events happen one after the other, and leave a world; or the first is refused that is not there, or whose host is
+-- busy.
+pub data EventsHappen (file : List ℕ) (code : CodeShape) (world : WorldShape) (said : List (ℕ × Event)) :
+    Outcome WorldShape → Type 0 where
   happened : (last : WorldShape) → IsRun code world (events_in said) last →
-      DueForEvents file code world said (Print Done (replay_text code last))
+      EventsHappen file code world said (given last)
   absent : (line : ℕ) → IsRefusedAt code world said line not_there →
-      DueForEvents file code world said (event_not_there file line)
+      EventsHappen file code world said (stopped (event_not_there file line))
   busy : (line : ℕ) → IsRefusedAt code world said line host_busy →
-      DueForEvents file code world said (event_host_busy file line)
+      EventsHappen file code world said (stopped (event_host_busy file line))
 
--- ---- what is due, where the third file has this name and holds these bytes
+-- ---- what is due
 
-pub data DueForScript (file script : List ℕ) (placed : PlacedSource) : VerdictShape → Type 0 where
-  long : SCRIPT_BYTES < length script → DueForScript file script placed (too_long file)
-  bad_line : (line : ℕ) → length script ≤ SCRIPT_BYTES → script_of (code_of placed) script ≡ Err line →
-      DueForScript file script placed (no_form file line)
-  read : (said : ScriptShape) (verdict : VerdictShape) → length script ≤ SCRIPT_BYTES →
-      IsSoundCode (code_of placed) → script_of (code_of placed) script ≡ Ok said →
-      DueForEvents file (code_of placed) (first_world placed said.start) said.events verdict →
-      DueForScript file script placed verdict
+-- the report of the world that the events leave
+abbrev pub DueForEvents : List ℕ → CodeShape → WorldShape → List (ℕ × Event) → VerdictShape → Type 0
+DueForEvents file code world said =
+    DueThen (EventsHappen file code world said) (λ last verdict. verdict ≡ Print Done (replay_text code last))
+
+abbrev pub DueForScript : List ℕ → List ℕ → PlacedSource → VerdictShape → Type 0
+DueForScript file script placed =
+    DueThen (ScriptRead file script (code_of placed))
+    (λ said. DueForEvents file (code_of placed) (first_world placed said.bad said.start) said.events)
 
 -- hosts make the script happen; the tree is that of some program
 abbrev pub DueForReplay : List ℕ → List ℕ → PlacedSource → VerdictShape → Type 0

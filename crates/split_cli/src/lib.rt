@@ -10,6 +10,7 @@ mod placed;
 mod placed_code;
 mod replaying;
 mod row_line;
+mod scripts;
 mod sources;
 mod starting;
 mod statement_lines;

@@ -7,7 +7,6 @@ ghost use Rattle.jif_tree.specs.Numbering.{statement_numbers};
 ghost use Rattle.jif_tree.specs.Trees.{program_tree};
 ghost use Rattle.jif_tree.specs.WellNumbered.{IsWellNumbered};
 ghost use Rattle.label_check.specs.Checking.{AreAuthorities};
-ghost use Rattle.jif_tree.specs.Sizes.{IsSized};
 ghost use Rattle.need_labels.specs.Labelled.{labelled_of};
 ghost use Rattle.placement.specs.Placing.{HasHosts};
 ghost use Rattle.split_rules.specs.Splittable.{IsSplittable};
@@ -40,7 +39,6 @@ pub fn read_places(alloc: Global, program: &Loaded, hosts: &Loaded) -> Result<Pl
     ensures places { (p h : List ℕ) → IsLoaded PROGRAM_BYTES p program.now → IsLoaded HOSTS_BYTES h hosts.now →
         EndsAs placed_shape (PlacedSources p h) result }
     ensures limits { IfOk result (λ placed. IsWithinLimits (program_tree placed.source.checked.program)) }
-    ensures sized { IfOk result (λ placed. IsSized (program_tree placed.source.checked.program)) }
     ensures numbered { IfOk result (λ placed. IsWellNumbered (program_tree placed.source.checked.program)) }
     ensures labels { IfOk result (λ placed. length placed.source.checked.pc.items
         ≡ length (statement_numbers (program_tree placed.source.checked.program))) }
@@ -59,7 +57,6 @@ pub fn read_places(alloc: Global, program: &Loaded, hosts: &Loaded) -> Result<Pl
 
 /// The program in its places on its hosts, or what is due where some part of it has none.
 fn placed(alloc: Global, source: Source) -> Result<PlacedSource, Stop>
-    requires sized { IsSized (program_tree source.checked.program) }
     requires authorities { AreAuthorities source.hosts.principals (program_tree source.checked.program) }
     requires labelled { labelled_of source.checked ≡ labelled_source (source_shape source) }
     requires read { IsReadProgram (labelled_of source.checked) }

@@ -1,8 +1,6 @@
 //! The code of a program in its places.
 
 ghost use Rattle.std.specs.Prelude.{◌≡◌, IfOk};
-ghost use Rattle.host_code.specs.Sound.{IsSoundCode};
-ghost use Rattle.jif_tree.specs.Sizes.{IsSized};
 ghost use Rattle.jif_tree.specs.Trees.{program_tree};
 ghost use Rattle.need_labels.specs.Labelled.{labelled_of};
 ghost use Rattle.split_rules.specs.Splittable.{IsSplittable};
@@ -21,18 +19,14 @@ use std::alloc::Global;
 pub fn code_of(alloc: Global, placed: &PlacedSource) -> Result<Code, OutOfMemory>
     requires splittable { IsSplittable (labelled_of placed.now.source.checked) placed.now.source.hosts
         placed.now.plan }
-    requires sized { IsSized (program_tree placed.now.source.checked.program) }
     requires labelled { labelled_of placed.now.source.checked ≡ labelled_source (source_shape placed.now.source) }
-    ensures code { IfOk result (λ code. code ≡ code_of (placed_shape placed.now)) }
-    ensures sound { IfOk result IsSoundCode }
+    ensures { IfOk result (λ code. code ≡ code_of (placed_shape placed.now)) }
 {
-    let code = emit(
+    emit(
         alloc,
         &placed.source.checked,
         &placed.needs,
         &placed.source.hosts,
         &placed.plan,
-    )?;
-    let _hosts = code.hosts();
-    Ok(code)
+    )
 }

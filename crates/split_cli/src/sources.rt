@@ -11,9 +11,8 @@ ghost use Rattle.jif_tree.specs.Limits.{IsWithinLimits};
 ghost use Rattle.jif_tree.specs.Numbering.{CountsFrom, site_numbers, statement_numbers};
 ghost use Rattle.jif_tree.specs.Trees.{program_tree};
 ghost use Rattle.jif_tree.specs.WellNumbered.{IsWellNumbered};
-ghost use Rattle.jif_resolve.specs.Sizes.{IsSized, IsLimited};
+ghost use Rattle.jif_resolve.specs.Sizes.{KeepsLimits};
 ghost use Rattle.label_check.specs.Checking.{AreAuthorities};
-ghost use Rattle.jif_tree.specs.Sizes as few;
 ghost use Rattle.need_labels.specs.Labelled.{labelled_of};
 ghost use Rattle.split_cli.specs.Loading.{EndsAs, IsLoaded};
 ghost use Rattle.split_cli.specs.PlacedSources.{labelled_source};
@@ -28,7 +27,7 @@ use crate::verdict::Verdict;
 use host_decl::{Hosts, HostsError, host_file_laws, read_hosts};
 use jif_lex::{LexError, Token, lex, token_laws};
 use jif_parse::{named_laws, parse};
-use jif_resolve::{limit_laws, program_laws, resolve, size_laws};
+use jif_resolve::{limit_laws, program_laws, resolve};
 use jif_tree::{Checked, Draft, Program};
 use label_check::check;
 use std::alloc::Global;
@@ -50,7 +49,6 @@ pub fn read_sources(alloc: Global, program: &Loaded, hosts: &Loaded) -> Result<S
     ensures labels { IfOk result (λ source. length source.checked.pc.items
         ≡ length (statement_numbers (program_tree source.checked.program))) }
     ensures labelled { IfOk result (λ source. labelled_of source.checked ≡ labelled_source (source_shape source)) }
-    ensures sized { IfOk result (λ source. few.IsSized (program_tree source.checked.program)) }
     ensures authorities { IfOk result
         (λ source. AreAuthorities source.hosts.principals (program_tree source.checked.program)) }
     ensures read { IfOk result (λ source. IsReadProgram (labelled_of source.checked)) }
@@ -66,8 +64,7 @@ pub fn read_sources(alloc: Global, program: &Loaded, hosts: &Loaded) -> Result<S
 /// The draft of a program.
 fn drafted(alloc: Global, program: &Loaded) -> Result<Draft, Stop>
     ensures drafted { (p : List ℕ) → IsLoaded PROGRAM_BYTES p program.now → EndsAs draft_shape (Drafted p) result }
-    ensures sized { IfOk result (λ draft. IsSized (draft_shape draft)) }
-    ensures limited { IfOk result (λ draft. IsLimited (draft_shape draft)) }
+    ensures limits { IfOk result (λ draft. KeepsLimits (draft_shape draft)) }
     ensures read { IfOk result (λ draft. IsReadDraft (draft_shape draft)) }
 {
     let tokens = lexed(alloc, program)?;
@@ -104,11 +101,9 @@ fn tokens_of(alloc: Global, program: &Loaded) -> Result<Vec<Token>, LexError>
 fn parsed(alloc: Global, tokens: &[Token]) -> Result<Draft, Stop>
     requires { AreTokens tokens.now }
     ensures parsed { EndsAs draft_shape (Parsed tokens.now) result }
-    ensures sized { IfOk result (λ draft. IsSized (draft_shape draft)) }
-    ensures limited { IfOk result (λ draft. IsLimited (draft_shape draft)) }
+    ensures limits { IfOk result (λ draft. KeepsLimits (draft_shape draft)) }
     ensures read { IfOk result (λ draft. IsReadDraft (draft_shape draft)) }
 {
-    size_laws();
     limit_laws();
     match parse(alloc, tokens) {
         Ok(draft) => Ok(draft),
@@ -139,13 +134,11 @@ fn hosts_of(alloc: Global, file: &Loaded) -> Result<Hosts, HostsError>
 
 /// The program of a draft, by the principals of these hosts.
 fn resolved(alloc: Global, draft: Draft, hosts: &Hosts) -> Result<Program, Stop>
-    requires sized { IsSized (draft_shape draft) }
-    requires limited { IsLimited (draft_shape draft) }
+    requires limits { KeepsLimits (draft_shape draft) }
     ensures resolved { EndsAs program_tree (Resolved hosts.now (draft_shape draft)) result }
     ensures limits { IfOk result (λ program. IsWithinLimits (program_tree program)) }
     ensures numbered { IfOk result (λ program. IsWellNumbered (program_tree program)) }
     ensures authorities { IfOk result (λ program. AreAuthorities hosts.now.principals (program_tree program)) }
-    ensures few { IfOk result (λ program. few.IsSized (program_tree program)) }
     ensures sites { IfOk result (λ program. CountsFrom 1 (site_numbers (program_tree program))) }
 {
     limit_laws();

@@ -18,12 +18,12 @@ use crate::verdict::Verdict;
 use crate::words::{Command, command_of};
 use host_decl::host_file_laws;
 use jif_parse::named_laws;
-use jif_resolve::{labelling_laws, limit_laws, program_laws, result_laws, size_laws};
+use jif_resolve::{labelling_laws, limit_laws, program_laws, result_laws};
 use js_base::{Files, OutOfMemory, PutError, Sink, Status};
 use need_labels::need_laws;
 use placement::placement_laws;
 use simulation::{ending_laws, obeying_laws};
-use split_rules::{asking_laws, trust_laws};
+use split_rules::asking_laws;
 use std::alloc::Global;
 
 /// Runs `jifsplit` on the words after its name.
@@ -93,14 +93,12 @@ pub fn jifsplit<F: Files, S: Sink, E: Sink>(
 {
     host_file_laws();
     named_laws();
-    size_laws();
     limit_laws();
     program_laws();
     labelling_laws();
     result_laws();
     need_laws();
     placement_laws();
-    trust_laws();
     asking_laws();
     obeying_laws();
     ending_laws();

@@ -6,7 +6,6 @@ ghost use Rattle.std.specs.String.{string_bytes};
 ghost use Rattle.jif_tree.specs.Limits.{IsWithinLimits};
 ghost use Rattle.jif_tree.specs.Numbering.{statement_numbers};
 ghost use Rattle.jif_tree.specs.Trees.{program_tree};
-ghost use Rattle.jif_tree.specs.Sizes.{IsSized};
 ghost use Rattle.need_labels.specs.Labelled.{labelled_of};
 ghost use Rattle.split_cli.specs.Commands as command;
 ghost use Rattle.split_cli.specs.Check.{accepted_line, plan_report};
@@ -72,7 +71,6 @@ fn due_for_loaded(alloc: Global, program: &Loaded, hosts: &Loaded) -> Result<Ver
 /// its plan costs. It has a program label for each statement.
 fn plan_report(alloc: Global, placed: &PlacedSource) -> Result<Verdict, OutOfMemory>
     requires limits { IsWithinLimits (program_tree placed.now.source.checked.program) }
-    requires sized { IsSized (program_tree placed.now.source.checked.program) }
     requires labels { length placed.now.source.checked.pc.items
         ≡ length (statement_numbers (program_tree placed.now.source.checked.program)) }
     requires labelled { labelled_of placed.now.source.checked

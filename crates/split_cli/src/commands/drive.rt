@@ -3,7 +3,6 @@
 ghost use Rattle.std.specs.Prelude.{◌≡◌, ◌≤◌, ◌+◌, ◌∷◌, [], ℕ, List, IfOk};
 ghost use Rattle.js_base.specs.declared.limits.TheConstants.{PROGRAM_BYTES, HOSTS_BYTES, SCRIPT_BYTES};
 ghost use Rattle.jif_tree.specs.Trees.{program_tree};
-ghost use Rattle.jif_tree.specs.Sizes.{IsSized};
 ghost use Rattle.need_labels.specs.Labelled.{labelled_of};
 ghost use Rattle.split_rules.specs.Splittable.{IsSplittable};
 ghost use Rattle.split_cli.specs.declared.words.TheConstants.{STEPS};
@@ -92,7 +91,6 @@ fn driven(
     requires most { most ≤ STEPS }
     requires splittable { IsSplittable (labelled_of placed.now.source.checked) placed.now.source.hosts
         placed.now.plan }
-    requires sized { IsSized (program_tree placed.now.source.checked.program) }
     requires labelled { labelled_of placed.now.source.checked ≡ labelled_source (source_shape placed.now.source) }
     ensures { IfOk result (λ verdict. IsDriveReport (placed_shape placed.now) store.now most (verdict_shape verdict)) }
 {

@@ -61,4 +61,4 @@ returns-clause-read c =
     read_program c.named_laws.ensures.of_tokens c.in_ok-hosts.hosts (program_tree c.in_ok-program.program)
     (draft_shape c.in_ok-draft.draft) (labelled_of c.in_ok-checked.checked) c.in_ok-checked.ensures.found
     c.in_ok-draft.ensures.read c.in_ok-program.ensures.resolved c.in_ok-program.ensures.numbered
-    c.in_ok-program.ensures.sites
+    c.in_ok-program.ensures.sites c.in_ok-program.ensures.limits

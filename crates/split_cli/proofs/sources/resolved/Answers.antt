@@ -20,9 +20,5 @@ returns-in-Err-clause-resolved c =
     c.stopped.result (rw c.principals.ensures.principals at c.in-Err.ensures.refused)
     c.not_resolved.ensures.refused c.not_resolved.ensures.not_memory c.stopped.ensures
 
-pub returns-in-Ok-clause-few : goal.returns-in-Ok-clause-few
-returns-in-Ok-clause-few c =
-    c.limit_laws.ensures.sized _ (draft_shape c.args.draft) _ c.requires.sized c.requires.limited c.in-Ok.ensures.found
-
 pub returns-in-Ok-clause-sites : goal.returns-in-Ok-clause-sites
 returns-in-Ok-clause-sites c = c.program_laws.ensures.sites _ _ _ c.in-Ok.ensures.found

@@ -6,14 +6,14 @@ all_laws g c = record {
   reading = record {
     hosts = c.host_file_laws.ensures.sound;
     named = c.named_laws.ensures.of_text;
-    limited = c.limit_laws.ensures.limited;
-    few = c.size_laws.ensures;
-    sized = c.limit_laws.ensures.sized;
+    kept = c.limit_laws.ensures.kept;
+    returned = c.limit_laws.ensures.returns;
+    within = c.limit_laws.ensures.within;
     statements = c.program_laws.ensures.statements;
     sites = c.program_laws.ensures.sites;
     numbered = c.program_laws.ensures.well_numbered;
     labelled = c.labelling_laws.ensures.labelled;
-    guards = c.labelling_laws.ensures.guards;
+    values = c.labelling_laws.ensures.values;
     given_back = c.result_laws.ensures.given;
     unread = c.result_laws.ensures.unread;
     in_order = c.program_laws.ensures.parameters;
@@ -23,7 +23,7 @@ all_laws g c = record {
     allowed = c.placement_laws.ensures.allowed;
     hosts = c.placement_laws.ensures.hosts;
   };
-  splits = record { typable = c.trust_laws.ensures.typable; granted = c.asking_laws.ensures.granted };
+  granted = c.asking_laws.ensures.granted;
   obeying = λ tree labelled need file plan store events world set ran. record {
     follows = c.obeying_laws.ensures.follows tree labelled need file plan store events world set ran;
     idle = c.obeying_laws.ensures.idle tree labelled need file plan store events world set ran;

@@ -4,7 +4,7 @@ use Rattle.split_cli.proofs.DriveDue.{code_hosts, obey_from, report_made}
 use Rattle.split_cli.proofs.commands.drive.driven.Goals as goal
 
 pub start-requires : goal.start-requires
-start-requires c = code_hosts (placed_shape c.args.placed.now) c.in_ok-code.code c.in_ok-code.ensures.code
+start-requires c = code_hosts (placed_shape c.args.placed.now) c.in_ok-code.code c.in_ok-code.ensures
 
 pub drive-requires-clause-obey : goal.drive-requires-clause-obey
 drive-requires-clause-obey c =
@@ -13,5 +13,5 @@ drive-requires-clause-obey c =
 pub returns : goal.returns
 returns c =
     report_made (placed_shape c.args.placed.now) c.in_ok-code.code c.args.store.now c.args.most
-    (world_of c.in_ok-world.world) _ c.in_ok-driven.driven _ c.in_ok-code.ensures.code c.in_ok-code.ensures.sound
+    (world_of c.in_ok-world.world) _ c.in_ok-driven.driven _ c.in_ok-code.ensures
     c.in_ok-world.ensures.start c.in_ok-driven.ensures.driven c.in_ok-text.ensures
