@@ -1,9 +1,9 @@
 -- Facts that hold or not, by what they are made of; and who acts for whom.
-use Rattle.std.proofs.Common.{◌≡◌, ◌⊎◌, ℕ, zero, suc, ◌<◌, List, [], ◌∷◌, ◌++◌, All, Any, subst, sym, arith, inl, inr, refl}
+use Rattle.std.proofs.Common.{◌⊎◌, ℕ, zero, suc, ◌<◌, List, [], ◌∷◌, ◌++◌, All, Any, subst, sym, arith, inl, inr, refl}
 use Rattle.std.proofs.lemmas.Bool.{cases_eq}
 use Rattle.std.proofs.lemmas.List.{append-nil, append_assoc}
 use Rattle.principals.specs.ActsFor.{Declared, LeadsFrom, ActsFor}
-use Rattle.principals.proofs.Chains.{one_more_pair, without_pairs, to_itself}
+use Rattle.principals.proofs.Chains.{one_more_pair, without_pairs}
 
 abbrev pub Decided : Type 0 → Type 0
 Decided fact = fact ⊎ ¬ fact
@@ -25,7 +25,7 @@ both P Q (inr not) other = inr (λ pair. not pair.0)
 pub either : (P Q : Type 0) → Decided P → Decided Q → Decided (P ⊎ Q)
 either P Q (inl is) other = inl (inl is)
 either P Q (inr not) (inl is) = inl (inr is)
-either P Q (inr not) (inr also) = inr (λ some. elim some [ | inl is ↦ not is | inr is ↦ also is ])
+either P Q (inr not) (inr also) = inr (λ some. elim some [ inl is ↦ not is | inr is ↦ also is ])
 
 -- the same, told otherwise
 pub as_well : (P Q : Type 0) → (P → Q) → (Q → P) → Decided P → Decided Q
