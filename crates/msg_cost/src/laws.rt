@@ -13,6 +13,10 @@ ghost use Rattle.need_labels.specs.Plan.{PlanShape};
 ghost use Rattle.msg_cost.specs.Cost.{plan_cost};
 ghost use Rattle.msg_cost.specs.CostExamples.{lent_in_a_loop, loop_needs, loop_hosts, loop_plan};
 ghost use Rattle.msg_cost.specs.CostExamples.{handed_on, handed_needs, handed_hosts, handed_plan};
+ghost use Rattle.msg_cost.specs.CostExamples.{told_ahead, told_needs, told_hosts, told_plan};
+ghost use Rattle.msg_cost.specs.CostExamples.{called, called_needs, called_hosts, called_plan};
+ghost use Rattle.msg_cost.specs.CostExamples.{forwarded, forwarded_needs, forwarded_hosts, forwarded_plan};
+ghost use Rattle.msg_cost.specs.CostExamples.{nested, nested_needs, nested_hosts, nested_plan};
 ghost use Rattle.msg_cost.specs.CostLaws.{StandsOn};
 ghost use Rattle.msg_cost.specs.Moves.{is_trusted_by, planned_of};
 ghost use Rattle.msg_cost.specs.Terms.{inside};
@@ -32,11 +36,23 @@ pub fn cost_laws()
     ensures weights { (depth : ℕ) → inside (8 ^ min depth 6) ≡ 8 ^ min (depth + 1) 6 }
 {}
 
-/// What two programs cost.
+/// What small programs cost.
 pub fn cost_examples()
     // A segment in a loop that is lent the token: the way there, a read, and the way back, eight times. The host that
     // gets the token back has it before, so it need not be told.
     ensures lent { plan_cost lent_in_a_loop loop_needs loop_hosts loop_plan ≡ 32 }
     // A statement that is handed the token: the way there, a read, and the way from the end of `main` to its home.
     ensures handed { plan_cost handed_on handed_needs handed_hosts handed_plan ≡ 4 }
+    // A segment whose token goes to the host of what follows: that host is told before, there and back (2), then the
+    // way there (1), the way on (1), and the way from the end of `main` to its home (1).
+    ensures told { plan_cost told_ahead told_needs told_hosts told_plan ≡ 5 }
+    // A call of a method on another host, where a message there costs 3 and one back 5: the parameter is sent, there
+    // and back (8), then the way there (3), the way back (5), and the result, there and back (8).
+    ensures called { plan_cost called called_needs called_hosts called_plan ≡ 24 }
+    // A local that another host reads: it is sent, there and back (8), then the way there (3), and the way from the end
+    // of `main` to its home (5).
+    ensures forwarded { plan_cost forwarded forwarded_needs forwarded_hosts forwarded_plan ≡ 16 }
+    // A loop in a loop: a read for the outer guard, there and back eight times (16), and a write in the inner loop,
+    // there and back 64 times (128).
+    ensures nested { plan_cost nested nested_needs nested_hosts nested_plan ≡ 144 }
 {}

@@ -5,4 +5,4 @@ use Rattle.msg_cost.proofs.laws.cost_examples.Goals as goal
 
 pub returns : goal.returns
 unfolding is_trusted_by empty_label
-returns c = record { lent = refl; handed = refl }
+returns c = record { lent = refl; handed = refl; told = refl; called = refl; forwarded = refl; nested = refl }
