@@ -32,11 +32,11 @@ use Rattle.need_labels.specs.Needs.{NeedsShape, Backing, for_label, Backs, State
 use Rattle.need_labels.specs.Needs.{method_uses, statement_uses, IsNeed, statement_use, label_of, labels_of}
 use Rattle.need_labels.specs.Needs.{kept_result, for_releases}
 use Rattle.need_labels.specs.Plan.{PlanShape, statement_host}
-use Rattle.need_labels.proofs.Somewhere.{any_here, any_left, any_right}
+use Rattle.need_labels.proofs.Somewhere.{any_here, any_later, any_left, any_right}
 use Rattle.need_labels.proofs.Ordered.{use_numbered}
 use Rattle.msg_cost.specs.Moves.{PlannedShape, planned_of, is_trusted_for}
 use Rattle.msg_cost.proofs.Trusted.{test_decides}
-use Rattle.split_rules.specs.Positions.{statements_of, number_of, run, all_due}
+use Rattle.split_rules.specs.Positions.{statements_of, number_of, run, all_due, all_statements, IsIn, IsOf}
 use Rattle.split_rules.specs.Allowed.{IsTrustedHost, IsAllowed}
 use Rattle.split_rules.specs.Typable.{IsTrustedThere, IsTrustedInside, AreTrusted, IsTypableMethod, IsTypable}
 use Rattle.split_rules.specs.Typing.{AreDueOn, Covers, body_of}
@@ -245,13 +245,75 @@ due_where : (planned : PlannedShape) (principals : Declared) (host : HostId) (st
     (backing own : List Backing) → IsNeed principals own (slice_index planned.needs.need statement.0) →
     is_trusted_for planned host statement ≡ true →
     ((p : ℕ) → p < READERS → Any (Backs principals p) backing → Any (Backs principals p) own) →
-    (trees : List BlockTree) → AreBackedBy planned principals backing trees → AreDueOn planned host (map run trees)
-due_where planned principals host statement backing own need trusted wider [] backed = tt
-due_where planned principals host statement backing own need trusted wider (tree ∷ trees) backed = (
-  trusted_less planned host statement (number_of tree) trusted
-      (λ p within set. (need.members p within).1 (wider p within (backed.0 p within set))),
-  due_where planned principals host statement backing own need trusted wider trees backed.1,
+    (trees : List BlockTree) → AllByRecursion (IsOf planned.program) trees →
+    AreBackedBy planned principals backing trees → AreDueOn planned host (map run trees)
+due_where planned principals host statement backing own need trusted wider [] in_it backed = tt
+due_where planned principals host statement backing own need trusted wider (tree ∷ trees) in_it backed = (
+  (
+    trusted_less planned host statement (number_of tree) trusted
+        (λ p within set. (need.members p within).1 (wider p within (backed.0 p within set))),
+    in_it.0,
+  ),
+  due_where planned principals host statement backing own need trusted wider trees in_it.1 backed.1,
 )
+
+-- ---- statements of the program
+
+-- the statements of a block are among all that are in it
+of_block : (P : BlockTree → Type 0) (block : BlockTree) → AllByRecursion P (all_statements block) →
+    AllByRecursion P (statements_of block)
+of_block P done all = tt
+of_block P (set_local heading x value rest) all = (all.0, of_block P rest all.1)
+of_block P (set_field heading field value rest) all = (all.0, of_block P rest all.1)
+of_block P (set_element heading field index value rest) all = (all.0, of_block P rest all.1)
+of_block P (branch heading guard first second rest) all = (
+  all.0,
+  of_block P rest (all_second P (all_statements second) (all_statements rest)
+      (all_second P (all_statements first) (all_statements second ++ all_statements rest) all.1)),
+)
+of_block P (loop heading guard inner rest) all =
+    (all.0, of_block P rest (all_second P (all_statements inner) (all_statements rest) all.1))
+of_block P (call heading site method arguments into rest) all = (all.0, of_block P rest all.1)
+of_block P (give_back heading value rest) all = (all.0, of_block P rest all.1)
+
+any_more : (x : BlockTree) (others ys : List BlockTree) →
+    AllByRecursion (λ y. Any (λ one. one ≡ y) others) ys → AllByRecursion (λ y. Any (λ one. one ≡ y) (x ∷ others)) ys
+any_more x others [] all = tt
+any_more x others (y ∷ ys) all = (any_later (λ one. one ≡ y) x others all.0, any_more x others ys all.1)
+
+each_in : (xs : List BlockTree) → AllByRecursion (λ x. Any (λ one. one ≡ x) xs) xs
+each_in [] = tt
+each_in (x ∷ xs) = (any_here (λ one. one ≡ x) x xs refl, any_more x xs xs (each_in xs))
+
+of_program : (program : ProgramTree) (number : MethodId) (method : MethodTree) → method_at program number ≡ Some
+    method → (xs : List BlockTree) → AllByRecursion (λ x. Any (λ one. one ≡ x) (all_statements method.body)) xs →
+    AllByRecursion (IsOf program) xs
+of_program program number method is [] all = tt
+of_program program number method is (x ∷ xs) all =
+    let P : Option MethodTree → Type 0 = λ found. IsSomeAnd found (λ tree. Any (λ one. one ≡ x) (all_statements
+    tree.body)) in
+    ((number, subst P (sym is) all.0), of_program program number method is xs all.1)
+
+of_method : (program : ProgramTree) (number : MethodId) (method : MethodTree) → method_at program number ≡ Some method →
+    (xs : List BlockTree) → AllByRecursion (λ x. Any (λ one. one ≡ x) (all_statements method.body)) xs →
+    AllByRecursion (IsIn program number) xs
+of_method program number method is [] all = tt
+of_method program number method is (x ∷ xs) all =
+    let P : Option MethodTree → Type 0 = λ found. IsSomeAnd found (λ tree. Any (λ one. one ≡ x) (all_statements
+    tree.body)) in
+    (subst P (sym is) all.0, of_method program number method is xs all.1)
+
+-- all that is in the body of a method is in the method
+pub body_of_method : (program : ProgramTree) (number : MethodId) (method : MethodTree) →
+    method_at program number ≡ Some method → AllByRecursion (IsIn program number) (all_statements method.body)
+body_of_method program number method is =
+    of_method program number method is (all_statements method.body) (each_in (all_statements method.body))
+
+-- all that is in the body of a method is of the program
+pub body_of_program : (program : ProgramTree) (number : MethodId) (method : MethodTree) →
+    method_at program number ≡ Some method → AllByRecursion (IsOf program) (all_statements method.body)
+body_of_program program number method is =
+    of_program program number method is (all_statements method.body) (each_in (all_statements method.body))
 
 -- ---- methods
 
@@ -263,12 +325,12 @@ AreBodiesBacked planned principals labelled =
 
 -- the host of a call is trusted for the body of the method
 called_due : (planned : PlannedShape) (principals : Declared) (labelled : Labelled) →
-    AreBodiesBacked planned principals labelled → (host : HostId) (statement : StmtId) (called : MethodId)
-    (others : List Backing) →
+    labelled.program ≡ planned.program → AreBodiesBacked planned principals labelled → (host : HostId) (statement :
+    StmtId) (called : MethodId) (others : List Backing) →
     IsNeed principals (for_label (begin_label (method_at labelled.program called)) ∷ others)
     (slice_index planned.needs.need statement.0) → is_trusted_for planned host statement ≡ true →
     AreDueOn planned host (all_due (body_of (method_at labelled.program called)))
-called_due planned principals labelled bodies host statement called others need trusted =
+called_due planned principals labelled same bodies host statement called others need trusted =
     by (method_at labelled.program called) refl need
   where
     by : (found : Option MethodTree) → method_at labelled.program called ≡ found →
@@ -279,7 +341,9 @@ called_due planned principals labelled bodies host statement called others need 
         rw is (due_where planned principals host statement (for_label method.begin ∷ [])
         (for_label method.begin ∷ others) own trusted
         (λ p within some. any_left (Backs principals p) (for_label method.begin ∷ []) others some)
-        (statements_of method.body) (bodies called.0 method is))
+        (statements_of method.body)
+        (of_block (IsOf planned.program) method.body (body_of_program planned.program called method
+        (ap (λ (p : ProgramTree). method_at p called) (sym same) ∙ is))) (bodies called.0 method is))
 
 -- ---- trust in what statements start
 
@@ -295,15 +359,22 @@ in_order (suc first) second bit implied =
 
 block_trusted : (planned : PlannedShape) (principals : Declared) (labelled : Labelled) (setting : MethodSetting) →
     labelled.program ≡ planned.program → AreBodiesBacked planned principals labelled → (block : BlockTree) →
+    AllByRecursion (IsOf planned.program) (all_statements block) →
     AreNeeded planned principals (block_uses labelled setting block) → AreTrusted planned block
-block_trusted planned principals labelled setting same bodies done needed = tt
-block_trusted planned principals labelled setting same bodies (set_local heading x value rest) needed =
-    (needed.0.trusted, block_trusted planned principals labelled setting same bodies rest needed.1)
-block_trusted planned principals labelled setting same bodies (set_field heading field value rest) needed =
-    (needed.0.trusted, block_trusted planned principals labelled setting same bodies rest needed.1)
-block_trusted planned principals labelled setting same bodies (set_element heading field index value rest) needed =
-    (needed.0.trusted, block_trusted planned principals labelled setting same bodies rest needed.1)
-block_trusted planned principals labelled setting same bodies (branch heading guard first second rest) needed =
+block_trusted planned principals labelled setting same bodies done in_it needed = tt
+block_trusted planned principals labelled setting same bodies (set_local heading x value rest) in_it needed =
+    (needed.0.trusted, block_trusted planned principals labelled setting same bodies rest in_it.1 needed.1)
+block_trusted planned principals labelled setting same bodies (set_field heading field value rest) in_it needed =
+    (needed.0.trusted, block_trusted planned principals labelled setting same bodies rest in_it.1 needed.1)
+block_trusted planned principals labelled setting same bodies (set_element heading field index value rest) in_it
+    needed =
+    (needed.0.trusted, block_trusted planned principals labelled setting same bodies rest in_it.1 needed.1)
+block_trusted planned principals labelled setting same bodies (branch heading guard first second rest) in_it needed =
+    let Q = IsOf planned.program in
+    let after_first = all_second Q (all_statements first) (all_statements second ++ all_statements rest) in_it.1 in
+    let in_first = all_first Q (all_statements first) (all_statements second ++ all_statements rest) in_it.1 in
+    let in_second = all_first Q (all_statements second) (all_statements rest) after_first in
+    let in_rest = all_second Q (all_statements second) (all_statements rest) after_first in
     let one = block_uses labelled setting first in
     let two = block_uses labelled setting second in
     let inside = all_first (IsNeeded planned principals) (one ++ two) (block_uses labelled setting rest) needed.1 in
@@ -319,18 +390,23 @@ block_trusted planned principals labelled setting same bodies (branch heading gu
           needed.0.trusted
           (λ p within some. any_right (Backs principals p) own (all_backing (one ++ two))
           (subst (P p) (sym (split p)) (any_left (Backs principals p) (all_backing one) (all_backing two) some)))
-          (statements_of first) (own_backed planned principals labelled setting first one_needed),
+          (statements_of first) (of_block Q first in_first) (own_backed planned principals labelled setting first
+          one_needed),
       due_where planned principals host heading.id (all_backing two) (own ++ all_backing (one ++ two)) needed.0.need
           needed.0.trusted
           (λ p within some. any_right (Backs principals p) own (all_backing (one ++ two))
           (subst (P p) (sym (split p)) (any_right (Backs principals p) (all_backing one) (all_backing two) some)))
-          (statements_of second) (own_backed planned principals labelled setting second two_needed),
-      block_trusted planned principals labelled setting same bodies first one_needed,
-      block_trusted planned principals labelled setting same bodies second two_needed,
-      block_trusted planned principals labelled setting same bodies rest
+          (statements_of second) (of_block Q second in_second) (own_backed planned principals labelled setting second
+          two_needed),
+      block_trusted planned principals labelled setting same bodies first in_first one_needed,
+      block_trusted planned principals labelled setting same bodies second in_second two_needed,
+      block_trusted planned principals labelled setting same bodies rest in_rest
           (all_second (IsNeeded planned principals) (one ++ two) (block_uses labelled setting rest) needed.1),
     )
-block_trusted planned principals labelled setting same bodies (loop heading guard inner rest) needed =
+block_trusted planned principals labelled setting same bodies (loop heading guard inner rest) in_it needed =
+    let Q = IsOf planned.program in
+    let in_inner = all_first Q (all_statements inner) (all_statements rest) in_it.1 in
+    let in_rest = all_second Q (all_statements inner) (all_statements rest) in_it.1 in
     let one = block_uses labelled setting inner in
     let one_needed = all_first (IsNeeded planned principals) one (block_uses labelled setting rest) needed.1 in
     let own : List Backing = for_releases setting (guard ∷ []) in (
@@ -338,21 +414,23 @@ block_trusted planned principals labelled setting same bodies (loop heading guar
       due_where planned principals (statement_host planned.plan heading.id) heading.id (all_backing one)
           (own ++ all_backing one) needed.0.need needed.0.trusted
           (λ p within some. any_right (Backs principals p) own (all_backing one) some)
-          (statements_of inner) (own_backed planned principals labelled setting inner one_needed),
-      block_trusted planned principals labelled setting same bodies inner one_needed,
-      block_trusted planned principals labelled setting same bodies rest
+          (statements_of inner) (of_block Q inner in_inner) (own_backed planned principals labelled setting inner
+          one_needed),
+      block_trusted planned principals labelled setting same bodies inner in_inner one_needed,
+      block_trusted planned principals labelled setting same bodies rest in_rest
           (all_second (IsNeeded planned principals) one (block_uses labelled setting rest) needed.1),
     )
-block_trusted planned principals labelled setting same bodies (call heading site method arguments into rest) needed =
+block_trusted planned principals labelled setting same bodies (call heading site method arguments into rest) in_it
+    needed =
     let called = method_at labelled.program method in
     let P : ProgramTree → Type 0 = λ program. IsTrustedInside planned heading.id (body_of (method_at program method)) in (
       needed.0.trusted,
-      subst P same (called_due planned principals labelled bodies (statement_host planned.plan heading.id) heading.id
-          method _ needed.0.need needed.0.trusted),
-      block_trusted planned principals labelled setting same bodies rest needed.1,
+      subst P same (called_due planned principals labelled same bodies (statement_host planned.plan heading.id)
+          heading.id method _ needed.0.need needed.0.trusted),
+      block_trusted planned principals labelled setting same bodies rest in_it.1 needed.1,
     )
-block_trusted planned principals labelled setting same bodies (give_back heading value rest) needed =
-    (needed.0.trusted, block_trusted planned principals labelled setting same bodies rest needed.1)
+block_trusted planned principals labelled setting same bodies (give_back heading value rest) in_it needed =
+    (needed.0.trusted, block_trusted planned principals labelled setting same bodies rest in_it.1 needed.1)
 
 -- ---- methods
 
@@ -436,9 +514,11 @@ methods_typable : (labelled : Labelled) (planned : PlannedShape) (principals : D
     AreNeeded planned principals (flat_map (method_uses principals labelled) methods) →
     ((place : ℕ) (method : MethodTree) → slice_get methods place ≡ Some method →
     AreBackedBy planned principals (for_label method.begin ∷ []) (statements_of method.body)) →
+    ((place : ℕ) (method : MethodTree) → slice_get methods place ≡ Some method →
+    AllByRecursion (IsOf planned.program) (all_statements method.body)) →
     AllByRecursion (IsTypableMethod planned) methods
-methods_typable labelled planned principals same bodies labels [] labelled_there needed backed = tt
-methods_typable labelled planned principals same bodies labels (method ∷ methods) labelled_there needed backed =
+methods_typable labelled planned principals same bodies labels [] labelled_there needed backed in_it = tt
+methods_typable labelled planned principals same bodies labels (method ∷ methods) labelled_there needed backed in_it =
     let setting = setting_of principals labelled.program method in
     let uses = block_uses labelled setting method.body in
     let others = flat_map (method_uses principals labelled) methods in
@@ -446,17 +526,18 @@ methods_typable labelled planned principals same bodies labels (method ∷ metho
     let head = needed.0 in (
       record {
         returns = labelled_there.0.returns;
-        trusted = block_trusted planned principals labelled setting same bodies method.body
+        trusted = block_trusted planned principals labelled setting same bodies method.body (in_it 0 method refl)
             (all_first (IsNeeded planned principals) uses others needed.1);
         home = due_where planned principals (statement_host planned.plan method.head) method.head
             (for_label method.begin ∷ []) (for_label method.begin ∷ []) head.need head.trusted
-            (λ p within some. some) (statements_of method.body) own;
+            (λ p within some. some) (statements_of method.body)
+            (of_block (IsOf planned.program) method.body (in_it 0 method refl)) own;
         covers = head_covers planned principals method (statements_of method.body) head.need own;
       },
       methods_typable labelled planned principals same bodies
           (labels_after setting method.begin labels method.body) methods labelled_there.1
           (all_second (IsNeeded planned principals) uses others needed.1)
-          (λ place one there. backed (suc place) one there),
+          (λ place one there. backed (suc place) one there) (λ place one there. in_it (suc place) one there),
     )
 
 -- ---- programs
@@ -477,5 +558,5 @@ allowed_typable labelled needs hosts plan allowed =
     (length-map program.vars (λ variable. variable.label)) refl allowed.numbered.methods allowed.methods met needed in
     record {
       methods = methods_typable labelled planned principals refl bodies declared program.methods allowed.methods
-          needed bodies;
+          needed bodies (λ place method is. body_of_program program (record { 0 = place }) method is);
     }

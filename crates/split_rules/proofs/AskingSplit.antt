@@ -26,7 +26,7 @@ use Rattle.split_rules.specs.Allowed.{IsTrustedHost, IsAllowed}
 use Rattle.split_rules.specs.Held.{IsHeld}
 use Rattle.split_rules.specs.Asking.{IsGranted, IsSeenBy, AreGranted, TellsNoMore}
 use Rattle.split_rules.specs.Asking as asking
-use Rattle.split_rules.specs.Positions.{number_of, Due, statement_due, Position, Entrance}
+use Rattle.split_rules.specs.Positions.{IsOf, number_of, Due, statement_due, Position, Entrance}
 use Rattle.split_rules.specs.SplitCode.{entries_in, landed, code_labels, label_place, code_of_emissions, split_code}
 use Rattle.split_rules.specs.Splittable.{IsSplittable}
 use Rattle.split_rules.specs.TypedCode.{Table, IsTypedOp, IsTypedCode}
@@ -82,7 +82,7 @@ need_held planned host label sees [] trusted = none_needed planned host label se
 need_held planned host label sees (item ∷ due) trusted =
     let one = number_of (statement_due item) in
     both_needed planned host (slice_index planned.needs.need one.0) (need_due planned due)
-    (trusted_host planned host one trusted.0) (need_held planned host label sees due trusted.1)
+    (trusted_host planned host one trusted.0.0) (need_held planned host label sees due trusted.1)
 
 -- ---- entries
 
@@ -133,7 +133,8 @@ ask_due planned table me place there on trusted typed =
       position = _;
       due = cuts.behind;
       is = cuts.pushed;
-      trusted = all_second (λ (item : Due). is_trusted_for planned me (number_of (statement_due item)) ≡ true)
+      trusted = all_second (λ (item : Due). (is_trusted_for planned me (number_of (statement_due item)) ≡ true)
+          × IsOf planned.program (statement_due item))
           (table.at me.0 (suc place)).due cuts.behind (subst P cuts.due trusted);
     }
 

@@ -18,7 +18,10 @@ use Rattle.msg_cost.specs.Moves.{PlannedShape, next_spot, own_statements}
 use Rattle.split_rules.specs.Emissions.{Emission, Counts, counts_after}
 use Rattle.split_rules.specs.Walk.{Walked, Around, Lane, lane_on, lane_at, under_token, emitted, expr_emissions}
 use Rattle.split_rules.specs.Walk.{move_emissions, end_emissions, result_emissions, call_emissions, block_emissions}
+use Rattle.std.specs.List.{AllByRecursion}
+use Rattle.split_rules.specs.Positions.{IsIn, all_statements}
 use Rattle.split_rules.specs.Positions.{statements_of, number_of, is_on, run, Level, body, under, Position, calm}
+use Rattle.split_rules.proofs.BackedLabels.{all_first, all_second}
 use Rattle.split_rules.specs.Positions.{all_due, due_numbers, row_of, Entrance}
 use Rattle.split_rules.specs.Typable.{IsTrustedInside, AreTrusted}
 use Rattle.split_rules.specs.Typing.{body_of, nowhere, here, Known, AreTyped, AreDueOn}
@@ -234,6 +237,7 @@ site_at around next id = record { me = next.host; label = around.pc; id = id }
 -- a result is given back last, from a lane that is not lent
 gives_back : (walked : Walked) (method : MethodId) (gives : Bool) → IsWalkedIn walked method gives →
     (around : Around) (heading : Heading) (value : ExprTree) (next : Spot) →
+    IsIn walked.planned.program method (give_back heading value done) →
     is_on walked.planned next.host (give_back heading value done) ≡ true → (level : Level) → level ≡ body method →
     (lane : Lane) (trees : List BlockTree) → trees ≡ [] → (entries : List Entrance) (branches : List Position) →
     IsLaneKnown walked.planned entries level lane trees → gives ≡ true →
@@ -241,8 +245,8 @@ gives_back : (walked : Walked) (method : MethodId) (gives : Bool) → IsWalkedIn
     Owns walked level next.host (give_back heading value done) trees lane entries branches
     (expr_emissions next.host around.pc heading.id 0 value
     ++ result_emissions walked next.host around.pc heading.id value)
-gives_back walked method gives within around heading value next own level level_is lane trees none entries branches known
-    gives_it trusted = by walked.setting.result refl (within.gives_it ∙ gives_it)
+gives_back walked method gives within around heading value next in_it own level level_is lane trees none entries
+    branches known gives_it trusted = by walked.setting.result refl (within.gives_it ∙ gives_it)
   where
     planned : PlannedShape
     planned = walked.planned
@@ -260,7 +264,7 @@ gives_back walked method gives within around heading value next own level level_
     by (Some result) is some =
         rw (is, not_lent, none, level_is) (leads_still walked.planned _ _ entries branches _
         (give_back_typed walked.planned (site_at around next heading.id) method heading value result
-        (within.result ∙ is) own trusted entries branches))
+        (within.result ∙ is) in_it own trusted entries branches))
 
 ends_so : (may : Bool) (block : BlockTree) → block ≡ done → ReturnsLast may block
 ends_so may block is =
@@ -294,16 +298,17 @@ inside_due planned host tree block own inside =
 
 pub block_typed : (walked : Walked) (method : MethodId) (gives : Bool) → IsWalkedIn walked method gives →
     (may : Bool) (block : BlockTree) → IsBlockIn walked.planned.program method gives block → ReturnsLast may block →
-    AreTrusted walked.planned block → (around : Around) (level : Level) → (may ≡ true → level ≡ body method) →
+    AreTrusted walked.planned block → AllByRecursion (IsIn walked.planned.program method) (all_statements block) →
+    (around : Around) (level : Level) → (may ≡ true → level ≡ body method) →
     (lane : Lane) (entries : List Entrance) (branches : List Position) → AreMethodEntries walked.planned entries →
     IsLaneKnown walked.planned entries level lane (statements_of block) →
     IsLaneTrusted walked.planned lane (statements_of block) →
     Leads walked.planned (known_at (lane_place walked.planned level lane (statements_of block)) entries branches)
     (block_emissions walked around (counts_in entries branches) lane block) nowhere
-block_typed walked method gives within may done there returns trusted around level at lane entries branches methods
-    known holds = block_ends walked around level lane entries branches known
-block_typed walked method gives within may (set_local heading x value rest) there returns trusted around level at lane
-    entries branches methods known holds =
+block_typed walked method gives within may done there returns trusted in_it around level at lane entries branches
+    methods known holds = block_ends walked around level lane entries branches known
+block_typed walked method gives within may (set_local heading x value rest) there returns trusted in_it around level
+    at lane entries branches methods known holds =
     let planned = walked.planned in
     let next = next_spot planned lane.spot heading.id (own_statements rest) in
     let trees = statements_of rest in
@@ -315,10 +320,10 @@ block_typed walked method gives within may (set_local heading x value rest) ther
     (lane_level level lane_there) heading x value (map run (ahead_at planned lane_there.spot trees)) own due_there entries_there
     branches))
     (λ lane_there entries_there branches_there methods_there known_there holds_there.
-    block_typed walked method gives within may rest there.2 returns trusted.1 around level at lane_there entries_there
-    branches_there methods_there known_there holds_there)
-block_typed walked method gives within may (set_field heading field value rest) there returns trusted around level at
-    lane entries branches methods known holds =
+    block_typed walked method gives within may rest there.2 returns trusted.1 in_it.1 around level at lane_there
+    entries_there branches_there methods_there known_there holds_there)
+block_typed walked method gives within may (set_field heading field value rest) there returns trusted in_it around
+    level at lane entries branches methods known holds =
     let planned = walked.planned in
     let next = next_spot planned lane.spot heading.id (own_statements rest) in
     let trees = statements_of rest in
@@ -330,10 +335,10 @@ block_typed walked method gives within may (set_field heading field value rest) 
     (lane_level level lane_there) heading field value (map run (ahead_at planned lane_there.spot trees)) own due_there
     entries_there branches))
     (λ lane_there entries_there branches_there methods_there known_there holds_there.
-    block_typed walked method gives within may rest there.2 returns trusted.1 around level at lane_there entries_there
-    branches_there methods_there known_there holds_there)
-block_typed walked method gives within may (set_element heading field index value rest) there returns trusted around
-    level at lane entries branches methods known holds =
+    block_typed walked method gives within may rest there.2 returns trusted.1 in_it.1 around level at lane_there
+    entries_there branches_there methods_there known_there holds_there)
+block_typed walked method gives within may (set_element heading field index value rest) there returns trusted in_it
+    around level at lane entries branches methods known holds =
     let planned = walked.planned in
     let next = next_spot planned lane.spot heading.id (own_statements rest) in
     let trees = statements_of rest in
@@ -345,10 +350,10 @@ block_typed walked method gives within may (set_element heading field index valu
     (lane_level level lane_there) heading field index value (map run (ahead_at planned lane_there.spot trees)) own due_there
     entries_there branches))
     (λ lane_there entries_there branches_there methods_there known_there holds_there.
-    block_typed walked method gives within may rest there.3 returns trusted.1 around level at lane_there entries_there
-    branches_there methods_there known_there holds_there)
-block_typed walked method gives within may (branch heading guard first second rest) there returns trusted around level
-    at lane entries branches methods known holds =
+    block_typed walked method gives within may rest there.3 returns trusted.1 in_it.1 around level at lane_there
+    entries_there branches_there methods_there known_there holds_there)
+block_typed walked method gives within may (branch heading guard first second rest) there returns trusted in_it around
+    level at lane entries branches methods known holds =
     let planned = walked.planned in
     let others = own_statements rest in
     let next = next_spot planned lane.spot heading.id others in
@@ -376,16 +381,23 @@ block_typed walked method gives within may (branch heading guard first second re
     due_there others (left_numbers planned lane_there next trees others spot_is (own_numbers rest)) one two entries_there
     branches methods_there
     (λ entries_in branches_in methods_in. block_typed walked method gives within false first there.1 returns.0 trusted.3
+    (all_first (IsIn walked.planned.program method) (all_statements first) (all_statements second ++ all_statements
+    rest) in_it.1)
     inside inner (λ no. absurd (true≢false (sym no))) (lane_on next.host) entries_in branches_in methods_in tt
     (inside_due planned next.host (branch heading guard first second done) first is_own trusted.1))
     (λ entries_in branches_in methods_in. block_typed walked method gives within false second there.2 returns.1 trusted.4
+    (all_first (IsIn walked.planned.program method) (all_statements second) (all_statements rest)
+    (all_second (IsIn walked.planned.program method) (all_statements first) (all_statements second ++ all_statements
+    rest) in_it.1))
     inside inner (λ no. absurd (true≢false (sym no))) (lane_on next.host) entries_in branches_in methods_in tt
     (inside_due planned next.host (branch heading guard first second done) second is_own trusted.2))))
     (λ lane_there entries_there branches_there methods_there known_there holds_there.
-    block_typed walked method gives within may rest there.3 returns.2 trusted.5 around level at lane_there entries_there
-    branches_there methods_there known_there holds_there)
-block_typed walked method gives within may (loop heading guard inner rest) there returns trusted around level at lane
-    entries branches methods known holds =
+    block_typed walked method gives within may rest there.3 returns.2 trusted.5
+    (all_second (IsIn walked.planned.program method) (all_statements second) (all_statements rest)
+    (all_second (IsIn walked.planned.program method) (all_statements first) (all_statements second ++ all_statements
+    rest) in_it.1)) around level at lane_there entries_there branches_there methods_there known_there holds_there)
+block_typed walked method gives within may (loop heading guard inner rest) there returns trusted in_it around level at
+    lane entries branches methods known holds =
     let planned = walked.planned in
     let others = own_statements rest in
     let next = next_spot planned lane.spot heading.id others in
@@ -411,14 +423,16 @@ block_typed walked method gives within may (loop heading guard inner rest) there
     (left_numbers planned lane_there next trees others spot_is (own_numbers rest)) one entries_there branches
     methods_there
     (λ entries_in branches_in methods_in. block_typed walked method gives within false inner there.1 returns.0 trusted.2
+    (all_first (IsIn walked.planned.program method) (all_statements inner) (all_statements rest) in_it.1)
     inside (under (length entries_there)) (λ no. absurd (true≢false (sym no))) (lane_on next.host) entries_in
     branches_in methods_in tt
     (inside_due planned next.host (loop heading guard inner done) inner is_own trusted.1))))
     (λ lane_there entries_there branches_there methods_there known_there holds_there.
-    block_typed walked method gives within may rest there.2 returns.1 trusted.3 around level at lane_there entries_there
-    branches_there methods_there known_there holds_there)
-block_typed walked method gives within may (call heading site called arguments into rest) there returns trusted around
-    level at lane entries branches methods known holds =
+    block_typed walked method gives within may rest there.2 returns.1 trusted.3
+    (all_second (IsIn walked.planned.program method) (all_statements inner) (all_statements rest) in_it.1) around
+    level at lane_there entries_there branches_there methods_there known_there holds_there)
+block_typed walked method gives within may (call heading site called arguments into rest) there returns trusted in_it
+    around level at lane entries branches methods known holds =
     let planned = walked.planned in
     let others = own_statements rest in
     let next = next_spot planned lane.spot heading.id others in
@@ -445,10 +459,10 @@ block_typed walked method gives within may (call heading site called arguments i
     (body_of (method_at planned.program called)) is_own trusted.1)) refl left
     (left_numbers planned lane_there next trees others spot_is (own_numbers rest)) entries_there branches methods_there))
     (λ lane_there entries_there branches_there methods_there known_there holds_there.
-    block_typed walked method gives within may rest there.3 returns trusted.2 around level at lane_there entries_there
-    branches_there methods_there known_there holds_there)
-block_typed walked method gives within may (give_back heading value rest) there returns trusted around level at lane
-    entries branches methods known holds =
+    block_typed walked method gives within may rest there.3 returns trusted.2 in_it.1 around level at lane_there
+    entries_there branches_there methods_there known_there holds_there)
+block_typed walked method gives within may (give_back heading value rest) there returns trusted in_it around level at
+    lane entries branches methods known holds =
     let planned = walked.planned in
     let next = next_spot planned lane.spot heading.id (own_statements rest) in
     let trees = statements_of rest in
@@ -456,9 +470,9 @@ block_typed walked method gives within may (give_back heading value rest) there 
     (own_trusted planned (give_back heading value rest) trusted) known holds (own_statements rest) (own_numbers rest) _
     (λ counts lane_then. block_emissions walked around counts lane_then rest) _ refl
     (λ own lane_there entries_there methods_there known_there due_there spot_is many.
-    gives_back walked method gives within around heading value next own level (at returns.0) lane_there trees
+    gives_back walked method gives within around heading value next in_it.0 own level (at returns.0) lane_there trees
     (ap statements_of returns.1) entries_there branches known_there there.0
     (due_there.0, tt))
     (λ lane_there entries_there branches_there methods_there known_there holds_there.
-    block_typed walked method gives within may rest there.2 (ends_so may rest returns.1) trusted.1 around level at
-    lane_there entries_there branches_there methods_there known_there holds_there)
+    block_typed walked method gives within may rest there.2 (ends_so may rest returns.1) trusted.1 in_it.1 around
+    level at lane_there entries_there branches_there methods_there known_there holds_there)

@@ -159,7 +159,7 @@ kept_typed walked site level heading at method arguments (Some x) (Some result) 
         ),
       ),
       send_typed planned site (calm level others) refl refl trusted.1 entries branches statement x
-          (record { on_host = own; trusted = trusted.0; gives = inl refl }),
+          (record { on_host = own; trusted = trusted.0.0; gives = inl refl }),
     )
 
 -- what is due behind a call, with or without its result
@@ -218,8 +218,8 @@ call_typed walked site level heading at method arguments into called is there ot
           typed_on planned (known_at (here site.me (arguing_at level due statement [] all)) more branches)
               (argument_emissions walked site.me site.label site.id called.params arguments) _
               (known_at (here site.me (arguing_at level due statement all [])) more branches) _
-              (arguments_typed walked site level due statement [] on_due own trusted.0 more branches called.params arguments
-              params_given) (
+              (arguments_typed walked site level due statement [] on_due own trusted.0.0 more branches called.params
+              arguments params_given) (
                 known_at (here site.me inside) more branches,
                 (arguing_at level due statement all [], refl, (trusted, tt), (inside, pushes, refl)),
                 (

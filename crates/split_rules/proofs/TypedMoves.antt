@@ -84,24 +84,26 @@ all_in_row planned host (tree ∷ trees) trusted none =
         nothing : tree ∷ trees ≡ [] → ⊥
         nothing same = cc
 
--- a host that is trusted for all statements is trusted for all that is due
-pub trusted_due : (planned : PlannedShape) (host : HostId) (trees : List BlockTree) →
-    is_trusted_for_all planned host (map number_of trees) ≡ true → AreDueOn planned host (map run trees)
-trusted_due planned host [] all = tt
-trusted_due planned host (tree ∷ trees) all =
-    by (trusted_due planned host trees) (is_trusted_for planned host (number_of tree)) refl
+-- a host that is trusted for all statements is trusted for all that is due, as another one is
+pub trusted_due : (planned : PlannedShape) (from host : HostId) (trees : List BlockTree) →
+    AreDueOn planned from (map run trees) → is_trusted_for_all planned host (map number_of trees) ≡ true →
+    AreDueOn planned host (map run trees)
+trusted_due planned from host [] due all = tt
+trusted_due planned from host (tree ∷ trees) due all =
+    by (trusted_due planned from host trees due.1) (is_trusted_for planned host (number_of tree)) refl
   where
     by : (is_trusted_for_all planned host (map number_of trees) ≡ true → AreDueOn planned host (map run trees)) →
         (b : Bool) → is_trusted_for planned host (number_of tree) ≡ b → AreDueOn planned host (map run (tree ∷ trees))
-    by others true is = (is, others (rw is at all))
+    by others true is = ((is, due.0.1), others (rw is at all))
     by others false is = absurd (true≢false (sym (rw is at all)))
 
 -- the statements in a row on a host are due on it
-pub row_due : (planned : PlannedShape) (host : HostId) (trees : List BlockTree) → AreRunWhereTrusted planned trees →
+pub row_due : (planned : PlannedShape) (from host : HostId) (trees : List BlockTree) →
+    AreDueOn planned from (map run trees) → AreRunWhereTrusted planned trees →
     AreDueOn planned host (map run (row_of planned host trees))
-row_due planned host [] trusted = tt
-row_due planned host (tree ∷ trees) trusted =
-    by (row_due planned host trees trusted.1) (is_on planned host tree) refl
+row_due planned from host [] due trusted = tt
+row_due planned from host (tree ∷ trees) due trusted =
+    by (row_due planned from host trees due.1 trusted.1) (is_on planned host tree) refl
   where
     by : AreDueOn planned host (map run (row_of planned host trees)) → (b : Bool) → is_on planned host tree ≡ b →
         AreDueOn planned host (map run (row_of planned host (tree ∷ trees)))
@@ -110,7 +112,7 @@ row_due planned host (tree ∷ trees) trusted =
         let same = same_host there host (eqb-true there.0 host.0 is) in
         let P : HostId → Type 0 = λ one. is_trusted_for planned one (number_of tree) ≡ true in
         let Q : List BlockTree → Type 0 = λ row. AreDueOn planned host (map run row) in
-        subst Q (sym (row_here planned host tree trees is)) (subst P same trusted.0, others)
+        subst Q (sym (row_here planned host tree trees is)) ((subst P same trusted.0, due.0.1), others)
     by others false is =
         let Q : List BlockTree → Type 0 = λ row. AreDueOn planned host (map run row) in
         subst Q (sym (row_elsewhere planned host tree trees is)) tt
@@ -164,7 +166,7 @@ return_due planned from host trees due = by (host_behind planned host (map numbe
         P (return_host planned from host (map number_of trees))
     by None is = rw is due
     by (Some next) is = rw is (chosen_of_two P (is_trusted_for_all planned next (map number_of trees)) _ next from
-        (trusted_due planned next trees) due)
+        (trusted_due planned from next trees due) due)
 
 -- ---- needs
 
@@ -499,7 +501,7 @@ lent walked around level from host back tree trees due due_back run_there entrie
     past_due = due_past planned back host all due_back
 
     row_on_host : AreDueOn planned host (map run row)
-    row_on_host = row_due planned host all run_there
+    row_on_host = row_due planned from host all due run_there
 
     long : length one ≡ number + 1
     long = rw length-append (omega arith)
@@ -687,8 +689,8 @@ move_typed walked around level lane tree trees entries branches trusted known ho
         by true is other =
             let there : entered planned from host statements ≡ on host = rw (ne_eqb from.0 host.0 other, is) refl in
             subst P (sym there) (enters (on host) refl apart elsewhere
-            (handed walked around level from host tree trees due (trusted_due planned host (tree ∷ trees) is) entries
-            branches other))
+            (handed walked around level from host tree trees due (trusted_due planned from host (tree ∷ trees) due is)
+            entries branches other))
         by false is other =
             let back = return_host planned from host statements in
             let there : entered planned from host statements ≡ lent_spot host back =

@@ -27,6 +27,7 @@ use Rattle.split_rules.proofs.TypedStates.{known_at, counts_in, Leads, leads_sti
 use Rattle.split_rules.proofs.TypedCalls.{methods_still}
 use Rattle.split_rules.proofs.TypedPlaces.{AreCalm}
 use Rattle.split_rules.proofs.TypedBlocks.{block_typed}
+use Rattle.split_rules.proofs.AllowedTyping.{body_of_method}
 
 -- ---- entries of methods
 
@@ -97,7 +98,12 @@ methods_typed principals labelled planned same number (method ∷ methods) there
     (known number method own)
     (block_typed walked (record { 0 = number }) (is_some method.result)
     (record { same = same; result = method_number planned.program method number own; gives_it = refl }) true method.body
-    numbered.0.body typable.0.returns typable.0.trusted (record { owner = method.head; pc = method.begin })
+    numbered.0.body typable.0.returns typable.0.trusted
+    (body_of_method planned.program (record { 0 = number }) method own) (record {
+      owner = method.head;
+      pc =
+          method.begin;
+    })
     (body (record { 0 = number })) (λ yes. refl) (lane_on home) entries branches known tt typable.0.home))
     (λ more ahead is.
     let Q : Counts → Type 0 = λ counts. Leads planned (known_at nowhere (entries ++ more) (branches ++ ahead))

@@ -11,8 +11,8 @@ use Rattle.msg_cost.specs.Moves.{PlannedShape}
 use Rattle.split_rules.specs.Emissions.{Emission}
 use Rattle.split_rules.specs.Expressions.{reads_in, nodes_of, first_element}
 use Rattle.split_rules.specs.Walk.{emitted, expr_emissions, send_emissions}
-use Rattle.split_rules.specs.Positions.{Due, run, statement_due, is_on, Level, body, FieldRead, field_reads, own_reads}
-use Rattle.split_rules.specs.Positions.{Position, calm, with_reads, with_forwards, forwards_of, Entrance}
+use Rattle.split_rules.specs.Positions.{IsIn, Due, run, statement_due, is_on, Level, body, FieldRead, field_reads}
+use Rattle.split_rules.specs.Positions.{own_reads, Position, calm, with_reads, with_forwards, forwards_of, Entrance}
 use Rattle.split_rules.specs.Typing.{AreDueOn, Known, here, Types, AreTyped}
 use Rattle.split_rules.proofs.TypedStates.{known_at, typed_on}
 use Rattle.split_rules.proofs.TypedValues.{reads_many, IsDueOn, Site, expr_typed, send_typed}
@@ -84,7 +84,7 @@ set_local_typed planned site level heading x value others on_host trusted entrie
         ),
       ),
       send_typed planned site (calm level others) refl refl trusted.1 entries branches statement x
-          (record { on_host = on_host; trusted = trusted.0; gives = refl }),
+          (record { on_host = on_host; trusted = trusted.0.0; gives = refl }),
     )
 
 pub set_field_typed : (planned : PlannedShape) (site : Site) (level : Level) (heading : Heading) (field : FieldId)
@@ -171,13 +171,14 @@ set_element_typed planned site level heading field index value others on_host tr
 -- a result is given back, which ends what is due
 pub give_back_typed : (planned : PlannedShape) (site : Site) (method : MethodId) (heading : Heading) (value : ExprTree)
     (result : VarId) → result_of (method_at planned.program method) ≡ Some result →
+    IsIn planned.program method (give_back heading value done) →
     is_on planned site.me (give_back heading value done) ≡ true →
     AreDueOn planned site.me (run (give_back heading value done) ∷ []) → (entries : List Entrance) (branches : List Position) →
     AreTyped planned (calm_at site (body method) (run (give_back heading value done) ∷ []) entries branches)
     (expr_emissions site.me site.label site.id 0 value
     ++ emitted site.me site.label site.id (op.Ret result (nodes_of 0 value)) ∷ [])
     (calm_at site (body method) [] entries branches)
-give_back_typed planned site method heading value result is on_host trusted entries branches =
+give_back_typed planned site method heading value result is in_it on_host trusted entries branches =
     let statement = give_back heading value done in
     let due = run statement ∷ [] in
     reads_then planned site (body method) due (due_on planned site (body method) statement [] on_host trusted) entries branches
@@ -198,6 +199,7 @@ give_back_typed planned site method heading value result is on_host trusted entr
             refl,
             is,
             refl,
+            in_it,
           ),
           refl,
         ),

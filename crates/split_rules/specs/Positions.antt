@@ -1,6 +1,6 @@
 -- What is known at a place of split code, as a typed assembly language knows the types of its registers (Morrisett,
 -- Walker, Crary and Glew): whose token is held there, what is still due under it, and what was read and set on the way.
-use Rattle.std.specs.Prelude.{ℕ, Bool, pos, List, [], ◌∷◌, ◌++◌, map, Option, Some, if◌then◌else◌}
+use Rattle.std.specs.Prelude.{◌≡◌, ℕ, Bool, pos, List, [], ◌∷◌, ◌++◌, map, Option, Some, if◌then◌else◌, Any, IsSomeAnd}
 use Rattle.js_base.specs.declared.ids.HostId.{HostId}
 use Rattle.js_base.specs.declared.ids.FieldId.{FieldId}
 use Rattle.js_base.specs.declared.ids.VarId.{VarId}
@@ -8,7 +8,7 @@ use Rattle.js_base.specs.declared.ids.StmtId.{StmtId}
 use Rattle.js_base.specs.declared.ids.MethodId.{MethodId}
 use Rattle.jif_tree.specs.Trees.{ExprTree, number, local, scalar, element, inverted, negated, binary, declassified}
 use Rattle.jif_tree.specs.Trees.{endorsed, BlockTree, done, set_local, set_field, set_element, branch, loop, call}
-use Rattle.jif_tree.specs.Trees.{give_back}
+use Rattle.jif_tree.specs.Trees.{give_back, ProgramTree}
 use Rattle.jif_tree.specs.LabelRules.{result_of, method_at}
 use Rattle.need_labels.specs.Plan.{statement_host}
 use Rattle.msg_cost.specs.Moves.{PlannedShape, is_same}
@@ -29,6 +29,31 @@ statements_of (loop heading guard body rest) = loop heading guard body done ∷ 
 statements_of (call heading site method arguments into rest) =
     call heading site method arguments into done ∷ statements_of rest
 statements_of (give_back heading value rest) = give_back heading value done ∷ statements_of rest
+
+-- the statements of a block and of the blocks in it, each with nothing behind it
+abbrev pub all_statements : BlockTree → List BlockTree
+all_statements done = []
+all_statements (set_local heading x value rest) = set_local heading x value done ∷ all_statements rest
+all_statements (set_field heading field value rest) = set_field heading field value done ∷ all_statements rest
+all_statements (set_element heading field index value rest) =
+    set_element heading field index value done ∷ all_statements rest
+all_statements (branch heading guard first second rest) =
+    branch heading guard first second done
+    ∷ all_statements first ++ (all_statements second ++ all_statements rest)
+all_statements (loop heading guard inner rest) =
+    loop heading guard inner done ∷ all_statements inner ++ all_statements rest
+all_statements (call heading site method arguments into rest) =
+    call heading site method arguments into done ∷ all_statements rest
+all_statements (give_back heading value rest) = give_back heading value done ∷ all_statements rest
+
+-- it is one of the statements of a method
+abbrev pub IsIn : ProgramTree → MethodId → BlockTree → Type 0
+IsIn program method statement =
+    IsSomeAnd (method_at program method) (λ tree. Any (λ one. one ≡ statement) (all_statements tree.body))
+
+-- it is one of the statements of the program
+abbrev pub IsOf : ProgramTree → BlockTree → Type 0
+IsOf program statement = (method : MethodId) × IsIn program method statement
 
 -- the number of a statement, 0 where there is none
 abbrev pub number_of : BlockTree → StmtId

@@ -21,10 +21,10 @@ use Rattle.msg_cost.specs.Moves.{PlannedShape, is_trusted_for}
 use Rattle.split_rules.specs.Emissions.{Emission, instruction, entry, stands, lands}
 use Rattle.split_rules.specs.Expressions.{reads_in, nodes_of, first_element}
 use Rattle.split_rules.specs.Walk.{need_of}
-use Rattle.split_rules.specs.Positions.{number_of, due_numbers, Entrance, Due, run, keep, statement_due, is_on, all_due}
-use Rattle.split_rules.specs.Positions.{kept_due, body, under, FieldRead, field_reads, Argument, Calling, no_call}
-use Rattle.split_rules.specs.Positions.{arguing, entering, Forward, arguments_of, reads_due, Position, calm, with_reads}
-use Rattle.split_rules.specs.Positions.{with_forwards, forwards_of}
+use Rattle.split_rules.specs.Positions.{IsIn, IsOf, number_of, due_numbers, Entrance, Due, run, keep, statement_due}
+use Rattle.split_rules.specs.Positions.{is_on, all_due, kept_due, body, under, FieldRead, field_reads, Argument, Calling}
+use Rattle.split_rules.specs.Positions.{no_call, arguing, entering, Forward, arguments_of, reads_due, Position, calm}
+use Rattle.split_rules.specs.Positions.{with_reads, with_forwards, forwards_of}
 
 -- ---- parts of the laws
 
@@ -40,7 +40,8 @@ LeadsTo branches number position = slice_get branches number ≡ Some position
 -- a host is trusted for all that is due
 abbrev pub AreDueOn : PlannedShape → HostId → List Due → Type 0
 AreDueOn planned host due =
-    AllByRecursion (λ item. is_trusted_for planned host (number_of (statement_due item)) ≡ true) due
+    AllByRecursion (λ item. (is_trusted_for planned host (number_of (statement_due item)) ≡ true)
+    × IsOf planned.program (statement_due item)) due
 
 abbrev pub IsParam : VarId → List VarId → Type 0
 IsParam x [] = ⊥
@@ -244,6 +245,7 @@ Follows planned entries me here (op.Ret x value) next =
     (first : Due) × (method : MethodId) × BeginsWith planned me here first [] × (here.calling ≡ no_call)
     × GivesBack here first value × (here.level ≡ body method)
     × (result_of (method_at planned.program method) ≡ Some x) × (next ≡ calm here.level [])
+    × IsIn planned.program method (statement_due first)
 Follows planned entries me here other next = ⊥
 
 -- A branch goes on at the next position where its guard holds, and otherwise at its target.
