@@ -30,8 +30,9 @@ ghost use Rattle.host_code.specs.declared.code_expr.Node.{Node};
 ghost use Rattle.host_code.specs.declared.code_expr.Node.TheVariants as node;
 ghost use Rattle.split_rules.specs.Expressions.{first_element};
 ghost use Rattle.split_rules.specs.Walk.{entry_id};
-ghost use Rattle.split_rules.specs.Worked.{sent_local, lent_past, lent_back, looped, operations_on, entry_hosts};
-ghost use Rattle.split_rules.specs.Worked.{field_id, var_id, host_id};
+ghost use Rattle.split_rules.specs.Worked.{sent_local, lent_past, lent_back, looped, branched, called, indexed};
+ghost use Rattle.split_rules.specs.Worked.{labelled_apart, operations_on, entry_hosts, label_words};
+ghost use Rattle.split_rules.specs.Worked.{field_id, var_id, site_id, host_id, trusted_by};
 
 /// Whatever the plan, the code of a split program is sound, and its entries stand and its branches lead where they
 /// should, on their own hosts. Where hosts are trusted for what their statements start, the code is also typed: at each
@@ -118,6 +119,35 @@ pub fn worked_laws()
         ∷ op.Branch (node.Temp 0 ∷ node.Number (pos 4) ∷ node.Binary operator.Less ∷ []) 0
         ∷ op.Push (entry_id 2)
         ∷ op.Push (entry_id 3) ∷ op.Go (entry_id 4) (host_id 1)
+    // Before its guard a branch pushes the entry behind it, and both blocks end by giving the token back.
+    ensures branches { operations_on branched 0 ≡ op.Push (entry_id 2)
+        ∷ op.Read (field_id 0) first_element
+        ∷ op.Branch (node.Temp 0 ∷ node.Number (pos 4) ∷ node.Binary operator.Less ∷ []) 0
+        ∷ op.Go (entry_id 3) (host_id 1)
+        ∷ op.Read (field_id 0) first_element
+        ∷ op.Put (field_id 0) first_element (node.Temp 0 ∷ node.Number (pos 1) ∷ node.Binary operator.Add ∷ [])
+        ∷ op.Back ∷ op.Back ∷ [] }
+    ensures branches_to { operations_on branched 1 ≡ op.Read (field_id 1) first_element
+        ∷ op.Put (field_id 1) first_element (node.Temp 0 ∷ node.Number (pos 1) ∷ node.Binary operator.Add ∷ [])
+        ∷ op.Back ∷ [] }
+    ensures branch_entries { entry_hosts branched ≡ 0 ∷ 0 ∷ 0 ∷ 1 ∷ [] }
+    // A call makes a frame, sets each parameter and passes it on, and pushes the entry behind it, where the result is
+    // kept.
+    ensures calls { operations_on called 0 ≡ op.Frame (site_id 1) ∷ op.Arg (var_id 1) (node.Number (pos 3) ∷ [])
+        ∷ op.Pass (var_id 1) (host_id 1) ∷ op.Push (entry_id 3) ∷ op.Call (entry_id 2) (host_id 1)
+        ∷ op.Let (var_id 0) (node.Var (var_id 2) ∷ []) ∷ op.Back ∷ [] }
+    ensures gives_back { operations_on called 1
+        ≡ op.Ret (var_id 2) (node.Var (var_id 1) ∷ node.Number (pos 1) ∷ node.Binary operator.Add ∷ [])
+        ∷ op.Back ∷ [] }
+    ensures call_entries { entry_hosts called ≡ 0 ∷ 0 ∷ 1 ∷ 0 ∷ [] }
+    // The index of an array is read before the value.
+    ensures indexes { operations_on indexed 0 ≡ op.Read (field_id 0) first_element
+        ∷ op.Read (field_id 1) (node.Number (pos 2) ∷ [])
+        ∷ op.Put (field_id 1) (node.Temp 0 ∷ [])
+        (node.Temp 1 ∷ node.Number (pos 1) ∷ node.Binary operator.Add ∷ [])
+        ∷ op.Back ∷ [] }
+    // Labels stand as they are first needed, each once: those of fields, of variables, and of entries.
+    ensures labels { label_words labelled_apart (trusted_by 2 ∷ trusted_by 3 ∷ []) ≡ 1 ∷ 2 ∷ 3 ∷ 4 ∷ [] }
         ∷ op.Read (field_id 0) first_element
         ∷ op.Put (field_id 0) first_element (node.Temp 0 ∷ node.Number (pos 1) ∷ node.Binary operator.Add ∷ [])
         ∷ op.Back ∷ op.Back ∷ [] }

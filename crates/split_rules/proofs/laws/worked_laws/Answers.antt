@@ -33,3 +33,35 @@ returns-clause-loops c = refl
 pub returns-clause-loop_entries : goal.returns-clause-loop_entries
 unfolding is_trusted_by
 returns-clause-loop_entries c = refl
+
+pub returns-clause-branches : goal.returns-clause-branches
+unfolding is_trusted_by
+returns-clause-branches c = refl
+
+pub returns-clause-branches_to : goal.returns-clause-branches_to
+unfolding is_trusted_by
+returns-clause-branches_to c = refl
+
+pub returns-clause-branch_entries : goal.returns-clause-branch_entries
+unfolding is_trusted_by
+returns-clause-branch_entries c = refl
+
+pub returns-clause-calls : goal.returns-clause-calls
+unfolding is_trusted_by
+returns-clause-calls c = refl
+
+pub returns-clause-gives_back : goal.returns-clause-gives_back
+unfolding is_trusted_by
+returns-clause-gives_back c = refl
+
+pub returns-clause-call_entries : goal.returns-clause-call_entries
+unfolding is_trusted_by
+returns-clause-call_entries c = refl
+
+pub returns-clause-indexes : goal.returns-clause-indexes
+unfolding is_trusted_by
+returns-clause-indexes c = refl
+
+pub returns-clause-labels : goal.returns-clause-labels
+unfolding is_trusted_by
+returns-clause-labels c = refl
