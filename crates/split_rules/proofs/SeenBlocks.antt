@@ -28,7 +28,7 @@ use Rattle.need_labels.specs.Needs.{Backing, for_releases, label_of, labels_of, 
 use Rattle.need_labels.specs.Plan.{statement_host, field_host}
 use Rattle.msg_cost.specs.Moves.{PlannedShape, home_of}
 use Rattle.jif_tree.specs.Labelling.{IsLabelled, IsLabelledIfAny, AreLabelled}
-use Rattle.jif_tree.specs.GuardLabels.{IsExprLabelled, AreGuardsLabelled}
+use Rattle.jif_tree.specs.ValueLabels.{IsExprLabelled, AreValuesLabelled}
 use Rattle.jif_tree.proofs.LabelsKept.{Stay, stay_then, assignment_stays, block_stays, assigned_labelled}
 use Rattle.split_rules.specs.Allowed.{IsTrustedHost}
 use Rattle.split_rules.specs.Walk.{need_of}
@@ -154,7 +154,7 @@ expr_reads_well principals labelled planned tree method host pc (endorsed operan
     operand) _ parts) told
 
 -- a guard whose variables have labels has the same label behind the whole program
-guard_same : (labelled : Labelled) (setting : MethodSetting) (pc : Label) (labels final : VariableLabels) →
+pub guard_same : (labelled : Labelled) (setting : MethodSetting) (pc : Label) (labels final : VariableLabels) →
     AreFinal labelled final → Stay labels final → (expr : ExprTree) → IsExprLabelled labels expr →
     expr_label setting pc labels expr ≡ expr_label setting pc (all_labels labelled) expr
 guard_same labelled setting pc labels final are stay (number value) has = refl
@@ -188,15 +188,15 @@ pub record IsUseWell (labelled : Labelled) (planned : PlannedShape) (principals 
   pub tellings : AllByRecursion (IsToldWell labelled planned) one.tellings
 
 -- the same of a statement with these expressions under a program label
-record OwnWell (labelled : Labelled) (planned : PlannedShape) (setting : MethodSetting) (host : HostId) (pc : Label)
+pub record OwnWell (labelled : Labelled) (planned : PlannedShape) (setting : MethodSetting) (host : HostId) (pc : Label)
     (exprs : List ExprTree) (told changed : List Label) : Type 0 where
-  pc_seen : Sees planned host pc
-  parts : AllByRecursion (Sees planned host) (flat_map (part_labels setting pc (all_labels labelled)) exprs)
-  told_seen : AllByRecursion (Sees planned host) told
-  tellings : AllByRecursion (IsToldWell labelled planned) (flat_map (tellings_in setting labelled pc) exprs)
-  affected : AllByRecursion (Affects planned host) changed
+  pub pc_seen : Sees planned host pc
+  pub parts : AllByRecursion (Sees planned host) (flat_map (part_labels setting pc (all_labels labelled)) exprs)
+  pub told_seen : AllByRecursion (Sees planned host) told
+  pub tellings : AllByRecursion (IsToldWell labelled planned) (flat_map (tellings_in setting labelled pc) exprs)
+  pub affected : AllByRecursion (Affects planned host) changed
 
-own_well : (labelled : Labelled) (planned : PlannedShape) (principals : Declared) (setting : MethodSetting)
+pub own_well : (labelled : Labelled) (planned : PlannedShape) (principals : Declared) (setting : MethodSetting)
     (id : StmtId) (pc : Label) (exprs : List ExprTree) (told changed : List Label) (nested : List Backing) →
     pc_of labelled id ≡ pc →
     IsUseWell labelled planned principals (statement_use labelled setting id exprs told changed nested) →
@@ -225,7 +225,7 @@ own_well labelled planned principals setting id pc exprs told changed nested is 
 
 -- ---- flows
 
-flow_seen : (principals : Declared) (pc from to : Label) → Holds principals (flow_of pc from to) → ConfFlows pc to
+pub flow_seen : (principals : Declared) (pc from to : Label) → Holds principals (flow_of pc from to) → ConfFlows pc to
 flow_seen principals pc from to holds owner reader owner_in reader_in forbids =
     holds.0 owner reader owner_in reader_in (flows_second from pc owner reader owner_in reader_in forbids)
 
@@ -257,7 +257,7 @@ pub record ProgramWell (labelled : Labelled) (planned : PlannedShape) (principal
       MethodWell labelled planned principals place tree
 
 -- a variable that has a label is given a value
-gives_variable : (labelled : Labelled) (planned : PlannedShape) (principals : Declared) →
+pub gives_variable : (labelled : Labelled) (planned : PlannedShape) (principals : Declared) →
     ProgramWell labelled planned principals → (labels final : VariableLabels) → AreFinal labelled final →
     Stay labels final → (method : MethodId) (host : HostId) (pc from : Label) (x : VarId) →
     HasVariable labelled.program method x → IsLabelled labels x →
@@ -439,15 +439,15 @@ pub block_well : (principals : Declared) (labelled : Labelled) (planned : Planne
     length labels ≡ length labelled.program.vars → (block : BlockTree) →
     let setting = setting_of principals labelled.program tree in
     Stay (labels_after setting pc labels block) final → IsBlockIn labelled.program method gives block →
-    AreLabelled setting pc labels block → AreGuardsLabelled setting pc labels block →
+    AreLabelled setting pc labels block → AreValuesLabelled setting pc labels block →
     AreMet principals (block_labels setting pc labels block) →
     AreLabelsKept labelled (block_labels setting pc labels block) →
     AreUsesWell labelled planned principals (block_uses labelled setting block) →
     BlockTellsWell labelled planned setting pc block
 block_well principals labelled planned tree program method result_there gives final are pc labels many done stay there
-    has guards met kept uses = tt
+    has values met kept uses = tt
 block_well principals labelled planned tree program method result_there gives final are pc labels many
-    (set_local heading x value rest) stay there has guards met kept uses =
+    (set_local heading x value rest) stay there has values met kept uses =
     let setting = setting_of principals labelled.program tree in
     let host = statement_host planned.plan heading.id in
     let from = expr_label setting pc labels value in
@@ -463,10 +463,11 @@ block_well principals labelled planned tree program method result_there gives fi
           (stay_then after behind final (block_stays setting pc after rest) stay) method host pc from x there.0
           (assigned_labelled labels x (join_of from pc) variable.0 variable.1) flows own.affected.0,
       block_well principals labelled planned tree program method result_there gives final are pc after
-          ((assignment_stays labels x (join_of from pc)).many ∙ many) rest stay there.2 has guards met.1 kept.1 uses.1,
+          ((assignment_stays labels x (join_of from pc)).many ∙ many) rest stay there.2 has values.1 met.1 kept.1
+          uses.1,
     )
 block_well principals labelled planned tree program method result_there gives final are pc labels many
-    (set_field heading field value rest) stay there has guards met kept uses =
+    (set_field heading field value rest) stay there has values met kept uses =
     let setting = setting_of principals labelled.program tree in
     let host = statement_host planned.plan heading.id in
     let own = own_well labelled planned principals setting heading.id pc (value ∷ []) []
@@ -477,10 +478,10 @@ block_well principals labelled planned tree program method result_there gives fi
       puts_well labelled planned principals program host pc (expr_label setting pc labels value) field there.0.0
           there.0.1 flows own.affected.0,
       block_well principals labelled planned tree program method result_there gives final are pc labels many rest stay
-          there.2 has guards met.1 kept.1 uses.1,
+          there.2 has values.1 met.1 kept.1 uses.1,
     )
 block_well principals labelled planned tree program method result_there gives final are pc labels many
-    (set_element heading field index value rest) stay there has guards met kept uses =
+    (set_element heading field index value rest) stay there has values met kept uses =
     let setting = setting_of principals labelled.program tree in
     let host = statement_host planned.plan heading.id in
     let own = own_well labelled planned principals setting heading.id pc (index ∷ value ∷ []) []
@@ -494,10 +495,10 @@ block_well principals labelled planned tree program method result_there gives fi
       second_reads principals labelled planned tree method host pc index value [] _ _ there.2 own,
       puts_well labelled planned principals program host pc from field there.0.0 there.0.1 flows own.affected.0,
       block_well principals labelled planned tree program method result_there gives final are pc labels many rest stay
-          there.3 has guards met.1 kept.1 uses.1,
+          there.3 has values.2 met.1 kept.1 uses.1,
     )
 block_well principals labelled planned tree program method result_there gives final are pc labels many
-    (branch heading guard first second rest) stay there has guards met kept uses =
+    (branch heading guard first second rest) stay there has values met kept uses =
     let setting = setting_of principals labelled.program tree in
     let host = statement_host planned.plan heading.id in
     let inside = guarded setting pc labels guard in
@@ -517,7 +518,8 @@ block_well principals labelled planned tree program method result_there gives fi
     let both_kept = all_first (IsKept labelled) (labels_one ++ labels_two) _ kept.1 in
     let both_uses = all_first (IsUseWell labelled planned principals) (uses_one ++ uses_two) _ uses.1 in
     let own = own_well labelled planned principals setting heading.id pc (guard ∷ []) [] [] _ kept.0 uses.0 in
-    let same = ap (λ label. join_of pc label) (guard_same labelled setting pc labels final are from_first guard guards.0) in
+    let same = ap (λ label. join_of pc label) (guard_same labelled setting pc labels final are from_first guard
+    values.0) in
     let P : BlockTree → Label → Type 0 = λ block it. BlockTellsWell labelled planned setting it block in
     let guard_parts = all_first (Sees planned host) (part_labels setting pc (all_labels labelled) guard) _ own.parts in (
       own.pc_seen,
@@ -525,23 +527,23 @@ block_well principals labelled planned tree program method result_there gives fi
       sees_both planned host pc (expr_label setting pc (all_labels labelled) guard) own.pc_seen
           (whole_of_parts setting pc (all_labels labelled) (Sees planned host) guard guard_parts),
       subst (P first) same (block_well principals labelled planned tree program method result_there gives final are
-          inside labels many first from_second there.1 has.0 guards.1
+          inside labels many first from_second there.1 has.0 values.1
           (all_first (IsMet principals) labels_one labels_two both_met)
           (all_first (IsKept labelled) labels_one labels_two both_kept)
           (all_first (IsUseWell labelled planned principals) uses_one uses_two both_uses)),
       subst (P second) same (block_well principals labelled planned tree program method result_there gives final are
-          inside between (first_stays.many ∙ many) second rest_stays there.2 has.1 guards.2
+          inside between (first_stays.many ∙ many) second rest_stays there.2 has.1 values.2
           (all_second (IsMet principals) labels_one labels_two both_met)
           (all_second (IsKept labelled) labels_one labels_two both_kept)
           (all_second (IsUseWell labelled planned principals) uses_one uses_two both_uses)),
       block_well principals labelled planned tree program method result_there gives final are pc behind
-          (second_stays.many ∙ first_stays.many ∙ many) rest stay there.3 has.2 guards.3
+          (second_stays.many ∙ first_stays.many ∙ many) rest stay there.3 has.2 values.3
           (all_second (IsMet principals) (labels_one ++ labels_two) _ met.1)
           (all_second (IsKept labelled) (labels_one ++ labels_two) _ kept.1)
           (all_second (IsUseWell labelled planned principals) (uses_one ++ uses_two) _ uses.1),
     )
 block_well principals labelled planned tree program method result_there gives final are pc labels many
-    (loop heading guard inner rest) stay there has guards met kept uses =
+    (loop heading guard inner rest) stay there has values met kept uses =
     let setting = setting_of principals labelled.program tree in
     let host = statement_host planned.plan heading.id in
     let inside = guarded setting pc labels guard in
@@ -553,7 +555,8 @@ block_well principals labelled planned tree program method result_there gives fi
     let labels_one = block_labels setting inside labels inner in
     let uses_one = block_uses labelled setting inner in
     let own = own_well labelled planned principals setting heading.id inside (guard ∷ []) [] [] _ kept.0 uses.0 in
-    let same = ap (λ label. join_of pc label) (guard_same labelled setting pc labels final are from_inner guard guards.0) in
+    let same = ap (λ label. join_of pc label) (guard_same labelled setting pc labels final are from_inner guard
+    values.0) in
     let P : Label → Type 0 = λ it. ExprReadsWell labelled planned host it guard in
     let Q : Label → Type 0 = λ it. Sees planned host it in
     let R : Label → Type 0 = λ it. BlockTellsWell labelled planned setting it inner in (
@@ -561,16 +564,16 @@ block_well principals labelled planned tree program method result_there gives fi
       subst P same (first_reads principals labelled planned tree method host inside guard [] _ _ there.0 own),
       subst Q same own.pc_seen,
       subst R same (block_well principals labelled planned tree program method result_there gives final are inside labels
-          many inner rest_stays there.1 has.0 guards.1 (all_first (IsMet principals) labels_one _ met.1)
+          many inner rest_stays there.1 has.0 values.1 (all_first (IsMet principals) labels_one _ met.1)
           (all_first (IsKept labelled) labels_one _ kept.1)
           (all_first (IsUseWell labelled planned principals) uses_one _ uses.1)),
       block_well principals labelled planned tree program method result_there gives final are pc behind
-          (inner_stays.many ∙ many) rest stay there.2 has.1 guards.2 (all_second (IsMet principals) labels_one _ met.1)
+          (inner_stays.many ∙ many) rest stay there.2 has.1 values.2 (all_second (IsMet principals) labels_one _ met.1)
           (all_second (IsKept labelled) labels_one _ kept.1)
           (all_second (IsUseWell labelled planned principals) uses_one _ uses.1),
     )
 block_well principals labelled planned tree program method result_there gives final are pc labels many
-    (call heading site called arguments into rest) stay there has guards met kept uses =
+    (call heading site called arguments into rest) stay there has values met kept uses =
     let setting = setting_of principals labelled.program tree in
     let host = statement_host planned.plan heading.id in
     let end = labels_after setting pc labels rest in
@@ -587,10 +590,10 @@ block_well principals labelled planned tree program method result_there gives fi
       well.enters,
       well.keeps,
       block_well principals labelled planned tree program method result_there gives final are pc labels many rest stay
-          there.3 has.2 guards met.1 kept.1 uses.1,
+          there.3 has.2 values.1 met.1 kept.1 uses.1,
     )
 block_well principals labelled planned tree program method result_there gives final are pc labels many
-    (give_back heading value rest) stay there has guards met kept uses =
+    (give_back heading value rest) stay there has values met kept uses =
     let setting = setting_of principals labelled.program tree in
     let host = statement_host planned.plan heading.id in
     let own = own_well labelled planned principals setting heading.id pc (value ∷ []) []
@@ -599,5 +602,5 @@ block_well principals labelled planned tree program method result_there gives fi
       first_reads principals labelled planned tree method host pc value [] _ _ there.1 own,
       answers_well labelled planned principals program method host tree.result result_there own.affected,
       block_well principals labelled planned tree program method result_there gives final are pc labels many rest stay
-          there.2 has.1 guards met.1 kept.1 uses.1,
+          there.2 has.1 values.1 met.1 kept.1 uses.1,
     )

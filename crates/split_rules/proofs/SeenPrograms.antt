@@ -37,7 +37,7 @@ use Rattle.need_labels.proofs.Ordered.{use_numbered}
 use Rattle.need_labels.proofs.Somewhere.{any_first, any_none}
 use Rattle.msg_cost.specs.Moves.{PlannedShape, planned_of}
 use Rattle.jif_tree.specs.Labelling.{AreLabelledMethods}
-use Rattle.jif_tree.specs.GuardLabels.{AreAllGuardsLabelled}
+use Rattle.jif_tree.specs.ValueLabels.{AreAllValuesLabelled}
 use Rattle.jif_tree.proofs.LabelsKept.{block_stays, Stay}
 use Rattle.split_rules.specs.Allowed.{IsAllowed, IsTrustedHost}
 use Rattle.split_rules.specs.Held.{HoldsField, HoldsStatement, IsHeld}
@@ -165,7 +165,7 @@ labels_numbered principals program counts place one is =
     ∙ omega arith
 
 -- the program label of a statement is that with which it is checked
-labels_kept : (labelled : Labelled) (principals : Declared) → CountsFrom 0 (statement_numbers labelled.program) →
+pub labels_kept : (labelled : Labelled) (principals : Declared) → CountsFrom 0 (statement_numbers labelled.program) →
     labelled.pc ≡ map (λ one. one.pc) (program_labels principals labelled.program) →
     AreLabelsKept labelled (program_labels principals labelled.program)
 labels_kept labelled principals counts pc_is =
@@ -320,13 +320,13 @@ told_flow field to (telling ∷ tellings) flow =
 -- ---- programs
 
 -- the premises of the laws, and what follows from them of each part of a program
-record Premises (labelled : Labelled) (needs : NeedsShape) (hosts : HostsShape) (plan : PlanShape) : Type 0 where
-  splittable : IsSplittable labelled hosts plan
-  allowed : IsAllowed labelled needs hosts plan
-  held : IsHeld labelled needs hosts plan
+pub record Premises (labelled : Labelled) (needs : NeedsShape) (hosts : HostsShape) (plan : PlanShape) : Type 0 where
+  pub splittable : IsSplittable labelled hosts plan
+  pub allowed : IsAllowed labelled needs hosts plan
+  pub held : IsHeld labelled needs hosts plan
 
 -- the host of a field may see it, and what its reads tell
-field_held : (labelled : Labelled) (needs : NeedsShape) (hosts : HostsShape) (plan : PlanShape) →
+pub field_held : (labelled : Labelled) (needs : NeedsShape) (hosts : HostsShape) (plan : PlanShape) →
     Premises labelled needs hosts plan → (field : FieldId) (tree : FieldTree) →
     slice_get labelled.program.fields field.0 ≡ Some tree →
     Sees (planned_of labelled needs hosts plan) (field_host plan field)
@@ -353,7 +353,7 @@ field_held labelled needs hosts plan premises field tree is =
     seen told None never = absurd never
     seen told (Some row) both = both.0
 
-all_told : (labelled : Labelled) (needs : NeedsShape) (hosts : HostsShape) (plan : PlanShape) →
+pub all_told : (labelled : Labelled) (needs : NeedsShape) (hosts : HostsShape) (plan : PlanShape) →
     Premises labelled needs hosts plan →
     AllByRecursion (IsToldWell labelled (planned_of labelled needs hosts plan))
     (flat_map (λ one. one.tellings) (statement_uses hosts.principals labelled))
@@ -371,7 +371,7 @@ all_told labelled needs hosts plan premises =
     (flows_second tree.label to) (field_held labelled needs hosts plan premises telling.field tree there)))
 
 -- each statement
-use_well : (labelled : Labelled) (needs : NeedsShape) (hosts : HostsShape) (plan : PlanShape) →
+pub use_well : (labelled : Labelled) (needs : NeedsShape) (hosts : HostsShape) (plan : PlanShape) →
     Premises labelled needs hosts plan → (place : ℕ) (one : StatementUse) →
     slice_get (statement_uses hosts.principals labelled) place ≡ Some one →
     IsUseWell labelled (planned_of labelled needs hosts plan) hosts.principals one
@@ -429,7 +429,7 @@ head_trusted planned principals host head begin need affects = by (slice_get pla
           | inr none ↦ absurd (any_none (Backs principals p) none)
         ]
 
-readers_there : (labelled : Labelled) (needs : NeedsShape) (hosts : HostsShape) (plan : PlanShape) →
+pub readers_there : (labelled : Labelled) (needs : NeedsShape) (hosts : HostsShape) (plan : PlanShape) →
     Premises labelled needs hosts plan → AllReadersSee labelled (planned_of labelled needs hosts plan)
 readers_there labelled needs hosts plan premises x to reads =
     by (slice_get needs.readers x.0) refl reads
@@ -462,7 +462,7 @@ readers_there labelled needs hosts plan premises x to reads =
         some_same : (one other : ℕ) → Some one ≡ Some other → one ≡ other
         some_same one other same = cc
 
-program_well : (labelled : Labelled) (needs : NeedsShape) (hosts : HostsShape) (plan : PlanShape) →
+pub program_well : (labelled : Labelled) (needs : NeedsShape) (hosts : HostsShape) (plan : PlanShape) →
     Premises labelled needs hosts plan →
     ProgramWell labelled (planned_of labelled needs hosts plan) hosts.principals
 program_well labelled needs hosts plan premises = record {
@@ -504,13 +504,13 @@ methods_well : (principals : Declared) (labelled : Labelled) (planned : PlannedS
     labels_after_methods principals labelled.program labels methods ≡ final →
     AreMethodsIn labelled.program place methods →
     AreLabelledMethods principals labelled.program labels methods →
-    AreAllGuardsLabelled principals labelled.program labels methods →
+    AreAllValuesLabelled principals labelled.program labels methods →
     AreMet principals (methods_labels principals labelled.program labels methods) →
     AreLabelsKept labelled (methods_labels principals labelled.program labels methods) →
     AreUsesWell labelled planned principals (flat_map (method_uses principals labelled) methods) →
     AllByRecursion (MethodTellsWell principals labelled planned) methods
-methods_well principals labelled planned program final are place [] labels many end there has guards met kept uses = tt
-methods_well principals labelled planned program final are place (method ∷ methods) labels many end there has guards met
+methods_well principals labelled planned program final are place [] labels many end there has values met kept uses = tt
+methods_well principals labelled planned program final are place (method ∷ methods) labels many end there has values met
     kept uses =
     let setting = setting_of principals labelled.program method in
     let after = labels_after setting method.begin labels method.body in
@@ -521,11 +521,11 @@ methods_well principals labelled planned program final are place (method ∷ met
         home = uses.0.sees;
         body = block_well principals labelled planned method program (record { 0 = place }) there.0.result
             (is_some method.result) final are method.begin labels many method.body stay there.0.body has.0.labelled
-            guards.0 (all_first (IsMet principals) own _ met.1) (all_first (IsKept labelled) own _ kept.1)
+            values.0 (all_first (IsMet principals) own _ met.1) (all_first (IsKept labelled) own _ kept.1)
             (all_first (IsUseWell labelled planned principals) own_uses _ uses.1);
       },
       methods_well principals labelled planned program final are (suc place) methods after
-          ((block_stays setting method.begin labels method.body).many ∙ many) end there.1 has.1 guards.1
+          ((block_stays setting method.begin labels method.body).many ∙ many) end there.1 has.1 values.1
           (all_second (IsMet principals) own _ met.1) (all_second (IsKept labelled) own _ kept.1)
           (all_second (IsUseWell labelled planned principals) own_uses _ uses.1),
     )
@@ -546,7 +546,7 @@ program_tells_well labelled needs hosts plan splittable allowed held =
     (by_recursion (Meets principals) (obligations_of (program_labels principals program)) allowed.well_labelled) in
     methods_well principals labelled planned (program_well labelled needs hosts plan premises) final
     allowed.var_labels 0 program.methods declared (length-map program.vars (λ variable. variable.label)) refl
-    allowed.numbered.methods allowed.methods held.guards met
+    allowed.numbered.methods allowed.methods held.values met
     (labels_kept labelled principals allowed.statements held.pc)
     (each_there (IsUseWell labelled planned principals) (statement_uses principals labelled)
     (use_well labelled needs hosts plan premises))

@@ -10,7 +10,7 @@ use Rattle.label_lattice.specs.Lattice.{join_of}
 use Rattle.host_decl.specs.Hosts.{HostsShape}
 use Rattle.jif_tree.specs.Trees.{FieldTree}
 use Rattle.jif_tree.specs.LabelRules.{declared_labels, program_labels}
-use Rattle.jif_tree.specs.GuardLabels.{AreAllGuardsLabelled}
+use Rattle.jif_tree.specs.ValueLabels.{AreAllValuesLabelled}
 use Rattle.need_labels.specs.Labelled.{Labelled}
 use Rattle.need_labels.specs.Needs.{NeedsShape}
 use Rattle.need_labels.specs.Plan.{PlanShape}
@@ -30,7 +30,7 @@ HoldsStatement hosts (used, need) host = IsSomeAnd (slice_get hosts.hosts host.0
 -- The program labels are those of the label check, and each field and each statement stands on a host that may hold it.
 pub record IsHeld (labelled : Labelled) (needs : NeedsShape) (hosts : HostsShape) (plan : PlanShape) : Type 0 where
   pub pc : labelled.pc ≡ map (λ one. one.pc) (program_labels hosts.principals labelled.program)
-  pub guards : AreAllGuardsLabelled hosts.principals labelled.program (declared_labels labelled.program)
+  pub values : AreAllValuesLabelled hosts.principals labelled.program (declared_labels labelled.program)
       labelled.program.methods
   pub fields : AllZip (HoldsField hosts) (zip labelled.program.fields needs.loc) plan.fields
   pub statements : AllZip (HoldsStatement hosts) (zip needs.used needs.need) plan.statements
