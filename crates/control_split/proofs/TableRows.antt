@@ -1,7 +1,6 @@
 -- Rows of fields and variables, whose labels keep their places as more are named.
 use Rattle.std.proofs.Common.{◌≡◌, ◌∙◌, ℕ, suc, ◌+◌, ◌<◌, List, [], ◌∷◌, ◌++◌, length, map, ap, sym, refl}
-use Rattle.std.proofs.Common.{subst, arith, take, get_or, All}
-use Rattle.std.proofs.lemmas.List.Elements.{All-push}
+use Rattle.std.proofs.Common.{subst, arith, take, get_or}
 use Rattle.std.proofs.lemmas.List.{take_more, map-append, get_or-map, length-map, length-take-le}
 use Rattle.std.specs.Bool.{⊤}
 use Rattle.std.specs.List.{zip}
@@ -13,30 +12,8 @@ use Rattle.jif_tree.specs.Trees.{FieldTree, VarTree, ProgramTree, field_tree, va
 use Rattle.need_labels.specs.Plan.{PlanShape, field_host}
 use Rattle.split_rules.specs.SplitCode.{label_place, with_labels, placed_code_fields, code_variable}
 use Rattle.control_split.specs.Trace.{TraceShape}
-use Rattle.control_split.specs.Tables.{naming, IsShort}
+use Rattle.control_split.specs.Tables.{naming}
 use Rattle.control_split.proofs.LabelPlaces.{IsAmong, among_kept, among_named, place_kept, with_labels_append}
-
-abbrev pub IsShortField : CodeFieldShape → Type 0
-IsShortField field = IsShort field.name
-
-abbrev pub AreShortFields : List CodeFieldShape → Type 0
-AreShortFields fields = All IsShortField fields
-
-abbrev pub IsShortVariable : CodeVariableShape → Type 0
-IsShortVariable variable = IsShort variable.name
-
-abbrev pub AreShortVariables : List CodeVariableShape → Type 0
-AreShortVariables variables = All IsShortVariable variables
-
-pub field_more_short : (rows pushed : List CodeFieldShape) (row : CodeFieldShape) → pushed ≡ rows ++ row ∷ [] →
-    AreShortFields rows → IsShortField row → AreShortFields pushed
-field_more_short rows pushed row last every short =
-    subst AreShortFields (sym last) (All-push IsShortField rows row every short)
-
-pub variable_more_short : (rows pushed : List CodeVariableShape) (row : CodeVariableShape) →
-    pushed ≡ rows ++ row ∷ [] → AreShortVariables rows → IsShortVariable row → AreShortVariables pushed
-variable_more_short rows pushed row last every short =
-    subst AreShortVariables (sym last) (All-push IsShortVariable rows row every short)
 
 -- each of these labels is there
 abbrev pub AreNamed : List Label → List Label → Type 0

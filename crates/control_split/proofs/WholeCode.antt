@@ -1,16 +1,13 @@
 -- The code that is put together from the trace of a program is the code of the split program.
-use Rattle.std.proofs.Common.{◌≡◌, ℕ, suc, ◌+◌, ◌≤◌, List, [], ◌∷◌, ◌++◌, map, length, refl, sym, ap, ◌∙◌, subst, arith}
+use Rattle.std.proofs.Common.{◌≡◌, suc, ◌≤◌, List, [], ◌++◌, map, length, refl, sym, ap, ◌∙◌, subst, arith}
 use Rattle.std.specs.List.{zip, flat_map}
-use Rattle.std.proofs.lemmas.List.{length-append, length-map}
 use Rattle.label_lattice.specs.declared.label.Label.{Label}
 use Rattle.host_decl.specs.Hosts.{HostsShape}
 use Rattle.host_code.specs.declared.code.Entry.{Entry}
 use Rattle.host_code.specs.declared.instruction.Instr.{Instr}
 use Rattle.host_code.specs.Code.{CodeShape, CodeFieldShape, CodeVariableShape}
-use Rattle.jif_tree.specs.Trees.{FieldTree}
 use Rattle.jif_tree.specs.LabelRules.{method_at}
 use Rattle.need_labels.specs.Labelled.{Labelled}
-use Rattle.need_labels.specs.Plan.{PlanShape}
 use Rattle.msg_cost.specs.Moves.{PlannedShape, called_home}
 use Rattle.split_rules.specs.Emissions.{Emission, Counts, counts_after}
 use Rattle.split_rules.specs.Settled.{AreSettled}
@@ -21,7 +18,7 @@ use Rattle.control_split.specs.declared.parts.TheConstants.{HOST_NUMBERS}
 use Rattle.control_split.specs.declared.trace.TraceItem.{TraceItem}
 use Rattle.control_split.specs.Assembly.{AssemblyShape, first_assembly, assembled, settled_parts, settled_entries}
 use Rattle.control_split.specs.Tables.{naming, code_hosts}
-use Rattle.control_split.specs.Trace.{TraceShape, first_trace, no_counts, item_of, traced}
+use Rattle.control_split.specs.Trace.{TraceShape, first_trace, no_counts, traced}
 use Rattle.control_split.proofs.LabelPlaces.{with_labels_append}
 use Rattle.control_split.proofs.LabelPlaces.{traced_labels, traced_items}
 use Rattle.control_split.proofs.SplitParts.{parts_are, entries_are, entries_count}
@@ -98,17 +95,3 @@ code_is labelled hosts planned emissions few settled =
     let parts = ap (λ all. settled_parts (A all) (length hosts.hosts)) items
     ∙ parts_are trace.counts trace.labels emissions (length hosts.hosts) few settled_there in
     rw (sym fields, sym variables, entries, parts, labels) refl
-
--- ---- how long lists are
-
-pub fields_length : (labels : List Label) (plan : PlanShape) (number : ℕ) (fields : List FieldTree) →
-    length (placed_code_fields labels plan number fields) ≡ length fields
-fields_length labels plan number [] = refl
-fields_length labels plan number (field ∷ fields) = ap suc (fields_length labels plan (suc number) fields)
-
-pub items_length : (trace : TraceShape) (emissions : List Emission) →
-    length (traced trace emissions).items ≡ length trace.items + length emissions
-items_length trace emissions =
-    ap length (traced_items trace emissions)
-    ∙ length-append trace.items (map (item_of (traced trace emissions).labels) emissions)
-    ∙ ap (λ count. length trace.items + count) (length-map emissions (item_of (traced trace emissions).labels))

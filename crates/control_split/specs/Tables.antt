@@ -1,8 +1,7 @@
 -- The hosts, fields, variables and call sites of a code.
-use Rattle.std.specs.Prelude.{ℕ, ◌≤◌, List, length, map}
+use Rattle.std.specs.Prelude.{List, map}
 use Rattle.label_lattice.specs.declared.label.Label.{Label}
 use Rattle.host_decl.specs.Hosts.{HostShape}
-use Rattle.host_code.specs.declared.code.TheConstants.{MOST_ITEMS}
 use Rattle.host_code.specs.Code.{CodeHostShape}
 use Rattle.control_split.specs.Trace.{TraceShape}
 use Rattle.split_rules.specs.SplitCode.{with_labels}
@@ -13,6 +12,3 @@ naming trace labels = record trace { labels = with_labels trace.labels labels }
 
 abbrev pub code_hosts : List HostShape → List CodeHostShape
 code_hosts hosts = map (λ host. record { name = host.name; label = host.label }) hosts
-
-abbrev pub IsShort : List ℕ → Type 0
-IsShort name = length name ≤ MOST_ITEMS

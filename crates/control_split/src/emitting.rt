@@ -2,13 +2,10 @@
 
 ghost use Rattle.std.specs.Prelude.{◌≡◌, IfOk};
 ghost use Rattle.host_code.specs.CodeParts.{shape_of};
-ghost use Rattle.jif_tree.specs.Trees.{program_tree};
-ghost use Rattle.jif_tree.specs.Sizes.{IsSized};
 ghost use Rattle.need_labels.specs.Labelled.{labelled_of};
 ghost use Rattle.split_rules.specs.SplitCode.{split_code};
-ghost use Rattle.split_rules.specs.Splittable.{IsSplittable, HasFew};
-ghost use Rattle.split_rules.specs.Walk.{program_emissions};
-ghost use Rattle.control_split.specs.Views.{labelled_in, planned_in};
+ghost use Rattle.split_rules.specs.Splittable.{IsSplittable};
+ghost use Rattle.control_split.specs.Views.{labelled_in};
 
 use crate::calls::entry_of;
 use crate::methods::program;
@@ -28,11 +25,8 @@ use std::alloc::Global;
 /// The parts of the code of a program that is split.
 fn code_parts(split: &Split<'_>) -> Result<CodeParts, OutOfMemory>
     requires splittable { IsSplittable (labelled_in split.now) split.now.hosts.now split.now.plan.now }
-    requires sized { IsSized (labelled_in split.now).program }
-    ensures code { IfOk result (λ parts. shape_of parts
+    ensures { IfOk result (λ parts. shape_of parts
         ≡ split_code (labelled_in split.now) split.now.needs.now split.now.hosts.now split.now.plan.now) }
-    ensures few { IfOk result (λ parts. HasFew (shape_of parts)
-        (program_emissions split.now.hosts.now.principals (labelled_in split.now) (planned_in split.now))) }
 {
     split_laws();
     let main = split.checked.program.main;
@@ -68,7 +62,7 @@ fn code_parts(split: &Split<'_>) -> Result<CodeParts, OutOfMemory>
 /// walked.
 ///
 /// # Errors
-/// Memory ran out, or a list or a name of the code would have more than 4,294,967,295 items.
+/// Memory ran out.
 pub fn emit(
     alloc: Global,
     checked: &Checked,
@@ -77,7 +71,6 @@ pub fn emit(
     plan: &Plan,
 ) -> Result<Code, OutOfMemory>
     requires splittable { IsSplittable (labelled_of checked.now) hosts.now plan.now }
-    requires sized { IsSized (program_tree checked.now.program) }
     ensures { IfOk result (λ code. code ≡ split_code (labelled_of checked.now) needs.now hosts.now plan.now) }
 {
     split_laws();

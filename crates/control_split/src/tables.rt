@@ -1,18 +1,17 @@
 //! The hosts, fields, variables and call sites of a code.
 
-ghost use Rattle.std.specs.Prelude.{◌≡◌, ◌+◌, ◌≤◌, ◌∷◌, [], ◌++◌, IfOk, OnOk, All, length, map};
+ghost use Rattle.std.specs.Prelude.{◌≡◌, ◌+◌, ◌≤◌, ◌∷◌, [], ◌++◌, IfOk, OnOk, length, map};
 ghost use Rattle.std.specs.List.{flat_map, zip};
 ghost use Rattle.std.specs.String.{string_bytes};
-ghost use Rattle.host_code.specs.declared.code.TheConstants.{MOST_ITEMS};
 ghost use Rattle.js_base.specs.declared.limits.TheConstants.{FIELDS};
 ghost use Rattle.jif_tree.specs.Trees.{field_tree, var_tree, program_tree, block_tree, done, tree_before};
 ghost use Rattle.split_rules.specs.SplitCode.{label_place, placed_code_fields, code_variable, method_name, site_hosts};
-ghost use Rattle.control_split.specs.Tables.{naming, code_hosts, IsShort};
+ghost use Rattle.control_split.specs.Tables.{naming, code_hosts};
 ghost use Rattle.control_split.specs.Views.{labelled_in};
 
 use crate::trace::Trace;
 use crate::walk::Split;
-use host_code::{CodeField, CodeHost, CodeVar, MOST_ITEMS};
+use host_code::{CodeField, CodeHost, CodeVar};
 use host_decl::HostRow;
 use jif_tree::{Field, Program, Stmt, StmtKind, Var, tree_laws};
 use js_base::text::owned_text;
@@ -21,23 +20,11 @@ use label_lattice::Label;
 use need_labels::Plan;
 use std::alloc::Global;
 
-/// A copy of a name of a code, which has no more bytes than a number of 32 bits counts.
-fn code_name(alloc: Global, name: &str) -> Result<String, OutOfMemory>
-    ensures copy { IfOk result (λ copy. string_bytes copy ≡ name.now) }
-    ensures short { IfOk result (λ copy. IsShort (string_bytes copy)) }
-{
-    if name.len() > MOST_ITEMS {
-        return Err(OutOfMemory);
-    }
-    owned_text(alloc, name)
-}
-
 /// A host of a code.
 fn code_host(alloc: Global, host: &HostRow) -> Result<CodeHost, OutOfMemory>
-    ensures row { IfOk result (λ row. row ≡ record { name = host.now.name; label = host.now.label }) }
-    ensures short { IfOk result (λ row. IsShort row.name) }
+    ensures { IfOk result (λ row. row ≡ record { name = host.now.name; label = host.now.label }) }
 {
-    let name = code_name(alloc, host.name())?;
+    let name = owned_text(alloc, host.name())?;
     Ok(CodeHost::new(name, *host.label()))
 }
 
@@ -46,8 +33,7 @@ fn code_host(alloc: Global, host: &HostRow) -> Result<CodeHost, OutOfMemory>
 /// # Errors
 /// Memory ran out.
 pub fn code_hosts(alloc: Global, hosts: &[HostRow]) -> Result<Vec<CodeHost>, OutOfMemory>
-    ensures rows { IfOk result (λ rows. rows.items ≡ code_hosts hosts.now) }
-    ensures short { IfOk result (λ rows. All (λ host. IsShort host.name) rows.items) }
+    ensures { IfOk result (λ rows. rows.items ≡ code_hosts hosts.now) }
 {
     let mut rows = Vec::new(alloc);
     for host in hosts {
@@ -72,9 +58,8 @@ fn code_field(
       first = field.now.first;
       host = host;
     }) }
-    ensures short { IfOk result (λ row. IsShort row.name) }
 {
-    let name = code_name(alloc, field.name.as_str())?;
+    let name = owned_text(alloc, field.name.as_str())?;
     let label = trace.label_place(&field.label)?;
     Ok(CodeField::new(name, label, field.size, field.array, field.first, host))
 }
@@ -89,7 +74,6 @@ pub fn code_fields(split: &Split<'_>, trace: &mut Trace) -> Result<Vec<CodeField
         (map (λ field. field.label) (labelled_in split.now).program.fields)) }
     ensures rows { IfOk result (λ rows. rows.items ≡ placed_code_fields trace.new.labels split.now.plan.now 0
         (labelled_in split.now).program.fields) }
-    ensures short { IfOk result (λ rows. All (λ field. IsShort field.name) rows.items) }
 {
     let mut rows = Vec::new(split.alloc);
     for (number, field) in split.checked.program.fields.iter().enumerate() {
@@ -120,13 +104,9 @@ fn code_var(
     ensures trace { OnOk result (trace.new ≡ naming trace.old (label.now ∷ [])) }
     ensures row { IfOk result (λ row. row
         ≡ code_variable (program_tree program.now) trace.new.labels (var_tree var.now, label.now)) }
-    ensures short { IfOk result (λ row. IsShort row.name) }
 {
     let method = method_name(program, var.method);
     let name = format!(in alloc; "{}.{}", method, var.name.as_str())?;
-    if name.len() > MOST_ITEMS {
-        return Err(OutOfMemory);
-    }
     let place = trace.label_place(label)?;
     Ok(CodeVar::new(name, place))
 }
@@ -141,17 +121,12 @@ pub fn code_vars(split: &Split<'_>, trace: &mut Trace) -> Result<Vec<CodeVar>, O
     ensures rows { IfOk result (λ rows. rows.items
         ≡ map (code_variable (labelled_in split.now).program trace.new.labels)
         (zip (labelled_in split.now).program.vars (labelled_in split.now).var_labels)) }
-    ensures short { IfOk result (λ rows. All (λ variable. IsShort variable.name) rows.items) }
-    ensures few { IfOk result (λ rows. length rows.items ≤ MOST_ITEMS) }
 {
     let program = &split.checked.program;
     let labels = split.checked.var_labels.as_slice();
     let mut rows = Vec::new(split.alloc);
     for (number, var) in program.vars.iter().enumerate() {
         rows.push(code_var(split.alloc, trace, program, var, &labels[number])?)?;
-    }
-    if rows.len() > MOST_ITEMS {
-        return Err(OutOfMemory);
     }
     Ok(rows)
 }
@@ -161,16 +136,12 @@ pub fn code_vars(split: &Split<'_>, trace: &mut Trace) -> Result<Vec<CodeVar>, O
 /// # Errors
 /// Memory ran out.
 pub fn code_sites(split: &Split<'_>) -> Result<Vec<HostId>, OutOfMemory>
-    ensures sites { IfOk result (λ sites. sites.items
+    ensures { IfOk result (λ sites. sites.items
         ≡ flat_map (λ method. site_hosts split.now.plan.now method.body) (labelled_in split.now).program.methods) }
-    ensures few { IfOk result (λ sites. length sites.items ≤ MOST_ITEMS) }
 {
     let mut sites = Vec::new(split.alloc);
     for method in &split.checked.program.methods {
         add_sites(split.plan, &mut sites, &method.body)?;
-    }
-    if sites.len() > MOST_ITEMS {
-        return Err(OutOfMemory);
     }
     Ok(sites)
 }

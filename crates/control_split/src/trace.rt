@@ -225,7 +225,6 @@ impl Trace {
     pub fn into_parts(self) -> (Vec<Label>, Vec<TraceItem>)
         ensures labels { result.0.items ≡ self.labels }
         ensures items { result.1.items ≡ self.items }
-        ensures few { (length self.labels ≤ MOST_ITEMS) × (length self.items ≤ MOST_ITEMS) }
     {
         (self.labels, self.items)
     }

@@ -5,7 +5,6 @@ use Rattle.std.specs.Prelude.{ℤ, ◌*◌, ◌-◌}
 use Rattle.host_decl.specs.Hosts.{HostsShape}
 use Rattle.event_text.specs.declared.event.Event.{Event}
 use Rattle.jif_tree.specs.declared.program.Program.{Program}
-use Rattle.jif_tree.specs.Sizes.{IsSized}
 use Rattle.jif_tree.specs.SourceRun.{IsAtEnd, prefix, HasLength}
 use Rattle.need_labels.specs.Labelled.{Labelled}
 use Rattle.need_labels.specs.Needs.{NeedsShape}
@@ -26,7 +25,7 @@ use Rattle.simulation.proofs.Simulates.{Paced, STEP, Falls, Simulates}
 use Rattle.simulation.proofs.Starts.{falls_at_start}
 use Rattle.simulation.proofs.Events.{event_kept, idle_halted}
 use Rattle.simulation.proofs.Possible.{event_of, happens, none_comes, one_comes}
-use Rattle.simulation.proofs.Obeyed.{GivesTables, typed_split, own_tokens}
+use Rattle.simulation.proofs.Obeyed.{SplitLaws, typed_split, own_tokens}
 
 some_or_none : {X : Type 0} (o : Option X) → (o ≡ None) ⊎ ((x : X) × (o ≡ Some x))
 some_or_none None = inl refl
@@ -117,25 +116,26 @@ driven_runs code [] world after driven = driven
 driven_runs code (event ∷ events) world after driven =
     (driven.1.0, driven.1.1, driven_runs code events driven.1.0 after driven.1.2)
 
--- a law of the splitting: the code of a program within the limits is paced
+-- a law of the splitting: the code of a split program is paced
 abbrev pub GivesPaces : Type 0
 GivesPaces = (labelled : Labelled) (needs : NeedsShape) (hosts : HostsShape) (plan : PlanShape) →
-    IsSplittable labelled hosts plan → IsSized labelled.program →
+    IsSplittable labelled hosts plan →
     (left : Allowance) × IsPaced (split_code labelled needs hosts plan) left
 
-module _ (gives : GivesTables) (paces : GivesPaces) (program : Program) (labelled : Labelled) (needs : NeedsShape)
+module _ (laws : SplitLaws) (paces : GivesPaces) (program : Program) (labelled : Labelled) (needs : NeedsShape)
     (hosts : HostsShape) (plan : PlanShape) (store : List (List ℤ)) (steps : ℕ)
-    (set : IsSet program labelled needs hosts plan) (sized : IsSized labelled.program)
+    (set : IsSet program labelled needs hosts plan)
     (runs : HasLength program store steps) where
   split : Split
   split =
-      let typed = gives labelled needs hosts plan set.splittable set.typable in
-      typed_split program labelled needs hosts plan set typed.0 typed.1
-      (paces labelled needs hosts plan set.splittable sized).0
+      let typable = laws.trust labelled needs hosts plan set.allowed in
+      let typed = laws.tables labelled needs hosts plan set.splittable typable in
+      typed_split program labelled needs hosts plan set (laws.sound labelled needs hosts plan set.splittable) typed.0
+      typed.1 (paces labelled needs hosts plan set.splittable).0
 
   paced : Paced split
   unfolding split typed_split
-  paced = (paces labelled needs hosts plan set.splittable sized).1
+  paced = (paces labelled needs hosts plan set.splittable).1
 
   start : Falls split (prefix program store 0) (STEP + 4)
       (world_at_start (split_code labelled needs hosts plan) hosts.hosts 0 store)
@@ -144,7 +144,9 @@ module _ (gives : GivesTables) (paces : GivesPaces) (program : Program) (labelle
 
   fits_there : ShapeFits (split_code labelled needs hosts plan)
       (world_at_start (split_code labelled needs hosts plan) hosts.hosts 0 store)
-  fits_there = shape_at_start (split_code labelled needs hosts plan) hosts.hosts 0 store set.sound refl
+  fits_there =
+      shape_at_start (split_code labelled needs hosts plan) hosts.hosts 0 store
+      (laws.sound labelled needs hosts plan set.splittable) refl
 
   all_counted : (events : List Event) (world : WorldShape) →
       IsRun (split_code labelled needs hosts plan)

@@ -11,6 +11,7 @@ use Rattle.js_base.specs.declared.ids.MethodId.{MethodId}
 use Rattle.js_base.specs.declared.ids.VarId.{VarId}
 use Rattle.host_decl.specs.Hosts.{HostsShape}
 use Rattle.event_text.specs.declared.event.Event.{Event}
+use Rattle.host_code.specs.Sound.{IsSoundCode}
 use Rattle.host_core.specs.Host.{HostShape}
 use Rattle.jif_tree.specs.declared.program.Program.{Program}
 use Rattle.jif_tree.specs.SourceRun.{IsAtEnd, prefix}
@@ -27,6 +28,7 @@ use Rattle.event_text.specs.declared.event.Event.TheVariants.{Take, Turn, Act}
 use Rattle.jif_tree.specs.SourceRun.{Configuration}
 use Rattle.simulation.proofs.Possible.{next_happens, one_event}
 use Rattle.net_world.specs.World.{IsStep, named_host, WorldShape, IsRun, world_at_start, state_at, has_halted}
+use Rattle.split_rules.specs.Allowed.{IsAllowed}
 use Rattle.split_rules.specs.Pace.{Allowance}
 use Rattle.split_rules.specs.SplitCode.{split_code}
 use Rattle.split_rules.specs.Splittable.{IsSplittable}
@@ -90,15 +92,16 @@ result_within program place method x are is result =
 
 -- a typed code of a program that is set
 unfoldable pub typed_split : (program : Program) (labelled : Labelled) (needs : NeedsShape) (hosts : HostsShape)
-    (plan : PlanShape) → IsSet program labelled needs hosts plan → (table : Table) →
-    IsTypedCode (planned_of labelled needs hosts plan) (split_code labelled needs hosts plan) table → Allowance → Split
-typed_split program labelled needs hosts plan set table typed pace = record {
+    (plan : PlanShape) → IsSet program labelled needs hosts plan → IsSoundCode (split_code labelled needs hosts plan) →
+    (table : Table) → IsTypedCode (planned_of labelled needs hosts plan) (split_code labelled needs hosts plan) table
+    → Allowance → Split
+typed_split program labelled needs hosts plan set sound table typed pace = record {
   program = program;
   planned = planned_of labelled needs hosts plan;
   code = split_code labelled needs hosts plan;
   table = table;
   typed = typed;
-  sound = set.sound;
+  sound = sound;
   granted = set.granted;
   is = set.is;
   main_tree = set.splittable.numbered.main.0;
@@ -216,22 +219,43 @@ module _ (split : Split) (store : List (List ℤ)) (hosts : HostsShape)
 
 -- ---- the laws
 
--- a law of the splitting: the code of a program that can be split is typed
+-- the code of a program that can be split is sound
+abbrev pub GivesSound : Type 0
+GivesSound = (labelled : Labelled) (needs : NeedsShape) (hosts : HostsShape) (plan : PlanShape) →
+    IsSplittable labelled hosts plan → IsSoundCode (split_code labelled needs hosts plan)
+
+-- where a plan is allowed, hosts are trusted for what statements start
+abbrev pub GivesTrust : Type 0
+GivesTrust = (labelled : Labelled) (needs : NeedsShape) (hosts : HostsShape) (plan : PlanShape) →
+    IsAllowed labelled needs hosts plan → IsTypable (planned_of labelled needs hosts plan)
+
+-- and then the code is typed
 abbrev pub GivesTables : Type 0
 GivesTables = (labelled : Labelled) (needs : NeedsShape) (hosts : HostsShape) (plan : PlanShape) →
     let planned = planned_of labelled needs hosts plan in
     IsSplittable labelled hosts plan → IsTypable planned →
     (table : Table) × IsTypedCode planned (split_code labelled needs hosts plan) table
 
-module _ (gives : GivesTables) (program : Program) (labelled : Labelled) (needs : NeedsShape) (hosts : HostsShape)
+-- the laws of the splitting
+pub record SplitLaws : Type 0 where
+  pub sound : GivesSound
+  pub trust : GivesTrust
+  pub tables : GivesTables
+
+pub laws_of : GivesSound → GivesTrust → GivesTables → SplitLaws
+laws_of sound trust tables = record { sound = sound; trust = trust; tables = tables }
+
+module _ (laws : SplitLaws) (program : Program) (labelled : Labelled) (needs : NeedsShape) (hosts : HostsShape)
     (plan : PlanShape) (store : List (List ℤ)) (events : List Event) (world : WorldShape)
     (set : IsSet program labelled needs hosts plan)
     (ran : IsRun (split_code labelled needs hosts plan)
     (world_at_start (split_code labelled needs hosts plan) hosts.hosts 0 store) events world) where
   split : Split
   split =
-      let typed = gives labelled needs hosts plan set.splittable set.typable in
-      typed_split program labelled needs hosts plan set typed.0 typed.1 (λ host place. 0)
+      let typable = laws.trust labelled needs hosts plan set.allowed in
+      let typed = laws.tables labelled needs hosts plan set.splittable typable in
+      typed_split program labelled needs hosts plan set (laws.sound labelled needs hosts plan set.splittable) typed.0
+      typed.1 (λ host place. 0)
 
   start : Simulates split (prefix program store 0)
       (world_at_start (split_code labelled needs hosts plan) hosts.hosts 0 store)
@@ -240,7 +264,9 @@ module _ (gives : GivesTables) (program : Program) (labelled : Labelled) (needs 
 
   fits_there : ShapeFits (split_code labelled needs hosts plan)
       (world_at_start (split_code labelled needs hosts plan) hosts.hosts 0 store)
-  fits_there = shape_at_start (split_code labelled needs hosts plan) hosts.hosts 0 store set.sound refl
+  fits_there =
+      shape_at_start (split_code labelled needs hosts plan) hosts.hosts 0 store
+      (laws.sound labelled needs hosts plan set.splittable) refl
 
   pub fields_follow : Follows program (split_code labelled needs hosts plan) hosts.hosts store events
   unfolding split typed_split

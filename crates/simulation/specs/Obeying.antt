@@ -10,25 +10,21 @@ use Rattle.jif_tree.specs.SourceRun.{prefix, HasLength}
 use Rattle.jif_tree.specs.Results.{AreGivenBack, AreUnread}
 use Rattle.jif_tree.specs.Trees.{program_tree}
 use Rattle.host_code.specs.Code.{CodeShape, CodeFieldShape}
-use Rattle.host_code.specs.Sound.{IsSoundCode}
 use Rattle.host_core.specs.Host.{HostShape}
 use Rattle.event_text.specs.declared.event.Event.{Event}
 use Rattle.need_labels.specs.Labelled.{Labelled}
 use Rattle.need_labels.specs.Needs.{NeedsShape, AreNeedsOf}
 use Rattle.need_labels.specs.Plan.{PlanShape}
-use Rattle.msg_cost.specs.Moves.{planned_of}
 use Rattle.split_rules.specs.Allowed.{IsAllowed}
 use Rattle.split_rules.specs.Asking.{AreGranted}
 use Rattle.split_rules.specs.Held.{IsHeld}
 use Rattle.split_rules.specs.SplitCode.{split_code}
 use Rattle.split_rules.specs.Splittable.{IsSplittable}
-use Rattle.split_rules.specs.Typable.{IsTypable}
 use Rattle.net_world.specs.World.{WorldShape, IsRun, world_at_start, state_at, has_halted}
 use Rattle.simulation.specs.Programs.{AreInOrder}
 
 -- A program, its needs, and a plan by which it can be split, so that hosts may hold what stands on them, are trusted
--- for what their statements start, and grant each other's requests. Methods give their results back at their end, and
--- nothing else reads these.
+-- for it, and grant each other's requests. Methods give their results back at their end, and nothing else reads these.
 pub record IsSet (program : Program) (labelled : Labelled) (needs : NeedsShape) (hosts : HostsShape) (plan : PlanShape)
     : Type 0 where
   pub is : program_tree program ≡ labelled.program
@@ -36,8 +32,6 @@ pub record IsSet (program : Program) (labelled : Labelled) (needs : NeedsShape) 
   pub needs_of : AreNeedsOf hosts.principals labelled needs
   pub allowed : IsAllowed labelled needs hosts plan
   pub held : IsHeld labelled needs hosts plan
-  pub typable : IsTypable (planned_of labelled needs hosts plan)
-  pub sound : IsSoundCode (split_code labelled needs hosts plan)
   pub granted : AreGranted (split_code labelled needs hosts plan)
   pub given_back : AreGivenBack labelled.program
   pub unread : AreUnread labelled.program

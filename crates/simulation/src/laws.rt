@@ -6,7 +6,6 @@ ghost use Rattle.event_text.specs.declared.event.Event.{Event};
 ghost use Rattle.host_decl.specs.Hosts.{HostsShape};
 ghost use Rattle.host_core.specs.Host as host_state;
 ghost use Rattle.jif_tree.specs.declared.program.Program.{Program};
-ghost use Rattle.jif_tree.specs.Sizes.{IsSized};
 ghost use Rattle.jif_tree.specs.SourceRun.{HasLength};
 ghost use Rattle.need_labels.specs.Labelled.{Labelled};
 ghost use Rattle.need_labels.specs.Needs.{NeedsShape};
@@ -17,7 +16,7 @@ ghost use Rattle.split_rules.specs.SplitCode.{split_code};
 ghost use Rattle.simulation.specs.Ending.{EVENTS, HaltsWithin};
 ghost use Rattle.simulation.specs.Obeying.{IsSet, Follows};
 
-use split_rules::{pace_laws, split_laws};
+use split_rules::{pace_laws, split_laws, trust_laws};
 
 /// Where all hosts obey, whatever the events: the fields follow the plain run of the program, and are those at its end
 /// once it has halted. Where nothing is in flight and no thread runs, it has halted. No message is ever ignored. Before
@@ -57,23 +56,25 @@ pub fn obeying_laws()
         IsStep code world second other → first ≡ second }
 {
     split_laws();
+    trust_laws();
 }
 
-/// Where all hosts obey, they come to an end: where the plain run of a program within the limits has so many steps, no
-/// more than 4096 events are possible for each of them, and 4096 more. Where always the event that comes next happens,
-/// the program has halted after so many.
+/// Where all hosts obey, they come to an end: where the plain run of a program has so many steps, no more than 4096
+/// events are possible for each of them, and 4096 more. Where always the event that comes next happens, the program has
+/// halted after so many.
 pub fn ending_laws()
     ensures ends { (program : Program) (labelled : Labelled) (needs : NeedsShape) (hosts : HostsShape)
         (plan : PlanShape) (store : List (List ℤ)) (steps : ℕ) (events : List Event) (world : WorldShape) →
         let code = split_code labelled needs hosts plan in
-        IsSet program labelled needs hosts plan → IsSized labelled.program → HasLength program store steps →
+        IsSet program labelled needs hosts plan → HasLength program store steps →
         IsRun code (world_at_start code hosts.hosts 0 store) events world → length events ≤ EVENTS * (steps + 1) }
     ensures halts { (program : Program) (labelled : Labelled) (needs : NeedsShape) (hosts : HostsShape)
         (plan : PlanShape) (store : List (List ℤ)) (steps : ℕ) →
         let code = split_code labelled needs hosts plan in
-        IsSet program labelled needs hosts plan → IsSized labelled.program → HasLength program store steps →
+        IsSet program labelled needs hosts plan → HasLength program store steps →
         HaltsWithin code (EVENTS * (steps + 1)) (world_at_start code hosts.hosts 0 store) }
 {
     split_laws();
+    trust_laws();
     pace_laws();
 }

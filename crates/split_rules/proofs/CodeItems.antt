@@ -1,5 +1,5 @@
 -- The fields, the variables, the sites and the entries of a code, by what they are made of.
-use Rattle.std.proofs.Common.{◌≡◌, ◌∙◌, ℕ, suc, ◌<◌, inl, inr, List, [], ◌∷◌, ◌++◌}
+use Rattle.std.proofs.Common.{◌≡◌, ◌∙◌, ℕ, suc, ◌<◌, ◌⊎◌, inl, inr, List, [], ◌∷◌, ◌++◌}
 use Rattle.std.proofs.Common.{length, slice_get, All, refl, ap, sym, subst, arith, codes, option_map}
 use Rattle.std.proofs.Common.{append_assoc}
 use Rattle.std.specs.Prelude.{unwrap_or}
@@ -19,7 +19,7 @@ use Rattle.split_rules.specs.Emissions.{Emission, Named}
 use Rattle.split_rules.specs.SplitCode.{placed_entries, placed_code_fields, site_hosts, method_name}
 use Rattle.split_rules.specs.SplitCode.{label_place, emitted_on, before_entry}
 use Rattle.split_rules.specs.Splittable.{StandsAmong}
-use Rattle.jif_tree.specs.Named.{IsNamedVariable}
+use Rattle.jif_tree.specs.Named.{IsNameInText, IsNamedVariable}
 use Rattle.split_rules.proofs.NumberedLists.{numbered, at_all}
 
 -- ---- hosts
@@ -98,8 +98,13 @@ entries_numbered labels emissions number (named ∷ entries) =
     ap (λ others. code_entry labels emissions number named ∷ others)
     (entries_numbered labels emissions (suc number) entries)
 
+-- what the text of a program can name a variable is a name
+name_there : (name : List ℕ) → IsNameInText name ⊎ (name ≡ codes "return") → IsName name ⊎ (name ≡ codes "return")
+name_there name (inl there) = inl there.name
+name_there name (inr result) = inr result
+
 pub variable_name : (program : ProgramTree) (variable : VarTree) →
-    All (λ method. IsName method.name) program.methods → IsNamedVariable program variable →
+    All (λ method. IsNameInText method.name) program.methods → IsNamedVariable program variable →
     IsVariableName (method_name program variable.method ++ codes "." ++ variable.name)
 variable_name program variable methods named = elim ((slice_get_cases program.methods variable.method.0).1) [
   | inl found ↦
@@ -107,8 +112,8 @@ variable_name program variable methods named = elim ((slice_get_cases program.me
       ap (λ there. unwrap_or (option_map (λ tree. tree.name) there) []) found.2 in (
         found.0.name,
         variable.name,
-        at_all (λ method. IsName method.name) program.methods variable.method.0 found.0 methods found.2,
-        named.name,
+        (at_all (λ method. IsNameInText method.name) program.methods variable.method.0 found.0 methods found.2).name,
+        name_there variable.name named.name,
         ap (λ name. name ++ codes "." ++ variable.name) is
             ∙ append_assoc found.0.name (codes ".") variable.name,
       )

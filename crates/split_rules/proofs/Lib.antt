@@ -47,3 +47,5 @@ pub mod PacedWalks
 pub mod PacedPlaces
 pub mod PacedSplit
 pub mod PacedRuns
+pub mod FewEmissions
+pub mod FewItems

@@ -23,7 +23,6 @@ use Rattle.host_code.specs.Code.{CodeShape, instruction_at, halt}
 use Rattle.need_labels.specs.Labelled.{Labelled}
 use Rattle.need_labels.specs.Needs.{NeedsShape}
 use Rattle.need_labels.specs.Plan.{PlanShape}
-use Rattle.jif_tree.specs.Sizes.{IsSized}
 use Rattle.msg_cost.specs.Moves.{PlannedShape, planned_of}
 use Rattle.split_rules.specs.Emissions.{Emission, instruction, entry, stands, lands, Emitted, Counts, counts_after}
 use Rattle.split_rules.specs.Flow.{Scope, State, Goes}
@@ -334,7 +333,7 @@ code_paced labelled hosts planned main emissions walk = record {
 
 -- ---- limits
 
-few_params : (program : ProgramTree) →
+pub few_params : (program : ProgramTree) →
     All (λ (method : MethodTree). length method.params ≤ PARAMETERS) program.methods → (method : MethodId) →
     length (params_of (method_at program method)) ≤ 8
 few_params program all method = by (slice_get program.methods method.0) refl
@@ -344,11 +343,11 @@ few_params program all method = by (slice_get program.methods method.0) refl
     by (Some tree) is =
         at_all (λ (one : MethodTree). length one.params ≤ PARAMETERS) program.methods method.0 tree all is
 
--- Where a program is within the limits, the code that it is split into is paced.
+-- The code that a program is split into is paced, since the program is within the limits.
 pub split_is_paced : (labelled : Labelled) (needs : NeedsShape) (hosts : HostsShape) (plan : PlanShape) →
-    IsSplittable labelled hosts plan → IsSized labelled.program →
+    IsSplittable labelled hosts plan →
     (left : Allowance) × IsPaced (split_code labelled needs hosts plan) left
-split_is_paced labelled needs hosts plan splittable sized =
+split_is_paced labelled needs hosts plan splittable =
     subst P (sym (front_is labelled planned main splittable.numbered.main.1))
     (left_in emissions, code_paced labelled hosts planned main emissions walk)
   where
@@ -378,8 +377,8 @@ split_is_paced labelled needs hosts plan splittable sized =
           end = goes.0;
           walk = walk_there labelled hosts planned emissions goes.0 splittable goes.1 goes.2;
           paces = (methods_paced hosts.principals labelled planned few_hosts
-              (few_params labelled.program sized.within.params) 0 labelled.program.methods splittable.numbered.methods
-              sized.nodes counts).0;
+              (few_params labelled.program splittable.within.params) 0 labelled.program.methods
+              splittable.numbered.methods splittable.within.nodes counts).0;
         }
 
     P : List Emission → Type 0
@@ -387,11 +386,11 @@ split_is_paced labelled needs hosts plan splittable sized =
 
 -- So its threads run few instructions.
 pub split_runs_few : (labelled : Labelled) (needs : NeedsShape) (hosts : HostsShape) (plan : PlanShape) →
-    IsSplittable labelled hosts plan → IsSized labelled.program → (count steps : ℕ) (first last : Thread) →
+    IsSplittable labelled hosts plan → (count steps : ℕ) (first last : Thread) →
     IsAtMain (split_code labelled needs hosts plan) first →
     Runs (split_code labelled needs hosts plan) count steps first last → count ≤ PACE * (steps + 1)
-split_runs_few labelled needs hosts plan splittable sized count steps first last begun runs =
-    let paced = split_is_paced labelled needs hosts plan splittable sized in
+split_runs_few labelled needs hosts plan splittable count steps first last begun runs =
+    let paced = split_is_paced labelled needs hosts plan splittable in
     let number_of : EntryId → ℕ = λ there. there.0 in
     begun_few (split_code labelled needs hosts plan) paced.0 paced.1
     (λ is. let same = ap number_of is in omega arith) count steps first last begun runs

@@ -53,7 +53,7 @@ reads_paced host pc statement (reading ∷ readings) most =
     (spends_then (one_plain _ (most + length readings) tt) (reads_paced host pc statement readings most))
     (omega arith) (omega arith)
 
-few_reads : (first : ℕ) (expr : ExprTree) → length (readings_of first expr) ≤ expr_nodes expr
+pub few_reads : (first : ℕ) (expr : ExprTree) → length (readings_of first expr) ≤ expr_nodes expr
 few_reads first (number value) = omega arith
 few_reads first (local x) = omega arith
 few_reads first (scalar field) = omega arith
@@ -326,11 +326,11 @@ loop_paced walked around heading guard next others body here few body_paced =
 -- ---- blocks
 
 -- the parameters of a method that is called, and the hosts, are few
-record IsSmall (walked : Walked) : Type 0 where
-  hosts : HasFewHosts walked.planned
-  params : (method : MethodId) → length (params_of (method_at walked.labelled.program method)) ≤ 8
+pub record IsSmall (walked : Walked) : Type 0 where
+  pub hosts : HasFewHosts walked.planned
+  pub params : (method : MethodId) → length (params_of (method_at walked.labelled.program method)) ≤ 8
 
-abbrev IsFew : ℕ → Type 0
+abbrev pub IsFew : ℕ → Type 0
 IsFew nodes = nodes ≤ EXPRESSION_NODES
 
 -- a statement that is moved to, and what follows it

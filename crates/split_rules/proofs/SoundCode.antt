@@ -13,7 +13,7 @@ use Rattle.jif_tree.specs.Trees.{FieldTree, MethodTree}
 use Rattle.jif_tree.specs.LabelRules.{method_at}
 use Rattle.host_code.specs.declared.code.TheConstants.{MOST_ITEMS}
 use Rattle.host_code.specs.declared.instruction.Instr.{Instr}
-use Rattle.host_code.specs.Code.{CodeHostShape, CodeFieldShape, CodeVariableShape, halt, entry_at}
+use Rattle.host_code.specs.Code.{CodeShape, CodeHostShape, CodeFieldShape, CodeVariableShape, halt, entry_at}
 use Rattle.host_code.specs.Sound.{IsSoundCode, FieldFits, VariableFits, EntryFits, IsHost, IsOnRoot}
 use Rattle.need_labels.specs.Labelled.{Labelled}
 use Rattle.msg_cost.specs.Moves.{PlannedShape, home_of, called_home}
@@ -23,8 +23,9 @@ use Rattle.split_rules.specs.SplitCode.{entries_in, code_labels}
 use Rattle.split_rules.specs.SplitCode.{label_of_emission, placed_entries, code_variable}
 use Rattle.split_rules.specs.SplitCode.{code_of_emissions, part_on}
 use Rattle.split_rules.specs.Flow.{State, Goes}
-use Rattle.split_rules.specs.Splittable.{IsSplittable, HasFew}
-use Rattle.jif_tree.specs.Named.{IsSizedField, IsNamedVariable}
+use Rattle.split_rules.specs.Splittable.{IsSplittable}
+use Rattle.jif_tree.specs.Limits.{IsSizedField}
+use Rattle.jif_tree.specs.Named.{IsNameInText, IsNamedVariable}
 use Rattle.split_rules.specs.WalkStart.{scope_of, front_emissions, walk_start, IsEnd}
 use Rattle.split_rules.proofs.Places.{entries_append, entries_few, found_entry}
 use Rattle.split_rules.proofs.Standing.{placed_below}
@@ -39,6 +40,17 @@ use Rattle.split_rules.proofs.SoundParts.{given, code_given, long_part, entry_ma
 use Rattle.split_rules.proofs.SoundInstructions.{label_given, mapped, get_left, part_fits}
 
 -- ---- how much there is
+
+-- No list of a code is so long that its items have no number of 32 bits.
+pub record HasFew (code : CodeShape) (emissions : List Emission) : Type 0 where
+  pub few_emissions : length emissions ≤ MOST_ITEMS
+  pub host_names : All (λ host. length host.name ≤ MOST_ITEMS) code.hosts
+  pub labels : length code.labels ≤ MOST_ITEMS
+  pub fields : length code.fields ≤ MOST_ITEMS
+  pub field_names : All (λ field. length field.name ≤ MOST_ITEMS) code.fields
+  pub variables : length code.variables ≤ MOST_ITEMS
+  pub variable_names : All (λ variable. length variable.name ≤ MOST_ITEMS) code.variables
+  pub sites : length code.sites ≤ MOST_ITEMS
 
 has_scope : (labelled : Labelled) (hosts : HostsShape) (planned : PlannedShape) (emissions : List Emission) →
     length labelled.var_labels ≡ length labelled.program.vars →
@@ -89,7 +101,9 @@ field_fits labelled hosts planned all splittable short some =
     all_at (FieldFits code) code.fields (λ place field there.
     let so = made make fields place field
     (ap (λ list. slice_get list place) (sym (fields_numbered labels planned.plan 0 fields)) ∙ there) in
-    let sized = at_all IsSizedField fields place so.of splittable.named.fields so.there in
+    let sized = at_all IsSizedField fields place so.of splittable.within.sizes so.there in
+    let name = at_all (λ (one : FieldTree). IsNameInText one.name) fields place so.of splittable.named.fields so.there
+    in
     let brief = at_all {X = CodeFieldShape} (λ one. length one.name ≤ MOST_ITEMS) code.fields place field short there in
     let on = known_host (length hosts.hosts) planned.plan.fields place splittable.stands.fields some in
     let many = length-map hosts.hosts (λ (host : HostShape). let shown : CodeHostShape =
@@ -101,7 +115,7 @@ field_fits labelled hosts planned all splittable short some =
     (label_at (map label_of fields) place so.of.label
     (slice_get-map label_of fields place ∙ ap (option_map label_of) so.there)))) in
     subst (FieldFits code) (sym so.is) (record {
-      name = sized.name;
+      name = name.name;
       short = subst (λ (one : CodeFieldShape). length one.name ≤ MOST_ITEMS) so.is brief;
       label = label;
       size = (sized.some, sized.few, sized.plain);
@@ -233,7 +247,7 @@ sound_given labelled hosts planned main emissions last walk splittable few =
     (fields_numbered labels planned.plan 0 labelled.program.fields)
     ∙ sum_by-numbered (code_field labels planned.plan) (λ (field : FieldTree). field.size)
     (λ (field : CodeFieldShape). field.size) 0 labelled.program.fields (λ at field. refl) in
-    let elements = splittable.named.elements in
+    let elements = splittable.within.elements in
     let make : ℕ → List Instr = λ number. part_on labels all (record { 0 = number }) in
     record {
       some_host = omega arith;

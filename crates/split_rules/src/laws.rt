@@ -5,10 +5,9 @@ ghost use Rattle.need_labels.specs.Labelled.{Labelled};
 ghost use Rattle.need_labels.specs.Needs.{NeedsShape};
 ghost use Rattle.need_labels.specs.Plan.{PlanShape};
 ghost use Rattle.msg_cost.specs.Moves.{PlannedShape, planned_of};
-ghost use Rattle.jif_tree.specs.Sizes.{IsSized};
 ghost use Rattle.host_code.specs.Sound.{IsSoundCode};
 ghost use Rattle.split_rules.specs.SplitCode.{split_code};
-ghost use Rattle.split_rules.specs.Splittable.{IsSplittable, HasFew};
+ghost use Rattle.split_rules.specs.Splittable.{IsSplittable};
 ghost use Rattle.split_rules.specs.Typable.{IsTypable};
 ghost use Rattle.split_rules.specs.Allowed.{IsAllowed};
 ghost use Rattle.split_rules.specs.Held.{IsHeld};
@@ -40,10 +39,7 @@ ghost use Rattle.split_rules.specs.Worked.{field_id, var_id, site_id, host_id, t
 /// is due next.
 pub fn split_laws()
     ensures sound { (labelled : Labelled) (needs : NeedsShape) (hosts : HostsShape) (plan : PlanShape) →
-        IsSplittable labelled hosts plan →
-        HasFew (split_code labelled needs hosts plan)
-        (program_emissions hosts.principals labelled (planned_of labelled needs hosts plan)) →
-        IsSoundCode (split_code labelled needs hosts plan) }
+        IsSplittable labelled hosts plan → IsSoundCode (split_code labelled needs hosts plan) }
     ensures settled { (labelled : Labelled) (needs : NeedsShape) (hosts : HostsShape) (plan : PlanShape) →
         IsSplittable labelled hosts plan →
         let emissions = program_emissions hosts.principals labelled (planned_of labelled needs hosts plan) in
@@ -73,15 +69,15 @@ pub fn asking_laws()
         TellsNoMore (split_code labelled needs hosts plan) }
 {}
 
-/// Where a program is within the limits, its hosts run few instructions for each step: there are numbers at the places
-/// of the code by which it is paced, and so from where the program begins a thread runs at most 512 for each step that
-/// it makes, and 512 more.
+/// The hosts of a split program run few instructions for each step: there are numbers at the places of the code by
+/// which it is paced, and so from where the program begins a thread runs at most 512 for each step that it makes, and
+/// 512 more.
 pub fn pace_laws()
     ensures paced { (labelled : Labelled) (needs : NeedsShape) (hosts : HostsShape) (plan : PlanShape) →
-        IsSplittable labelled hosts plan → IsSized labelled.program →
+        IsSplittable labelled hosts plan →
         (left : Allowance) × IsPaced (split_code labelled needs hosts plan) left }
     ensures runs_few { (labelled : Labelled) (needs : NeedsShape) (hosts : HostsShape) (plan : PlanShape) →
-        IsSplittable labelled hosts plan → IsSized labelled.program → (count steps : ℕ) (first last : Thread) →
+        IsSplittable labelled hosts plan → (count steps : ℕ) (first last : Thread) →
         IsAtMain (split_code labelled needs hosts plan) first →
         Runs (split_code labelled needs hosts plan) count steps first last → count ≤ PACE * (steps + 1) }
 {}
@@ -119,6 +115,10 @@ pub fn worked_laws()
         ∷ op.Branch (node.Temp 0 ∷ node.Number (pos 4) ∷ node.Binary operator.Less ∷ []) 0
         ∷ op.Push (entry_id 2)
         ∷ op.Push (entry_id 3) ∷ op.Go (entry_id 4) (host_id 1)
+        ∷ op.Read (field_id 0) first_element
+        ∷ op.Put (field_id 0) first_element (node.Temp 0 ∷ node.Number (pos 1) ∷ node.Binary operator.Add ∷ [])
+        ∷ op.Back ∷ op.Back ∷ [] }
+    ensures loop_entries { entry_hosts looped ≡ 0 ∷ 0 ∷ 0 ∷ 0 ∷ 1 ∷ [] }
     // Before its guard a branch pushes the entry behind it, and both blocks end by giving the token back.
     ensures branches { operations_on branched 0 ≡ op.Push (entry_id 2)
         ∷ op.Read (field_id 0) first_element
@@ -148,8 +148,4 @@ pub fn worked_laws()
         ∷ op.Back ∷ [] }
     // Labels stand as they are first needed, each once: those of fields, of variables, and of entries.
     ensures labels { label_words labelled_apart (trusted_by 2 ∷ trusted_by 3 ∷ []) ≡ 1 ∷ 2 ∷ 3 ∷ 4 ∷ [] }
-        ∷ op.Read (field_id 0) first_element
-        ∷ op.Put (field_id 0) first_element (node.Temp 0 ∷ node.Number (pos 1) ∷ node.Binary operator.Add ∷ [])
-        ∷ op.Back ∷ op.Back ∷ [] }
-    ensures loop_entries { entry_hosts looped ≡ 0 ∷ 0 ∷ 0 ∷ 0 ∷ 1 ∷ [] }
 {}

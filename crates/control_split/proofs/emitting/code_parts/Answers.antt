@@ -1,4 +1,4 @@
-use Rattle.std.proofs.Common.{◌≡◌, ◌∙◌, ◌≤◌, ◌+◌, List, length, map, refl, ap, subst, arith}
+use Rattle.std.proofs.Common.{◌≡◌, ◌∙◌, ◌≤◌, List, length, map, refl, ap, subst, arith}
 use Rattle.std.specs.List.{zip}
 use Rattle.std.proofs.lemmas.List.{length-map}
 use Rattle.host_decl.specs.Hosts.{HostShape}
@@ -12,15 +12,15 @@ use Rattle.control_split.specs.Tables.{naming, code_hosts}
 use Rattle.control_split.specs.Trace.{TraceShape, traced}
 use Rattle.control_split.specs.Views.{labelled_in, planned_in}
 use Rattle.control_split.proofs.SizedMethods.{sized_methods}
-use Rattle.control_split.proofs.WholeCode.{field_trace, variable_trace, code_is, fields_length, items_length}
+use Rattle.control_split.proofs.WholeCode.{field_trace, variable_trace, code_is}
 use Rattle.control_split.proofs.emitting.code_parts.Goals as goal
 
 pub program-requires-clause-sized : goal.program-requires-clause-sized
 program-requires-clause-sized c =
-    sized_methods (labelled_in c.args.split.now).program.methods c.requires.sized.nodes
+    sized_methods (labelled_in c.args.split.now).program.methods c.requires.splittable.within.nodes
 
-pub returns-clause-code : goal.returns-clause-code
-returns-clause-code c =
+pub returns : goal.returns
+returns c =
     let split = c.args.split.now in
     let labelled = labelled_in split in
     let program = labelled.program in
@@ -48,7 +48,7 @@ returns-clause-code c =
     ∙ ap (λ (trace : TraceShape). map (code_variable program trace.labels) (zip program.vars labelled.var_labels))
     second in
     let rows = c.hosts-rows.ensures.hosts in
-    let host_rows = c.in_ok-hosts.ensures.rows ∙ ap code_hosts rows in
+    let host_rows = c.in_ok-hosts.ensures ∙ ap code_hosts rows in
     let entries = c.in_ok-entries.ensures
     ∙ ap (λ (there : AssemblyShape). settled_entries there 0 there.entries) assembly in
     let parts = c.in_ok-parts.ensures
@@ -64,27 +64,5 @@ returns-clause-code c =
       c.requires.splittable.are_hosts.names.few,
       length-map hosts.hosts (λ (host : HostShape). host.name),
     ) in
-    rw (host_rows, labels, fields, vars, entries, c.in_ok-sites.ensures.sites, parts, root, c.in_ok-main.ensures)
+    rw (host_rows, labels, fields, vars, entries, c.in_ok-sites.ensures, parts, root, c.in_ok-main.ensures)
     (code_is labelled hosts planned emissions few settled)
-
-pub returns-clause-few : goal.returns-clause-few
-returns-clause-few c =
-    let split = c.args.split.now in
-    let labelled = labelled_in split in
-    let program = labelled.program in
-    let planned = planned_in split in
-    let emissions = program_emissions split.hosts.now.principals labelled planned in
-    let items : length c.program.new.trace.items ≡ length c.code_vars.new.trace.items + length emissions =
-    ap (λ (trace : TraceShape). length trace.items) c.in_ok-program.ensures
-    ∙ items_length c.code_vars.new.trace emissions in
-    let fields = fields_length c.code_fields.new.trace.labels split.plan.now 0 program.fields in
-    record {
-      few_emissions = omega (arith, items, c.into_parts-labels.ensures.few.1);
-      host_names = c.in_ok-hosts.ensures.short;
-      labels = rw c.into_parts-labels.ensures.labels c.into_parts-labels.ensures.few.0;
-      fields = omega (arith, ap length c.in_ok-fields.ensures.rows, fields, c.requires.sized.within.fields);
-      field_names = c.in_ok-fields.ensures.short;
-      variables = c.in_ok-vars.ensures.few;
-      variable_names = c.in_ok-vars.ensures.short;
-      sites = c.in_ok-sites.ensures.few;
-    }

@@ -1,7 +1,7 @@
-use Rattle.std.proofs.Common.{◌≡◌, All, map, take}
+use Rattle.std.proofs.Common.{◌≡◌, map, take}
 use Rattle.std.specs.List.{zip}
 use Rattle.split_rules.specs.SplitCode.{code_variable}
-use Rattle.control_split.specs.Tables.{naming, IsShort}
+use Rattle.control_split.specs.Tables.{naming}
 use Rattle.control_split.specs.Views.{labelled_in}
 use Rattle.control_split.proofs.tables.code_vars.Given as goal
 
@@ -12,4 +12,3 @@ invariant-loop-number l =
     (l.trace ≡ naming l.fn.trace labels)
     × (l.rows.items ≡ map (code_variable (labelled_in l.split).program l.trace.labels)
     (zip (take l.number (labelled_in l.split).program.vars) labels))
-    × All (λ variable. IsShort variable.name) l.rows.items
