@@ -1,12 +1,11 @@
 -- Altered runs along events: where each event goes on with an altered run, all of them do.
-use Rattle.std.proofs.Common.{ap, ◌≡◌, ◌∙◌, ℕ, zero, suc, ◌+◌, ◌<◌, ◌≤◌, List, [], ◌∷◌, ◌++◌, length, get_or, map, take}
-use Rattle.std.proofs.Common.{refl, sym, subst, arith, Some, None, IsSomeAnd, slice_get}
+use Rattle.std.proofs.Common.{ap, ◌≡◌, ◌∙◌, ℕ, zero, suc, ◌+◌, ◌<◌, ◌≤◌, List, [], ◌∷◌, ◌++◌, length, get_or, take}
+use Rattle.std.proofs.Common.{refl, sym, subst, arith, IsSomeAnd, slice_get}
 use Rattle.std.specs.Prelude.{slice_index}
 use Rattle.std.specs.List.Sorted.{IsNonDecreasing}
-use Rattle.std.proofs.lemmas.List.{get_or_default}
 use Rattle.jif_tree.specs.declared.program.Program.{Program}
 use Rattle.jif_tree.specs.SourceRun.{Configuration}
-use Rattle.jif_tree.specs.Altered.{Exposure, Alters, AreAltered}
+use Rattle.jif_tree.specs.Altered.{Exposure, AreAltered}
 
 -- ---- altered runs in parts
 

@@ -1,8 +1,7 @@
 -- Where no host misbehaves, an altered run is the plain run.
-use Rattle.std.proofs.Common.{◌≡◌, ◌⊎◌, ◌∙◌, ap, refl, sym, subst, inl, inr, arith, ℕ, zero, suc, ◌<◌, ◌≤◌, ℤ, List, []}
-use Rattle.std.proofs.Common.{◌∷◌, length, map, Option, Some, None, IsSomeAnd, slice_get, Any, pos}
+use Rattle.std.proofs.Common.{◌≡◌, ◌∙◌, ap, refl, sym, inl, inr, arith, ℕ, zero, suc, ℤ, List, []}
+use Rattle.std.proofs.Common.{◌∷◌, length, map, Option, Some, None, IsSomeAnd, slice_get, Any}
 use Rattle.std.specs.List.{AllZip}
-use Rattle.label_lattice.specs.declared.label.Label.{Label}
 use Rattle.js_base.specs.declared.ids.FieldId.{FieldId}
 use Rattle.js_base.specs.declared.ids.VarId.{VarId}
 use Rattle.jif_tree.specs.declared.program.Program.{Program}
@@ -10,9 +9,9 @@ use Rattle.jif_tree.specs.declared.program.Expr.{Expr}
 use Rattle.jif_tree.specs.declared.program.Expr as expr
 use Rattle.jif_tree.specs.Operators.{binary_value, negation, inversion}
 use Rattle.jif_tree.specs.Store.{element_at, row_of}
-use Rattle.jif_tree.specs.SourceRun.{Item, run, keep, Configuration, variable, value_of, calls_after, operands, executed}
-use Rattle.jif_tree.specs.SourceRun.{after_item, step, after_steps, configuration_at_start, prefix}
-use Rattle.jif_tree.specs.Altered.{Exposure, IsAffected, FieldIsAffected, VariableIsAffected, StatementIsAffected}
+use Rattle.jif_tree.specs.SourceRun.{Item, run, keep, Configuration, value_of, calls_after, operands, executed}
+use Rattle.jif_tree.specs.SourceRun.{after_item, step, after_steps, prefix}
+use Rattle.jif_tree.specs.Altered.{Exposure, FieldIsAffected, VariableIsAffected}
 use Rattle.jif_tree.specs.Altered.{MayRead, MayGive, MayStep, MayBeLeft, Alters, steps, changes_field}
 use Rattle.jif_tree.specs.Altered.{changes_variable, leaves_out, AreAltered, IsAlteredRun}
 

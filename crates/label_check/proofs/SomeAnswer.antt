@@ -1,5 +1,5 @@
 -- A program is accepted, or is refused for a cause.
-use Rattle.std.proofs.Common.{◌≡◌, ◌≢◌, ◌⊎◌, ℕ, zero, suc, ◌<◌, List, [], ◌∷◌, ◌++◌, All, Any, arith, inl, inr, refl, ap}
+use Rattle.std.proofs.Common.{◌≢◌, ◌⊎◌, zero, suc, List, [], ◌∷◌, All, Any, arith, inl, inr, refl, ap}
 use Rattle.js_base.specs.declared.ids.StmtId.{StmtId}
 use Rattle.principals.specs.ActsFor.{Declared, ActsFor}
 use Rattle.principals.proofs.Decisions.{Decided, all_below, all_of, any_of, implied, either, acts_for}
@@ -47,21 +47,27 @@ met_or_fails principals [] = inl (λ k d lt. absurd (omega arith))
 met_or_fails principals (one ∷ others) = elim (holds principals one.constraint) [
   | inl here ↦ elim (met_or_fails principals others) [
     | inl behind ↦ inl (all_more principals one others here behind)
-    | inr (failed, first) ↦ inr (failed, record {
-      before = one ∷ first.before;
-      behind = first.behind;
-      place = ap (λ (list : List Obligation). one ∷ list) first.place;
-      met = all_more principals one first.before here first.met;
-      fails = first.fails;
-    })
+    | inr (failed, first) ↦ inr (
+      failed,
+      record {
+        before = one ∷ first.before;
+        behind = first.behind;
+        place = ap (λ (list : List Obligation). one ∷ list) first.place;
+        met = all_more principals one first.before here first.met;
+        fails = first.fails;
+      },
+    )
   ]
-  | inr not ↦ inr (one, record {
-    before = [];
-    behind = others;
-    place = refl;
-    met = λ k d lt. absurd (omega arith);
-    fails = not;
-  })
+  | inr not ↦ inr (
+    one,
+    record {
+      before = [];
+      behind = others;
+      place = refl;
+      met = λ k d lt. absurd (omega arith);
+      fails = not;
+    },
+  )
 ]
 
 -- ---- the refusal that tells it

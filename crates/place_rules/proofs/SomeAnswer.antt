@@ -1,6 +1,6 @@
 -- A program has words, or is refused for a cause.
 use Rattle.std.proofs.Common.{◌≡◌, ◌≢◌, ◌∙◌, ◌⊎◌, ◌↔◌, ℕ, zero, suc, ◌+◌, ◌*◌, ◌/◌, ◌<◌, ◌≤◌, ◌^◌, List, [], ◌∷◌, Option, Some, None}
-use Rattle.std.proofs.Common.{length, position, refl, sym, ap, subst, arith, inl, inr}
+use Rattle.std.proofs.Common.{length, position, refl, sym, ap, arith, inl, inr}
 use Rattle.std.specs.Int.{bit_at}
 use Rattle.std.proofs.Math.Nat.{two-pow-succ}
 use Rattle.std.proofs.Math.Pow.{pow_mono}

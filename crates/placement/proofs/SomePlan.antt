@@ -1,5 +1,5 @@
 -- A program whose parts have hosts has a plan.
-use Rattle.std.proofs.Common.{◌≡◌, ◌≢◌, ℕ, zero, suc, ◌+◌, ◌<◌, ◌≤◌, ◌^◌, List, [], ◌∷◌, length, All, arith, inl, inr, refl, subst}
+use Rattle.std.proofs.Common.{◌≡◌, ℕ, zero, suc, ◌+◌, ◌<◌, List, [], ◌∷◌, length, All, arith, inl, inr, refl, subst}
 use Rattle.std.proofs.Common.{w16}
 use Rattle.std.specs.List.{AllZip}
 use Rattle.std.specs.Int.{trailing_zeros}

@@ -1,5 +1,5 @@
 -- A run has one length at most, and what it answers is there and is determined.
-use Rattle.std.proofs.Common.{◌≡◌, ◌⊎◌, ◌∙◌, ℕ, zero, suc, ◌<◌, ◌≤◌, ℤ, List, [], ◌∷◌, inl, inr, arith, refl, ap, sym, subst}
+use Rattle.std.proofs.Common.{◌≡◌, ◌⊎◌, ◌∙◌, ℕ, zero, suc, ◌≤◌, ℤ, List, [], ◌∷◌, inl, inr, arith, refl, ap, sym, subst}
 use Rattle.std.proofs.lemmas.Bool.{cases_order}
 use Rattle.jif_tree.specs.declared.program.Program.{Program}
 use Rattle.jif_tree.specs.SourceRun.{Item, Configuration, after_item, step, prefix, IsAtEnd, HasLength}
@@ -72,10 +72,14 @@ ends_or_goes_on program start zero = elim (at_end_or_not (prefix program start 0
 ends_or_goes_on program start (suc steps) = elim (ends_or_goes_on program start steps) [
   | inl (n, few, long) ↦ inl (n, omega arith, long)
   | inr goes_on ↦ elim (at_end_or_not (prefix program start (suc steps)).pending) [
-    | inl ends ↦ inl (suc steps, omega arith, record {
-      ends = ends;
-      not_before = λ m less. goes_on m (omega arith);
-    })
+    | inl ends ↦ inl (
+      suc steps,
+      omega arith,
+      record {
+        ends = ends;
+        not_before = λ m less. goes_on m (omega arith);
+      },
+    )
     | inr not ↦ inr (λ m few ends. elim (cases_order m (suc steps)) [
       | inl same ↦ not (subst (λ k. IsAtEnd (prefix program start k)) same ends)
       | inr (inl less) ↦ goes_on m (omega arith) ends
