@@ -36,6 +36,7 @@ pub mod PrintedBackGlobals
 pub mod PrintedBackProgram
 pub mod PrintedNamesOf
 pub mod NamedPrograms
+pub mod SmallNumbers
 pub mod PrintedLimits
 pub mod PrintedReadsBack
 pub mod PrintedKnown

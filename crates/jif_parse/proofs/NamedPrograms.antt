@@ -1,9 +1,9 @@
--- A program that was read and resolved has the names of its tokens and the sizes of its draft.
+-- A program that was read and resolved has the names of its tokens.
 use Rattle.std.proofs.Common.{◌≡◌, ℕ, suc, ◌+◌, ◌<◌, ◌≤◌, codes, List, [], ◌∷◌, ◌++◌, map, length, Option, Some, None}
 use Rattle.std.proofs.Common.{inl, inr, refl, ap, sym, ◌∙◌, subst, arith}
 use Rattle.std.specs.Prelude.{◌⊎◌, All, sum_by}
 use Rattle.std.specs.List.{AllZip, AllByRecursion}
-use Rattle.std.proofs.lemmas.List.Elements.{All-nil, All-cons, All-append}
+use Rattle.std.proofs.lemmas.List.Elements.{All-nil, All-cons, All-append, All-from_recursion}
 use Rattle.std.proofs.lemmas.List.Sums.{sum_by-cons}
 use Rattle.js_base.specs.Name.{IsName}
 use Rattle.js_base.specs.declared.ids.MethodId.{MethodId}
@@ -11,7 +11,7 @@ use Rattle.principals.specs.ActsFor.{Declared}
 use Rattle.jif_lex.specs.declared.token.Token.{Token}
 use Rattle.jif_lex.specs.TokenLists.{AreTokens}
 use Rattle.jif_tree.specs.Trees.{FieldTree, VarTree, MethodTree, ProgramTree}
-use Rattle.jif_tree.specs.Named.{IsSizedField, IsNamedVariable, AreNamed}
+use Rattle.jif_tree.specs.Named.{IsNameInText, IsNamedVariable, AreNamed}
 use Rattle.jif_grammar.specs.DraftShapes.{LabelShape, BlockShape, end_shape, declaration_shape, assignment_shape}
 use Rattle.jif_grammar.specs.DraftShapes.{element_assignment_shape, branch_shape, loop_shape, call_shape}
 use Rattle.jif_grammar.specs.DraftShapes.{return_shape, FieldShape, ParamShape, MethodShape, DraftShape}
@@ -21,56 +21,33 @@ use Rattle.jif_resolve.specs.AddedVariables.{param_variable, local_variable}
 use Rattle.jif_resolve.specs.Counts.{LocalShape, locals_in}
 use Rattle.jif_resolve.specs.Meanings.{Global, globals_of}
 use Rattle.jif_resolve.specs.Resolved.{IsFieldFor, IsVariableFor, AreMethodsFor}
-use Rattle.jif_resolve.specs.Sizes as sizes
-use Rattle.jif_resolve.specs.Sizes.{elements_in, IsLimited}
 use Rattle.jif_resolve.specs.Variables.{VariableShape, result_variables, method_variables, variables_from}
 use Rattle.jif_resolve.specs.Verdicts.{IsProgramOf}
+use Rattle.jif_resolve.proofs.EachMethod.{each_method, method_count}
 use Rattle.jif_parse.proofs.PrintedAlike.{IsNamedBlockShape}
 use Rattle.jif_parse.proofs.PrintedBackMethods.{AreNamedParams, IsNamedMethod}
 use Rattle.jif_parse.proofs.PrintedNamesOf.{StartsSmall, phrases_found}
 
 -- ---- fields
 
-sized_field : (principals : Declared) (field : FieldShape) (tree : FieldTree) → IsFieldFor principals field tree →
-    sizes.IsSizedField field → IsName field.name.text → IsSizedField tree
-sized_field principals field tree is sized name = record {
-  name = subst IsName (sym is.name) name;
-  some = omega (arith, is.size, sized.least);
-  few = omega (arith, is.size, sized.most);
-  plain = λ plain. is.size ∙ sized.plain (sym is.array ∙ plain);
-}
+abbrev IsNamedField : FieldTree → Type 0
+IsNamedField field = IsNameInText field.name
 
-sized_fields : (principals : Declared) (fields : List FieldShape) (trees : List FieldTree) →
-    AllZip (IsFieldFor principals) fields trees → All sizes.IsSizedField fields → AllByRecursion StartsSmall fields →
-    All IsSizedField trees
-sized_fields principals [] [] are sized named = All-nil IsSizedField
-sized_fields principals [] (tree ∷ trees) are sized named = absurd are
-sized_fields principals (field ∷ fields) [] are sized named = absurd are
-sized_fields principals (field ∷ fields) (tree ∷ trees) are sized named =
-    All-cons IsSizedField tree trees
-    (sized_field principals field tree are.0 (sized 0 field (omega arith)) named.0.0)
-    (sized_fields principals fields trees are.1 (λ k d within. sized (suc k) d (omega arith)) named.1)
-
-same_elements : (principals : Declared) (fields : List FieldShape) (trees : List FieldTree) →
-    AllZip (IsFieldFor principals) fields trees → sum_by (λ (tree : FieldTree). tree.size) trees ≡ elements_in fields
-same_elements principals [] [] are = refl
-same_elements principals [] (tree ∷ trees) are = absurd are
-same_elements principals (field ∷ fields) [] are = absurd are
-same_elements principals (field ∷ fields) (tree ∷ trees) are =
-    omega (
-      arith,
-      sum_by-cons (λ (one : FieldTree). one.size) tree trees,
-      sum_by-cons (λ (one : FieldShape). one.size) field fields,
-      are.0.size,
-      same_elements principals fields trees are.1,
-    )
+named_fields : (principals : Declared) (fields : List FieldShape) (trees : List FieldTree) →
+    AllZip (IsFieldFor principals) fields trees → AllByRecursion StartsSmall fields → All IsNamedField trees
+named_fields principals [] [] are named = All-nil IsNamedField
+named_fields principals [] (tree ∷ trees) are named = absurd are
+named_fields principals (field ∷ fields) [] are named = absurd are
+named_fields principals (field ∷ fields) (tree ∷ trees) are named =
+    All-cons IsNamedField tree trees (subst IsNameInText (sym are.0.name) named.0.0)
+    (named_fields principals fields trees are.1 named.1)
 
 -- ---- variables
 
 -- it has a name or is a result, and belongs to one of so many methods
 abbrev IsNamedAmong : ℕ → VariableShape → Type 0
 IsNamedAmong count variable =
-    (IsName variable.name ⊎ (variable.name ≡ codes "return")) × (variable.method.0 < count)
+    (IsNameInText variable.name ⊎ (variable.name ≡ codes "return")) × (variable.method.0 < count)
 
 params_among : (count : ℕ) (own : MethodId) → own.0 < count → (params : List ParamShape) → AreNamedParams params →
     All (IsNamedAmong count) (map (param_variable own) params)
@@ -80,7 +57,7 @@ params_among count own among (param ∷ params) named =
     (params_among count own among params named.1)
 
 abbrev HasName : LocalShape → Type 0
-HasName local = IsName local.name.text
+HasName local = IsNameInText local.name.text
 
 locals_named : (block : BlockShape) → IsNamedBlockShape block → All HasName (locals_in block)
 locals_named end_shape named = All-nil HasName
@@ -140,53 +117,35 @@ named_variables principals program (variable ∷ variables) [] are named = absur
 named_variables principals program (variable ∷ variables) (tree ∷ trees) are named =
     let own = named 0 variable (omega arith) in
     All-cons (IsNamedVariable program) tree trees (record {
-      name = subst (λ name. IsName name ⊎ (name ≡ codes "return")) (sym are.0.name) own.0;
+      name = subst (λ name. IsNameInText name ⊎ (name ≡ codes "return")) (sym are.0.name) own.0;
       method = subst (λ method. method.0 < length program.methods) (sym are.0.method) own.1;
     })
     (named_variables principals program variables trees are.1 (λ k d within. named (suc k) d (omega arith)))
-
--- ---- methods
-
-as_many_methods : (principals : Declared) (globals : List Global) (before methods : List MethodShape)
-    (trees : List MethodTree) → AreMethodsFor principals globals before methods trees → length trees ≡ length methods
-as_many_methods principals globals before [] trees are = ap length are
-as_many_methods principals globals before (method ∷ methods) trees are =
-    ap length are.2 ∙ ap suc (as_many_methods principals globals (before ++ method ∷ []) methods are.1 are.4)
-
-abbrev IsNamedTree : MethodTree → Type 0
-IsNamedTree method = IsName method.name
-
-named_methods : (principals : Declared) (globals : List Global) (before methods : List MethodShape)
-    (trees : List MethodTree) → AreMethodsFor principals globals before methods trees →
-    AllByRecursion IsNamedMethod methods → All IsNamedTree trees
-named_methods principals globals before [] trees are named = subst (All IsNamedTree) (sym are) (All-nil IsNamedTree)
-named_methods principals globals before (method ∷ methods) trees are named =
-    subst (All IsNamedTree) (sym are.2)
-    (All-cons IsNamedTree are.0 are.1 (subst IsName (sym are.3.name) named.0.0)
-    (named_methods principals globals (before ++ method ∷ []) methods are.1 are.4 named.1))
 
 -- ---- programs
 
 abbrev IsNamedDraft : DraftShape → Type 0
 IsNamedDraft draft = AllByRecursion StartsSmall draft.fields × AllByRecursion IsNamedMethod draft.methods
 
-draft_named : (list : List Token) (draft : DraftShape) → AreTokens list → grammar.IsProgramOf list draft →
+pub draft_named : (list : List Token) (draft : DraftShape) → AreTokens list → grammar.IsProgramOf list draft →
     IsNamedDraft draft
 draft_named list draft fits is_program =
     subst IsNamedDraft (sym is_program.draft_is)
     (phrases_found list is_program.program fits is_program.text.spells (line_at list))
 
 pub program_named : (list : List Token) (principals : Declared) (draft : DraftShape) (tree : ProgramTree) →
-    IsLimited draft → AreTokens list → grammar.IsProgramOf list draft → IsProgramOf principals draft tree →
+    AreTokens list → grammar.IsProgramOf list draft → IsProgramOf principals draft tree →
     AreNamed tree
-program_named list principals draft tree limited fits is_program resolved =
+program_named list principals draft tree fits is_program resolved =
     let named = draft_named list draft fits is_program in
     let is = resolved.is_tree in
-    let many = as_many_methods principals (globals_of draft) [] draft.methods tree.methods is.methods in
+    let globals = globals_of draft in
+    let many = method_count principals globals [] draft.methods tree.methods is.methods in
     record {
-      fields = sized_fields principals draft.fields tree.fields is.fields limited.sizes named.0;
-      elements = omega (arith, same_elements principals draft.fields tree.fields is.fields, limited.elements);
+      fields = named_fields principals draft.fields tree.fields is.fields named.0;
       variables = named_variables principals tree (variables_from 0 draft.methods) tree.vars is.vars
           (variables_among (length tree.methods) 0 draft.methods (omega arith) named.1);
-      methods = named_methods principals (globals_of draft) [] draft.methods tree.methods is.methods named.1;
+      methods = each_method IsNamedMethod _ principals globals
+          (λ head method one made own. subst IsNameInText (sym made.name) own.0)
+          [] draft.methods tree.methods is.methods (All-from_recursion IsNamedMethod draft.methods named.1);
     }

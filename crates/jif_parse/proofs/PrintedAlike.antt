@@ -8,6 +8,7 @@ use Rattle.js_base.specs.Name.{IsName}
 use Rattle.js_base.specs.declared.ids.FieldId.{FieldId}
 use Rattle.js_base.specs.declared.ids.VarId.{VarId}
 use Rattle.principals.specs.ActsFor.{IsDeclared}
+use Rattle.jif_tree.specs.Named.{IsNameInText}
 use Rattle.jif_tree.specs.Trees.{ExprTree, Heading, BlockTree, set_local, set_field}
 use Rattle.jif_tree.specs.Trees.{ProgramTree}
 use Rattle.jif_grammar.specs.Phrases as phrase
@@ -24,7 +25,7 @@ use Rattle.jif_resolve.specs.Places.{after_statement, after_call, after_declarat
 use Rattle.jif_resolve.specs.Faults.{block_faults, ends_in_return}
 use Rattle.jif_resolve.specs.Resolved.{assignment_tree, IsExprFor}
 use Rattle.jif_resolve.specs.Resolved.{heading_of, IsBlockFor}
-use Rattle.jif_resolve.specs.Sizes.{HasNoReturn, ReturnsLast}
+use Rattle.jif_resolve.specs.Returns.{HasNoReturn, ReturnsLast}
 use Rattle.jif_resolve.specs.declared.meaning.Meaning.{Meaning}
 use Rattle.jif_resolve.specs.declared.meaning.Meaning.TheVariants as sense
 use Rattle.jif_parse.specs.PrintedNames.{Naming}
@@ -46,11 +47,11 @@ abbrev pub IsNamedInto : Option NameShape → Type 0
 IsNamedInto None = ⊤
 IsNamedInto (Some name) = IsName name.text
 
--- its names are names, and its numbers small
+-- its names are names, those that it declares not too long, and its numbers small
 abbrev pub IsNamedBlockShape : BlockShape → Type 0
 IsNamedBlockShape end_shape = ⊤
 IsNamedBlockShape (declaration_shape start label name value rest) =
-    IsName name.text × IsNamedShape value × IsNamedBlockShape rest
+    IsNameInText name.text × IsNamedShape value × IsNamedBlockShape rest
 IsNamedBlockShape (assignment_shape start name value rest) =
     IsName name.text × IsNamedShape value × IsNamedBlockShape rest
 IsNamedBlockShape (element_assignment_shape start name index value rest) =

@@ -19,7 +19,7 @@ use Rattle.jif_resolve.specs.Faults.{array_faults, called_faults, into_faults, i
 use Rattle.jif_resolve.specs.Faults.{call_faults, expr_faults, block_faults, ends_in_return}
 use Rattle.jif_resolve.specs.Resolved.{IsExprFor}
 use Rattle.jif_resolve.specs.Resolved.{heading_of, IsBlockFor}
-use Rattle.jif_resolve.specs.Sizes.{ReturnsLast}
+use Rattle.jif_resolve.specs.Returns.{ReturnsLast}
 use Rattle.jif_resolve.specs.declared.fault.FaultKind.TheVariants.{WrongType}
 use Rattle.jif_parse.specs.PrintedNames.{Naming, field_name}
 use Rattle.jif_parse.specs.PrintedExprs.{expr_phrase}
@@ -116,7 +116,7 @@ block_back g p n (declaration_shape start written name value rest) tree stands =
     }) in
     let Q : BlockTree → Type 0 = λ t. BlockMade g p n (declaration_shape start written name value rest) t in
     subst Q (sym stands.is.2)
-    (declared_back g p n start written name value rest x r stands.reach there stands.named.0 faults.1 stands.is.3 e after)
+    (declared_back g p n start written name value rest x r stands.reach there stands.named.0.name faults.1 stands.is.3 e after)
 block_back g p n (assignment_shape start name value rest) tree stands =
     let naming : Naming = naming_of g in
     let x = stands.is.0 in

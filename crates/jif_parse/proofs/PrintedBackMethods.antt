@@ -14,6 +14,7 @@ use Rattle.principals.specs.ActsFor.{Declared, IsDeclared}
 use Rattle.label_lattice.specs.declared.label.Label.{Label}
 use Rattle.label_lattice.specs.Written.{AreKnown}
 use Rattle.label_lattice.specs.Printed.{printed_parts}
+use Rattle.jif_tree.specs.Named.{IsNameInText}
 use Rattle.jif_tree.specs.Trees.{MethodTree, ProgramTree}
 use Rattle.jif_grammar.specs.Phrases as phrase
 use Rattle.jif_grammar.specs.Phrases.{LabelPhrase, ExprPhrase, BlockPhrase, ParamPhrase, MethodPhrase, ProgramPhrase}
@@ -31,7 +32,7 @@ use Rattle.jif_resolve.specs.Faults.{fault_where, principals_faults, label_fault
 use Rattle.jif_resolve.specs.Faults.{params_faults, block_faults, ends_in_return, method_faults, setting_of}
 use Rattle.jif_resolve.specs.Variables.{VariableShape, result_variables, method_variables, param_ids, result_id}
 use Rattle.jif_resolve.specs.Resolved.{IsBlockFor, IsMethodFor}
-use Rattle.jif_resolve.specs.Sizes.{ReturnsLast}
+use Rattle.jif_resolve.specs.Returns.{ReturnsLast}
 use Rattle.jif_resolve.specs.declared.fault.FaultKind.TheVariants.{WrongType}
 use Rattle.jif_parse.specs.PrintedNames.{Naming, name_of_variable, label_of_variable, name_or_none, variable_name}
 use Rattle.jif_parse.specs.PrintedNames.{variable_label, principal_name}
@@ -172,7 +173,7 @@ same_ids first (x ∷ xs) [] same = absurd same
 same_ids first (x ∷ xs) (y ∷ ys) same = ap (λ ids. record { 0 = first } ∷ ids) (same_ids (suc first) xs ys same.1)
 
 abbrev pub AreNamedParams : List ParamShape → Type 0
-AreNamedParams params = AllByRecursion (λ param. IsName param.name.text) params
+AreNamedParams params = AllByRecursion (λ param. IsNameInText param.name.text) params
 
 pub record ParamsBack (g : Given) (p : Place) (own : MethodId) (first : ℕ) (params : List ParamShape) : Type 0 where
   pub labelled : AllByRecursion (HasLabel (naming_of g)) (param_ids first params)
@@ -248,7 +249,7 @@ params_back g p own first (param ∷ params) reach known named are none =
       named = (
         (
           subst (λ l. IsNamedLabel (label_or_none principals l)) (sym labelled) (label_named principals label g.declared),
-          subst IsName (sym named_so) named.0,
+          subst IsName (sym named_so) named.0.name,
         ),
         rest.named,
       );
@@ -294,7 +295,7 @@ authority_back naming names ids are at =
 
 abbrev pub IsNamedMethod : MethodShape → Type 0
 IsNamedMethod method =
-    IsName method.name.text × AreNamedParams method.params × AreNamedShapes method.authority
+    IsNameInText method.name.text × AreNamedParams method.params × AreNamedShapes method.authority
     × IsNamedBlockShape method.body
 
 -- The fresh shape is that of the same method but for its lines, whose head stands at the same place.
@@ -428,7 +429,7 @@ method_back laws principals declared globals others same_globals program globals
       };
       named = subst (λ ph. IsNamedItem (phrase.method ph)) phrase_is (
         rb.named,
-        subst IsName (sym is.name) named.0,
+        subst IsName (sym is.name) named.0.name,
         label_named principals tree.begin declared,
         pb.named,
         authority_named naming method.authority tree.authority named.2 is.authority,

@@ -24,7 +24,7 @@ use Rattle.jif_resolve.specs.Faults.{setting_of, method_faults, methods_faults, 
 use Rattle.jif_resolve.specs.Variables.{VariableShape, result_variables, method_variables, variables_from}
 use Rattle.jif_resolve.specs.Resolved.{IsFieldFor, IsVariableFor, IsMethodFor, AreMethodsFor}
 use Rattle.jif_resolve.specs.Verdicts.{IsProgramOf}
-use Rattle.jif_resolve.specs.Sizes.{ReturnsLast}
+use Rattle.jif_resolve.specs.Returns.{ReturnsLast}
 use Rattle.jif_parse.specs.PrintedNames.{Naming}
 use Rattle.jif_parse.specs.PrintedProgram.{seen_after_method}
 use Rattle.jif_parse.specs.PrintedBack.{method_without_lines, without_lines}

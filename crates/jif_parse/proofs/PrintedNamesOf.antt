@@ -9,8 +9,8 @@ use Rattle.jif_lex.specs.declared.token.Token.{Token}
 use Rattle.jif_lex.specs.declared.token.TokenKind.{TokenKind}
 use Rattle.jif_lex.specs.declared.token.TokenKind.TheVariants.{Name, Number, Word, Symbol}
 use Rattle.jif_lex.specs.declared.token.Symbol.TheVariants.{Semicolon, Comma, RightBrace}
-use Rattle.jif_lex.specs.Spelled.{IsSpellable}
 use Rattle.jif_lex.specs.TokenLists.{FitsText, AreTokens}
+use Rattle.jif_tree.specs.Named.{IsNameInText}
 use Rattle.label_lattice.specs.Written.{Part, policy, trust, symbol, kinds}
 use Rattle.jif_grammar.specs.Phrases as phrase
 use Rattle.jif_grammar.specs.Phrases.{LabelPhrase, ExprPhrase, BlockPhrase, FieldEnd, ParamPhrase, MethodPhrase}
@@ -33,12 +33,12 @@ use Rattle.jif_parse.proofs.PrintedAlike.{IsNamedBlockShape}
 use Rattle.jif_parse.proofs.PrintedBackMethods.{AreNamedParams, AreNamedShapes, IsNamedMethod}
 use Rattle.jif_parse.proofs.PrintedBackProgram.{IsSmallFirst}
 
-abbrev AllSpelled : List TokenKind → Type 0
-AllSpelled kinds = AllByRecursion IsSpellable kinds
+abbrev AllFit : List TokenKind → Type 0
+AllFit kinds = AllByRecursion FitsText kinds
 
 -- what holds of the phrase by its tokens, and of the tokens behind it
 abbrev Found : {X : Type 0} → (X → List TokenKind → List TokenKind) → (X → Type 0) → X → Type 0
-Found tokens R x = (rest : List TokenKind) → AllSpelled (tokens x rest) → R x × AllSpelled rest
+Found tokens R x = (rest : List TokenKind) → AllFit (tokens x rest) → R x × AllFit rest
 
 joined_found : {X : Type 0} (separator : TokenKind) (tokens : X → List TokenKind → List TokenKind) (R : X → Type 0) →
     ((x : X) → Found tokens R x) → (items : List X) →
@@ -52,7 +52,11 @@ joined_found separator tokens R each (item ∷ next ∷ items) rest all =
     ((one.0, behind.0), behind.1)
 
 names_found : (names : List (List ℕ)) → Found names_then (AllByRecursion IsName) names
-names_found names rest all = joined_found (symbol Comma) name_then IsName (λ name more each. each) names rest all
+names_found names rest all = joined_found (symbol Comma) name_then IsName (λ name more each. (each.0.0, each.1)) names rest all
+
+-- a name of a text as a record
+in_text : (name : List ℕ) → FitsText (Name name) → IsNameInText name
+in_text name fits = record { name = fits.0; short = fits.1 }
 
 abbrev Anything : {X : Type 0} → X → Type 0
 Anything x = ⊤
@@ -61,7 +65,7 @@ part_found : (part : Part) → Found part_then (λ p. Anything p) part
 part_found (policy owner readers) rest all = (tt, (names_found readers rest all.1.1).1)
 part_found (trust members) rest all = (tt, (names_found members rest all.1.1).1)
 
-label_found : (label : LabelPhrase) (rest : List TokenKind) → AllSpelled (label_then label rest) → AllSpelled rest
+label_found : (label : LabelPhrase) (rest : List TokenKind) → AllFit (label_then label rest) → AllFit rest
 label_found label rest all =
     (joined_found (symbol Semicolon) part_then (λ p. Anything p) part_found label (symbol RightBrace ∷ rest) all.1).1.1
 
@@ -70,9 +74,9 @@ IsNamedAnywhere e = (at : ℕ) → IsNamedShape (expr_at at e)
 
 expr_found : (e : ExprPhrase) → Found expr_then IsNamedAnywhere e
 expr_found (phrase.number n) rest all = (λ at. all.0.1, all.1)
-expr_found (phrase.variable name) rest all = (λ at. all.0, all.1)
+expr_found (phrase.variable name) rest all = (λ at. all.0.0, all.1)
 expr_found (phrase.element name index) rest all =
-    let inner = expr_found index _ all.1.1 in (λ at. (all.0, inner.0 (at + 2)), inner.1.1)
+    let inner = expr_found index _ all.1.1 in (λ at. (all.0.0, inner.0 (at + 2)), inner.1.1)
 expr_found (phrase.parenthesized inside) rest all =
     let inner = expr_found inside _ all.1 in (λ at. inner.0 (at + 1), inner.1.1)
 expr_found (phrase.signed complement inside) rest all =
@@ -98,8 +102,8 @@ args_named : (args : List ExprPhrase) → AllByRecursion IsNamedAnywhere args �
 args_named [] named at = tt
 args_named (arg ∷ args) named at = (named.0 at, args_named args named.1 (at + expr_width arg + 1))
 
-optional_found : (label : Option LabelPhrase) (rest : List TokenKind) → AllSpelled (optional_label_then label rest) →
-    AllSpelled rest
+optional_found : (label : Option LabelPhrase) (rest : List TokenKind) → AllFit (optional_label_then label rest) →
+    AllFit rest
 optional_found None rest all = all
 optional_found (Some label) rest all = label_found label rest all
 
@@ -113,26 +117,27 @@ block_found (phrase.declaration label name value more) rest all =
     let own = optional_found label _ all.1 in
     let one = expr_found value _ own.1.1 in
     let two = block_found more rest one.1.1 in (
-      λ lines at behind named. (own.0, one.0 _, two.0 lines _ behind named),
+      λ lines at behind named. (in_text name own.0, one.0 _, two.0 lines _ behind named),
       two.1,
     )
 block_found (phrase.assignment name value more) rest all =
     let one = expr_found value _ all.1.1 in
     let two = block_found more rest one.1.1 in
-    (λ lines at behind named. (all.0, one.0 (at + 2), two.0 lines _ behind named), two.1)
+    (λ lines at behind named. (all.0.0, one.0 (at + 2), two.0 lines _ behind named), two.1)
 block_found (phrase.element_assignment name index value more) rest all =
     let one = expr_found index _ all.1.1 in
     let two = expr_found value _ one.1.1.1 in
     let three = block_found more rest two.1.1 in
-    (λ lines at behind named. (all.0, one.0 (at + 2), two.0 _, three.0 lines _ behind named), three.1)
+    (λ lines at behind named. (all.0.0, one.0 (at + 2), two.0 _, three.0 lines _ behind named), three.1)
 block_found (phrase.call name args more) rest all =
     let one = args_found args _ all.1.1 in
     let two = block_found more rest one.1.1.1 in
-    (λ lines at behind named. (all.0, args_named args one.0 (at + 2), tt, two.0 lines _ behind named), two.1)
+    (λ lines at behind named. (all.0.0, args_named args one.0 (at + 2), tt, two.0 lines _ behind named), two.1)
 block_found (phrase.call_into into name args more) rest all =
     let one = args_found args _ all.1.1.1.1 in
     let two = block_found more rest one.1.1.1 in
-    (λ lines at behind named. (all.1.1.0, args_named args one.0 (at + 4), all.0, two.0 lines _ behind named), two.1)
+    let named = args_named args one.0 in
+    (λ lines at behind last. (all.1.1.0.0, named (at + 4), all.0.0, two.0 lines _ behind last), two.1)
 block_found (phrase.branch guard first more) rest all =
     let one = expr_found guard _ all.1.1 in
     let two = block_found first _ one.1.1.1 in
@@ -165,10 +170,10 @@ result_found (Some value) rest all =
 -- ---- methods
 
 abbrev IsNamedParamPhrase : ParamPhrase → Type 0
-IsNamedParamPhrase param = IsName param.name
+IsNamedParamPhrase param = IsNameInText param.name
 
 param_found : (param : ParamPhrase) → Found param_then IsNamedParamPhrase param
-param_found param rest all = let behind = label_found param.label _ all.1 in (behind.0, behind.1)
+param_found param rest all = let behind = label_found param.label _ all.1 in (in_text param.name behind.0, behind.1)
 
 params_named : (params : List ParamPhrase) → AllByRecursion IsNamedParamPhrase params → (at : ℕ) →
     AreNamedParams (params_at at params)
@@ -186,13 +191,13 @@ authority_found (name ∷ names) rest all =
     let found = names_found (name ∷ names) _ all.1.1.1 in (found.0, found.1.1)
 
 head_found : (kind : Option LabelPhrase) (name : List ℕ) (begin : LabelPhrase) (rest : List TokenKind) →
-    AllSpelled (head_then kind name begin rest) → IsName name × AllSpelled rest
-head_found None name begin rest all = (all.1.0, label_found begin rest all.1.1)
+    AllFit (head_then kind name begin rest) → IsNameInText name × AllFit rest
+head_found None name begin rest all = (in_text name all.1.0, label_found begin rest all.1.1)
 head_found (Some label) name begin rest all =
-    let behind = label_found label _ all.1 in (behind.0, label_found begin rest behind.1)
+    let behind = label_found label _ all.1 in (in_text name behind.0, label_found begin rest behind.1)
 
-method_found : (method : MethodPhrase) (rest : List TokenKind) → AllSpelled (item_then (phrase.method method) rest) →
-    ((lines : ℕ → ℕ) (at : ℕ) → IsNamedMethod (method_at lines at method)) × AllSpelled rest
+method_found : (method : MethodPhrase) (rest : List TokenKind) → AllFit (item_then (phrase.method method) rest) →
+    ((lines : ℕ → ℕ) (at : ℕ) → IsNamedMethod (method_at lines at method)) × AllFit rest
 method_found method rest all =
     let head = head_found method.kind method.name method.begin _ all in
     let params = joined_found (symbol Comma) param_then IsNamedParamPhrase param_found method.params _ head.1.1 in
@@ -223,32 +228,25 @@ end_found (phrase.set true (suc n)) rest all = (all.1.1.0.1, all.1.1.1.1)
 
 -- a field has a name, and starts with a small number
 abbrev pub StartsSmall : FieldShape → Type 0
-StartsSmall field = IsName field.name.text × IsSmallFirst field.first
+StartsSmall field = IsNameInText field.name.text × IsSmallFirst field.first
 
-items_found : (program : ProgramPhrase) → AllSpelled (program_then program []) → (lines : ℕ → ℕ) (at : ℕ) →
+items_found : (program : ProgramPhrase) → AllFit (program_then program []) → (lines : ℕ → ℕ) (at : ℕ) →
     AllByRecursion StartsSmall (fields_at at program) × AllByRecursion IsNamedMethod (methods_at lines at program)
 items_found [] all lines at = (tt, tt)
 items_found (phrase.field field ∷ items) all lines at =
     let name = label_found field.label _ all.1 in
     let ending = end_found field.ending _ name.1 in
     let rest = items_found items ending.1 lines (after_item at (phrase.field field)) in
-    (((name.0, ending.0), rest.0), rest.1)
+    (((in_text field.name name.0, ending.0), rest.0), rest.1)
 items_found (phrase.method method ∷ items) all lines at =
     let own = method_found method _ all in
     let rest = items_found items own.1 lines (after_item at (phrase.method method)) in
     (rest.0, (own.0 lines at, rest.1))
 
--- the tokens of a text can be spelled
-spellable : (kind : TokenKind) → FitsText kind → IsSpellable kind
-spellable (Name name) fits = fits.0
-spellable (Number value) fits = fits
-spellable (Word word) fits = tt
-spellable (Symbol written) fits = tt
-
-all_spelled : (list : List Token) → All (λ token. FitsText token.kind) list → AllSpelled (kinds list)
-all_spelled [] all = tt
-all_spelled (token ∷ list) all =
-    (spellable token.kind (all 0 token (omega arith)), all_spelled list (λ k d within. all (suc k) d (omega (arith, within))))
+all_fit : (list : List Token) → All (λ token. FitsText token.kind) list → AllFit (kinds list)
+all_fit [] all = tt
+all_fit (token ∷ list) all =
+    (all 0 token (omega arith), all_fit list (λ k d within. all (suc k) d (omega (arith, within))))
 
 -- the names and numbers of a program whose tokens are those of a text
 pub phrases_found : (list : List Token) (program : ProgramPhrase) → AreTokens list → Spells list program →
@@ -256,4 +254,4 @@ pub phrases_found : (list : List Token) (program : ProgramPhrase) → AreTokens 
     AllByRecursion StartsSmall (fields_at 0 program) × AllByRecursion IsNamedMethod (methods_at lines 0 program)
 phrases_found list program fits spells lines =
     items_found program
-    (subst AllSpelled (spells.written ∙ program_unmarked program) (all_spelled list fits.1)) lines 0
+    (subst AllFit (spells.written ∙ program_unmarked program) (all_fit list fits.1)) lines 0

@@ -4,6 +4,7 @@ use Rattle.std.proofs.Common.{refl, ◌∙◌, subst, arith}
 use Rattle.std.specs.Prelude.{All}
 use Rattle.std.specs.List.{AllByRecursion}
 use Rattle.std.proofs.lemmas.Int.{ints}
+use Rattle.std.proofs.lemmas.List.Elements.{recursion_from_All}
 use Rattle.js_base.specs.declared.limits.TheConstants.{ARRAY_SIZE}
 use Rattle.principals.specs.ActsFor.{Declared, IsDeclared}
 use Rattle.jif_lex.specs.declared.token.Token.{Token}
@@ -20,7 +21,8 @@ use Rattle.jif_grammar.specs.DraftShapes.{FieldShape, MethodShape, DraftShape}
 use Rattle.jif_grammar.specs.Drafts.{is_array, first_value, fields_at, after_item, draft_of}
 use Rattle.jif_grammar.specs.Programs as grammar
 use Rattle.jif_grammar.specs.Programs.{Spells, line_at}
-use Rattle.jif_resolve.specs.Sizes.{IsSizedField, IsLimitedMethod, IsLimited, ReturnsLast}
+use Rattle.jif_resolve.specs.Returns.{MethodReturnsLast, AreReturnedLast}
+use Rattle.jif_resolve.specs.Sizes.{IsSizedField, KeepsLimits}
 use Rattle.jif_resolve.specs.Verdicts.{IsProgramOf}
 use Rattle.jif_parse.specs.PrintedNames.{Naming}
 use Rattle.jif_parse.specs.PrintedBack.{ReadsBack}
@@ -36,11 +38,6 @@ use Rattle.jif_parse.proofs.PrintedNamesOf.{StartsSmall, phrases_found}
 use Rattle.jif_parse.proofs.PrintedLimits.{printed_within}
 
 -- ---- what the parser keeps of a draft
-
-by_recursion : {X : Type 0} (P : X → Type 0) (xs : List X) → All P xs → AllByRecursion P xs
-by_recursion P [] all = tt
-by_recursion P (x ∷ xs) all =
-    (all 0 x (omega arith), by_recursion P xs (λ k d within. all (suc k) d (omega (arith, within))))
 
 -- an array starts with zeros
 abbrev StartsWithZeros : FieldShape → Type 0
@@ -72,14 +69,9 @@ named_fields : (fields : List FieldShape) → AllByRecursion IsSizedField fields
     AllByRecursion IsNamedField fields
 named_fields [] sized starts = tt
 named_fields (field ∷ fields) sized starts = (
-  record { name = starts.0.0; size = small_size field.size sized.0.most; first = starts.0.1 },
+  record { name = starts.0.0.name; size = small_size field.size sized.0.most; first = starts.0.1 },
   named_fields fields sized.1 starts.1,
 )
-
-all_return : (methods : List MethodShape) → AllByRecursion IsLimitedMethod methods →
-    AllByRecursion (λ method. ReturnsLast method.body) methods
-all_return [] limited = tt
-all_return (method ∷ methods) limited = (limited.0.returns, all_return methods limited.1)
 
 -- ---- the laws of the grammar and of names
 
@@ -87,29 +79,32 @@ abbrev pub SpelledPrograms : Type 0
 SpelledPrograms = (list : List Token) (program : ProgramPhrase) → IsProgram program →
     kinds list ≡ program_then program [] → Spells list program
 
-abbrev pub LimitedDrafts : Type 0
-LimitedDrafts = (list : List Token) (draft : DraftShape) → grammar.IsProgramOf list draft → IsLimited draft
+-- a draft of the parser keeps its limits, and returns last
+pub record DraftLaws : Type 0 where
+  pub kept : (list : List Token) (draft : DraftShape) → grammar.IsProgramOf list draft → KeepsLimits draft
+  pub returns : (list : List Token) (draft : DraftShape) → grammar.IsProgramOf list draft → AreReturnedLast draft
 
-pub reads_back : Laws → SpelledPrograms → LimitedDrafts → (principals : Declared) (list : List Token)
+pub reads_back : Laws → SpelledPrograms → DraftLaws → (principals : Declared) (list : List Token)
     (draft : DraftShape) (tree : ProgramTree) → IsDeclared principals → AreTokens list → grammar.IsProgramOf list draft →
     IsProgramOf principals draft tree → ReadsBack principals tree
-reads_back laws spelled_programs limited_drafts principals list draft tree declared fits is_program resolved =
+reads_back laws spelled_programs drafts principals list draft tree declared fits is_program resolved =
     let naming : Naming = record { principals = principals; program = tree } in
     let lines : ℕ → ℕ = line_at list in
     let q : ProgramPhrase = is_program.program in
     let own : DraftShape = draft_of lines q in
-    let limited : IsLimited own =
-    subst IsLimited is_program.draft_is (limited_drafts list draft is_program) in
+    let kept : KeepsLimits own = subst KeepsLimits is_program.draft_is (drafts.kept list draft is_program) in
+    let returned : AreReturnedLast own =
+    subst AreReturnedLast is_program.draft_is (drafts.returns list draft is_program) in
     let own_resolved : IsProgramOf principals own tree =
     subst (λ d. IsProgramOf principals d tree) is_program.draft_is resolved in
     let found = phrases_found list q fits is_program.text.spells lines in
-    let sized = by_recursion IsSizedField own.fields limited.sizes in
+    let sized = recursion_from_All IsSizedField own.fields kept.sizes in
     let made = program_back laws principals declared own tree (record {
       apart = globals_apart lines q;
       plain = plain_fields own.fields sized (start_with_zeros q 0);
       fields = named_fields own.fields sized found.0;
       methods = found.1;
-      returns = all_return own.methods (by_recursion IsLimitedMethod own.methods limited.each);
+      returns = recursion_from_All MethodReturnsLast own.methods returned;
     }) own_resolved in
     let program : ProgramPhrase = program_phrase principals tree in
     let pieces : List Spelled = program_pieces program [] in

@@ -7,6 +7,7 @@ ghost use Rattle.jif_lex.specs.declared.token.Token.{Token};
 ghost use Rattle.jif_lex.specs.Tokens.{ReadsAs, tokens};
 ghost use Rattle.jif_lex.specs.TokenLists.{AreTokens};
 ghost use Rattle.jif_tree.specs.Named.{AreNamed};
+ghost use Rattle.jif_tree.specs.Numbers.{HasNumbers};
 ghost use Rattle.jif_tree.specs.Trees.{ProgramTree};
 ghost use Rattle.jif_grammar.specs.DraftShapes.{DraftShape};
 ghost use Rattle.jif_grammar.specs.Programs as grammar;
@@ -15,7 +16,6 @@ ghost use Rattle.jif_parse.specs.Widths.{Widths};
 
 use jif_grammar::width_laws;
 use jif_lex::token_laws;
-use jif_resolve::limit_laws;
 
 /// The laws of widths as one.
 pub fn widths_of_phrases()
@@ -24,8 +24,8 @@ pub fn widths_of_phrases()
     width_laws();
 }
 
-/// A program that was read and resolved: its fields, variables and methods have names, a plain field has one element,
-/// and there are few elements. Whoever makes its code needs this.
+/// The fields, variables and methods of a program that was read and resolved have names, which are no longer than its
+/// text may be. Whoever makes its code needs this.
 pub fn named_laws()
     // For whoever lexed a text, parsed its tokens and resolved their draft.
     ensures of_text { (text : List ℕ) (list : List Token) (principals : Declared) (draft : DraftShape)
@@ -37,5 +37,10 @@ pub fn named_laws()
         AreTokens list → grammar.IsProgramOf list draft → IsProgramOf principals draft program → AreNamed program }
 {
     token_laws();
-    limit_laws();
 }
+
+/// The numbers of a program that was read and resolved have 64 bits: its literals, and the starting values of its fields.
+pub fn number_laws()
+    ensures numbers { (list : List Token) (principals : Declared) (draft : DraftShape) (program : ProgramTree) →
+        AreTokens list → grammar.IsProgramOf list draft → IsProgramOf principals draft program → HasNumbers program }
+{}

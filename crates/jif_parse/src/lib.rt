@@ -22,7 +22,7 @@ mod starts;
 mod statements;
 mod words;
 
-pub use laws::named_laws;
+pub use laws::{named_laws, number_laws};
 pub use parse_error::ParseError;
 pub use parser::parse;
 pub use printed::{program_text, program_text_laws};

@@ -11,7 +11,8 @@ returns-clause-reads_back c =
       one_reading = c.lex_laws.ensures;
       spelled = c.spelled_laws.ensures.reads;
       labels = c.text_laws.ensures.reads_back;
-    }) c.verdict_laws.ensures.spelled c.limit_laws.ensures.limited
+    }) c.verdict_laws.ensures.spelled
+    (record { kept = c.limit_laws.ensures.kept; returns = c.limit_laws.ensures.returns })
 
 pub returns-clause-bare : goal.returns-clause-bare
 returns-clause-bare c = operand_same
