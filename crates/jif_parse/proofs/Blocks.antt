@@ -31,13 +31,13 @@ use Rattle.jif_grammar.specs.Unmarked.{expr_then, block_then}
 use Rattle.jif_parse.specs.declared.cursor.Cursor.{Cursor}
 use Rattle.jif_parse.specs.declared.parse_error.ParseError.{ParseError}
 use Rattle.jif_parse.specs.declared.parse_error.ParseError.TheVariants as fault
-use Rattle.jif_parse.specs.Reading.{behind, IsNext, IsNextKind, IsNextSymbol, Takes, Fails, Moves, Passes, Counted, IsOver}
+use Rattle.jif_parse.specs.Reading.{IsNext, IsNextKind, IsNextSymbol, Takes, Fails, Moves, Passes, Counted}
 use Rattle.jif_parse.specs.Phrases.{PassesSymbol, ReadsUpTo, FailsUpTo}
 use Rattle.jif_parse.specs.Statements.{HasLines, BeginsStatement, statements_due, ReadsKind}
 use Rattle.jif_parse.specs.Statements.{ReadsStatement, FailsStatement, ReadsStatements, ReadsBraced, FailsBraced}
 use Rattle.jif_parse.specs.Statements.{braced_due, ReadsGuarded, FailsGuarded, guarded_due}
 use Rattle.jif_parse.specs.Widths.{Widths}
-use Rattle.jif_parse.proofs.Taking.{takes_then, takes_before, fails_then, fails_before, fails_at_limit}
+use Rattle.jif_parse.proofs.Taking.{takes_then, takes_before, fails_then, fails_before}
 use Rattle.jif_parse.proofs.Moving.{moves_then, moves_as, stepped, takes_passed, takes_counted, fails_other}
 use Rattle.jif_parse.proofs.Fixed.{takes_fixed, fails_fixed, step_symbol}
 use Rattle.jif_parse.proofs.Chains.{chain, chain_then, IsBlock_chain}
@@ -59,14 +59,11 @@ line_of_next cursor next lines is has =
     let line : Token → ℕ = λ token. token.line in
     sym (ap (λ xs. get_or (map line xs) 0 0) is) ∙ has 0 ∙ ap lines (omega arith)
 
-pub line_of_none : (cursor : Cursor) (lines : ℕ → ℕ) → cursor.rest.now ≡ [] → HasLines lines cursor → 0 ≡ lines cursor.at
+pub line_of_none : (cursor : Cursor) (lines : ℕ → ℕ) → cursor.rest.now ≡ [] → HasLines lines cursor →
+    0 ≡ lines cursor.at
 line_of_none cursor lines is has =
     let line : Token → ℕ = λ token. token.line in
     sym (ap (λ xs. get_or (map line xs) 0 0) is) ∙ has 0 ∙ ap lines (omega arith)
-
-pub kind_next : (cursor : Cursor) (next : Token) (kind : TokenKind) → IsNext cursor next → next.kind ≡ kind →
-    IsNextKind cursor kind
-kind_next cursor next kind is same = ap kinds is ∙ ap (λ k. k ∷ kinds (behind cursor)) same
 
 -- ---- one after the other
 
@@ -106,7 +103,8 @@ one_more {old} {now} {new} {depth} {drafts} {draft} w so_far read =
     record {
       block = chain first second;
       sound = IsBlock_chain first second so_far.sound read.kind.sound;
-      written = so_far.written ∙ ap (block_then first) read.kind.written ∙ sym (chain_then first second (kinds new.rest.now));
+      written = so_far.written ∙ ap (block_then first) read.kind.written
+          ∙ sym (chain_then first second (kinds new.rest.now));
       drafts_are = λ lines has behind.
           let start : record { at = draft.at; line = draft.line } ≡ start_at lines now.at =
           cc (read.at, read.line lines (lines_moved lines so_far.moves has)) in
@@ -136,12 +134,18 @@ pub later_fails : {old now : Cursor} {depth : ℕ} {drafts : List StmtDraft} {er
     StatementsSoFar old now depth drafts → FailsStatement now depth error → FailsStatement old depth error
 later_fails so_far fails place = fails_then (so_far.takes place) (fails place)
 
-pub falls : {old new : Cursor} {depth : ℕ} {draft : StmtDraft} → BeginsStatement old → ReadsStatement old new depth draft →
+pub falls : {old new : Cursor} {depth : ℕ} {draft : StmtDraft} → BeginsStatement old →
+    ReadsStatement old new depth draft →
     length new.rest.now < length old.rest.now
 falls {old} {new} begins read =
     let some : 0 < length old.rest.now =
     omega (arith, ap length begins.1, length-map old.rest.now (λ (token : Token). token.kind)) in
-    omega (arith, ap length read.kind.moves.rest, length-drop (block_width read.kind.block) old.rest.now, read.kind.some)
+    omega (
+      arith,
+      ap length read.kind.moves.rest,
+      length-drop (block_width read.kind.block) old.rest.now,
+      read.kind.some,
+    )
 
 -- ---- nested blocks
 
@@ -156,18 +160,12 @@ brace_fails {old} {depth} {error} tells other =
     fails_before (nested_at depth (due.statements due.nested) ∷ [])
     (fails_other old error (nested_at depth (exactly due.left_brace)) tells (λ kind is. brace_none old kind other is))
 
-pub brace_over : {old : Cursor} {depth : ℕ} {error : ParseError} → IsNextSymbol old LeftBrace →
-    IsOver old depth marks.nothing error → FailsBraced old depth error
-brace_over {old} {depth} next over =
-    fails_before (nested_at depth (due.statements due.nested) ∷ [])
-    (fails_at_limit (nested_at depth (exactly due.left_brace)) (symbol LeftBrace) (kinds (behind old)) [] depth
-    marks.nothing next over refl refl)
-
 brace_taken : {old a : Cursor} (depth : ℕ) → IsNextSymbol old LeftBrace → Counted old a depth marks.nothing →
     Takes old a (braced_due depth) (statements_due due.nested depth)
 brace_taken depth next counted =
     takes_before (statements_due due.nested depth)
-    (takes_counted (nested_at depth (exactly due.left_brace)) (symbol LeftBrace) [] depth marks.nothing next counted refl refl)
+    (takes_counted (nested_at depth (exactly due.left_brace)) (symbol LeftBrace) [] depth marks.nothing next counted
+    refl refl)
 
 pub block_fails : {old a : Cursor} {depth : ℕ} {error : ParseError} → IsNextSymbol old LeftBrace →
     Counted old a depth marks.nothing → FailsStatement a depth error → FailsBraced old depth error
@@ -200,13 +198,15 @@ braced_read {old} {a} {b} {new} {depth} {drafts} next counted read passed =
     record {
       block = read.block;
       sound = read.sound;
-      written = first.is_next ∙ ap (λ ks. symbol LeftBrace ∷ ks) (read.written ∙ ap (block_then read.block) last.is_next);
+      written = first.is_next
+          ∙ ap (λ ks. symbol LeftBrace ∷ ks) (read.written ∙ ap (block_then read.block) last.is_next);
       drafts_are = λ lines has.
           ap block_shape (sym (append-nil drafts)) ∙ read.drafts_are lines (lines_moved lines first.moves has) []
           ∙ ap (λ at. block_at lines at read.block end_shape) first.moves.at;
       moves = moves_as _ (omega arith) (moves_then (moves_then first.moves read.moves) last.moves);
       takes = takes_then (takes_then (brace_taken depth next counted) (read.takes due.nested))
-          (takes_passed (nested_at depth (due.statements due.nested)) (symbol RightBrace) [] depth last passed.passes.counts
+          (takes_passed (nested_at depth (due.statements due.nested)) (symbol RightBrace) [] depth last
+          passed.passes.counts
           counted.nested refl refl);
     }
 
@@ -223,14 +223,16 @@ guard_opening_fails {old} {depth} {error} other =
 
 opening_taken : {old a : Cursor} (depth : ℕ) → depth ≤ NESTING → PassesSymbol old a LeftParenthesis →
     Takes old a (guarded_due depth) (behind_opening depth)
-opening_taken depth nested passed = takes_before (behind_opening depth) (takes_fixed due.left_parenthesis depth nested passed)
+opening_taken depth nested passed =
+    takes_before (behind_opening depth) (takes_fixed due.left_parenthesis depth nested passed)
 
 pub guard_fails : {old a : Cursor} {depth : ℕ} {error : ParseError} → depth ≤ NESTING →
     PassesSymbol old a LeftParenthesis → FailsUpTo a at_parenthesis depth error → FailsGuarded old depth error
 guard_fails {depth = depth} nested passed fails =
     fails_then (opening_taken depth nested passed) (fails_before (braced_due (suc depth)) fails)
 
-guard_taken : {old a b : Cursor} {guard : ExprDraft} (depth : ℕ) → depth ≤ NESTING → PassesSymbol old a LeftParenthesis →
+guard_taken : {old a b : Cursor} {guard : ExprDraft} (depth : ℕ) → depth ≤ NESTING →
+    PassesSymbol old a LeftParenthesis →
     ReadsUpTo a b at_parenthesis depth guard → Takes old b (guarded_due depth) (braced_due (suc depth))
 guard_taken depth nested passed read =
     takes_then (opening_taken depth nested passed) (takes_before (braced_due (suc depth)) read.takes)
@@ -242,10 +244,12 @@ pub guarded_block_fails : {old a b : Cursor} {guard : ExprDraft} {depth : ℕ} {
     PassesSymbol old a LeftParenthesis → ReadsUpTo a b at_parenthesis depth guard → FailsBraced b (depth + 1) error →
     FailsGuarded old depth error
 guarded_block_fails {b = b} {depth = depth} {error = error} nested passed read fails =
-    fails_then (guard_taken depth nested passed read) (subst (λ d. Fails b (braced_due d) error) (one_deeper depth) fails)
+    fails_then (guard_taken depth nested passed read)
+    (subst (λ d. Fails b (braced_due d) error) (one_deeper depth) fails)
 
 pub guarded_read : {old a b new : Cursor} {guard : ExprDraft} {drafts : List StmtDraft} {depth : ℕ} → depth ≤ NESTING →
-    PassesSymbol old a LeftParenthesis → ReadsUpTo a b at_parenthesis depth guard → ReadsBraced b new (depth + 1) drafts →
+    PassesSymbol old a LeftParenthesis → ReadsUpTo a b at_parenthesis depth guard →
+    ReadsBraced b new (depth + 1) drafts →
     ReadsGuarded old new depth guard drafts
 guarded_read {old} {a} {b} {new} {guard} {drafts} {depth} nested passed read block =
     let first = step_symbol passed in
@@ -269,7 +273,8 @@ guarded_read {old} {a} {b} {new} {guard} {drafts} {depth} nested passed read blo
 -- ---- `while`
 
 while_taken : {old a : Cursor} (place : Place) (depth : ℕ) → IsNextKind old (Word While) →
-    Counted old a depth marks.statement → Takes old a (statements_due place depth) (guarded_due depth ++ statements_due place depth)
+    Counted old a depth marks.statement →
+    Takes old a (statements_due place depth) (guarded_due depth ++ statements_due place depth)
 while_taken place depth next counted =
     takes_counted (nested_at depth (due.statements place)) (Word While)
     (due.guard ++ due.statements due.nested ∷ due.statements place ∷ []) depth marks.statement next counted refl refl
@@ -286,7 +291,8 @@ while_read {old} {a} {new} {guard} {depth} body w next counted read =
     let first = stepped (Word While) next counted.steps in
     let width = loop_width w read.guard read.block phrases.end in
     let guard_place : a.at + 1 ≡ old.at + 2 = omega (arith, first.moves.at) in
-    let body_place : a.at + 3 + expr_width read.guard ≡ old.at + 4 + expr_width read.guard = omega (arith, first.moves.at) in
+    let body_place : a.at + 3 + expr_width read.guard ≡ old.at + 4 + expr_width read.guard =
+    omega (arith, first.moves.at) in
     let guard_is = read.guard_is ∙ ap (λ at. expr_at at read.guard) guard_place in
     record {
       block = phrases.loop read.guard read.block phrases.end;
@@ -308,7 +314,8 @@ abbrev otherwise_due : Place → ℕ → List Nested
 otherwise_due place depth = nested_at depth (due.otherwise place) ∷ []
 
 if_taken : {old a : Cursor} (place : Place) (depth : ℕ) → IsNextKind old (Word If) →
-    Counted old a depth marks.statement → Takes old a (statements_due place depth) (guarded_due depth ++ otherwise_due place depth)
+    Counted old a depth marks.statement →
+    Takes old a (statements_due place depth) (guarded_due depth ++ otherwise_due place depth)
 if_taken place depth next counted =
     takes_counted (nested_at depth (due.statements place)) (Word If)
     (due.guard ++ due.statements due.nested ∷ due.otherwise place ∷ []) depth marks.statement next counted refl refl
@@ -324,7 +331,8 @@ first_taken : {old a b : Cursor} {guard : ExprDraft} {drafts : List StmtDraft} (
 first_taken place depth next counted read =
     takes_then (if_taken place depth next counted) (takes_before (otherwise_due place depth) read.takes)
 
-same_walk : (place : Place) (depth : ℕ) (later : List Nested) (t : Tally) (n : ℕ) (kind : TokenKind) → ¬ (kind ≡ Word Else) →
+same_walk : (place : Place) (depth : ℕ) (later : List Nested) (t : Tally) (n : ℕ) (kind : TokenKind) →
+    ¬ (kind ≡ Word Else) →
     walk_on (nested_at depth (due.otherwise place) ∷ later) t n kind
     ≡ walk_on (nested_at depth (due.statements place) ∷ later) t n kind
 same_walk place depth later t n (Word Else) unlike = absurd (unlike refl)
@@ -355,7 +363,8 @@ if_read {old} {a} {new} {guard} {depth} first second w next counted read unlike 
     let step = stepped (Word If) next counted.steps in
     let width = branch_width w read.guard read.block phrases.end in
     let guard_place : a.at + 1 ≡ old.at + 2 = omega (arith, step.moves.at) in
-    let body_place : a.at + 3 + expr_width read.guard ≡ old.at + 4 + expr_width read.guard = omega (arith, step.moves.at) in
+    let body_place : a.at + 3 + expr_width read.guard ≡ old.at + 4 + expr_width read.guard =
+    omega (arith, step.moves.at) in
     let guard_is = read.guard_is ∙ ap (λ at. expr_at at read.guard) guard_place in
     let none_is : block_shape second.items ≡ end_shape = ap block_shape none in
     record {
@@ -372,7 +381,8 @@ if_read {old} {a} {new} {guard} {depth} first second w next counted read unlike 
     }
 
 else_taken : {old a b c : Cursor} {guard : ExprDraft} {drafts : List StmtDraft} (place : Place) (depth : ℕ) →
-    depth ≤ NESTING → IsNextKind old (Word If) → Counted old a depth marks.statement → ReadsGuarded a b depth guard drafts →
+    depth ≤ NESTING → IsNextKind old (Word If) → Counted old a depth marks.statement →
+    ReadsGuarded a b depth guard drafts →
     IsNextKind b (Word Else) → Passes b c →
     Takes old c (statements_due place depth) (braced_due (suc depth) ++ statements_due place depth)
 else_taken place depth nested next counted read is passes =
@@ -382,13 +392,15 @@ else_taken place depth nested next counted read is passes =
     (stepped (Word Else) is passes.steps) passes.counts nested refl refl)
 
 pub else_fails : {old a b c : Cursor} {guard : ExprDraft} {drafts : List StmtDraft} {depth : ℕ} {error : ParseError} →
-    depth ≤ NESTING → IsNextKind old (Word If) → Counted old a depth marks.statement → ReadsGuarded a b depth guard drafts →
+    depth ≤ NESTING → IsNextKind old (Word If) → Counted old a depth marks.statement →
+    ReadsGuarded a b depth guard drafts →
     IsNextKind b (Word Else) → Passes b c → FailsBraced c (depth + 1) error → FailsStatement old depth error
 else_fails {c = c} {depth = depth} {error = error} nested next counted read is passes fails place =
     fails_then (else_taken place depth nested next counted read is passes) (fails_before (statements_due place depth)
     (subst (λ d. Fails c (braced_due d) error) (one_deeper depth) fails))
 
-pub else_read : {old a b c new : Cursor} {guard : ExprDraft} {depth : ℕ} (first second : Vec StmtDraft Global) → Widths →
+pub else_read : {old a b c new : Cursor} {guard : ExprDraft} {depth : ℕ} (first second : Vec StmtDraft Global) →
+    Widths →
     depth ≤ NESTING → IsNextKind old (Word If) → Counted old a depth marks.statement →
     ReadsGuarded a b depth guard first.items → IsNextKind b (Word Else) → Passes b c →
     ReadsBraced c new (depth + 1) second.items → ReadsKind old new depth (kind.If guard first second)
@@ -398,8 +410,10 @@ else_read {old} {a} {b} {c} {new} {guard} {depth} first second w nested next cou
     let moved = moves_then (moves_then step.moves read.moves) other.moves in
     let width = branch_else_width w read.guard read.block block.block phrases.end in
     let guard_place : a.at + 1 ≡ old.at + 2 = omega (arith, step.moves.at) in
-    let first_place : a.at + 3 + expr_width read.guard ≡ old.at + 4 + expr_width read.guard = omega (arith, step.moves.at) in
-    let second_place : c.at + 1 ≡ old.at + 4 + expr_width read.guard + 3 + block_width read.block = omega (arith, moved.at) in
+    let first_place : a.at + 3 + expr_width read.guard ≡ old.at + 4 + expr_width read.guard =
+    omega (arith, step.moves.at) in
+    let second_place : c.at + 1 ≡ old.at + 4 + expr_width read.guard + 3 + block_width read.block =
+    omega (arith, moved.at) in
     let guard_is = read.guard_is ∙ ap (λ at. expr_at at read.guard) guard_place in
     record {
       block = phrases.branch_else read.guard read.block block.block phrases.end;

@@ -1,12 +1,12 @@
 -- Statements one after the other: those of a first block and then those of a second.
-use Rattle.std.proofs.Common.{◌≡◌, List, [], ◌∷◌, ◌++◌, refl, ap}
+use Rattle.std.proofs.Common.{◌≡◌, List, [], ◌∷◌, refl}
 use Rattle.jif_lex.specs.declared.token.TokenKind.{TokenKind}
 use Rattle.jif_tree.specs.declared.draft.StmtDraft.{StmtDraft}
 use Rattle.jif_grammar.specs.Phrases.{BlockPhrase, end, declaration, assignment, element_assignment, call}
 use Rattle.jif_grammar.specs.Phrases.{call_into, branch, branch_else, loop}
 use Rattle.jif_grammar.specs.Grouping.{IsBlock}
 use Rattle.jif_grammar.specs.Unmarked.{block_then}
-use Rattle.jif_grammar.specs.DraftShapes.{BlockShape, statement_shape, block_shape, end_shape}
+use Rattle.jif_grammar.specs.DraftShapes.{BlockShape, statement_shape}
 
 abbrev pub chain : BlockPhrase → BlockPhrase → BlockPhrase
 chain end second = second
@@ -47,12 +47,3 @@ abbrev pub drafts_then : List StmtDraft → BlockShape → BlockShape
 drafts_then [] behind = behind
 drafts_then (draft ∷ drafts) behind =
     statement_shape draft.kind (record { at = draft.at; line = draft.line }) (drafts_then drafts behind)
-
-pub drafts_then_all : (drafts : List StmtDraft) → drafts_then drafts end_shape ≡ block_shape drafts
-drafts_then_all [] = refl
-drafts_then_all (draft ∷ drafts) = ap (statement_shape draft.kind _) (drafts_then_all drafts)
-
-pub drafts_then_more : (drafts more : List StmtDraft) (behind : BlockShape) →
-    drafts_then (drafts ++ more) behind ≡ drafts_then drafts (drafts_then more behind)
-drafts_then_more [] more behind = refl
-drafts_then_more (draft ∷ drafts) more behind = ap (statement_shape draft.kind _) (drafts_then_more drafts more behind)

@@ -24,7 +24,8 @@ use Rattle.jif_parse.specs.Phrases.{ReadsUpTo, FailsUpTo}
 use Rattle.jif_parse.proofs.Taking.{takes_then, fails_then}
 use Rattle.jif_parse.proofs.Moving.{stepped, moves_then, moves_as}
 use Rattle.jif_parse.proofs.Fixed.{step_symbol}
-use Rattle.jif_parse.proofs.BehindOperands.{below_tightest, takes_operator, operator_over, takes_closing, closing_fails, IsNoComma}
+use Rattle.jif_parse.proofs.BehindOperands.{below_tightest, takes_operator, operator_over, takes_closing, closing_fails}
+use Rattle.jif_parse.proofs.BehindOperands.{IsNoComma}
 
 -- ---- widths
 
@@ -128,19 +129,6 @@ pub right_fails : {old now after : Cursor} {least depth : ℕ} {left : ExprDraft
     Counted now after depth node → FailsExpr after depth depth error → FailsExpr old depth depth error
 right_fails {old} {now} {after} {least} {depth} operator so_far next counted fails closing =
     fails_then (takes_then (so_far.takes closing) (takes_operator closing depth operator next counted)) (fails closing)
-
-pub whole_expr : {old new : Cursor} {least depth : ℕ} {draft : ExprDraft} → LeftSoFar old new least depth draft →
-    StopsAt least new → ReadsExpr old new least depth depth draft
-whole_expr so_far stops = record {
-  expr = so_far.expr;
-  grouped = so_far.grouped;
-  tight = so_far.tight;
-  written = so_far.written;
-  draft_is = so_far.draft_is;
-  moves = so_far.moves;
-  stops = stops;
-  takes = so_far.takes;
-}
 
 -- ---- with what ends it
 

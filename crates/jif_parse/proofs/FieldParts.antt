@@ -8,7 +8,8 @@ use Rattle.js_base.specs.declared.limits.TheConstants.{ARRAY_SIZE}
 use Rattle.jif_lex.specs.declared.token.TokenKind.{TokenKind}
 use Rattle.jif_lex.specs.declared.token.TokenKind.TheVariants as token
 use Rattle.jif_lex.specs.declared.token.TokenKind.TheVariants.{Number}
-use Rattle.jif_lex.specs.declared.token.Symbol.TheVariants.{LeftBrace, LeftBracket, RightBracket, Semicolon, Assign, Minus}
+use Rattle.jif_lex.specs.declared.token.Symbol.TheVariants.{LeftBrace, LeftBracket, RightBracket, Semicolon, Assign}
+use Rattle.jif_lex.specs.declared.token.Symbol.TheVariants.{Minus}
 use Rattle.label_lattice.specs.Written.{kinds, symbol}
 use Rattle.jif_grammar.specs.declared.what.What.TheVariants.{Elements}
 use Rattle.jif_grammar.specs.Phrases.{unset, sized, set}
@@ -18,7 +19,6 @@ use Rattle.jif_grammar.specs.Marks as marks
 use Rattle.jif_grammar.specs.Programs.{too_many}
 use Rattle.jif_grammar.specs.Nesting.{Nested, nested_at}
 use Rattle.jif_grammar.specs.Spelling.{field_end_spelling, sign_of_number}
-use Rattle.jif_grammar.specs.Drafts.{size_of}
 use Rattle.jif_parse.specs.declared.cursor.Cursor.{Cursor}
 use Rattle.jif_parse.specs.declared.parse_error.ParseError.{ParseError}
 use Rattle.jif_parse.specs.declared.parse_error.ParseError.TheVariants as fault
@@ -27,7 +27,8 @@ use Rattle.jif_parse.specs.Phrases.{PassesSymbol}
 use Rattle.jif_parse.specs.Fields.{ReadsFieldEnd, FailsFieldEnd, size_due, ReadsSize, FailsSize, ReadsFirst, FailsFirst}
 use Rattle.jif_parse.specs.Fields.{ReadsNumber, FailsNumber}
 use Rattle.jif_parse.proofs.Taking.{takes_then, takes_before, fails_then, fails_before, fails_at_limit}
-use Rattle.jif_parse.proofs.Moving.{moves_then, moves_as, stepped, Stepped, takes_passed, takes_counted, fails_other, next_kind}
+use Rattle.jif_parse.proofs.Moving.{moves_then, moves_as, stepped, Stepped, takes_passed, takes_counted, fails_other}
+use Rattle.jif_parse.proofs.Moving.{next_kind}
 use Rattle.jif_parse.proofs.Fixed.{takes_fixed, fails_fixed, step_symbol}
 use Rattle.jif_parse.proofs.MethodParts.{none_nested}
 
@@ -83,7 +84,8 @@ size_fits {old} size large counted tells = record {
   why = inr (too_many Elements old.at, tells, λ later t is. absurd (omega (arith, (counted.counted t is).largest)));
 }
 
-pub size_bracket_fails : {old a : Cursor} {error : ParseError} (size : ℕ) → 0 < size → IsNextKind old (Number (pos size)) →
+pub size_bracket_fails : {old a : Cursor} {error : ParseError} (size : ℕ) → 0 < size →
+    IsNextKind old (Number (pos size)) →
     Counted old a 0 (marks.elements size) → (error ≡ fault.Unexpected a.at) × (¬ IsNextSymbol a RightBracket) →
     FailsSize old error
 size_bracket_fails {a = a} {error = error} size some next counted other =
@@ -97,7 +99,8 @@ bracket_taken size some next counted passed =
     takes_then (size_taken size some next counted)
     (takes_before (nested_at 0 (exactly due.semicolon) ∷ []) (takes_fixed due.right_bracket 0 none_nested passed))
 
-pub size_end_fails : {old a b : Cursor} {error : ParseError} (size : ℕ) → 0 < size → IsNextKind old (Number (pos size)) →
+pub size_end_fails : {old a b : Cursor} {error : ParseError} (size : ℕ) → 0 < size →
+    IsNextKind old (Number (pos size)) →
     Counted old a 0 (marks.elements size) → PassesSymbol a b RightBracket →
     (error ≡ fault.Unexpected b.at) × (¬ IsNextSymbol b Semicolon) → FailsSize old error
 size_end_fails {b = b} {error = error} size some next counted passed other =
@@ -115,7 +118,8 @@ size_read {old} {a} {b} {new} size some next counted bracket semicolon =
       written = first.is_next ∙ ap (λ ks. Number (pos size) ∷ ks) (second.is_next
           ∙ ap (λ ks. symbol RightBracket ∷ ks) third.is_next);
       moves = moves_then (moves_then first.moves second.moves) third.moves;
-      takes = takes_then (bracket_taken size some next counted bracket) (takes_fixed due.semicolon 0 none_nested semicolon);
+      takes = takes_then (bracket_taken size some next counted bracket)
+          (takes_fixed due.semicolon 0 none_nested semicolon);
     }
 
 -- ---- first values
@@ -126,7 +130,8 @@ first_due = nested_at 0 due.first_value ∷ []
 abbrev semicolon_due : List Nested
 semicolon_due = nested_at 0 (exactly due.semicolon) ∷ []
 
-number_step : {old new : Cursor} {value : ℤ} (read : ReadsNumber old new value) → Stepped old new (Number (pos read.number))
+number_step : {old new : Cursor} {value : ℤ} (read : ReadsNumber old new value) →
+    Stepped old new (Number (pos read.number))
 number_step {old} {new} read =
     stepped (Number (pos read.number)) (next_kind old (Number (pos read.number)) (kinds new.rest.now) read.written)
     read.passes.steps
@@ -149,7 +154,8 @@ number_none old (token.Name name) other is = refl
 number_none old (token.Word word) other is = refl
 number_none old (token.Symbol written) other is = refl
 
-pub negative_fails : {old a : Cursor} {error : ParseError} → PassesSymbol old a Minus → FailsNumber a error → FailsFirst old error
+pub negative_fails : {old a : Cursor} {error : ParseError} → PassesSymbol old a Minus → FailsNumber a error →
+    FailsFirst old error
 negative_fails {a = a} {error = error} passed fails =
     fails_then (minus_taken passed) (fails_before semicolon_due
     (fails_other a error (nested_at 0 due.a_number) fails.0 (λ kind is. number_none a kind fails.1 is)))
@@ -189,13 +195,15 @@ first_none old (Number (pos number)) no_sign other is = absurd (other number is)
 first_none old (Number (negsuc number)) no_sign other is = refl
 first_none old _ no_sign other is = refl
 
-pub first_fails : {old : Cursor} {error : ParseError} → ¬ IsNextSymbol old Minus → FailsNumber old error → FailsFirst old error
+pub first_fails : {old : Cursor} {error : ParseError} → ¬ IsNextSymbol old Minus → FailsNumber old error →
+    FailsFirst old error
 first_fails {old} {error} no_sign fails =
     fails_other old error (nested_at 0 due.first_value) fails.0 (λ kind is. first_none old kind no_sign fails.1 is)
 
 first_taken : {old a : Cursor} {value : ℤ} → ReadsNumber old a value → Takes old a first_due semicolon_due
 first_taken read =
-    takes_passed (nested_at 0 due.first_value) (Number (pos read.number)) (exactly due.semicolon ∷ []) 0 (number_step read)
+    takes_passed (nested_at 0 due.first_value) (Number (pos read.number)) (exactly due.semicolon ∷ []) 0
+    (number_step read)
     read.passes.counts none_nested refl refl
 
 pub first_end_fails : {old a : Cursor} {value : ℤ} {error : ParseError} → ReadsNumber old a value →
@@ -240,7 +248,8 @@ unset_read {old} {new} next counted =
       array_is = refl;
       first_is = refl;
       moves = step.moves;
-      takes = takes_counted (nested_at 0 due.after_name) (symbol Semicolon) [] 0 marks.plain_field next counted refl refl;
+      takes = takes_counted (nested_at 0 due.after_name) (symbol Semicolon) [] 0 marks.plain_field next counted refl
+          refl;
     }
 
 pub array_over : {old : Cursor} {error : ParseError} → IsNextSymbol old LeftBracket → IsOver old 0 marks.array error →
@@ -249,7 +258,8 @@ array_over {old} next over =
     fails_at_limit (nested_at 0 due.after_name) (symbol LeftBracket) (kinds (behind old))
     (due.a_size ∷ exactly due.right_bracket ∷ exactly due.semicolon ∷ []) 0 marks.array next over refl refl
 
-array_taken : {old a : Cursor} → IsNextSymbol old LeftBracket → Counted old a 0 marks.array → Takes old a end_due size_due
+array_taken : {old a : Cursor} → IsNextSymbol old LeftBracket → Counted old a 0 marks.array →
+    Takes old a end_due size_due
 array_taken next counted =
     takes_counted (nested_at 0 due.after_name) (symbol LeftBracket)
     (due.a_size ∷ exactly due.right_bracket ∷ exactly due.semicolon ∷ []) 0 marks.array next counted refl refl
@@ -283,7 +293,8 @@ end_none old (token.Symbol Assign) no_method no_end no_size other is = absurd (o
 end_none old _ no_method no_end no_size other is = refl
 
 pub no_end_fails : {old : Cursor} {error : ParseError} → ¬ IsNextSymbol old LeftBrace → ¬ IsNextSymbol old Semicolon →
-    ¬ IsNextSymbol old LeftBracket → ¬ IsNextSymbol old Assign → error ≡ fault.Unexpected old.at → FailsFieldEnd old error
+    ¬ IsNextSymbol old LeftBracket → ¬ IsNextSymbol old Assign → error ≡ fault.Unexpected old.at →
+    FailsFieldEnd old error
 no_end_fails {old} {error} no_method no_end no_size other tells =
     fails_other old error (nested_at 0 due.after_name) tells
     (λ kind is. end_none old kind no_method no_end no_size other is)
@@ -294,9 +305,11 @@ set_over {old} next over =
     fails_at_limit (nested_at 0 due.after_name) (symbol Assign) (kinds (behind old)) (due.first_value ∷ []) 0
     marks.plain_field next over refl refl
 
-set_taken : {old a : Cursor} → IsNextSymbol old Assign → Counted old a 0 marks.plain_field → Takes old a end_due first_due
+set_taken : {old a : Cursor} → IsNextSymbol old Assign → Counted old a 0 marks.plain_field →
+    Takes old a end_due first_due
 set_taken next counted =
-    takes_counted (nested_at 0 due.after_name) (symbol Assign) (due.first_value ∷ []) 0 marks.plain_field next counted refl
+    takes_counted (nested_at 0 due.after_name) (symbol Assign) (due.first_value ∷ []) 0 marks.plain_field next counted
+    refl
     refl
 
 pub set_fails : {old a : Cursor} {error : ParseError} → IsNextSymbol old Assign → Counted old a 0 marks.plain_field →
@@ -307,9 +320,6 @@ set_width : (negative : Bool) (first : ℕ) →
     length (field_end_spelling (set negative first)) ≡ length (sign_of_number negative) + 3
 set_width false first = refl
 set_width true first = refl
-
-size_of_set : (negative : Bool) (first : ℕ) → 1 ≡ size_of (set negative first)
-size_of_set negative first = refl
 
 pub set_read : {old a new : Cursor} {value : ℤ} → IsNextSymbol old Assign → Counted old a 0 marks.plain_field →
     ReadsFirst a new value → ReadsFieldEnd old new (record { size = 1; array = false; first = value })

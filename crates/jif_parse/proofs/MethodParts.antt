@@ -8,8 +8,8 @@ use Rattle.jif_lex.specs.declared.token.TokenKind.{TokenKind}
 use Rattle.jif_lex.specs.declared.token.TokenKind.TheVariants as token
 use Rattle.jif_lex.specs.declared.token.TokenKind.TheVariants.{Name, Word}
 use Rattle.jif_lex.specs.declared.token.Word.TheVariants.{Int, If, While, Return, Where, Authority}
-use Rattle.jif_lex.specs.declared.token.Symbol.TheVariants.{LeftBrace, RightBrace, LeftParenthesis, RightParenthesis, Comma}
-use Rattle.jif_lex.specs.declared.token.Symbol.TheVariants.{Semicolon}
+use Rattle.jif_lex.specs.declared.token.Symbol.TheVariants.{LeftBrace, RightBrace, LeftParenthesis, RightParenthesis}
+use Rattle.jif_lex.specs.declared.token.Symbol.TheVariants.{Comma, Semicolon}
 use Rattle.label_lattice.specs.Written.{kinds, symbol, names_tokens}
 use Rattle.jif_tree.specs.declared.draft.ExprDraft.{ExprDraft}
 use Rattle.jif_tree.specs.declared.draft.LabelDraft.{LabelDraft}
@@ -23,7 +23,8 @@ use Rattle.jif_grammar.specs.Due as due
 use Rattle.jif_grammar.specs.Due.{exactly, operand, at_semicolon, due_after_token}
 use Rattle.jif_grammar.specs.Marks as marks
 use Rattle.jif_grammar.specs.Nesting.{Nested, nested_at}
-use Rattle.jif_grammar.specs.Spelling.{expr_spelling, param_spelling, params_spelling, authority_spelling, result_spelling}
+use Rattle.jif_grammar.specs.Spelling.{expr_spelling, param_spelling, params_spelling, authority_spelling}
+use Rattle.jif_grammar.specs.Spelling.{result_spelling}
 use Rattle.jif_grammar.specs.DraftShapes.{ParamShape, name_shape, param_shape, block_shape}
 use Rattle.jif_grammar.specs.Drafts.{expr_at, expr_width, name_at, names_at, label_at, label_width, params_at}
 use Rattle.jif_grammar.specs.Drafts.{block_at, block_width, result_at}
@@ -34,7 +35,7 @@ use Rattle.jif_parse.specs.declared.methods.MethodTail.{MethodTail}
 use Rattle.jif_parse.specs.declared.parse_error.ParseError.{ParseError}
 use Rattle.jif_parse.specs.declared.parse_error.ParseError.TheVariants as fault
 use Rattle.jif_parse.specs.Reading.{behind, IsNextKind, IsNextSymbol, IsNextName, Takes, Moves, Passes, Counted, IsOver}
-use Rattle.jif_parse.specs.Phrases.{PassesSymbol, ReadsName, ReadsUpTo, FailsUpTo, ReadsLabel, FailsLabel, ReadsNames}
+use Rattle.jif_parse.specs.Phrases.{PassesSymbol, ReadsName, ReadsUpTo, FailsUpTo, ReadsLabel, ReadsNames}
 use Rattle.jif_parse.specs.Phrases.{FailsNames, of_principals}
 use Rattle.jif_parse.specs.Words.{PassesWord}
 use Rattle.jif_parse.specs.Statements.{HasLines, BeginsStatement, statements_due, ReadsStatements, FailsStatement}
@@ -42,8 +43,7 @@ use Rattle.jif_parse.specs.Methods.{named_due, ReadsNamed, FailsNamed, next_para
 use Rattle.jif_parse.specs.Methods.{FailsParam, ReadsParams, FailsParams, ReadsAuthority, FailsAuthority, ReadsReturn}
 use Rattle.jif_parse.specs.Methods.{FailsReturn, ReadsBody, FailsBody, tail_due, ReadsTail, FailsTail}
 use Rattle.jif_parse.specs.Widths.{Widths}
-use Rattle.jif_parse.proofs.Taking.{takes_then, takes_before, fails_then, fails_before, fails_at_limit}
-use Rattle.jif_parse.proofs.Taking.{takes_nothing}
+use Rattle.jif_parse.proofs.Taking.{takes_then, takes_before, fails_then, fails_before, fails_at_limit, takes_nothing}
 use Rattle.jif_parse.proofs.Moving.{moves_then, moves_as, stepped, Stepped, takes_passed, takes_counted, fails_other}
 use Rattle.jif_parse.proofs.Fixed.{takes_fixed, fails_fixed, step_symbol, step_name, takes_name, fails_name}
 use Rattle.jif_parse.proofs.Lists.{ListForm, ItemsSoFar, no_items, one_more, last_item}
@@ -73,7 +73,8 @@ return_value_fails next counted fails =
     fails_then (return_taken next counted) (fails_before (nested_at 0 (exactly due.right_brace) ∷ []) fails)
 
 value_taken : {old a b : Cursor} {value : ExprDraft} → IsNextKind old (Word Return) → Counted old a 0 marks.statement →
-    ReadsUpTo a b at_semicolon 0 value → Takes old b (statements_due due.body 0) (nested_at 0 (exactly due.right_brace) ∷ [])
+    ReadsUpTo a b at_semicolon 0 value →
+    Takes old b (statements_due due.body 0) (nested_at 0 (exactly due.right_brace) ∷ [])
 value_taken next counted read =
     takes_then (return_taken next counted) (takes_before (nested_at 0 (exactly due.right_brace) ∷ []) read.takes)
 
@@ -154,7 +155,8 @@ body_without_return {old} {a} {new} {drafts} read passed =
       written = read.written ∙ ap (block_then read.block) last.is_next;
       drafts_are = λ lines has. ap block_shape (sym (append-nil drafts)) ∙ read.drafts_are lines has [];
       moves = moves_as _ (omega arith) (moves_then read.moves last.moves);
-      takes = takes_then (read.takes due.body) (takes_passed (nested_at 0 (due.statements due.body)) (symbol RightBrace) [] 0
+      takes = takes_then (read.takes due.body)
+          (takes_passed (nested_at 0 (due.statements due.body)) (symbol RightBrace) [] 0
           last passed.passes.counts none_nested refl refl);
     }
 
@@ -164,9 +166,6 @@ pub name_behind_label_fails : {old a : Cursor} {label : LabelDraft} {error : Par
     (error ≡ fault.OutOfMemory) ⊎ ((error ≡ fault.Unexpected a.at) × ¬ IsNextName a) → FailsNamed old error
 name_behind_label_fails {a = a} {error = error} read other =
     fails_then (takes_before (nested_at 0 due.a_name ∷ []) (read.takes 0 none_nested)) (fails_name a error 0 other)
-
-pub label_of_named_fails : {old : Cursor} {error : ParseError} → FailsLabel old error → FailsNamed old error
-label_of_named_fails fails = fails_before (nested_at 0 due.a_name ∷ []) (fails 0 none_nested)
 
 pub named_read : {old a new : Cursor} {label : LabelDraft} {name : NameDraft} → ReadsLabel old a label →
     ReadsName a new name → ReadsNamed old new label name
@@ -180,7 +179,8 @@ named_read {old} {a} {new} {label} {name} read last =
       label_is = read.draft_is;
       name_is = last.draft_is ∙ ap (λ at. name_at at last.name) read.moves.at;
       moves = moves_then read.moves step.moves;
-      takes = takes_then (takes_before (nested_at 0 due.a_name ∷ []) (read.takes 0 none_nested)) (takes_name 0 none_nested last);
+      takes = takes_then (takes_before (nested_at 0 due.a_name ∷ []) (read.takes 0 none_nested))
+          (takes_name 0 none_nested last);
     }
 
 -- ---- parameters
@@ -199,7 +199,8 @@ int_none old _ no_int is = refl
 pub no_param : {old : Cursor} {error : ParseError} → error ≡ fault.Unexpected old.at → ¬ IsNextKind old (Word Int) →
     FailsParam old error
 no_param {old} {error} tells no_int = record {
-  first = λ other. fails_other old error (nested_at 0 due.params) tells (λ kind is. params_none old kind no_int other is);
+  first = λ other. fails_other old error (nested_at 0 due.params) tells
+      (λ kind is. params_none old kind no_int other is);
   next = fails_before named_due
       (fails_other old error (nested_at 0 due.int_word) tells (λ kind is. int_none old kind no_int is));
 }
@@ -210,19 +211,22 @@ param_over {old} next over = record {
   first = λ other. fails_at_limit (nested_at 0 due.params) (Word Int) (kinds (behind old))
       (due.label ∷ due.a_name ∷ due.after_param ∷ []) 0 marks.parameter next over refl refl;
   next = fails_before named_due
-      (fails_at_limit (nested_at 0 due.int_word) (Word Int) (kinds (behind old)) [] 0 marks.parameter next over refl refl);
+      (fails_at_limit (nested_at 0 due.int_word) (Word Int) (kinds (behind old)) [] 0 marks.parameter next over refl
+      refl);
 }
 
 first_int : {old a : Cursor} → IsNextKind old (Word Int) → Counted old a 0 marks.parameter →
     Takes old a (nested_at 0 due.params ∷ []) (named_due ++ after_param_due)
 first_int next counted =
-    takes_counted (nested_at 0 due.params) (Word Int) (due.label ∷ due.a_name ∷ due.after_param ∷ []) 0 marks.parameter next
+    takes_counted (nested_at 0 due.params) (Word Int) (due.label ∷ due.a_name ∷ due.after_param ∷ []) 0 marks.parameter
+    next
     counted refl refl
 
 next_int : {old a : Cursor} → IsNextKind old (Word Int) → Counted old a 0 marks.parameter →
     Takes old a next_param_due named_due
 next_int next counted =
-    takes_before named_due (takes_counted (nested_at 0 due.int_word) (Word Int) [] 0 marks.parameter next counted refl refl)
+    takes_before named_due
+    (takes_counted (nested_at 0 due.int_word) (Word Int) [] 0 marks.parameter next counted refl refl)
 
 pub param_fails : {old a : Cursor} {error : ParseError} → IsNextKind old (Word Int) → Counted old a 0 marks.parameter →
     FailsNamed a error → FailsParam old error
@@ -307,7 +311,8 @@ params_fail so_far fails =
     ]
 
 pub params_more : {old now behind_it new : Cursor} {drafts : List ParamDraft} {draft : ParamDraft}
-    (after : List ParamDraft) → after ≡ drafts ++ draft ∷ [] → ParamsSoFar old now drafts → ReadsParam now behind_it draft →
+    (after : List ParamDraft) → after ≡ drafts ++ draft ∷ [] → ParamsSoFar old now drafts →
+    ReadsParam now behind_it draft →
     IsNextSymbol behind_it Comma → Passes behind_it new → ParamsSoFar old new after
 params_more {old} {now} {behind_it} {new} {drafts} {draft} after are so_far read is passes =
     let shapes : map param_shape after ≡ map param_shape drafts ++ params_form.shape now.at read.param ∷ [] =
@@ -329,7 +334,8 @@ after_param_none old (token.Symbol Comma) no_comma other is = absurd (no_comma i
 after_param_none old (token.Symbol RightParenthesis) no_comma other is = absurd (other is)
 after_param_none old _ no_comma other is = refl
 
-pub params_end_fail : {old now behind_it : Cursor} {drafts : List ParamDraft} {draft : ParamDraft} {error : ParseError} →
+pub params_end_fail : {old now behind_it : Cursor} {drafts : List ParamDraft} {draft : ParamDraft}
+    {error : ParseError} →
     ParamsSoFar old now drafts → ReadsParam now behind_it draft → ¬ IsNextSymbol behind_it Comma →
     (error ≡ fault.Unexpected behind_it.at) × (¬ IsNextSymbol behind_it RightParenthesis) → FailsParams old error
 params_end_fail {behind_it = behind_it} {error = error} so_far read no_comma other =
@@ -337,7 +343,8 @@ params_end_fail {behind_it = behind_it} {error = error} so_far read no_comma oth
     (λ kind is. after_param_none behind_it kind no_comma other.1 is))
 
 pub params_end : {old now behind_it new : Cursor} {drafts : List ParamDraft} {draft : ParamDraft}
-    (after : List ParamDraft) → after ≡ drafts ++ draft ∷ [] → ParamsSoFar old now drafts → ReadsParam now behind_it draft →
+    (after : List ParamDraft) → after ≡ drafts ++ draft ∷ [] → ParamsSoFar old now drafts →
+    ReadsParam now behind_it draft →
     PassesSymbol behind_it new RightParenthesis → ReadsParams old new after
 params_end {old} {now} {behind_it} {new} {drafts} {draft} after are so_far read passed =
     let all = last_item {new = behind_it} read.param so_far.items read.written read.moves (read.sound, tt) in
@@ -349,11 +356,13 @@ params_end {old} {now} {behind_it} {new} {drafts} {draft} after are so_far read 
       drafts_are = ap (map param_shape) are ∙ map-append param_shape drafts (draft ∷ [])
           ∙ ap (λ s. map param_shape drafts ++ s ∷ []) read.draft_is ∙ all.drafts_are;
       moves = moves_then all.moves step.moves;
-      takes = takes_then (behind_param so_far read) (takes_passed (nested_at 0 due.after_param) (symbol RightParenthesis) [] 0
+      takes = takes_then (behind_param so_far read)
+          (takes_passed (nested_at 0 due.after_param) (symbol RightParenthesis) [] 0
           step passed.passes.counts none_nested refl refl);
     }
 
-pub params_none_read : {old new : Cursor} (drafts : List ParamDraft) → drafts ≡ [] → PassesSymbol old new RightParenthesis →
+pub params_none_read : {old new : Cursor} (drafts : List ParamDraft) → drafts ≡ [] →
+    PassesSymbol old new RightParenthesis →
     ReadsParams old new drafts
 params_none_read {old} {new} drafts none passed =
     let step = step_symbol passed in
@@ -363,11 +372,13 @@ params_none_read {old} {new} drafts none passed =
       written = step.is_next;
       drafts_are = ap (map param_shape) none;
       moves = step.moves;
-      takes = takes_passed (nested_at 0 due.params) (symbol RightParenthesis) [] 0 step passed.passes.counts none_nested refl
+      takes = takes_passed (nested_at 0 due.params) (symbol RightParenthesis) [] 0 step passed.passes.counts none_nested
+          refl
           refl;
     }
 
-pub moved_falls : {old new : Cursor} {count : ℕ} (kind : TokenKind) (more : List TokenKind) → kinds old.rest.now ≡ kind ∷ more →
+pub moved_falls : {old new : Cursor} {count : ℕ} (kind : TokenKind) (more : List TokenKind) →
+    kinds old.rest.now ≡ kind ∷ more →
     0 < count → Moves old new count → length new.rest.now < length old.rest.now
 moved_falls {old} {new} {count} kind more is some moves =
     let any : 0 < length old.rest.now =
@@ -394,7 +405,8 @@ no_authority_read {old} {new} {drafts} none passed =
       written = step.is_next;
       drafts_are = ap (map name_shape) none;
       moves = step.moves;
-      takes = takes_passed (nested_at 0 due.authority) (symbol LeftBrace) [] 0 step passed.passes.counts none_nested refl refl;
+      takes = takes_passed (nested_at 0 due.authority) (symbol LeftBrace) [] 0 step passed.passes.counts none_nested
+          refl refl;
     }
 
 authority_none : (old : Cursor) (kind : TokenKind) → ¬ IsNextSymbol old LeftBrace → ¬ IsNextKind old (Word Where) →
@@ -439,37 +451,44 @@ no_authority_word_fails {a = a} {error = error} first other =
 words_taken : {old a b : Cursor} → PassesWord old a Where → PassesWord a b Authority →
     Takes old b authority_due opening_due
 words_taken first second =
-    takes_then (where_taken first) (takes_before opening_due (takes_passed (nested_at 0 due.authority_word) (Word Authority) [] 0
+    takes_then (where_taken first)
+    (takes_before opening_due (takes_passed (nested_at 0 due.authority_word) (Word Authority) [] 0
     (step_word second) second.passes.counts none_nested refl refl))
 
-pub authority_opening_fails : {old a b : Cursor} {error : ParseError} → PassesWord old a Where → PassesWord a b Authority →
+pub authority_opening_fails : {old a b : Cursor} {error : ParseError} → PassesWord old a Where →
+    PassesWord a b Authority →
     (error ≡ fault.Unexpected b.at) × (¬ IsNextSymbol b LeftParenthesis) → FailsAuthority old error
 authority_opening_fails {b = b} {error = error} first second other =
-    fails_then (words_taken first second) (fails_before behind_opening (fails_fixed b error due.left_parenthesis 0 other))
+    fails_then (words_taken first second)
+    (fails_before behind_opening (fails_fixed b error due.left_parenthesis 0 other))
 
 opened_taken : {old a b c : Cursor} → PassesWord old a Where → PassesWord a b Authority →
     PassesSymbol b c LeftParenthesis → Takes old c authority_due behind_opening
 opened_taken first second third =
-    takes_then (words_taken first second) (takes_before behind_opening (takes_fixed due.left_parenthesis 0 none_nested third))
+    takes_then (words_taken first second)
+    (takes_before behind_opening (takes_fixed due.left_parenthesis 0 none_nested third))
 
 pub principals_fail : {old a b c : Cursor} {error : ParseError} → PassesWord old a Where → PassesWord a b Authority →
     PassesSymbol b c LeftParenthesis → FailsNames c error → FailsAuthority old error
 principals_fail first second third fails =
     fails_then (opened_taken first second third) (fails of_principals 0 none_nested)
 
-principals_taken : {old a b c d : Cursor} {drafts : List NameDraft} → PassesWord old a Where → PassesWord a b Authority →
+principals_taken : {old a b c d : Cursor} {drafts : List NameDraft} → PassesWord old a Where →
+    PassesWord a b Authority →
     PassesSymbol b c LeftParenthesis → ReadsNames c d drafts →
     Takes old d authority_due (nested_at 0 due.after_principal ∷ [])
 principals_taken first second third read =
     takes_then (opened_taken first second third) (read.takes of_principals 0 none_nested)
 
-after_principal_none : (old : Cursor) (kind : TokenKind) → ¬ IsNextSymbol old Comma → ¬ IsNextSymbol old RightParenthesis →
+after_principal_none : (old : Cursor) (kind : TokenKind) → ¬ IsNextSymbol old Comma →
+    ¬ IsNextSymbol old RightParenthesis →
     IsNextKind old kind → due_after_token due.after_principal kind ≡ None
 after_principal_none old (token.Symbol Comma) no_comma other is = absurd (no_comma is)
 after_principal_none old (token.Symbol RightParenthesis) no_comma other is = absurd (other is)
 after_principal_none old _ no_comma other is = refl
 
-pub principals_end_fail : {old a b c d : Cursor} {drafts : List NameDraft} {error : ParseError} → PassesWord old a Where →
+pub principals_end_fail : {old a b c d : Cursor} {drafts : List NameDraft} {error : ParseError} →
+    PassesWord old a Where →
     PassesWord a b Authority → PassesSymbol b c LeftParenthesis → ReadsNames c d drafts →
     (error ≡ fault.Unexpected d.at) × (¬ IsNextSymbol d RightParenthesis) → FailsAuthority old error
 principals_end_fail {d = d} {error = error} first second third read other =
@@ -481,7 +500,8 @@ closed_taken : {old a b c d e : Cursor} {drafts : List NameDraft} → PassesWord
     Takes old e authority_due (nested_at 0 (exactly due.left_brace) ∷ [])
 closed_taken first second third read closed =
     takes_then (principals_taken first second third read) (takes_passed (nested_at 0 due.after_principal)
-    (symbol RightParenthesis) (exactly due.left_brace ∷ []) 0 (step_symbol closed) closed.passes.counts none_nested refl refl)
+    (symbol RightParenthesis) (exactly due.left_brace ∷ []) 0 (step_symbol closed) closed.passes.counts none_nested refl
+    refl)
 
 pub authority_brace_fails : {old a b c d e : Cursor} {drafts : List NameDraft} {error : ParseError} →
     PassesWord old a Where → PassesWord a b Authority → PassesSymbol b c LeftParenthesis → ReadsNames c d drafts →
@@ -542,13 +562,16 @@ tail_opening_fails {old} {error} other =
 
 tail_opened : {old a : Cursor} → PassesSymbol old a LeftParenthesis →
     Takes old a tail_due (nested_at 0 due.params ∷ behind_params)
-tail_opened passed = takes_before (nested_at 0 due.params ∷ behind_params) (takes_fixed due.left_parenthesis 0 none_nested passed)
+tail_opened passed =
+    takes_before (nested_at 0 due.params ∷ behind_params) (takes_fixed due.left_parenthesis 0 none_nested passed)
 
-pub tail_params_fail : {old a : Cursor} {error : ParseError} → PassesSymbol old a LeftParenthesis → FailsParams a error →
+pub tail_params_fail : {old a : Cursor} {error : ParseError} → PassesSymbol old a LeftParenthesis →
+    FailsParams a error →
     FailsTail old error
 tail_params_fail passed fails = fails_then (tail_opened passed) (fails_before behind_params fails)
 
-params_taken : {old a b : Cursor} {params : List ParamDraft} → PassesSymbol old a LeftParenthesis → ReadsParams a b params →
+params_taken : {old a b : Cursor} {params : List ParamDraft} → PassesSymbol old a LeftParenthesis →
+    ReadsParams a b params →
     Takes old b tail_due behind_params
 params_taken passed read = takes_then (tail_opened passed) (takes_before behind_params read.takes)
 
@@ -593,7 +616,8 @@ tail_read {old} {a} {b} {c} {new} tail passed params authority body =
       params_are = params.drafts_are ∙ ap (λ at. params_at at params.params) first.moves.at;
       authority_is = authority.drafts_are ∙ ap (λ at. names_at at authority.names) authority_place;
       body_is = λ lines has. body.drafts_are lines (lines_moved lines to_c has)
-          ∙ ap (λ at. block_at lines at body.block (result_at lines (at + block_width body.block) body.result)) body_place;
+          ∙ ap (λ at. block_at lines at body.block (result_at lines (at + block_width body.block) body.result))
+          body_place;
       moves = moves_as _ (omega arith) (moves_then to_c body.moves);
       takes = takes_then (authority_taken passed params authority) body.takes;
     }

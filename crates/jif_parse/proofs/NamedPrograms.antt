@@ -1,16 +1,14 @@
 -- A program that was read and resolved has the names of its tokens.
 use Rattle.std.proofs.Common.{◌≡◌, ℕ, suc, ◌+◌, ◌<◌, ◌≤◌, codes, List, [], ◌∷◌, ◌++◌, map, length, Option, Some, None}
-use Rattle.std.proofs.Common.{inl, inr, refl, ap, sym, ◌∙◌, subst, arith}
-use Rattle.std.specs.Prelude.{◌⊎◌, All, sum_by}
+use Rattle.std.proofs.Common.{inl, inr, refl, sym, subst, arith}
+use Rattle.std.specs.Prelude.{◌⊎◌, All}
 use Rattle.std.specs.List.{AllZip, AllByRecursion}
 use Rattle.std.proofs.lemmas.List.Elements.{All-nil, All-cons, All-append, All-from_recursion}
-use Rattle.std.proofs.lemmas.List.Sums.{sum_by-cons}
-use Rattle.js_base.specs.Name.{IsName}
 use Rattle.js_base.specs.declared.ids.MethodId.{MethodId}
 use Rattle.principals.specs.ActsFor.{Declared}
 use Rattle.jif_lex.specs.declared.token.Token.{Token}
 use Rattle.jif_lex.specs.TokenLists.{AreTokens}
-use Rattle.jif_tree.specs.Trees.{FieldTree, VarTree, MethodTree, ProgramTree}
+use Rattle.jif_tree.specs.Trees.{FieldTree, VarTree, ProgramTree}
 use Rattle.jif_tree.specs.Named.{IsNameInText, IsNamedVariable, AreNamed}
 use Rattle.jif_grammar.specs.DraftShapes.{LabelShape, BlockShape, end_shape, declaration_shape, assignment_shape}
 use Rattle.jif_grammar.specs.DraftShapes.{element_assignment_shape, branch_shape, loop_shape, call_shape}
@@ -19,8 +17,8 @@ use Rattle.jif_grammar.specs.Programs as grammar
 use Rattle.jif_grammar.specs.Programs.{line_at}
 use Rattle.jif_resolve.specs.AddedVariables.{param_variable, local_variable}
 use Rattle.jif_resolve.specs.Counts.{LocalShape, locals_in}
-use Rattle.jif_resolve.specs.Meanings.{Global, globals_of}
-use Rattle.jif_resolve.specs.Resolved.{IsFieldFor, IsVariableFor, AreMethodsFor}
+use Rattle.jif_resolve.specs.Meanings.{globals_of}
+use Rattle.jif_resolve.specs.Resolved.{IsFieldFor, IsVariableFor}
 use Rattle.jif_resolve.specs.Variables.{VariableShape, result_variables, method_variables, variables_from}
 use Rattle.jif_resolve.specs.Verdicts.{IsProgramOf}
 use Rattle.jif_resolve.proofs.EachMethod.{each_method, method_count}

@@ -1,7 +1,5 @@
 -- What the phrases of a block are, read again: the same block, but for its lines.
-use Rattle.std.proofs.Common.{◌≡◌, ℕ, ◌+◌, Bool, true}
-use Rattle.std.proofs.Common.{List, [], map, length, Option, Some, None, sym}
-use Rattle.std.proofs.Common.{subst}
+use Rattle.std.proofs.Common.{◌≡◌, ℕ, ◌+◌, Bool, true, List, [], map, length, Option, Some, None, sym, subst}
 use Rattle.std.specs.Prelude.{⊤}
 use Rattle.std.specs.List.{AllZip, AllByRecursion}
 use Rattle.js_base.specs.Name.{IsName}
@@ -9,22 +7,19 @@ use Rattle.js_base.specs.declared.ids.FieldId.{FieldId}
 use Rattle.js_base.specs.declared.ids.VarId.{VarId}
 use Rattle.principals.specs.ActsFor.{IsDeclared}
 use Rattle.jif_tree.specs.Named.{IsNameInText}
-use Rattle.jif_tree.specs.Trees.{ExprTree, Heading, BlockTree, set_local, set_field}
-use Rattle.jif_tree.specs.Trees.{ProgramTree}
+use Rattle.jif_tree.specs.Trees.{ExprTree, Heading, BlockTree, set_local, set_field, ProgramTree}
 use Rattle.jif_grammar.specs.Phrases as phrase
 use Rattle.jif_grammar.specs.Phrases.{LabelPhrase, ExprPhrase, BlockPhrase}
 use Rattle.jif_grammar.specs.DraftShapes.{NameShape, ExprShape, BlockShape, end_shape}
 use Rattle.jif_grammar.specs.DraftShapes.{declaration_shape, assignment_shape, element_assignment_shape}
 use Rattle.jif_grammar.specs.DraftShapes.{branch_shape, loop_shape, call_shape, return_shape}
-use Rattle.jif_grammar.specs.Drafts.{block_at}
-use Rattle.jif_grammar.specs.Drafts.{result_at}
+use Rattle.jif_grammar.specs.Drafts.{block_at, result_at}
 use Rattle.jif_resolve.specs.Counts.{locals_in, statements_in, calls_in}
 use Rattle.jif_resolve.specs.Meanings.{Global}
 use Rattle.jif_resolve.specs.Places.{Setting, Place, meaning_at}
 use Rattle.jif_resolve.specs.Places.{after_statement, after_call, after_declaration, after_block}
 use Rattle.jif_resolve.specs.Faults.{block_faults, ends_in_return}
-use Rattle.jif_resolve.specs.Resolved.{assignment_tree, IsExprFor}
-use Rattle.jif_resolve.specs.Resolved.{heading_of, IsBlockFor}
+use Rattle.jif_resolve.specs.Resolved.{assignment_tree, IsExprFor, heading_of, IsBlockFor}
 use Rattle.jif_resolve.specs.Returns.{HasNoReturn, ReturnsLast}
 use Rattle.jif_resolve.specs.declared.meaning.Meaning.{Meaning}
 use Rattle.jif_resolve.specs.declared.meaning.Meaning.TheVariants as sense
@@ -33,12 +28,10 @@ use Rattle.jif_parse.specs.PrintedExprs.{expr_phrase}
 use Rattle.jif_parse.specs.PrintedProgram.{seen_behind}
 use Rattle.jif_parse.specs.PrintedBack.{block_without_lines}
 use Rattle.jif_parse.proofs.PrintedApart.{IsNamedBlock, IsNamedResult}
-use Rattle.jif_parse.proofs.PrintedPhrases.{branch_phrase, call_phrase, block_phrase}
-use Rattle.jif_parse.proofs.PrintedPhrases.{result_phrase}
+use Rattle.jif_parse.proofs.PrintedPhrases.{branch_phrase, call_phrase, block_phrase, result_phrase}
 use Rattle.jif_parse.proofs.PrintedSpelled.{HasNone, HasLast}
 use Rattle.jif_parse.proofs.PrintedLabels.{Laws}
-use Rattle.jif_parse.proofs.PrintedBackExprs.{SameGlobals, with_globals, naming_in}
-use Rattle.jif_parse.proofs.PrintedBackExprs.{IsNamedShape}
+use Rattle.jif_parse.proofs.PrintedBackExprs.{SameGlobals, with_globals, naming_in, IsNamedShape}
 use Rattle.jif_parse.proofs.PrintedKnown.{LocalsAre, GlobalsAre}
 
 -- ---- what is asked of a block, and what is found
@@ -188,7 +181,8 @@ none_of s p (branch_shape start guard first second rest) tree none (x, t, u, r, 
     )
 none_of s p (loop_shape start guard body rest) tree none (x, t, r, is, one, inner, behind) =
     let inside = after_statement p in
-    subst HasNone (sym is) (none_of s inside body t none.0 inner, none_of s (after_block inside body) rest r none.1 behind)
+    subst HasNone (sym is)
+    (none_of s inside body t none.0 inner, none_of s (after_block inside body) rest r none.1 behind)
 none_of s p (call_shape start name args into rest) tree none (m, values, kept, r, is, method, keeps, each, behind) =
     subst HasNone (sym is) (none_of s (after_call p) rest r none behind)
 none_of s p (return_shape start value rest) tree none is = absurd none
@@ -213,11 +207,13 @@ last_of s p (branch_shape start guard first second rest) tree last (x, t, u, r, 
     )
 last_of s p (loop_shape start guard body rest) tree last (x, t, r, is, one, inner, behind) =
     let inside = after_statement p in
-    subst HasLast (sym is) (none_of s inside body t last.0 inner, last_of s (after_block inside body) rest r last.1 behind)
+    subst HasLast (sym is)
+    (none_of s inside body t last.0 inner, last_of s (after_block inside body) rest r last.1 behind)
 last_of s p (call_shape start name args into rest) tree last (m, values, kept, r, is, method, keeps, each, behind) =
     subst HasLast (sym is) (last_of s (after_call p) rest r last behind)
 last_of s p (return_shape start value rest) tree last (x, r, is, one, behind) =
-    let ended : IsBlockFor s (after_statement p) end_shape r = subst (λ b. IsBlockFor s (after_statement p) b r) last behind in
+    let ended : IsBlockFor s (after_statement p) end_shape r =
+    subst (λ b. IsBlockFor s (after_statement p) b r) last behind in
     subst HasLast (sym is) ended
 
 pub nested_last : (b : BlockShape) → HasNoReturn b → ReturnsLast b

@@ -174,9 +174,6 @@ worded word rest ends = (tt, word_ends word (spelled_text rest) ends.stops, ends
 numbered : (n : ℕ) (rest : List Spelled) → IsSmall n → Ends rest → AreApart (token_part (Number (pos n)) ∷ rest)
 numbered n rest small ends = ((grind (arith, ints), small), number_ends n (spelled_text rest) ends.stops, ends.apart)
 
-after_space : (rest : List Spelled) → AreApart rest → Ends (space_part ∷ rest)
-after_space rest apart = record { apart = apart; stops = refl }
-
 -- ---- items, names and labels
 
 abbrev EachApart : {X : Type 0} → (X → List Spelled → List Spelled) → (X → Type 0) → Type 0
@@ -284,7 +281,8 @@ expr_apart (parenthesized inner) rest is ends =
     (expr_apart inner (symbol_part RightParenthesis ∷ rest) is
     (record { apart = behind right_parenthesis rest ends.apart; stops = refl }))
 expr_apart (signed complement inner) rest is ends = (tt, not_expr inner rest is, expr_apart inner rest is ends)
-expr_apart (signed minus inner) rest is ends = behind minus_sign (expr_pieces inner rest) (expr_apart inner rest is ends)
+expr_apart (signed minus inner) rest is ends =
+    behind minus_sign (expr_pieces inner rest) (expr_apart inner rest is ends)
 expr_apart (binary operator left right) rest is ends =
     expr_apart left (space_part ∷ symbol_part (operator_symbol operator) ∷ space_part ∷ expr_pieces right rest) is.0
     (record {
@@ -292,7 +290,8 @@ expr_apart (binary operator left right) rest is ends =
       stops = refl;
     })
 expr_apart (relabelled change inner label) rest is ends =
-    let last = label_apart label (symbol_part RightParenthesis ∷ rest) is.1 (behind right_parenthesis rest ends.apart) in
+    let last = label_apart label (symbol_part RightParenthesis ∷ rest) is.1
+    (behind right_parenthesis rest ends.apart) in
     let behind_inner : List Spelled =
     symbol_part Comma ∷ space_part ∷ label_pieces label (symbol_part RightParenthesis ∷ rest) in
     let inside = expr_apart inner behind_inner is.0
@@ -300,8 +299,10 @@ expr_apart (relabelled change inner label) rest is ends =
     worded (change_word change) (symbol_part LeftParenthesis ∷ expr_pieces inner behind_inner)
     (record { apart = behind left_parenthesis (expr_pieces inner behind_inner) inside; stops = refl })
 
-args_apart : (args : List ExprPhrase) (rest : List Spelled) → AreNamed args → Ends rest → AreApart (args_pieces args rest)
-args_apart args rest are ends = joined_apart (symbol Comma) expr_pieces IsNamed comma_parts expr_apart args rest are ends
+args_apart : (args : List ExprPhrase) (rest : List Spelled) → AreNamed args → Ends rest →
+    AreApart (args_pieces args rest)
+args_apart args rest are ends =
+    joined_apart (symbol Comma) expr_pieces IsNamed comma_parts expr_apart args rest are ends
 
 -- ---- statements
 
@@ -324,7 +325,8 @@ call_apart name args rest is are apart =
       stops = refl;
     })
 
-guard_apart : (guard : ExprPhrase) (rest : List Spelled) → IsNamed guard → AreApart rest → Ends (guard_pieces guard rest)
+guard_apart : (guard : ExprPhrase) (rest : List Spelled) → IsNamed guard → AreApart rest →
+    Ends (guard_pieces guard rest)
 guard_apart guard rest is apart =
     let after : List Spelled =
     symbol_part RightParenthesis ∷ space_part ∷ symbol_part LeftBrace ∷ line_end_part ∷ rest in
@@ -378,7 +380,8 @@ block_apart (branch_else guard first second rest) more is apart =
 block_apart (loop guard body rest) more is apart =
     let after : List Spelled = symbol_part RightBrace ∷ line_end_part ∷ block_pieces rest more in
     let inside = block_apart body after is.1 (tt, refl, block_apart rest more is.2 apart) in
-    worded While (guard_pieces guard (block_pieces body after)) (guard_apart guard (block_pieces body after) is.0 inside)
+    worded While (guard_pieces guard (block_pieces body after))
+    (guard_apart guard (block_pieces body after) is.0 inside)
 
 result_apart : (result : Option ExprPhrase) (rest : List Spelled) → IsNamedResult result → AreApart rest →
     AreApart (result_pieces result rest)
@@ -426,7 +429,8 @@ authority_apart (name ∷ names) rest are apart =
     (tt, refl, (tt, refl, behind left_parenthesis (names_pieces (name ∷ names) after) inside))
 
 head_apart : (kind : Option LabelPhrase) (name : List ℕ) (begin : LabelPhrase) (rest : List Spelled) →
-    IsNamedOptional kind → IsName name → IsNamedLabel begin → AreApart rest → AreApart (head_pieces kind name begin rest)
+    IsNamedOptional kind → IsName name → IsNamedLabel begin → AreApart rest →
+    AreApart (head_pieces kind name begin rest)
 head_apart None name begin rest is name_is begin_is apart =
     (tt, refl, named name (label_pieces begin rest) name_is (label_ends begin rest begin_is apart))
 head_apart (Some label) name begin rest is name_is begin_is apart =

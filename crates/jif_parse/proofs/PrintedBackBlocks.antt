@@ -1,12 +1,10 @@
 -- Printed blocks are read as themselves.
-use Rattle.std.proofs.Common.{◌≡◌, ℕ, suc, ◌+◌, true, false, not}
-use Rattle.std.proofs.Common.{[], ◌∷◌, ◌++◌, length, refl, ap, sym, ◌∙◌}
+use Rattle.std.proofs.Common.{◌≡◌, ℕ, suc, ◌+◌, true, false, not, [], ◌∷◌, ◌++◌, length, refl, ap, sym, ◌∙◌}
 use Rattle.std.proofs.Common.{subst, arith}
 use Rattle.std.specs.List.{flat_map}
 use Rattle.std.proofs.lemmas.List.{length-append}
 use Rattle.js_base.specs.declared.ids.VarId.{VarId}
-use Rattle.jif_tree.specs.Trees.{BlockTree, done, set_element}
-use Rattle.jif_tree.specs.Trees.{give_back}
+use Rattle.jif_tree.specs.Trees.{BlockTree, done, set_element, give_back}
 use Rattle.jif_grammar.specs.DraftShapes.{BlockShape, end_shape}
 use Rattle.jif_grammar.specs.DraftShapes.{declaration_shape, assignment_shape, element_assignment_shape}
 use Rattle.jif_grammar.specs.DraftShapes.{branch_shape, loop_shape, call_shape, return_shape}
@@ -17,8 +15,7 @@ use Rattle.jif_resolve.specs.Places.{after_statement, after_call, after_declarat
 use Rattle.jif_resolve.specs.Faults.{fault_where, optional_label_faults, local_faults, variable_faults}
 use Rattle.jif_resolve.specs.Faults.{array_faults, called_faults, into_faults, is_kept}
 use Rattle.jif_resolve.specs.Faults.{call_faults, expr_faults, block_faults, ends_in_return}
-use Rattle.jif_resolve.specs.Resolved.{IsExprFor}
-use Rattle.jif_resolve.specs.Resolved.{heading_of, IsBlockFor}
+use Rattle.jif_resolve.specs.Resolved.{IsExprFor, heading_of, IsBlockFor}
 use Rattle.jif_resolve.specs.Returns.{ReturnsLast}
 use Rattle.jif_resolve.specs.declared.fault.FaultKind.TheVariants.{WrongType}
 use Rattle.jif_parse.specs.PrintedNames.{Naming, field_name}
@@ -27,8 +24,7 @@ use Rattle.jif_parse.specs.PrintedProgram.{seen_behind, is_done}
 use Rattle.jif_parse.specs.PrintedBack.{block_without_lines, without_line}
 use Rattle.jif_parse.proofs.PrintedLists.{none_in_two, none_in_three, none_in_four, none_where}
 use Rattle.jif_parse.proofs.PrintedPhrases.{block_phrase}
-use Rattle.jif_parse.proofs.PrintedBackExprs.{array_back}
-use Rattle.jif_parse.proofs.PrintedBackExprs.{expr_back}
+use Rattle.jif_parse.proofs.PrintedBackExprs.{array_back, expr_back}
 use Rattle.jif_parse.proofs.PrintedKnown.{IsVariableAt, LocalsAre, locals_front, locals_behind, name_there, KnownAre}
 use Rattle.jif_parse.proofs.PrintedKnown.{known_later, names_at, args_back, method_back}
 use Rattle.jif_parse.proofs.PrintedAlike.{IsNamedBlockShape, Given, naming_of, local_names, BlockMade, assigned_tree}
@@ -47,7 +43,8 @@ only_end s p (assignment_shape start name value rest) tree (x, r, is, one, behin
     assigned_tree (λ t. is_done t ≡ false) (heading_of p start) x r tree (λ v. refl) (λ f. refl)
     (meaning_at s p name.text) is in
     let wrong : false ≡ true = sym not_empty ∙ empty in cc)
-only_end s p (element_assignment_shape start name index value rest) tree (f, i, x, r, is, array, at, one, behind) empty =
+only_end s p (element_assignment_shape start name index value rest) tree (f, i, x, r, is, array, at, one, behind)
+    empty =
     absurd (let wrong : false ≡ true = sym (ap is_done is) ∙ empty in cc)
 only_end s p (branch_shape start guard first second rest) tree (x, t, u, r, is, one, inner, other, behind) empty =
     absurd (let wrong : false ≡ true = sym (ap is_done is) ∙ empty in cc)
@@ -116,7 +113,8 @@ block_back g p n (declaration_shape start written name value rest) tree stands =
     }) in
     let Q : BlockTree → Type 0 = λ t. BlockMade g p n (declaration_shape start written name value rest) t in
     subst Q (sym stands.is.2)
-    (declared_back g p n start written name value rest x r stands.reach there stands.named.0.name faults.1 stands.is.3 e after)
+    (declared_back g p n start written name value rest x r stands.reach there stands.named.0.name faults.1 stands.is.3 e
+    after)
 block_back g p n (assignment_shape start name value rest) tree stands =
     let naming : Naming = naming_of g in
     let x = stands.is.0 in
@@ -134,7 +132,8 @@ block_back g p n (assignment_shape start name value rest) tree stands =
       clean = faults.2;
       is = stands.is.4;
     }) in
-    assigned_back g p n start name value rest x r tree names stands.named.0 stands.is.3 e after (meaning_at g.s p name.text) refl
+    assigned_back g p n start name value rest x r tree names stands.named.0 stands.is.3 e after
+    (meaning_at g.s p name.text) refl
     stands.is.2
 block_back g p n (element_assignment_shape start name index value rest) tree stands =
     let naming : Naming = naming_of g in
@@ -145,7 +144,8 @@ block_back g p n (element_assignment_shape start name index value rest) tree sta
     let faults = none_in_four (array_faults name.at (meaning_at g.s p name.text)) (expr_faults g.s p index)
     (expr_faults g.s p value) (block_faults g.s (after_statement p) rest) stands.clean in
     let names = names_at naming n g.s p g.globals stands.known in
-    let own = array_back g.s g.others g.same naming n p names name.text f stands.named.0 (meaning_at g.s p name.text) refl
+    let own = array_back g.s g.others g.same naming n p names name.text f stands.named.0 (meaning_at g.s p name.text)
+    refl
     stands.is.5 in
     let at_index =
     expr_back g.laws g.s g.declared g.others g.same g.program n p names index i stands.named.1 stands.is.6 in

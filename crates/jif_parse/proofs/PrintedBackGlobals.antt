@@ -21,11 +21,9 @@ use Rattle.jif_grammar.specs.Phrases.{LabelPhrase, ParamPhrase, ItemPhrase, Prog
 use Rattle.jif_grammar.specs.DraftShapes.{NameShape, FieldShape, ParamShape, MethodShape}
 use Rattle.jif_grammar.specs.Marks.{nothing, Marked, plain}
 use Rattle.jif_grammar.specs.Marks as marks
-use Rattle.jif_grammar.specs.Spelling.{label_spelling, optional_label_spelling}
-use Rattle.jif_grammar.specs.Spelling.{field_end_spelling}
+use Rattle.jif_grammar.specs.Spelling.{label_spelling, optional_label_spelling, field_end_spelling}
 use Rattle.jif_grammar.specs.Spelling.{head_spelling, param_spelling, params_spelling, authority_spelling}
-use Rattle.jif_grammar.specs.Spelling.{block_spelling}
-use Rattle.jif_grammar.specs.Spelling.{result_spelling}
+use Rattle.jif_grammar.specs.Spelling.{block_spelling, result_spelling}
 use Rattle.jif_grammar.specs.Drafts.{label_width, size_of, is_array, first_value, field_at, fields_at, params_at}
 use Rattle.jif_grammar.specs.Drafts.{method_at, methods_at, after_item, method_name_place, optional_label_at, draft_of}
 use Rattle.jif_resolve.specs.Meanings.{Global, has_result, method_meaning, fields_from, methods_from}
@@ -97,7 +95,8 @@ meanings_same [] [] distinct same name = refl
 meanings_same [] (h ∷ hs) distinct same name = absurd same
 meanings_same (g ∷ gs) [] distinct same name = absurd same
 meanings_same (g ∷ gs) (h ∷ hs) distinct same name =
-    ap (λ t. meaning_of (if bytes_eq name t then Some (earlier_of h (first_named name hs)) else first_named name hs)) same.0
+    ap (λ t. meaning_of (if bytes_eq name t then Some (earlier_of h (first_named name hs)) else first_named name hs))
+    same.0
     ∙ by (meanings_same gs hs distinct.1 same.2 name) (bytes_eq name g.name.text) refl
   where
     by : global_meaning hs name ≡ global_meaning gs name → (b : Bool) → bytes_eq name g.name.text ≡ b →
@@ -244,9 +243,11 @@ distinct_one all g before after [] is seen there first apart firsts_are = refl
 distinct_one all g before after (h ∷ hs) is seen there first apart firsts_are =
     let one = split_false (λ other. bytes_eq g.name.text other.name.text && nat_lt other.name.at g.name.at) seen h hs
     (ap (λ xs. is_global_before xs g.name) (sym there) ∙ first) in
-    let two = split_false (λ other. bytes_eq h.name.text other.name.text && nat_lt other.name.at h.name.at) before g after
+    let two = split_false (λ other. bytes_eq h.name.text other.name.text && nat_lt other.name.at h.name.at) before g
+    after
     (ap (λ xs. is_global_before xs h.name) (sym is) ∙ firsts_are.0) in
-    let rest = distinct_one all g before after hs is (seen ++ h ∷ []) (there ∙ sym (append_assoc seen (h ∷ []) hs)) first
+    let rest = distinct_one all g before after hs is (seen ++ h ∷ []) (there ∙ sym (append_assoc seen (h ∷ []) hs))
+    first
     apart.1 firsts_are.1 in
     ap (λ b. b || has_name g.name.text hs) (by (bytes_eq g.name.text h.name.text) refl one two) ∙ rest
   where
@@ -341,7 +342,8 @@ fields_same principals number (f ∷ fs) (g ∷ gs) (tree ∷ trees) one two = (
 -- the names that fields are printed with
 pub fields_named : (naming : Naming) (principals : Declared) (number : ℕ) (fields : List FieldShape)
     (trees : List FieldTree) → AllZip (IsFieldFor principals) fields trees →
-    ((i : ℕ) (tree : FieldTree) → slice_get trees i ≡ Some tree → slice_get naming.program.fields (number + i) ≡ Some tree) →
+    ((i : ℕ) (tree : FieldTree) → slice_get trees i ≡ Some tree →
+    slice_get naming.program.fields (number + i) ≡ Some tree) →
     GlobalsAre naming (fields_from number fields)
 fields_named naming principals number [] trees are stands = tt
 fields_named naming principals number (field ∷ fields) [] are stands = absurd are
@@ -381,9 +383,11 @@ kind_gives naming at None = refl
 kind_gives naming at (Some x) = refl
 
 pub methods_same : (principals : Declared) (globals : List Global) (naming : Naming) (lines : ℕ → ℕ) (number : ℕ)
-    (before methods : List MethodShape) (trees : List MethodTree) → AreMethodsFor principals globals before methods trees →
+    (before methods : List MethodShape) (trees : List MethodTree) →
+    AreMethodsFor principals globals before methods trees →
     (seen at : ℕ) →
-    SameEach (methods_from number methods) (methods_from number (methods_at lines at (methods_phrases naming seen trees)))
+    SameEach (methods_from number methods)
+    (methods_from number (methods_at lines at (methods_phrases naming seen trees)))
 methods_same principals globals naming lines number before [] trees are seen at =
     subst (λ ts. SameEach [] (methods_from number (methods_at lines at (methods_phrases naming seen ts)))) (sym are) tt
 methods_same principals globals naming lines number before (method ∷ methods) trees (t, ts, is, one, behind) seen at =
@@ -398,14 +402,17 @@ methods_same principals globals naming lines number before (method ∷ methods) 
     subst (λ xs. SameEach (methods_from number (method ∷ methods))
     (methods_from number (methods_at lines at (methods_phrases naming seen xs)))) (sym is) (
       one.name,
-      ap (λ k. meant k (has_result (method_at lines at own).result)) count ∙ ap (λ b. meant (length method.params) b) gives,
+      ap (λ k. meant k (has_result (method_at lines at own).result)) count
+          ∙ ap (λ b. meant (length method.params) b) gives,
       methods_same principals globals naming lines (suc number) (before ++ method ∷ []) methods ts behind
           (seen_after_method seen t) (after_item at (phrase.method own)),
     )
 
 pub methods_named : (naming : Naming) (principals : Declared) (globals : List Global) (number : ℕ)
-    (before methods : List MethodShape) (trees : List MethodTree) → AreMethodsFor principals globals before methods trees →
-    ((i : ℕ) (tree : MethodTree) → slice_get trees i ≡ Some tree → slice_get naming.program.methods (number + i) ≡ Some tree) →
+    (before methods : List MethodShape) (trees : List MethodTree) →
+    AreMethodsFor principals globals before methods trees →
+    ((i : ℕ) (tree : MethodTree) → slice_get trees i ≡ Some tree →
+    slice_get naming.program.methods (number + i) ≡ Some tree) →
     GlobalsAre naming (methods_from number methods)
 methods_named naming principals globals number before [] trees are stands = tt
 methods_named naming principals globals number before (method ∷ methods) trees (t, ts, is, one, behind) stands =
@@ -426,11 +433,14 @@ abbrev MethodsFrom : ℕ → List MethodShape → Type 0
 MethodsFrom bound methods = AllByRecursion (λ method. bound ≤ method.name.at) methods
 
 field_inside : (at : ℕ) (field : FieldPhrase) →
-    (at ≤ at + 1 + label_width field.label) × (suc (at + 1 + label_width field.label) ≤ after_item at (phrase.field field))
+    (at ≤ at + 1 + label_width field.label) ×
+    (suc (at + 1 + label_width field.label) ≤ after_item at (phrase.field field))
 field_inside at field =
-    let long : length (label_spelling nothing 0 field.label ++ plain 0 (Name field.name) ∷ field_end_spelling field.ending)
+    let long : length (label_spelling nothing 0 field.label ++ plain 0 (Name field.name) ∷ field_end_spelling
+    field.ending)
     ≡ label_width field.label + length (plain 0 (Name field.name) ∷ field_end_spelling field.ending) =
-    length-append (label_spelling nothing 0 field.label) (plain 0 (Name field.name) ∷ field_end_spelling field.ending) in
+    length-append (label_spelling nothing 0 field.label)
+    (plain 0 (Name field.name) ∷ field_end_spelling field.ending) in
     (omega arith, omega (arith, long))
 
 head_long : (kind : Option LabelPhrase) (name : List ℕ) (begin : LabelPhrase) →
@@ -444,7 +454,8 @@ head_long (Some label) name begin =
     )
 
 method_inside : (at : ℕ) (method : MethodPhrase) →
-    (at ≤ method_name_place at method.kind) × (suc (method_name_place at method.kind) ≤ after_item at (phrase.method method))
+    (at ≤ method_name_place at method.kind) ×
+    (suc (method_name_place at method.kind) ≤ after_item at (phrase.method method))
 method_inside at method =
     let head : List Marked = head_spelling method.kind method.name method.begin in
     let params : List Marked = plain 0 (symbol LeftParenthesis) ∷ params_spelling method.params in
@@ -481,8 +492,11 @@ fields_bound : (at : ℕ) (program : ProgramPhrase) → FieldsFrom at (fields_at
 fields_bound at [] = tt
 fields_bound at (phrase.field field ∷ items) =
     let inside = field_inside at field in
-    let after : ℕ = after_item at (phrase.field field) in
-    (inside.0, fields_later at after (fields_at after items) (omega (arith, inside.0, inside.1)) (fields_bound after items))
+    let after : ℕ = after_item at (phrase.field field) in (
+      inside.0,
+      fields_later at after (fields_at after items) (omega (arith, inside.0, inside.1))
+          (fields_bound after items),
+    )
 fields_bound at (phrase.method method ∷ items) =
     let inside = method_inside at method in
     let after : ℕ = after_item at (phrase.method method) in
@@ -556,13 +570,10 @@ other_side : (g : Global) (hs : List Global) → AreApart g.name.at hs → Acros
 other_side g [] apart = tt
 other_side g (h ∷ hs) apart = ((λ same. apart.0 (sym same), tt), other_side g hs apart.1)
 
-across_more : (gs : List Global) (h : Global) (hs : List Global) → Across gs (h ∷ []) → Across gs hs → Across gs (h ∷ hs)
+across_more : (gs : List Global) (h : Global) (hs : List Global) → Across gs (h ∷ []) → Across gs hs →
+    Across gs (h ∷ hs)
 across_more [] h hs one two = tt
 across_more (g ∷ gs) h hs one two = ((one.0.0, two.0), across_more gs h hs one.1 two.1)
-
-across_none : (gs : List Global) → Across gs []
-across_none [] = tt
-across_none (g ∷ gs) = (tt, across_none gs)
 
 across : (lines : ℕ → ℕ) (number other at : ℕ) (program : ProgramPhrase) →
     Across (fields_from number (fields_at at program)) (methods_from other (methods_at lines at program))
@@ -581,7 +592,8 @@ across lines number other at (phrase.method method ∷ items) =
       name = (method_at lines at method).name;
       meaning = method_meaning other (method_at lines at method);
     } in
-    across_more (fields_from number (fields_at after items)) own (methods_from (suc other) (methods_at lines after items))
+    across_more (fields_from number (fields_at after items)) own
+    (methods_from (suc other) (methods_at lines after items))
     (other_side own (fields_from number (fields_at after items))
     (apart_fields _ number after (fields_at after items) (omega (arith, inside.1)) (fields_bound after items)))
     (across lines number (suc other) after items)

@@ -25,8 +25,7 @@ use Rattle.jif_grammar.specs.Drafts.{params_at, method_name_place, method_at}
 use Rattle.jif_resolve.specs.Counts.{LocalShape, locals_in, statements_in, calls_in}
 use Rattle.jif_resolve.specs.Labels.{texts, IsLabelFor}
 use Rattle.jif_resolve.specs.Meanings.{Global, has_result}
-use Rattle.jif_resolve.specs.Places.{Setting, Place, next_variable, after_variable, after_params}
-use Rattle.jif_resolve.specs.Places.{after_statement}
+use Rattle.jif_resolve.specs.Places.{Setting, Place, next_variable, after_variable, after_params, after_statement}
 use Rattle.jif_resolve.specs.Places.{head_after, body_place, counted, variables_in}
 use Rattle.jif_resolve.specs.Faults.{fault_where, principals_faults, label_faults, optional_label_faults, local_faults}
 use Rattle.jif_resolve.specs.Faults.{params_faults, block_faults, ends_in_return, method_faults, setting_of}
@@ -36,19 +35,15 @@ use Rattle.jif_resolve.specs.Returns.{ReturnsLast}
 use Rattle.jif_resolve.specs.declared.fault.FaultKind.TheVariants.{WrongType}
 use Rattle.jif_parse.specs.PrintedNames.{Naming, name_of_variable, label_of_variable, name_or_none, variable_name}
 use Rattle.jif_parse.specs.PrintedNames.{variable_label, principal_name}
-use Rattle.jif_parse.specs.PrintedProgram.{seen_after_all, seen_behind, seen_after_result}
-use Rattle.jif_parse.specs.PrintedProgram.{seen_after_method}
+use Rattle.jif_parse.specs.PrintedProgram.{seen_after_all, seen_behind, seen_after_result, seen_after_method}
 use Rattle.jif_parse.specs.PrintedBack.{method_without_lines}
 use Rattle.jif_parse.proofs.PrintedLists.{none_in_three, none_in_six, six_joined, none_where}
-use Rattle.jif_parse.proofs.PrintedApart.{IsNamedLabel, IsNamedOptional, IsNamedParam}
-use Rattle.jif_parse.proofs.PrintedApart.{AreNames}
-use Rattle.jif_parse.proofs.PrintedApart.{IsNamedItem}
+use Rattle.jif_parse.proofs.PrintedApart.{IsNamedLabel, IsNamedOptional, IsNamedParam, AreNames, IsNamedItem}
 use Rattle.jif_parse.proofs.PrintedPhrases.{label_or_none, block_phrase, result_phrase, param_phrase}
 use Rattle.jif_parse.proofs.PrintedPhrases.{kind_phrase, method_phrase}
 use Rattle.jif_parse.proofs.PrintedSpelled.{HasLabel, HasLabelWhere, IsPrintable}
 use Rattle.jif_parse.proofs.PrintedLabels.{Laws, label_back, names_back}
-use Rattle.jif_parse.proofs.PrintedBackExprs.{SameGlobals, label_clean, label_named}
-use Rattle.jif_parse.proofs.PrintedBackExprs.{principals_clean}
+use Rattle.jif_parse.proofs.PrintedBackExprs.{SameGlobals, label_clean, label_named, principals_clean}
 use Rattle.jif_parse.proofs.PrintedKnown.{IsVariableAt, LocalsAre, KnownAre, known_later, GlobalsAre}
 use Rattle.jif_parse.proofs.PrintedAlike.{IsNamedBlockShape, Given, naming_of, new}
 use Rattle.jif_parse.proofs.PrintedBackBlocks.{block_back}
@@ -62,7 +57,8 @@ abbrev pub VarsAre : Naming → ℕ → List VariableShape → Type 0
 VarsAre naming n [] = ⊤
 VarsAre naming n (v ∷ vs) = IsVariableAt naming n v.name v.label × VarsAre naming (suc n) vs
 
-pub vars_front : (naming : Naming) (n : ℕ) (xs ys : List VariableShape) → VarsAre naming n (xs ++ ys) → VarsAre naming n xs
+pub vars_front : (naming : Naming) (n : ℕ) (xs ys : List VariableShape) → VarsAre naming n (xs ++ ys) →
+    VarsAre naming n xs
 vars_front naming n [] ys are = tt
 vars_front naming n (x ∷ xs) ys are = (are.0, vars_front naming (suc n) xs ys are.1)
 
@@ -101,7 +97,8 @@ result_where gives n = if gives then Some (record { 0 = n }) else None
 
 record ResultBack (naming : Naming) (own : MethodId) (n : ℕ) (gives : Bool) : Type 0 where
   labelled : HasLabelWhere naming (result_where gives n)
-  fresh : (at : ℕ) → VarsAre naming n (result_variables own (optional_label_at at (kind_phrase naming (result_where gives n))))
+  fresh : (at : ℕ) →
+      VarsAre naming n (result_variables own (optional_label_at at (kind_phrase naming (result_where gives n))))
   clean : (at : ℕ) →
       optional_label_faults naming.principals (optional_label_at at (kind_phrase naming (result_where gives n))) ≡ []
   same : (at : ℕ) → has_result (optional_label_at at (kind_phrase naming (result_where gives n))) ≡ gives
@@ -140,7 +137,8 @@ result_back laws naming declared own n (Some written) are =
           ∙ label_clean principals (label_at at (printed_parts principals label)) label
           (label_back laws principals label declared over at);
       same = λ at. refl;
-      named = subst (λ l. IsNamedLabel (label_or_none principals l)) (sym labelled) (label_named principals label declared);
+      named = subst (λ l. IsNamedLabel (label_or_none principals l)) (sym labelled)
+          (label_named principals label declared);
     }
 
 -- ---- parameters
@@ -221,8 +219,10 @@ params_back g p own first (param ∷ params) reach known named are none =
     (let id : ℕ → VarId = λ n. record { 0 = n } in ap id (sym reach)) in
     let rest = params_back g (after_variable p param.name) own (suc first) params (omega (arith, reach, long))
     (subst (λ v. KnownAre naming (suc first) (record { name = param.name.text; variable = v } ∷ p.known)) (sym first_is)
-    ((named_so, omega arith), known_later naming first (suc first) p.known (omega arith) known)) named.1 are.1 faults.2 in
-    let back : (at : ℕ) → IsLabelFor principals (label_at at (label_or_none principals (variable_label naming x))) label =
+    ((named_so, omega arith), known_later naming first (suc first) p.known (omega arith) known))
+    named.1 are.1 faults.2 in
+    let back : (at : ℕ) →
+    IsLabelFor principals (label_at at (label_or_none principals (variable_label naming x))) label =
     λ at. subst (λ l. IsLabelFor principals (label_at at (label_or_none principals l)) label) (sym labelled)
     (label_back g.laws principals label g.declared over at) in
     let own_phrase : ParamPhrase = param_phrase naming x in
@@ -248,7 +248,8 @@ params_back g p own first (param ∷ params) reach known named are none =
           (rest.clean (next at)));
       named = (
         (
-          subst (λ l. IsNamedLabel (label_or_none principals l)) (sym labelled) (label_named principals label g.declared),
+          subst (λ l. IsNamedLabel (label_or_none principals l)) (sym labelled)
+              (label_named principals label g.declared),
           subst IsName (sym named_so) named.0.name,
         ),
         rest.named,
@@ -322,17 +323,14 @@ pub record MethodAlike (naming : Naming) (method : MethodShape) (own : MethodPhr
 pub record MethodMade (principals : Declared) (others : List Global) (program : ProgramTree) (own : MethodId)
     (head : Place) (method : MethodShape) (tree : MethodTree) : Type 0 where
   pub printable : IsPrintable (record { principals = principals; program = program }) tree
-  pub named : IsNamedItem (phrase.method (method_phrase (record { principals = principals; program = program }) head.first tree))
+  pub named : IsNamedItem
+      (phrase.method (method_phrase (record { principals = principals; program = program }) head.first tree))
   pub seen : seen_after_method head.first tree ≡ head.first + variables_in method
   pub alike : MethodAlike (record { principals = principals; program = program }) method
       (method_phrase (record { principals = principals; program = program }) head.first tree)
   pub back : (lines : ℕ → ℕ) (at : ℕ) →
       MethodFresh principals others program own head method tree
       (method_at lines at (method_phrase (record { principals = principals; program = program }) head.first tree))
-
-long_variables : (own : MethodId) (params : List ParamShape) (n : ℕ) →
-    n + length (map (param_variable own) params) ≡ n + length params
-long_variables own params n = ap (λ k. n + k) (length-map params (param_variable own))
 
 some_kind : (naming : Naming) (n : ℕ) (result : Option LabelShape) →
     SameSome result (kind_phrase naming (result_where (has_result result) n))
@@ -352,14 +350,16 @@ seen_result true n = ap (λ b. if b then n else suc n) (none n) ∙ omega arith
 
 pub method_back : (laws : Laws) (principals : Declared) → IsDeclared principals → (globals others : List Global) →
     SameGlobals globals others → (program : ProgramTree) →
-    GlobalsAre (record { principals = principals; program = program }) globals → (own : MethodId) (before : List MethodShape)
+    GlobalsAre (record { principals = principals; program = program }) globals →
+    (own : MethodId) (before : List MethodShape)
     (method : MethodShape) (tree : MethodTree) →
     IsMethodFor (setting_of principals globals method) (head_after before) method tree →
     method_faults (setting_of principals globals method) (head_after before) method ≡ [] →
     VarsAre (record { principals = principals; program = program }) (counted variables_in before)
     (method_variables own method) → IsNamedMethod method → ReturnsLast method.body →
     MethodMade principals others program own (head_after before) method tree
-method_back laws principals declared globals others same_globals program globals_are own before method tree is none vars named
+method_back laws principals declared globals others same_globals program globals_are own before method tree is none vars
+    named
     returns =
     let s : Setting = setting_of principals globals method in
     let g : Given = record {
@@ -405,10 +405,12 @@ method_back laws principals declared globals others same_globals program globals
       clean = faults.5;
       is = is.body;
     }) in
-    let made_with : List VarId → Option VarId → MethodTree = λ ids result. record tree { params = ids; result = result } in
+    let made_with : List VarId → Option VarId → MethodTree =
+    λ ids result. record tree { params = ids; result = result } in
     let own_tree : MethodTree = made_with (param_ids first method.params) (result_where gives last) in
     let tree_is : own_tree ≡ tree =
-    ap (λ ids. made_with ids (result_where gives last)) (sym is.params) ∙ ap (λ r. made_with tree.params r) (sym is.result) in
+    ap (λ ids. made_with ids (result_where gives last)) (sym is.params)
+    ∙ ap (λ r. made_with tree.params r) (sym is.result) in
     let phrase_with : ℕ → MethodPhrase = λ k. record {
       kind = kind_phrase naming (result_where gives last);
       name = tree.name;
@@ -444,7 +446,8 @@ method_back laws principals declared globals others same_globals program globals
             ∙ sym (length-map (param_ids first method.params) (param_phrase naming));
         body = made.alike;
       });
-      back = λ lines at. subst (λ ph. MethodFresh principals others program own head method own_tree (method_at lines at ph))
+      back = λ lines at.
+          subst (λ ph. MethodFresh principals others program own head method own_tree (method_at lines at ph))
           phrase_is
           (let name_place : ℕ = method_name_place at own_phrase.kind in
           let params_place : ℕ =
@@ -507,7 +510,8 @@ method_back laws principals declared globals others same_globals program globals
                   params_same,
                   locals_same,
                   length-map (locals_in fresh.body) (local_variable own),
-                  length-append (map (param_variable own) fresh.params) (map (local_variable own) (locals_in fresh.body)),
+                  length-append (map (param_variable own) fresh.params)
+                      (map (local_variable own) (locals_in fresh.body)),
                 ))
                 (rb.fresh (at + 1)));
             name = is.name;

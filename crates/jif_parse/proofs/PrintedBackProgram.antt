@@ -17,8 +17,7 @@ use Rattle.jif_grammar.specs.DraftShapes.{FieldShape, LabelShape, ParamShape, Me
 use Rattle.jif_grammar.specs.Drafts.{fields_at, method_at, methods_at, after_item, draft_of}
 use Rattle.jif_resolve.specs.Counts.{locals_in, calls_in, LocalShape}
 use Rattle.jif_resolve.specs.Labels.{IsOptionalLabelFor}
-use Rattle.jif_resolve.specs.Meanings.{Global, has_result, is_main, main_from, fields_from, methods_from}
-use Rattle.jif_resolve.specs.Meanings.{globals_of}
+use Rattle.jif_resolve.specs.Meanings.{Global, has_result, is_main, main_from, fields_from, methods_from, globals_of}
 use Rattle.jif_resolve.specs.Places.{Place, head_after, counted, variables_in, numbered_in}
 use Rattle.jif_resolve.specs.Faults.{setting_of, method_faults, methods_faults, label_faults, global_faults}
 use Rattle.jif_resolve.specs.Variables.{VariableShape, result_variables, method_variables, variables_from}
@@ -31,16 +30,14 @@ use Rattle.jif_parse.specs.PrintedBack.{method_without_lines, without_lines}
 use Rattle.jif_parse.proofs.PrintedLists.{none_joined, none_in_two, none_in_three}
 use Rattle.jif_parse.proofs.PrintedApart.{IsSmall, IsNamedEnd, IsNamedItem, IsNamedProgram}
 use Rattle.jif_parse.proofs.PrintedPhrases.{fields_phrases, method_phrase, methods_phrases, program_phrase}
-use Rattle.jif_parse.proofs.PrintedPhrases.{field_phrase}
-use Rattle.jif_parse.proofs.PrintedPhrases.{field_end_phrase, HasElements}
+use Rattle.jif_parse.proofs.PrintedPhrases.{field_phrase, field_end_phrase, HasElements}
 use Rattle.jif_parse.proofs.PrintedSpelled.{IsPrintable}
 use Rattle.jif_parse.proofs.PrintedLabels.{Laws}
 use Rattle.jif_parse.proofs.PrintedBackExprs.{SameGlobals, label_clean, label_named}
 use Rattle.jif_parse.proofs.PrintedKnown.{GlobalsAre}
 use Rattle.jif_parse.proofs.PrintedBackStatements.{three_joined}
 use Rattle.jif_parse.proofs.PrintedBackMethods.{VarsAre, vars_front, vars_behind, vars_joined, param_variable}
-use Rattle.jif_parse.proofs.PrintedBackMethods.{local_variable, IsNamedMethod, MethodFresh, method_back}
-use Rattle.jif_parse.proofs.PrintedBackMethods.{MethodAlike}
+use Rattle.jif_parse.proofs.PrintedBackMethods.{local_variable, IsNamedMethod, MethodFresh, method_back, MethodAlike}
 use Rattle.jif_parse.proofs.PrintedBackGlobals.{SameEach, each_joined, Distinct, distinct_names, globals_same}
 use Rattle.jif_parse.proofs.PrintedBackGlobals.{globals_clean, AllApart, no_fields_after, ArePlainFields, fields_back}
 use Rattle.jif_parse.proofs.PrintedBackGlobals.{fields_same, fields_named, methods_same, methods_named}
@@ -141,7 +138,8 @@ variables_long own method =
     length-append (front ++ middle) final in
     let two : length (front ++ middle) ≡ length front + length middle = length-append front middle in
     let three : length front ≡ length method.params = length-map method.params (param_variable own) in
-    let four : length middle ≡ length (locals_in method.body) = length-map (locals_in method.body) (local_variable own) in
+    let four : length middle ≡ length (locals_in method.body) =
+    length-map (locals_in method.body) (local_variable own) in
     let five = result_long own method.result in
     omega (arith, one, two, three, four, five)
 
@@ -158,7 +156,13 @@ pub record SameCounts (before others : List MethodShape) : Type 0 where
 head_same : (before others : List MethodShape) → SameCounts before others → head_after others ≡ head_after before
 head_same before others same =
     let of : ℕ → ℕ → ℕ → Place =
-    λ first statement site. record { first = first; earlier = []; known = []; statement = statement; site = 1 + site } in
+    λ first statement site. record {
+      first = first;
+      earlier = [];
+      known = [];
+      statement = statement;
+      site = 1 + site;
+    } in
     ap (λ n. of n (counted numbered_in others) (counted (λ method. calls_in method.body) others)) same.variables
     ∙ ap (λ n. of (counted variables_in before) n (counted (λ method. calls_in method.body) others)) same.numbered
     ∙ ap (λ n. of (counted variables_in before) (counted numbered_in before) n) same.calls
@@ -210,7 +214,8 @@ main_same : (number : ℕ) (one two : MethodShape) (methods others : List Method
 main_same number one two methods others names counts gives rest =
     let test : List ℕ → ℕ → Bool → Bool =
     λ name count b. bytes_eq name (codes "main") && (count == 0 && not b) in
-    let found : Bool → Option MethodId → Option MethodId = λ b behind. if b then Some (record { 0 = number }) else behind in
+    let found : Bool → Option MethodId → Option MethodId =
+    λ b behind. if b then Some (record { 0 = number }) else behind in
     ap (λ t. found (test t (length two.params) (has_result two.result)) (main_from (suc number) others)) names
     ∙ ap (λ k. found (test one.name.text k (has_result two.result)) (main_from (suc number) others)) counts
     ∙ ap (λ b. found (test one.name.text (length one.params) b) (main_from (suc number) others)) gives
@@ -222,7 +227,8 @@ pub methods_back : (laws : Laws) (principals : Declared) → IsDeclared principa
     (before methods : List MethodShape) (trees : List MethodTree) → seen ≡ counted variables_in before →
     MethodsStand principals globals program number before methods trees →
     MethodsMade principals others program number seen before methods trees
-methods_back laws principals declared globals others same program globals_are number seen before [] trees seen_is stands =
+methods_back laws principals declared globals others same program globals_are number seen before [] trees seen_is
+    stands =
     let Q : List MethodTree → Type 0 = λ ts. MethodsMade principals others program number seen before [] ts in
     subst Q (sym stands.are) (record {
       printable = tt;
@@ -238,7 +244,8 @@ methods_back laws principals declared globals others same program globals_are nu
         main = refl;
       };
     })
-methods_back laws principals declared globals others same program globals_are number seen before (method ∷ methods) trees
+methods_back laws principals declared globals others same program globals_are number seen before (method ∷ methods)
+    trees
     seen_is stands =
     let naming : Naming = record { principals = principals; program = program } in
     let own : MethodId = record { 0 = number } in
@@ -266,17 +273,22 @@ methods_back laws principals declared globals others same program globals_are nu
       named = stands.named.1;
       returns = stands.returns.1;
     }) in
-    let Q : List MethodTree → Type 0 = λ xs. MethodsMade principals others program number seen before (method ∷ methods) xs in
+    let Q : List MethodTree → Type 0 =
+    λ xs. MethodsMade principals others program number seen before (method ∷ methods) xs in
     subst Q (sym stands.are.2) (record {
       printable = (made.printable, rest.printable);
-      named = (subst (λ k. IsNamedItem (phrase.method (method_phrase naming k t))) (sym seen_is) made.named, rest.named);
+      named = (
+        subst (λ k. IsNamedItem (phrase.method (method_phrase naming k t))) (sym seen_is) made.named,
+        rest.named,
+      );
       alike = (subst (λ k. MethodAlike naming method (method_phrase naming k t)) (sym seen_is) made.alike, rest.alike);
       back = λ fresh_before counts lines at.
           (let own_phrase = method_phrase naming seen t in
           let fresh : MethodShape = method_at lines at own_phrase in
           let next : ℕ = after_item at (phrase.method own_phrase) in
           let F : ℕ → Type 0 = λ k.
-          MethodFresh principals others program own (head_after before) method t (method_at lines at (method_phrase naming k t)) in
+          MethodFresh principals others program own (head_after before) method t
+          (method_at lines at (method_phrase naming k t)) in
           let one : MethodFresh principals others program own (head_after before) method t fresh =
           subst F (sym seen_is) (made.back lines at) in
           let variables : variables_in fresh ≡ variables_in method =
@@ -319,7 +331,8 @@ methods_back laws principals declared globals others same program globals_are nu
                 (subst (λ k. VarsAre naming k (variables_from (suc number) left))
                 (counted_more variables_in before method ∙ ap (λ k. first + k) (sym fresh_long)) back.vars);
             alike = alike_joined own_variables (method_variables own fresh) later (variables_from (suc number) left)
-                (alike_joined (map (param_variable own) method.params ++ map (local_variable own) (locals_in method.body))
+                (alike_joined
+                (map (param_variable own) method.params ++ map (local_variable own) (locals_in method.body))
                 (map (param_variable own) fresh.params ++ map (local_variable own) (locals_in fresh.body))
                 (result_variables own method.result) (result_variables own fresh.result)
                 (alike_joined (map (param_variable own) method.params) (map (param_variable own) fresh.params)
@@ -418,7 +431,8 @@ pub record ProgramMade (principals : Declared) (draft : DraftShape) (tree : Prog
   pub back : (lines : ℕ → ℕ) → ProgramFresh principals tree (draft_of lines (program_phrase principals tree))
 
 pub program_back : (laws : Laws) (principals : Declared) → IsDeclared principals → (draft : DraftShape)
-    (tree : ProgramTree) → IsPrintableDraft draft → IsProgramOf principals draft tree → ProgramMade principals draft tree
+    (tree : ProgramTree) → IsPrintableDraft draft → IsProgramOf principals draft tree →
+    ProgramMade principals draft tree
 program_back laws principals declared draft tree asked is =
     let naming : Naming = record { principals = principals; program = tree } in
     let globals : List Global = globals_of draft in
@@ -466,7 +480,8 @@ program_back laws principals declared draft tree asked is =
       alike = (made no_lines).alike;
       some = fields_some principals draft.fields tree.fields is.is_tree.fields asked.plain;
       back = λ lines.
-          (let back = (made lines).back [] (record { variables = refl; numbered = refl; calls = refl }) lines (place lines) in
+          (let back = (made lines).back [] (record { variables = refl; numbered = refl; calls = refl }) lines
+          (place lines) in
           let again : ProgramTree = record tree { methods = back.again } in
           let F : List MethodShape → Type 0 = λ methods.
           (let fresh : DraftShape = record { fields = fresh_fields; methods = methods } in

@@ -7,23 +7,20 @@ use Rattle.std.proofs.lemmas.Int.{ints}
 use Rattle.js_base.specs.Name.{IsName}
 use Rattle.jif_lex.specs.declared.token.Token.{Token}
 use Rattle.jif_lex.specs.declared.token.TokenKind.{TokenKind}
-use Rattle.jif_lex.specs.declared.token.TokenKind.TheVariants.{Name, Number, Word, Symbol}
+use Rattle.jif_lex.specs.declared.token.TokenKind.TheVariants.{Name}
 use Rattle.jif_lex.specs.declared.token.Symbol.TheVariants.{Semicolon, Comma, RightBrace}
 use Rattle.jif_lex.specs.TokenLists.{FitsText, AreTokens}
 use Rattle.jif_tree.specs.Named.{IsNameInText}
 use Rattle.label_lattice.specs.Written.{Part, policy, trust, symbol, kinds}
 use Rattle.jif_grammar.specs.Phrases as phrase
 use Rattle.jif_grammar.specs.Phrases.{LabelPhrase, ExprPhrase, BlockPhrase, FieldEnd, ParamPhrase, MethodPhrase}
-use Rattle.jif_grammar.specs.Phrases.{ItemPhrase}
-use Rattle.jif_grammar.specs.Phrases.{ProgramPhrase, complement, minus, release, acceptance}
+use Rattle.jif_grammar.specs.Phrases.{ItemPhrase, ProgramPhrase, complement, minus, release, acceptance}
 use Rattle.jif_grammar.specs.Unmarked.{joined_then, name_then, names_then, part_then, label_then, expr_then, args_then}
 use Rattle.jif_grammar.specs.Unmarked.{optional_label_then, block_then, field_end_then, param_then}
 use Rattle.jif_grammar.specs.Unmarked.{authority_then, result_then, head_then, item_then, program_then}
 use Rattle.jif_grammar.specs.Spelling.{param_spelling}
-use Rattle.jif_grammar.specs.DraftShapes.{BlockShape, FieldShape}
-use Rattle.jif_grammar.specs.DraftShapes.{end_shape}
-use Rattle.jif_grammar.specs.Drafts.{names_at, expr_at, expr_width, args_at, block_at, result_at}
-use Rattle.jif_grammar.specs.Drafts.{params_at}
+use Rattle.jif_grammar.specs.DraftShapes.{BlockShape, FieldShape, end_shape}
+use Rattle.jif_grammar.specs.Drafts.{names_at, expr_at, expr_width, args_at, block_at, result_at, params_at}
 use Rattle.jif_grammar.specs.Drafts.{method_at, methods_at, fields_at, first_value, after_item}
 use Rattle.jif_grammar.specs.Programs.{Spells}
 use Rattle.jif_grammar.proofs.Continued.{program_unmarked}
@@ -52,7 +49,8 @@ joined_found separator tokens R each (item ∷ next ∷ items) rest all =
     ((one.0, behind.0), behind.1)
 
 names_found : (names : List (List ℕ)) → Found names_then (AllByRecursion IsName) names
-names_found names rest all = joined_found (symbol Comma) name_then IsName (λ name more each. (each.0.0, each.1)) names rest all
+names_found names rest all =
+    joined_found (symbol Comma) name_then IsName (λ name more each. (each.0.0, each.1)) names rest all
 
 -- a name of a text as a record
 in_text : (name : List ℕ) → FitsText (Name name) → IsNameInText name

@@ -1,7 +1,5 @@
 -- The text of a program that was resolved is read as the same program, but for its lines.
-use Rattle.std.proofs.Common.{◌≡◌, ◌≤◌, ℕ, suc, pos, true, List, [], ◌∷◌}
-use Rattle.std.proofs.Common.{refl, ◌∙◌, subst, arith}
-use Rattle.std.specs.Prelude.{All}
+use Rattle.std.proofs.Common.{◌≡◌, ◌≤◌, ℕ, pos, true, List, [], ◌∷◌, refl, ◌∙◌, subst, arith}
 use Rattle.std.specs.List.{AllByRecursion}
 use Rattle.std.proofs.lemmas.Int.{ints}
 use Rattle.std.proofs.lemmas.List.Elements.{recursion_from_All}
@@ -17,7 +15,7 @@ use Rattle.jif_grammar.specs.Phrases as phrase
 use Rattle.jif_grammar.specs.Phrases.{FieldEnd, ProgramPhrase}
 use Rattle.jif_grammar.specs.Unmarked.{program_then}
 use Rattle.jif_grammar.specs.Grouping.{IsProgram}
-use Rattle.jif_grammar.specs.DraftShapes.{FieldShape, MethodShape, DraftShape}
+use Rattle.jif_grammar.specs.DraftShapes.{FieldShape, DraftShape}
 use Rattle.jif_grammar.specs.Drafts.{is_array, first_value, fields_at, after_item, draft_of}
 use Rattle.jif_grammar.specs.Programs as grammar
 use Rattle.jif_grammar.specs.Programs.{Spells, line_at}
@@ -85,7 +83,8 @@ pub record DraftLaws : Type 0 where
   pub returns : (list : List Token) (draft : DraftShape) → grammar.IsProgramOf list draft → AreReturnedLast draft
 
 pub reads_back : Laws → SpelledPrograms → DraftLaws → (principals : Declared) (list : List Token)
-    (draft : DraftShape) (tree : ProgramTree) → IsDeclared principals → AreTokens list → grammar.IsProgramOf list draft →
+    (draft : DraftShape) (tree : ProgramTree) → IsDeclared principals → AreTokens list →
+    grammar.IsProgramOf list draft →
     IsProgramOf principals draft tree → ReadsBack principals tree
 reads_back laws spelled_programs drafts principals list draft tree declared fits is_program resolved =
     let naming : Naming = record { principals = principals; program = tree } in

@@ -1,5 +1,5 @@
 -- The numbers of a program that was read and resolved are those of its tokens, so they have 64 bits.
-use Rattle.std.proofs.Common.{◌≡◌, ℕ, ℤ, pos, negsuc, suc, ◌^◌, ◌<◌, All, List, [], ◌∷◌, ◌++◌, Option, Some, None, sym}
+use Rattle.std.proofs.Common.{◌≡◌, ℕ, ℤ, pos, negsuc, suc, ◌^◌, ◌<◌, All, List, [], ◌∷◌, Option, Some, None, sym}
 use Rattle.std.proofs.Common.{subst, arith}
 use Rattle.std.specs.List.{AllZip, AllByRecursion}
 use Rattle.std.proofs.lemmas.Int.{ints}
@@ -9,22 +9,22 @@ use Rattle.jif_lex.specs.declared.token.Token.{Token}
 use Rattle.jif_lex.specs.TokenLists.{AreTokens}
 use Rattle.jif_tree.specs.Numbers.{IsNumber, ExprHasNumbers, BlockHasNumbers, HasNumbers}
 use Rattle.jif_tree.specs.Trees.{ExprTree, local, scalar, Heading, BlockTree, set_local, set_field, FieldTree}
-use Rattle.jif_tree.specs.Trees.{MethodTree, ProgramTree}
+use Rattle.jif_tree.specs.Trees.{ProgramTree}
 use Rattle.jif_grammar.specs.DraftShapes.{ExprShape, number_shape, variable_shape}
 use Rattle.jif_grammar.specs.DraftShapes.{element_shape, complement_shape, negation_shape, binary_shape}
 use Rattle.jif_grammar.specs.DraftShapes.{release_shape, endorsement_shape, BlockShape, end_shape}
 use Rattle.jif_grammar.specs.DraftShapes.{declaration_shape, assignment_shape, element_assignment_shape}
 use Rattle.jif_grammar.specs.DraftShapes.{branch_shape, loop_shape, call_shape, return_shape, FieldShape}
-use Rattle.jif_grammar.specs.DraftShapes.{MethodShape, DraftShape}
+use Rattle.jif_grammar.specs.DraftShapes.{DraftShape}
 use Rattle.jif_grammar.specs.Programs as grammar
 use Rattle.jif_resolve.specs.declared.meaning.Meaning.{Meaning}
 use Rattle.jif_resolve.specs.declared.meaning.Meaning.TheVariants as sense
 use Rattle.jif_resolve.specs.Faults.{setting_of}
-use Rattle.jif_resolve.specs.Meanings.{Global, globals_of}
+use Rattle.jif_resolve.specs.Meanings.{globals_of}
 use Rattle.jif_resolve.specs.Places.{Setting, Place, after_statement, after_block, after_call, after_declaration}
-use Rattle.jif_resolve.specs.Places.{meaning_at, head_after, body_place}
+use Rattle.jif_resolve.specs.Places.{meaning_at, body_place}
 use Rattle.jif_resolve.specs.Resolved.{variable_tree, assignment_tree, heading_of, IsExprFor, IsBlockFor}
-use Rattle.jif_resolve.specs.Resolved.{IsFieldFor, AreMethodsFor}
+use Rattle.jif_resolve.specs.Resolved.{IsFieldFor}
 use Rattle.jif_resolve.specs.Verdicts.{IsProgramOf}
 use Rattle.jif_resolve.proofs.EachMethod.{each_method}
 use Rattle.jif_parse.proofs.NamedPrograms.{draft_named}

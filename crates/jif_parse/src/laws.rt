@@ -39,7 +39,8 @@ pub fn named_laws()
     token_laws();
 }
 
-/// The numbers of a program that was read and resolved have 64 bits: its literals, and the starting values of its fields.
+/// The numbers of a program that was read and resolved have 64 bits: its literals, and the starting values of its
+/// fields.
 pub fn number_laws()
     ensures numbers { (list : List Token) (principals : Declared) (draft : DraftShape) (program : ProgramTree) →
         AreTokens list → grammar.IsProgramOf list draft → IsProgramOf principals draft program → HasNumbers program }

@@ -84,7 +84,8 @@ two_counted : (number own : ℕ) (method : MethodShape) (methods : List MethodSh
 two_counted number own method methods =
     sum_by-append (λ v. cond (belongs number v) 1 0) (method_variables (record { 0 = own }) method)
     (variables_from (suc own) methods)
-    ∙ ap (λ (n : ℕ). n + count_by (belongs number) (variables_from (suc own) methods)) (method_counted number own method)
+    ∙ ap (λ (n : ℕ). n + count_by (belongs number) (variables_from (suc own) methods))
+    (method_counted number own method)
 
 not_same : (n m : ℕ) → ¬ (m ≡ n) → (m == n) ≡ false
 not_same n m other = grind (arith, nat_tests)

@@ -69,7 +69,8 @@ fields_step fields i x less read =
     let front = map field_shape (take i fields) in
     ap (fields_from 0) (shapes_more field_shape fields i x less read)
     ∙ fields_more 0 front (field_shape x)
-    ∙ ap (λ n. fields_from 0 front ++ record { name = name_shape x.name; meaning = field_meaning n (field_shape x) } ∷ [])
+    ∙ ap (λ n.
+    fields_from 0 front ++ record { name = name_shape x.name; meaning = field_meaning n (field_shape x) } ∷ [])
     (shapes_long field_shape fields i less)
 
 methods_step : (methods : List MethodDraft) (i : ℕ) (x : MethodDraft) → i < length methods → x ≡ get_or methods i x →
@@ -80,7 +81,8 @@ methods_step methods i x less read =
     let front = map method_shape (take i methods) in
     ap (methods_from 0) (shapes_more method_shape methods i x less read)
     ∙ methods_more 0 front (method_shape x)
-    ∙ ap (λ n. methods_from 0 front ++ record { name = name_shape x.name; meaning = method_meaning n (method_shape x) } ∷ [])
+    ∙ ap (λ n.
+    methods_from 0 front ++ record { name = name_shape x.name; meaning = method_meaning n (method_shape x) } ∷ [])
     (shapes_long method_shape methods i less)
 
 -- a list of names that is one longer
@@ -303,7 +305,8 @@ first_put es key g named is before has name =
     ∙ elim (true_or_false (bytes_eq name g.name.text)) [
       | inl here ↦
           let same : name ≡ g.name.text = (bytes_eq-Decides name g.name.text).0 here in
-          let sooner : is_sooner next.at (name_in es name) ≡ true = ap (λ t. is_sooner next.at (name_in es t)) same ∙ is in
+          let sooner : is_sooner next.at (name_in es name) ≡ true =
+          ap (λ t. is_sooner next.at (name_in es t)) same ∙ is in
           ap (λ b. if b then Some next else name_in es name) here
           ∙ sym (sooner_is (name_in es name) next sooner)
           ∙ ap (λ found. with_first found next) (has name)
@@ -327,7 +330,8 @@ first_kept es g is before has name =
     elim (true_or_false (bytes_eq name g.name.text)) [
       | inl here ↦
           let same : name ≡ g.name.text = (bytes_eq-Decides name g.name.text).0 here in
-          let sooner : is_sooner next.at (name_in es name) ≡ false = ap (λ t. is_sooner next.at (name_in es t)) same ∙ is in
+          let sooner : is_sooner next.at (name_in es name) ≡ false =
+          ap (λ t. is_sooner next.at (name_in es t)) same ∙ is in
           sym (not_sooner_is (name_in es name) next sooner)
           ∙ ap (λ found. with_first found next) (has name)
           ∙ sym (ap choice here) ∙ sym (first_after name before g)

@@ -28,10 +28,9 @@ use Rattle.jif_grammar.specs.Drafts.{size_of, method_at, after_item, fields_at, 
 use Rattle.jif_grammar.specs.Programs.{IsWithin, IsProgramOf, line_at}
 use Rattle.jif_resolve.specs.Counts.{nodes_in, nodes_in_all}
 use Rattle.jif_resolve.specs.Sizes.{IsSizedField, elements_in, HasFewNodes, MethodKeepsLimits, KeepsLimits}
-use Rattle.jif_resolve.proofs.Begun.{begun, begun_append, of_optional_label, of_expr, of_args}
-use Rattle.jif_resolve.proofs.Begun.{worth_is}
-use Rattle.jif_resolve.proofs.Tallies.{read_after, tokens_behind, never_begun, IsRenewed, elements_of, a_node, other_nodes}
-use Rattle.jif_resolve.proofs.Tallies.{elements_read, nodes_read, StaysWithin}
+use Rattle.jif_resolve.proofs.Begun.{begun, begun_append, of_optional_label, of_expr, of_args, worth_is}
+use Rattle.jif_resolve.proofs.Tallies.{read_after, tokens_behind, never_begun, IsRenewed, elements_of, a_node}
+use Rattle.jif_resolve.proofs.Tallies.{other_nodes, elements_read, nodes_read, StaysWithin}
 use Rattle.jif_resolve.proofs.Tallies.{within_at_end, within_at_start, program_within, few_elements, small_array}
 use Rattle.jif_resolve.proofs.Tallies.{few_nodes, parted}
 use Rattle.jif_resolve.proofs.Tallies.{few_fields, few_methods, few_statements, fields_read, methods_read}

@@ -1,6 +1,6 @@
 -- A walk over the parameters of a method and over the methods of a draft.
-use Rattle.std.proofs.Common.{◌≡◌, ℕ, suc, ◌+◌, ◌-◌, ◌*◌, ◌^◌, ◌<◌, ◌≤◌, Bool, true, false, if◌then◌else◌, List, [], ◌∷◌}
-use Rattle.std.proofs.Common.{◌++◌, map, length, take, drop, get_or, All, Option, Some, None, refl, ap, sym, ◌∙◌}
+use Rattle.std.proofs.Common.{◌≡◌, ℕ, suc, ◌+◌, ◌-◌, ◌*◌, ◌^◌, ◌<◌, ◌≤◌, Bool, true, false, if◌then◌else◌, List, []}
+use Rattle.std.proofs.Common.{◌∷◌, ◌++◌, map, length, take, drop, get_or, All, Option, Some, None, refl, ap, sym, ◌∙◌}
 use Rattle.std.proofs.Common.{subst, arith, slice_get}
 use Rattle.std.specs.Option.{option_map, is_some}
 use Rattle.std.specs.List.{flat_map}
@@ -192,7 +192,8 @@ next_head before m =
     let one : (after_params head m.params).first + length ((after_params head m.params).earlier ++ names) + result
     ≡ counted variables_in (before ++ m ∷ []) =
     omega (arith, at_first, at_earlier, variables, all, locals) in
-    let two : (after_params head m.params).statement + 1 + statements_in m.body ≡ counted numbered_in (before ++ m ∷ []) =
+    let two : (after_params head m.params).statement + 1 + statements_in m.body
+    ≡ counted numbered_in (before ++ m ∷ []) =
     omega (arith, at_statement, statements) in
     let three : (after_params head m.params).site + calls_in m.body ≡ 1 + counted calls (before ++ m ∷ []) =
     omega (arith, at_site, sites) in
@@ -295,7 +296,8 @@ next_place {principals} {globals} {first} {methods} {i} {p} {found} x so_far les
     ∙ ap head_after (sym (shapes_more method_shape methods i x less read))
 
 pub method_few : {principals : Declared} {globals : List Global} {first : Option Fault} {i : ℕ}
-    {p : Place} {found : Option Fault} (draft : Draft) (methods : List MethodDraft) (x : MethodDraft) → KeepsLimits (draft_shape draft) → methods ≡ draft.methods.items →
+    {p : Place} {found : Option Fault} (draft : Draft) (methods : List MethodDraft) (x : MethodDraft) →
+    KeepsLimits (draft_shape draft) → methods ≡ draft.methods.items →
     MethodsSoFar principals globals first methods i p found → i < length methods →
     x ≡ get_or methods i x →
     FewBefore (after_method (has_result (method_shape x).result)
@@ -309,7 +311,8 @@ method_few {principals} {globals} {first} {i} {p} {found} draft methods x kept a
     subst FewBefore (sym (next_place x so_far less read)) (subst FewBefore head few)
 
 pub method_counted : {principals : Declared} {globals : List Global} {first : Option Fault} {i : ℕ}
-    {p : Place} {found : Option Fault} (draft : Draft) (methods : List MethodDraft) (x : MethodDraft) → KeepsLimits (draft_shape draft) → methods ≡ draft.methods.items →
+    {p : Place} {found : Option Fault} (draft : Draft) (methods : List MethodDraft) (x : MethodDraft) →
+    KeepsLimits (draft_shape draft) → methods ≡ draft.methods.items →
     MethodsSoFar principals globals first methods i p found → i < length methods →
     x ≡ get_or methods i x →
     IsCounted (after_block (body_place p (method_shape x)) (method_shape x).body)
@@ -321,7 +324,8 @@ method_counted draft methods x kept are so_far less read =
     record { variables = omega (arith, a); statements = omega (arith, b); sites = omega (arith, c) }
 
 pub next_fits : {principals : Declared} {globals : List Global} {first : Option Fault} {i : ℕ} {p : Place}
-    {found : Option Fault} (draft : Draft) (methods : List MethodDraft) (x : MethodDraft) (behind : Place) → KeepsLimits (draft_shape draft) → methods ≡ draft.methods.items →
+    {found : Option Fault} (draft : Draft) (methods : List MethodDraft) (x : MethodDraft) (behind : Place) →
+    KeepsLimits (draft_shape draft) → methods ≡ draft.methods.items →
     MethodsSoFar principals globals first methods i p found → i < length methods →
     x ≡ get_or methods i x →
     behind ≡ after_block (body_place p (method_shape x)) (method_shape x).body →

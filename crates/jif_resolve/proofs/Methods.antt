@@ -1,7 +1,6 @@
 -- The methods of a program, made one by one.
 use Rattle.std.proofs.Common.{◌≡◌, ℕ, ◌+◌, ◌^◌, ◌<◌, Bool, List, [], ◌∷◌, ◌++◌, map, length, take, drop}
-use Rattle.std.proofs.Common.{get_or, refl, ap}
-use Rattle.std.proofs.Common.{sym, ◌∙◌, subst, arith}
+use Rattle.std.proofs.Common.{get_or, refl, ap, sym, ◌∙◌, subst, arith}
 use Rattle.std.proofs.lemmas.List.{append-nil, append_assoc, map-append, length-append, length-map}
 use Rattle.js_base.specs.declared.ids.VarId.{VarId}
 use Rattle.js_base.specs.declared.ids.StmtId.{StmtId}
@@ -28,7 +27,8 @@ use Rattle.jif_resolve.proofs.MethodWalks.{FewBefore, shapes_from, params_taken,
 -- ---- parameters
 
 -- the numbers so far, and those of the parameters that are left
-pub record ParamIdsSoFar (start : Place) (params : List ParamDraft) (i : ℕ) (p : Place) (ids : List VarId) : Type 0 where
+pub record ParamIdsSoFar (start : Place) (params : List ParamDraft) (i : ℕ) (p : Place)
+    (ids : List VarId) : Type 0 where
   pub place : after_params p (map param_shape (drop i params)) ≡ after_params start (map param_shape params)
   pub numbers : ids ++ param_ids (p.first + length p.earlier) (map param_shape (drop i params))
       ≡ param_ids (start.first + length start.earlier) (map param_shape params)
@@ -112,7 +112,8 @@ methods_begin principals globals all back p methods same place none clean = reco
   whole = same;
   clean = ap (λ ys. methods_faults principals globals [] (map method_shape ys)) same ∙ clean;
   place = place;
-  made = λ trees is. subst (λ ms. AreMethodsFor principals globals [] (map method_shape all) (map method_tree ms ++ trees))
+  made = λ trees is.
+      subst (λ ms. AreMethodsFor principals globals [] (map method_shape all) (map method_tree ms ++ trees))
       (sym none)
       (subst (λ ys. AreMethodsFor principals globals [] (map method_shape ys) trees) same is);
 }
@@ -121,12 +122,14 @@ methods_begin principals globals all back p methods same place none clean = reco
 next_clean : {principals : Declared} {globals : List Global} {all front back : List MethodDraft} {p : Place}
     {methods : List Method} (x : MethodDraft) (rest : List MethodDraft) →
     MethodsMade principals globals all front back p methods → back ≡ x ∷ rest →
-    (method_faults (setting_of principals globals (method_shape x)) (head_after (map method_shape front)) (method_shape x)
+    (method_faults (setting_of principals globals (method_shape x)) (head_after (map method_shape front))
+    (method_shape x)
     ≡ [])
     × (methods_faults principals globals (map method_shape front ++ method_shape x ∷ []) (map method_shape rest) ≡ [])
 next_clean {principals} {globals} {all} {front} {back} {p} {methods} x rest so_far next =
     none_in_two
-    (method_faults (setting_of principals globals (method_shape x)) (head_after (map method_shape front)) (method_shape x))
+    (method_faults (setting_of principals globals (method_shape x)) (head_after (map method_shape front))
+    (method_shape x))
     (methods_faults principals globals (map method_shape front ++ method_shape x ∷ []) (map method_shape rest))
     (ap (λ ys. methods_faults principals globals (map method_shape front) (map method_shape ys)) (sym next)
     ∙ so_far.clean)

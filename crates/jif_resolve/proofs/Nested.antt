@@ -7,8 +7,8 @@ use Rattle.jif_lex.specs.declared.token.Symbol.TheVariants.{LeftBrace, RightBrac
 use Rattle.jif_lex.specs.declared.token.Symbol.TheVariants.{LeftBracket, RightBracket, Semicolon, Assign, Comma}
 use Rattle.jif_lex.specs.declared.token.Word.TheVariants.{Int, If, Else, While, Return}
 use Rattle.label_lattice.specs.Written.{symbol}
-use Rattle.jif_grammar.specs.Phrases.{LabelPhrase, ExprPhrase, number, variable, element, parenthesized, signed, binary, relabelled}
-use Rattle.jif_grammar.specs.Phrases.{complement, minus, release, acceptance}
+use Rattle.jif_grammar.specs.Phrases.{LabelPhrase, ExprPhrase, number, variable, element, parenthesized, signed, binary}
+use Rattle.jif_grammar.specs.Phrases.{relabelled, complement, minus, release, acceptance}
 use Rattle.jif_grammar.specs.Phrases.{BlockPhrase, end, declaration, assignment, element_assignment, call, call_into}
 use Rattle.jif_grammar.specs.Phrases.{branch, branch_else, loop}
 use Rattle.jif_grammar.specs.Operators.{operator_symbol}

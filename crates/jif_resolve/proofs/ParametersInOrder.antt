@@ -1,6 +1,5 @@
 -- The parameters of a method of a resolved program have numbers that rise in their order, since they count up.
-use Rattle.std.proofs.Common.{◌≡◌, ◌<◌, ◌+◌, ℕ, zero, suc, List, [], ◌∷◌, Some, slice_get, ap, sym, ◌∙◌}
-use Rattle.std.proofs.Common.{arith}
+use Rattle.std.proofs.Common.{◌≡◌, ◌<◌, ◌+◌, ℕ, zero, suc, List, [], ◌∷◌, Some, slice_get, ap, sym, ◌∙◌, arith}
 use Rattle.js_base.specs.declared.ids.VarId.{VarId}
 use Rattle.principals.specs.ActsFor.{Declared}
 use Rattle.jif_tree.specs.Trees.{MethodTree, ProgramTree}
@@ -28,7 +27,8 @@ pub params_rise : (principals : Declared) (draft : DraftShape) (tree : ProgramTr
     slice_get tree.methods place ≡ Some method → slice_get method.params first ≡ Some x →
     slice_get method.params second ≡ Some y → first < second → x.0 < y.0
 params_rise principals draft tree is place first second method x y at x_at y_at less =
-    let found = shape_at principals (globals_of draft) [] draft.methods tree.methods is.is_tree.methods place method at in
+    let found = shape_at principals (globals_of draft) [] draft.methods tree.methods is.is_tree.methods place method
+    at in
     let ids = sym found.is.params in
     let from = found.head.first in
     let params = found.shape.params in

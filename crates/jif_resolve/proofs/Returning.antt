@@ -18,7 +18,8 @@ use Rattle.jif_resolve.proofs.EachMethod.{each_method}
 use Rattle.jif_resolve.specs.declared.meaning.Meaning.{Meaning}
 use Rattle.jif_resolve.specs.declared.meaning.Meaning.TheVariants as sense
 
-assigned_returns : (may : Bool) (heading : Heading) (means : Option Meaning) (value : ExprTree) (rest tree : BlockTree) →
+assigned_returns : (may : Bool) (heading : Heading) (means : Option Meaning) (value : ExprTree)
+    (rest tree : BlockTree) →
     assignment_tree heading means value rest ≡ Some tree → ReturnsLast may rest → ReturnsLast may tree
 assigned_returns may heading None value rest tree made returns = absurd cc
 assigned_returns may heading (Some (sense.Variable x)) value rest tree made returns =

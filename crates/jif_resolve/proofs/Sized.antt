@@ -8,8 +8,7 @@ use Rattle.jif_lex.specs.declared.token.Symbol.TheVariants.{LeftBrace, RightBrac
 use Rattle.jif_lex.specs.declared.token.Word.TheVariants.{Int, Void}
 use Rattle.label_lattice.specs.Written.{symbol, parts_tokens}
 use Rattle.jif_grammar.specs.Phrases.{LabelPhrase, ExprPhrase, FieldEnd, unset, sized, set, FieldPhrase, MethodPhrase}
-use Rattle.jif_grammar.specs.Phrases.{BlockPhrase}
-use Rattle.jif_grammar.specs.Phrases.{field, method, ProgramPhrase}
+use Rattle.jif_grammar.specs.Phrases.{BlockPhrase, field, method, ProgramPhrase}
 use Rattle.jif_grammar.specs.Marks as marks
 use Rattle.jif_grammar.specs.Marks.{Beginning, Marked, Tally, tally_at_start, mark, plain, nothing, local, statement}
 use Rattle.jif_grammar.specs.Marks.{parameter, after_beginning, after_token, after_tokens}
@@ -26,8 +25,7 @@ use Rattle.jif_resolve.proofs.Begun.{begun, begun_append, of_label, of_params, o
 use Rattle.jif_resolve.proofs.Begun.{begun_plain, worth_is, CountsNoNodes, expr_counts_nothing}
 use Rattle.jif_resolve.proofs.Tallies.{Reading, read_after, tokens_behind, IsRenewed, renewed_append}
 use Rattle.jif_resolve.proofs.Tallies.{a_field, a_method, a_statement, a_parameter, a_variable}
-use Rattle.jif_resolve.proofs.Tallies.{parameters_read, variables_read, StaysWithin}
-use Rattle.jif_resolve.proofs.Tallies.{within_at_end}
+use Rattle.jif_resolve.proofs.Tallies.{parameters_read, variables_read, StaysWithin, within_at_end}
 use Rattle.jif_resolve.proofs.Tallies.{few_parameters, few_variables}
 
 -- ---- fields and methods
@@ -48,7 +46,8 @@ head_begun amount (Some label) name begin none =
       of_label amount marks.method 0 begin none,
     ))
 
-pub result_begun : (amount : Beginning → ℕ) (lines : ℕ → ℕ) (at : ℕ) (result : Option ExprPhrase) → CountsNoNodes amount →
+pub result_begun : (amount : Beginning → ℕ) (lines : ℕ → ℕ) (at : ℕ) (result : Option ExprPhrase) →
+    CountsNoNodes amount →
     begun amount (result_spelling result) ≡ worth amount (result_at lines at result)
 result_begun amount lines at None none = refl
 result_begun amount lines at (Some value) none =
@@ -99,7 +98,8 @@ head_renewed r (Some label) name begin on none no_method starts t =
       ap r.read (tokens_behind t front (plain 0 (Name name) ∷ begins ∷ more)),
       begun_append r.amount front (plain 0 (Name name) ∷ begins ∷ more),
       of_label r.amount nothing 0 label none,
-      read_after r (after_token before begins) more (begun_plain r.anew 0 (parts_tokens begin ++ symbol RightBrace ∷ []) on),
+      read_after r (after_token before begins) more
+          (begun_plain r.anew 0 (parts_tokens begin ++ symbol RightBrace ∷ []) on),
     )
 
 abbrev no_nodes_are_methods : CountsNoNodes a_method

@@ -1,6 +1,6 @@
 -- The variables of a program, added one by one.
-use Rattle.std.proofs.Common.{◌≡◌, ℕ, suc, ◌+◌, ◌<◌, ◌≤◌, List, [], ◌∷◌, ◌++◌, map, length, drop, get_or, refl, ap, sym, ◌∙◌}
-use Rattle.std.proofs.Common.{subst, arith}
+use Rattle.std.proofs.Common.{◌≡◌, ℕ, suc, ◌+◌, ◌<◌, ◌≤◌, List, [], ◌∷◌, ◌++◌, map, length, drop, get_or, refl, ap, sym}
+use Rattle.std.proofs.Common.{◌∙◌, subst, arith}
 use Rattle.std.specs.List.{AllZip, flat_map}
 use Rattle.std.proofs.lemmas.Grind.{flat_map-append}
 use Rattle.std.proofs.lemmas.List.{append-nil, append_assoc, map-append, drop_all}
@@ -21,7 +21,8 @@ use Rattle.jif_resolve.specs.Counts.{locals_in}
 use Rattle.jif_resolve.specs.Faults.{optional_label_faults}
 use Rattle.jif_resolve.specs.Variables.{VariableShape, result_variables, method_variables, variables_from}
 use Rattle.jif_resolve.specs.Resolved.{IsVariableFor}
-use Rattle.jif_resolve.specs.AddedVariables.{param_variable, local_variable, local_variables, AreLabelled, AddsVariables}
+use Rattle.jif_resolve.specs.AddedVariables.{param_variable, local_variable, local_variables, AreLabelled}
+use Rattle.jif_resolve.specs.AddedVariables.{AddsVariables}
 use Rattle.jif_resolve.proofs.Usable.{none_in_two}
 use Rattle.jif_resolve.proofs.Walks.{at_place, if_alone, while_alone}
 use Rattle.jif_resolve.proofs.MethodWalks.{shapes_from}
@@ -41,7 +42,8 @@ adds_none principals old before is =
 pub adds_one : (principals : Declared) (shape : VariableShape) (old : List Var) (last : Var) →
     IsVariableFor principals shape (var_tree last) → AddsVariables principals (shape ∷ []) old (old ++ last ∷ [])
 adds_one principals shape old last one before is =
-    subst (λ ts. AllZip (IsVariableFor principals) (before ++ shape ∷ []) ts) (sym (map-append var_tree old (last ∷ [])))
+    subst (λ ts. AllZip (IsVariableFor principals) (before ++ shape ∷ []) ts)
+    (sym (map-append var_tree old (last ∷ [])))
     (zip_push (IsVariableFor principals) before (map var_tree old) shape (var_tree last) is one)
 
 pub adds_both : (principals : Declared) (front back : List VariableShape) (old between new : List Var) →

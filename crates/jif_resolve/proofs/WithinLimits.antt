@@ -1,6 +1,6 @@
 -- The program of a draft that keeps the parser's limits keeps those of programs.
-use Rattle.std.proofs.Common.{◌≡◌, ℕ, suc, ◌+◌, ◌≤◌, List, [], ◌∷◌, length, All, Some, slice_get, refl, ap, sym, ◌∙◌, subst}
-use Rattle.std.proofs.Common.{arith}
+use Rattle.std.proofs.Common.{◌≡◌, ℕ, suc, ◌+◌, ◌≤◌, List, [], ◌∷◌, length, All, Some, slice_get, refl, ap, sym, ◌∙◌}
+use Rattle.std.proofs.Common.{subst, arith}
 use Rattle.std.specs.Prelude.{sum_by}
 use Rattle.std.specs.List.{AllZip}
 use Rattle.std.proofs.lemmas.List.Elements.{All-nil, All-cons}
@@ -76,7 +76,8 @@ method_nested principals globals head method tree is kept =
     block_nested (setting_of principals globals method) (body_place head method) 0 method.body tree.body is.body
     kept.nesting
 
-few_variables : (principals : Declared) (draft : DraftShape) (tree : ProgramTree) → All MethodKeepsLimits draft.methods →
+few_variables : (principals : Declared) (draft : DraftShape) (tree : ProgramTree) →
+    All MethodKeepsLimits draft.methods →
     IsTreeOf principals draft tree → (number : ℕ) (method : MethodTree) → slice_get tree.methods number ≡ Some method →
     length (variables_in tree number) ≤ VARIABLES + results_in method.result
 few_variables principals draft tree kept is number method at =

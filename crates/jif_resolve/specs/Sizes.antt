@@ -61,8 +61,8 @@ IsBlockNested around (assignment_shape start name value rest) = IsExprNested aro
 IsBlockNested around (element_assignment_shape start name index value rest) =
     IsExprNested around index × IsExprNested around value × IsBlockNested around rest
 IsBlockNested around (branch_shape start guard first second rest) =
-    IsExprNested around guard × (around < NESTING) × IsBlockNested (around + 1) first × IsBlockNested (around + 1) second
-    × IsBlockNested around rest
+    IsExprNested around guard × (around < NESTING) × IsBlockNested (around + 1) first
+    × IsBlockNested (around + 1) second × IsBlockNested around rest
 IsBlockNested around (loop_shape start guard body rest) =
     IsExprNested around guard × (around < NESTING) × IsBlockNested (around + 1) body × IsBlockNested around rest
 IsBlockNested around (call_shape start name args into rest) =

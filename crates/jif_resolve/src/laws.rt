@@ -70,8 +70,8 @@ pub fn program_laws()
         slice_get method.params second ≡ Some y → first < second → x.0 < y.0 }
 {}
 
-/// A draft of the parser keeps the limits that `resolve` asks for, and returns only where a method ends. The program of a
-/// draft that keeps its limits is within those of programs.
+/// A draft of the parser keeps the limits that `resolve` asks for, and returns only where a method ends. The program of
+/// a draft that keeps its limits is within those of programs.
 pub fn limit_laws()
     ensures kept { (list : List Token) (draft : DraftShape) → grammar.IsProgramOf list draft → KeepsLimits draft }
     ensures returns { (list : List Token) (draft : DraftShape) → grammar.IsProgramOf list draft →

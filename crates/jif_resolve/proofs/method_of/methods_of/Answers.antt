@@ -19,7 +19,8 @@ method_of-requires-clause-counted c =
 
 pub next_method-requires : goal.next_method-requires
 next_method-requires c =
-    next_has_room c.in-Some.draft c.next.new.self.rest.items c.method_of.new.scope c.requires.limits.0 c.requires.limits.1
+    next_has_room c.in-Some.draft c.next.new.self.rest.items c.method_of.new.scope c.requires.limits.0
+    c.requires.limits.1
     c.requires.limits.2 c.loop-draft.invariant c.in-Some.ensures.steps.0 c.in_ok-method_of.ensures.place
 
 pub loop-draft-preserved : goal.loop-draft-preserved
