@@ -1,4 +1,5 @@
 pub mod Fronts
 pub mod Naming
+pub mod Outcomes
 pub mod Rows
 pub mod Told

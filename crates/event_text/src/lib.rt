@@ -3,6 +3,7 @@
 
 mod event;
 mod event_lines;
+mod laws;
 mod lines;
 mod numbers;
 mod script;
@@ -11,5 +12,6 @@ mod start;
 mod words;
 
 pub use event::{BadMessage, BadToken, Event};
+pub use laws::script_laws;
 pub use script::{EventsError, Script, read_events};
 pub use start::read_start;

@@ -49,7 +49,7 @@ pub record Word (P : ℕ → Type 0) (count : ℕ) : Type 0 where
   pub small : word < 2 ^ 64
   pub bits : BitsBelow P word count
 
-some_word : (P : ℕ → Type 0) → ((k : ℕ) → Decided (P k)) → (count : ℕ) → count ≤ 64 → Word P count
+pub some_word : (P : ℕ → Type 0) → ((k : ℕ) → Decided (P k)) → (count : ℕ) → count ≤ 64 → Word P count
 some_word P decide zero few = record {
   word = 0;
   small = lit< tt;

@@ -10,3 +10,4 @@ pub mod WholePrograms
 pub mod Ordered
 pub mod Readers
 pub mod OneNeeds
+pub mod SomeNeeds

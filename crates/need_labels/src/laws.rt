@@ -15,9 +15,13 @@ ghost use Rattle.need_labels.specs.NeedExamples.{a, b, x};
 
 /// Laws of the needs of a program.
 pub fn need_laws()
-    // A program has one answer.
+    // A program has one answer at most.
     ensures one_needs { (principals : Declared) (labelled : Labelled) (first second : NeedsShape) →
         AreNeedsOf principals labelled first → AreNeedsOf principals labelled second → first ≡ second }
+
+    // And it has one.
+    ensures some_needs { (principals : Declared) (labelled : Labelled) →
+        (needs : NeedsShape) × AreNeedsOf principals labelled needs }
 
     // There is an item for each statement, field and variable.
     ensures lengths { (principals : Declared) (labelled : Labelled) (needs : NeedsShape) →
