@@ -3,6 +3,7 @@ pub mod Decisions
 pub mod Joins
 pub mod JoinLaws
 pub mod KnownNames
+pub mod LabelOrNone
 pub mod LatticeLemmas
 pub mod MadeLabels
 pub mod NamesLoop

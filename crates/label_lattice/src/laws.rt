@@ -1,6 +1,6 @@
 //! Laws of labels.
 
-ghost use Rattle.std.specs.Prelude.{◌≡◌, ℕ, ◌<◌, ◌↔◌, List, [], All, IsTrue, length, codes};
+ghost use Rattle.std.specs.Prelude.{◌≡◌, ℕ, ◌<◌, ◌↔◌, ◌⊎◌, List, [], All, IsTrue, length, codes};
 ghost use Rattle.std.specs.List.{AllByRecursion, AllZip};
 ghost use Rattle.js_base.specs.declared.ids.PrincipalId.{PrincipalId};
 ghost use Rattle.principals.specs.ActsFor.{Declared, ActsFor, IsDeclared};
@@ -145,6 +145,11 @@ pub fn written_laws()
         AllByRecursion (HasDeclaredNames principals) parts →
         (known : List KnownPart) × (label : Label) × AllZip (IsKnownPart principals) parts known
         × IsMadeOf principals known label × IsLabelOver principals label }
+
+    // Tokens are a label over these principals, or are no label at all.
+    ensures label_or_none { (principals : Declared) (list : List Token) → IsDeclared principals →
+        ((label : Label) × IsLabelOver principals label × IsLabelOf principals list label)
+        ⊎ ((label : Label) → ¬ IsLabelOf principals list label) }
 {
     acts_for_laws();
 }
