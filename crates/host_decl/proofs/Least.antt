@@ -55,7 +55,7 @@ found_first test next rest all passes =
       ];
     }
 
-found_later : (test : List ℕ → Bool) (next : List ℕ) (rest : List (List ℕ)) (text : List ℕ) → test next ≡ false
+pub found_later : (test : List ℕ → Bool) (next : List ℕ) (rest : List (List ℕ)) (text : List ℕ) → test next ≡ false
     → IsFound test rest text → IsFound test (next ∷ rest) text
 found_later test next rest text fails found =
     record {

@@ -15,3 +15,9 @@ pub mod OneMeaning
 pub mod OneRefusal
 pub mod WholeKeys
 pub mod SoundHosts
+pub mod OwnedTexts
+pub mod DocumentTexts
+pub mod SomeOutcome
+pub mod TomlTexts
+pub mod TomlDocuments
+pub mod SmallNumbers
