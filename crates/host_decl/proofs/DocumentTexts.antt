@@ -5,7 +5,8 @@ use Rattle.std.specs.Cmp.Lexicographic.{slice_cmp}
 use Rattle.std.specs.List.{AllByRecursion}
 use Rattle.std.specs.Option.{option_map_or, option_and_then}
 use Rattle.std.specs.Ordering.{match_ordering}
-use Rattle.toml.specs.Data.{Data, string, integer, float, boolean, datetime, array, table, Items, no_items, item, Members}
+use Rattle.toml.specs.Data.{Data, string, integer, float, boolean, datetime, array, table, Items, no_items, item}
+use Rattle.toml.specs.Data.{Members}
 use Rattle.toml.specs.Data.{no_members, member, get_member, as_str, as_array, as_table}
 use Rattle.host_decl.specs.Draft.{or_empty, text_at, texts_of, pair_of, pairs_of}
 use Rattle.host_decl.specs.Schema.{items_in, items_at, selection, with_first, tables_of}
@@ -77,7 +78,8 @@ as_members most (table inner) has = has
 
 -- ---- members
 
-pub of_order : {X : Type 0} (P : X → Type 0) (order : Ordering) (less equal greater : X) → P less → P equal → P greater →
+pub of_order : {X : Type 0} (P : X → Type 0) (order : Ordering) (less equal greater : X) → P less → P equal →
+    P greater →
     P (match_ordering order less equal greater)
 of_order P Less less equal greater one two three = one
 of_order P Equal less equal greater one two three = two

@@ -11,7 +11,6 @@ use Rattle.std.specs.Str.{bytes_eq, is_utf8}
 use Rattle.std.proofs.lemmas.Bool.{cases_Bool, cases_lt, false≢true}
 use Rattle.std.proofs.lemmas.List.{take_all, take_more}
 use Rattle.std.proofs.lemmas.Option.{slice_get_within, slice_get-get_or, get_or_from_slice_get}
-use Rattle.std.proofs.lemmas.Slice.Eq.{bytes_eq-Decides}
 use Rattle.std.proofs.lemmas.Str.{IsUtf8-from_is_utf8, is_utf8-from_IsUtf8}
 use Rattle.js_base.specs.Name.{IsName}
 use Rattle.js_base.specs.Named.{IsFirstRepeated}
@@ -23,8 +22,11 @@ use Rattle.jif_lex.specs.Tokens.{Reading, ReadsAs, tokens, bad_byte, bad_number}
 use Rattle.label_lattice.specs.declared.label.Label.{Label}
 use Rattle.label_lattice.specs.Over.{IsLabelOver}
 use Rattle.label_lattice.specs.Written.{IsLabelOf}
+use Rattle.js_base.proofs.Decisions.{Decided}
+use Rattle.label_lattice.proofs.LabelOrNone.{name_held}
+use Rattle.label_lattice.proofs.MadeLabels.{place_held}
 use Rattle.principals.specs.ActsFor.{Declared, IsDeclared}
-use Rattle.principals.specs.Declaring.{AreDeclaredAs, IsPairOf, IsNamed, IsFirstUnknown, mentioned_names}
+use Rattle.principals.specs.Declaring.{AreDeclaredAs, IsPairOf, IsFirstUnknown, mentioned_names}
 use Rattle.principals.specs.declared.principals.PrincipalError.{PrincipalError}
 use Rattle.principals.specs.declared.principals.PrincipalError.TheVariants as principal_error
 use Rattle.toml.specs.Data.{Data, Members, no_members, member, get_member}
@@ -46,14 +48,12 @@ use Rattle.host_decl.proofs.DeclaredNames.{principal_names}
 use Rattle.host_decl.proofs.DocumentTexts.{AreTexts, AreTwoTexts, text_found, items_found, texts_found, tables_found}
 use Rattle.host_decl.proofs.DocumentTexts.{pairs_found}
 use Rattle.host_decl.proofs.LabelTexts.{OneReading, no_label, bad_byte_is_none, bad_number_is_none}
-use Rattle.host_decl.proofs.Least.{IsIn, IsFound, found_later, is_not_after_itself, not_after_trans, equal_texts, before_from_test}
+use Rattle.host_decl.proofs.Least.{IsIn, IsFound, found_later, is_not_after_itself, not_after_trans, equal_texts}
+use Rattle.host_decl.proofs.Least.{before_from_test}
 use Rattle.host_decl.proofs.Least.{before_from_no_test, in_from_any}
 use Rattle.host_decl.proofs.Lists.{all_of}
 use Rattle.host_decl.proofs.OwnedTexts.{IsText, owned}
 use Rattle.host_decl.proofs.SoundLinks.{sound_costs}
-
-abbrev Decided : Type 0 → Type 0
-Decided fact = fact ⊎ ¬ fact
 
 -- it fails for a cause beside want of memory
 abbrev Fails : (HostsError → Type 0) → Type 0
@@ -295,20 +295,6 @@ keys_outcome file has = by (tables_outcome (file_tables file) all)
 
 -- ---- repeated names
 
-held : (names : List (List ℕ)) (name : List ℕ) → Decided (Contains names name)
-held [] name = inr (λ found. omega (arith, found.1))
-held (next ∷ names) name = by (cases_Bool (bytes_eq next name)) (held names name)
-  where
-    by : (bytes_eq next name ≡ true) ⊎ (bytes_eq next name ≡ false) → Decided (Contains names name) →
-        Decided (Contains (next ∷ names) name)
-    by (inl same) rest = inl (0, omega arith, (bytes_eq-Decides next name).0 same)
-    by (inr other) (inl (k, within, is)) = inl (suc k, omega (arith, within), is)
-    by (inr other) (inr none) = inr not_there
-      where
-        not_there : ¬ Contains (next ∷ names) name
-        not_there (zero, within, is) = false≢true (sym other ∙ (bytes_eq-Decides next name).1 is)
-        not_there (suc k, within, is) = none (k, omega (arith, within), is)
-
 abbrev DistinctOrNot : List (List ℕ) → Type 0
 DistinctOrNot names =
     IsDistinct bytes_eq names ⊎ ((name : List ℕ) × Contains names name × IsFirstRepeated names name)
@@ -318,7 +304,7 @@ repeated_from : (names : List (List ℕ)) (place left : ℕ) → place + left �
 repeated_from names place zero is distinct =
     inl (subst (IsDistinct bytes_eq) (take_all place names (omega arith)) distinct)
 repeated_from names place (suc left) is distinct =
-    at (held (take place names) name) (λ more. repeated_from names (place + 1) left (omega arith) more)
+    at (name_held (take place names) name) (λ more. repeated_from names (place + 1) left (omega arith) more)
   where
     name : List ℕ
     name = get_or names place []
@@ -356,18 +342,13 @@ text_of_held (next ∷ names) all name (suc k, within, is) =
 
 -- ---- principals
 
-place_held : (names : List (List ℕ)) (name : List ℕ) → Contains names name → (n : ℕ) × IsNamed names name n
-place_held [] name (k, within, is) = absurd (omega (arith, within))
-place_held (next ∷ names) name (zero, within, is) = (zero, ap Some is)
-place_held (next ∷ names) name (suc k, within, is) =
-    let rest = place_held names name (k, omega (arith, within), is) in (suc rest.0, rest.1)
-
 pairs_outcome : (names : List (List ℕ)) (pairs : List (List ℕ × List ℕ)) →
     AllByRecursion (AreTwoTexts HOSTS_BYTES) pairs →
     ((ids : List (ℕ × ℕ)) × AllZip (IsPairOf names) pairs ids)
     ⊎ ((name : List ℕ) × IsFileText name × IsFirstUnknown names (mentioned_names pairs) name)
 pairs_outcome names [] all = inl ([], tt)
-pairs_outcome names (pair ∷ pairs) all = by (held names pair.0) (held names pair.1) (pairs_outcome names pairs all.1)
+pairs_outcome names (pair ∷ pairs) all =
+    by (name_held names pair.0) (name_held names pair.1) (pairs_outcome names pairs all.1)
   where
     Outcome : List (List ℕ × List ℕ) → Type 0
     Outcome pairs = ((ids : List (ℕ × ℕ)) × AllZip (IsPairOf names) pairs ids)

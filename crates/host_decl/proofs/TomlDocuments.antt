@@ -1,6 +1,7 @@
 -- The keys and the strings of a TOML document are texts, none of them longer than the document's text.
 use Rattle.std.proofs.Common.{◌≡◌, ◌⊎◌, ◌∙◌, ℕ, zero, suc, ◌+◌, ◌<◌, ◌≤◌, Bool, true, false, ◌&&◌, ◌==◌}
-use Rattle.std.proofs.Common.{if◌then◌else◌, List, [], ◌∷◌, ◌++◌, length, take, drop, get_or, get_or-drop, length-drop}
+use Rattle.std.proofs.Common.{if◌then◌else◌, List, [], ◌∷◌, ◌++◌, length, take, drop, get_or, get_or-drop}
+use Rattle.std.proofs.Common.{length-drop}
 use Rattle.std.proofs.Common.{Option, Some, None, inl, inr, ap, subst, arith, add-zero, eqb-true, lit<}
 use Rattle.std.proofs.Common.{nat_cmp, IsUtf8, drop-drop}
 use Rattle.std.specs.Prelude.{⊤, slice_index, option_map, option_and_then}
@@ -13,7 +14,8 @@ use Rattle.std.proofs.lemmas.List.{length-take}
 use Rattle.std.proofs.lemmas.Str.{IsUtf8-nil, IsUtf8-take, IsUtf8-drop}
 use Rattle.js_base.specs.declared.limits.TheConstants.{HOSTS_BYTES}
 use Rattle.toml_parser.specs.Lexical.{Read, first, is_bare, is_word, starts_newline, split_while, skip_ws, skip_blank}
-use Rattle.toml_parser.specs.Strings.{body, trim_newline, one_line, quoted, starts_string, simple_key, Key, key_after, key}
+use Rattle.toml_parser.specs.Strings.{body, trim_newline, one_line, quoted, starts_string, simple_key, Key}
+use Rattle.toml_parser.specs.Strings.{key_after, key}
 use Rattle.toml_parser.specs.Strings.{recursion_limit}
 use Rattle.toml_parser.specs.Numbers.{word_len, word_value, unquoted}
 use Rattle.toml_parser.specs.declared.scalar.Scalar.{Scalar}
@@ -21,10 +23,13 @@ use Rattle.toml_parser.specs.declared.scalar.Scalar.TheVariants.{Boolean, Intege
 use Rattle.toml_parser.proofs.LexicalLemmas.{IsCharBoundary-ascii_run}
 use Rattle.toml.specs.Data.{Data, string, array, table, Items, no_items, item, Members, same_key, push_item}
 use Rattle.toml.specs.Tables.{implicit, dotted, header, Node, value, open_table, open_array, Nodes, no_nodes, node}
-use Rattle.toml.specs.Tables.{get_node, insert, replace, close_node, close, Edit, header_node, dot_node, by_header, by_dot}
-use Rattle.toml.specs.Tables.{along_header, along_dots, Definition, key_value, std_table, array_table, Expression, new_node}
+use Rattle.toml.specs.Tables.{get_node, insert, replace, close_node, close, Edit, header_node, dot_node, by_header}
+use Rattle.toml.specs.Tables.{by_dot}
+use Rattle.toml.specs.Tables.{along_header, along_dots, Definition, key_value, std_table, array_table, Expression}
+use Rattle.toml.specs.Tables.{new_node}
 use Rattle.toml.specs.Tables.{redefine, at_found, at_key, put, Document, define_as, define}
-use Rattle.toml.specs.Parse.{read_map, after_byte, after_element, key_equals, keyval, items, members, scalar_data, atom}
+use Rattle.toml.specs.Parse.{read_map, after_byte, after_element, key_equals, keyval, items, members, scalar_data}
+use Rattle.toml.specs.Parse.{atom}
 use Rattle.toml.specs.Parse.{val, header_key, expression, ends_line, line, lines, skip_bom, parse_document}
 use Rattle.toml.proofs.Turns.{bom_boundary}
 use Rattle.host_decl.specs.Reading.{IsDocument}
@@ -53,7 +58,8 @@ string_is text is = by_cases (cases_Bool (first text == 34)) (cases_Bool (first 
 
 content_read : (most delim n : ℕ) (multi : Bool) (text : List ℕ) → (0 < delim) × (delim < 128) → IsText most text →
     If (Reads (IsText most) most) (body delim multi n text)
-content_read most delim n multi text is has = of_read (body delim multi n text) (body_read delim multi n [] text is has.0)
+content_read most delim n multi text is has =
+    of_read (body delim multi n text) (body_read delim multi n [] text is has.0)
   where
     of_read : (found : Option (List ℕ × List ℕ)) →
         If (λ read. IsUtf8 ([] ++ read.0) × IsUtf8 read.1 × (length read.0 + length read.1 ≤ length text)) found →
@@ -105,7 +111,8 @@ quoted_read most text is has =
     (λ three.
     let parts = and_parts (slice_index text 1 == first text) (slice_index text 2 == first text) three in
     content_read most (first text) (length text) true (trim_newline (drop 3 text)) delim
-    (trimmed most (drop 3 text) (drop_three most text delim.1 (is_byte (slice_index text 1) (first text) delim.1 parts.0)
+    (trimmed most (drop 3 text) (drop_three most text delim.1
+    (is_byte (slice_index text 1) (first text) delim.1 parts.0)
     (is_byte (slice_index text 2) (first text) delim.1 parts.1) has)))
     (λ _. one_line_read most text is has)
 
@@ -150,7 +157,8 @@ key_after_read most (suc n) path text all has =
     (λ part is.
     let rest = skip_ws part.1 in
     let left = skip_ws_text most part.1 is.1 in
-    by_test (If (Reads (IsKey most) most)) (first rest == 46) (key_after n (path ++ part.0 ∷ []) (skip_ws (drop 1 rest)))
+    by_test (If (Reads (IsKey most) most)) (first rest == 46)
+    (key_after n (path ++ part.0 ∷ []) (skip_ws (drop 1 rest)))
     (Some ((path, part.0), rest))
     (λ dot. key_after_read most n (path ++ part.0 ∷ []) (skip_ws (drop 1 rest))
     (all_push (IsText most) path part.0 all is.0)
@@ -470,7 +478,8 @@ header_key_read : (most : ℕ) (text : List ℕ) → IsText most text → If (Re
 unfolding header_key
 header_key_read most text has =
     if_then (Reads (IsKey most) most) (Reads (IsKey most) most) (key (skip_ws text))
-    (λ k. option_map (λ rest. (k.0, rest)) (after_byte 93 k.1)) (key_read most (skip_ws text) (skip_ws_text most text has))
+    (λ k. option_map (λ rest. (k.0, rest)) (after_byte 93 k.1))
+    (key_read most (skip_ws text) (skip_ws_text most text has))
     (λ k is. if_map (IsText most) (Reads (IsKey most) most) (after_byte 93 k.1) (λ rest. (k.0, rest))
     (after_byte_read most 93 k.1 (lit< tt) is.1) (λ rest left. (is.0, left)))
 
@@ -519,7 +528,8 @@ header_defined : (most : ℕ) (doc : Document) (parts : Key) (what : Definition)
 header_defined most doc parts what has is what_is =
     if_map (NodesHave most) (DocumentHas most) (along_header parts.0 (at_key parts.1 what) doc.0)
     (λ root. (root, parts.0 ++ parts.1 ∷ []))
-    (along_header_keeps most parts.0 (at_key parts.1 what) is.0 (at_key_keeps most parts.1 what is.1 what_is) doc.0 has.0)
+    (along_header_keeps most parts.0 (at_key parts.1 what) is.0
+    (at_key_keeps most parts.1 what is.1 what_is) doc.0 has.0)
     (λ root now. (now, all_push (IsText most) parts.0 parts.1 is.0 is.1))
 
 defined_as : (most : ℕ) (doc : Document) (parts : Key) (what : Definition) → DocumentHas most doc → IsKey most parts →
@@ -553,7 +563,8 @@ lines_read most (suc n) doc text has is =
 without_bom : (most : ℕ) (text : List ℕ) → IsText most text → IsText most (skip_bom text)
 unfolding skip_bom
 without_bom most text is =
-    by_test (IsText most) ((first text == 0xEF && slice_index text 1 == 0xBB) && slice_index text 2 == 0xBF) (drop 3 text)
+    by_test (IsText most) ((first text == 0xEF && slice_index text 1 == 0xBB) && slice_index text 2 == 0xBF)
+    (drop 3 text)
     text
     (λ mark. (IsUtf8-drop text 3 is.0 (bom_boundary text is.0 mark), omega (arith, length-drop 3 text, is.1)))
     (λ _. is)

@@ -1,7 +1,9 @@
 -- What a TOML reader reads from a text is made of texts, and so is what it leaves.
 use Rattle.std.proofs.Common.{◌≡◌, ◌⊎◌, ℕ, zero, suc, ◌+◌, ◌<◌, ◌≤◌, Bool, true, false, ◌&&◌, ◌||◌, ◌==◌}
-use Rattle.std.proofs.Common.{if◌then◌else◌, List, [], ◌∷◌, ◌++◌, append_assoc, append-nil, length, take, drop, get_or}
-use Rattle.std.proofs.Common.{length-append, length-drop, Option, Some, None, is_some, IsUtf8, inl, inr, refl, sym, ap}
+use Rattle.std.proofs.Common.{if◌then◌else◌, List, [], ◌∷◌, ◌++◌, append_assoc, append-nil, length, take, drop}
+use Rattle.std.proofs.Common.{get_or}
+use Rattle.std.proofs.Common.{length-append, length-drop, Option, Some, None, is_some, IsUtf8, inl, inr, refl, sym}
+use Rattle.std.proofs.Common.{ap}
 use Rattle.std.proofs.Common.{subst, arith, eqb-true, lit<, lit≤}
 use Rattle.std.specs.Prelude.{⊤, nat_lt, nat_le, encode_utf8, option_map, option_and_then, unwrap_or}
 use Rattle.std.specs.Char.{is_digit, len_utf8, IsScalar}
@@ -10,7 +12,8 @@ use Rattle.std.specs.Str.Parse.{digits_value}
 use Rattle.std.proofs.lemmas.Bool.{cases_Bool, false≢true, and_parts}
 use Rattle.std.proofs.lemmas.Bool.Decides.{nat_tests}
 use Rattle.std.proofs.lemmas.Str.{IsUtf8-nil, IsUtf8-append, IsUtf8-take, IsUtf8-drop, IsUtf8-encode}
-use Rattle.std.proofs.lemmas.Str.{IsCharBoundary-before_ascii, IsCharBoundary-after_ascii, length-encode, len_utf8_bounds}
+use Rattle.std.proofs.lemmas.Str.{IsCharBoundary-before_ascii, IsCharBoundary-after_ascii, length-encode}
+use Rattle.std.proofs.lemmas.Str.{len_utf8_bounds}
 use Rattle.std.proofs.lemmas.Str.{len_utf8_ascii, encode_ascii}
 use Rattle.toml_parser.specs.Lexical.{first, is_ws, starts_newline, skip_ws, skip_turn}
 use Rattle.toml_parser.specs.Lexical.{skip_from, skip_blank, skip_lines}

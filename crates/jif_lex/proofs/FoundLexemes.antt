@@ -2,9 +2,7 @@
 use Rattle.std.proofs.Common.{◌≡◌, ℕ, ◌≤◌, ◌⊎◌, ◌∙◌, sym, ap, refl, subst, inl, inr, lit≤, List, [], ◌∷◌, ◌++◌}
 use Rattle.std.proofs.Common.{length, arith}
 use Rattle.std.specs.List.{AllByRecursion}
-use Rattle.std.specs.Str.{bytes_eq}
-use Rattle.std.proofs.lemmas.Bool.{cases_Bool, false≢true}
-use Rattle.std.proofs.lemmas.Slice.Eq.{bytes_eq-Decides}
+use Rattle.js_base.proofs.Decisions.{Decided, same_text}
 use Rattle.jif_lex.specs.declared.token.Word.{Word}
 use Rattle.jif_lex.specs.declared.token.Word.TheVariants.{Int, Void, If, Else, While, Return, Where, Authority}
 use Rattle.jif_lex.specs.declared.token.Word.TheVariants.{Declassify, Endorse}
@@ -24,15 +22,6 @@ use Rattle.jif_lex.proofs.Begins.{nothing, other, class_of, symbol_text_class}
 use Rattle.jif_lex.proofs.Texts.{name_from_word}
 
 -- ---- one of many
-
-abbrev pub Decided : Type 0 → Type 0
-Decided fact = fact ⊎ ¬ fact
-
-pub same_text : (first second : List ℕ) → Decided (first ≡ second)
-same_text first second = elim (cases_Bool (bytes_eq first second)) [
-  | inl same ↦ inl ((bytes_eq-Decides first second).0 same)
-  | inr apart ↦ inr (λ is. false≢true (sym apart ∙ (bytes_eq-Decides first second).1 is))
-]
 
 one_among : {X : Type 0} (P : X → Type 0) → ((x : X) → Decided (P x)) → (xs : List X) →
     ((x : X) × P x) ⊎ AllByRecursion (λ x. ¬ P x) xs

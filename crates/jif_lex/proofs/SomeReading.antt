@@ -1,6 +1,8 @@
 -- Each text has a reading.
-use Rattle.std.proofs.Common.{◌≡◌, ◌≢◌, ℕ, zero, suc, pos, ◌≤ℤ◌, ◌<ℤ◌, ◌+◌, ◌^◌, ◌<◌, ◌≤◌, ◌⊎◌, ◌∙◌, sym, ap, refl, subst}
-use Rattle.std.proofs.Common.{inl, inr, Bool, true, false, List, [], ◌∷◌, ◌++◌, length, take, drop, get_or, codes, arith}
+use Rattle.std.proofs.Common.{◌≡◌, ◌≢◌, ℕ, zero, suc, pos, ◌≤ℤ◌, ◌<ℤ◌, ◌+◌, ◌^◌, ◌<◌, ◌≤◌, ◌⊎◌, ◌∙◌, sym, ap, refl}
+use Rattle.std.proofs.Common.{subst}
+use Rattle.std.proofs.Common.{inl, inr, Bool, true, false, List, [], ◌∷◌, ◌++◌, length, take, drop, get_or, codes}
+use Rattle.std.proofs.Common.{arith}
 use Rattle.std.specs.Prelude.{IsTrue, ◌==◌}
 use Rattle.std.specs.Char.{is_ascii_digit}
 use Rattle.std.specs.List.{prefix_len, position_or_len}
@@ -24,7 +26,8 @@ use Rattle.jif_lex.specs.Lexing.{HasFront, LacksFront, IsSkipped, IsTokenFront, 
 use Rattle.jif_lex.specs.Lexing.{LexFails}
 use Rattle.jif_lex.proofs.Begins.{is_blank}
 use Rattle.jif_lex.proofs.Cuts.{bad_number_some}
-use Rattle.jif_lex.proofs.FoundLexemes.{Decided, word_kind, first_symbol}
+use Rattle.js_base.proofs.Decisions.{Decided}
+use Rattle.jif_lex.proofs.FoundLexemes.{word_kind, first_symbol}
 use Rattle.jif_lex.proofs.Fronts.{word_like, word_front, are_digits, number_front, bad_number_front, symbol_front}
 use Rattle.jif_lex.proofs.Fronts.{no_lexeme, bad_byte_by, open_comment_fails}
 use Rattle.jif_lex.proofs.Pieces.{comment_opens, piece_some}
@@ -118,7 +121,8 @@ of_word : (text : List ℕ) → BeginsWord text → ¬ OpensComment text → Beg
 of_word text begins plain =
     let n = prefix_len continues_name text in
     let kind = word_kind (take n text) (word_like text n refl begins) in
-    of_lexeme text n kind.0 (word_front text n kind.0 refl (prefix_len-le-length continues_name text) begins plain kind.1)
+    of_lexeme text n kind.0 (word_front text n kind.0 refl (prefix_len-le-length continues_name text)
+    begins plain kind.1)
 
 begins_decided : (p : ℕ → Bool) (text : List ℕ) → Decided (FirstIs (λ byte. IsTrue (p byte)) text)
 begins_decided p [] = inr (λ begins. begins)
@@ -142,7 +146,8 @@ of_digits text begins plain = by (begins_decided starts_name (drop n text)) (fit
     value : ℕ
     value = digits_value 10 (take n text)
 
-    by : Decided (BeginsWord (drop n text)) → (pos value ≤ℤ LARGEST_NUMBER) ⊎ (LARGEST_NUMBER <ℤ pos value) → Begins text
+    by : Decided (BeginsWord (drop n text)) → (pos value ≤ℤ LARGEST_NUMBER) ⊎ (LARGEST_NUMBER <ℤ pos value) →
+        Begins text
     by (inl word) size = with_bad_number (bad_number_front text n refl begins (inr word))
     by (inr apart) (inr large) = with_bad_number (bad_number_front text n refl begins (inl large))
     by (inr apart) (inl small) =

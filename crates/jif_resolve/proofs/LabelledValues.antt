@@ -50,7 +50,8 @@ name_labelled labels (Some (sense.Method method params gives)) tree known made =
 
 -- what is known at a place has labels, and an expression names nothing else
 expr_labelled : (s : Setting) (p : Place) (labels : VariableLabels) → AllByRecursion IsNoLocal s.globals →
-    AreKnownLabelled labels p.known → (e : ExprShape) (tree : ExprTree) → IsExprFor s p e tree → IsExprLabelled labels tree
+    AreKnownLabelled labels p.known → (e : ExprShape) (tree : ExprTree) → IsExprFor s p e tree →
+    IsExprLabelled labels tree
 expr_labelled s p labels globals known (number_shape value) tree same = subst (IsExprLabelled labels) (sym same) tt
 expr_labelled s p labels globals known (variable_shape name) tree made =
     name_labelled labels (meaning_at s p name.text) tree (meaning_labelled labels s p globals known name.text) made

@@ -42,7 +42,8 @@ parts_held : (principals : Declared) (policies : List PolicyShape) (rest : List 
 parts_held principals [] rest none held = held
 parts_held principals (policy ∷ policies) rest none held =
     let both = none_in_two (policy_faults principals policy) (flat_map (policy_faults principals) policies) none in
-    let own = none_in_two (principal_faults principals policy.owner) (principals_faults principals policy.readers) both.0
+    let own = none_in_two (principal_faults principals policy.owner)
+    (principals_faults principals policy.readers) both.0
     in (
       (name_held principals policy.owner own.0, names_held principals policy.readers own.1),
       parts_held principals policies rest both.1 held,

@@ -1,5 +1,6 @@
 pub mod BitLemmas
 pub mod Cuts
+pub mod Decisions
 pub mod DecimalDigits
 mod HeldFiles
 pub mod Lists

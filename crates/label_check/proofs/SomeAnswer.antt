@@ -2,7 +2,8 @@
 use Rattle.std.proofs.Common.{◌≢◌, ◌⊎◌, zero, suc, List, [], ◌∷◌, All, Any, arith, inl, inr, refl, ap}
 use Rattle.js_base.specs.declared.ids.StmtId.{StmtId}
 use Rattle.principals.specs.ActsFor.{Declared, ActsFor}
-use Rattle.principals.proofs.Decisions.{Decided, all_below, all_of, any_of, implied, either, acts_for}
+use Rattle.js_base.proofs.Decisions.{Decided, all_below, all_of, any_of, implied, either}
+use Rattle.principals.proofs.Decisions.{acts_for}
 use Rattle.label_lattice.specs.declared.label.TheConstants.{READERS}
 use Rattle.label_lattice.specs.Label.{Forbids, Trusts, PolicyForbids}
 use Rattle.label_lattice.proofs.Decisions.{all_pairs, forbids, trusts, flows, policy_forbids}

@@ -1,11 +1,12 @@
 -- Whether a label may flow to another, whether it is trusted, and what a policy forbids.
-use Rattle.std.proofs.Common.{◌≡◌, ◌⊎◌, ℕ, ◌<◌, List, length, All, inl, inr, arith}
+use Rattle.std.proofs.Common.{◌≡◌, ◌⊎◌, ℕ, ◌<◌, List, length, All}
 use Rattle.std.specs.Int.{bit_at}
-use Rattle.std.proofs.lemmas.Bool.{cases_eq, cases_lt}
+use Rattle.std.proofs.lemmas.Bool.{cases_eq}
 use Rattle.js_base.specs.declared.ids.PrincipalId.{PrincipalId}
 use Rattle.js_base.specs.declared.limits.TheConstants.{PRINCIPALS}
+use Rattle.js_base.proofs.Decisions.{Decided, all_below, all_of, implied, both, either, never, as_well, less_than}
 use Rattle.principals.specs.ActsFor.{Declared, ActsFor, outsider}
-use Rattle.principals.proofs.Decisions.{Decided, all_below, all_of, implied, both, either, never, as_well, acts_for}
+use Rattle.principals.proofs.Decisions.{acts_for}
 use Rattle.label_lattice.specs.declared.label.Label.{Label}
 use Rattle.label_lattice.specs.declared.label.TheConstants.{READERS}
 use Rattle.label_lattice.specs.Label.{Forbids, Trusts, ConfFlows, IntegFlows, Flows, IsTrustedBy, KeepsOut, PolicyForbids}
@@ -41,9 +42,6 @@ pub is_trusted : (label : Label) (word : ℕ) → Decided (IsTrustedBy label wor
 is_trusted label word =
     all_below READERS (λ principal. bit_at word principal ≡ 1 → Trusts label principal)
     (λ principal. implied _ _ (cases_eq _ 1) (trusts label principal))
-
-less_than : (m n : ℕ) → Decided (m < n)
-less_than m n = elim (cases_lt m n) [ | inl lt ↦ inl lt | inr not ↦ inr (λ lt. omega (arith, lt, not)) ]
 
 pub keeps_out : (principals : Declared) (owner : PrincipalId) (readers : List PrincipalId) (reader : ℕ) →
     Decided (KeepsOut principals owner readers reader)

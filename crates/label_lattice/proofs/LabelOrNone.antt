@@ -1,11 +1,8 @@
 -- Tokens are a label or are none: their parts can be found.
-use Rattle.std.proofs.Common.{ℕ, zero, suc, ◌≡◌, ◌≢◌, ◌<◌, ◌⊎◌, ◌∙◌, sym, ap, subst, refl, inl, inr, true, false}
+use Rattle.std.proofs.Common.{ℕ, zero, suc, ◌≡◌, ◌≢◌, ◌<◌, ◌⊎◌, ◌∙◌, sym, ap, subst, refl, inl, inr}
 use Rattle.std.proofs.Common.{List, [], ◌∷◌, ◌++◌, length, Option, Some, None, arith}
 use Rattle.std.specs.Prelude.{Contains}
 use Rattle.std.specs.List.{AllByRecursion, AllZip}
-use Rattle.std.specs.Str.{bytes_eq}
-use Rattle.std.proofs.lemmas.Bool.{cases_Bool, false≢true}
-use Rattle.std.proofs.lemmas.Slice.Eq.{bytes_eq-Decides}
 use Rattle.js_base.specs.declared.ids.PrincipalId.{PrincipalId}
 use Rattle.jif_lex.specs.declared.token.Token.{Token}
 use Rattle.jif_lex.specs.declared.token.TokenKind.{TokenKind}
@@ -18,7 +15,7 @@ use Rattle.label_lattice.specs.Reading.{CutsAt}
 use Rattle.label_lattice.specs.Written.{kinds, symbol, names_tokens, Part, policy, trust, part_tokens, TrustIsLast}
 use Rattle.label_lattice.specs.Written.{HasDeclaredNames, parts_tokens, KnownPart, policy_of, trust_of, AreKnown}
 use Rattle.label_lattice.specs.Written.{IsKnownPart, IsPartsOf, IsLabelOf}
-use Rattle.label_lattice.proofs.Decisions.{Decided}
+use Rattle.js_base.proofs.Decisions.{Decided, same_text}
 use Rattle.label_lattice.proofs.Joins.{IsLeft, first_of_left, left_of_first, fewer_left}
 use Rattle.label_lattice.proofs.KnownNames.{known_is_held}
 use Rattle.label_lattice.proofs.MadeLabels.{parts_make}
@@ -69,18 +66,17 @@ is_right_brace (Word word) = inr (λ is. cc)
 is_right_brace (Symbol written) =
     elim written as (λ w. Decided (Symbol w ≡ symbol RightBrace)) [ RightBrace ↦ inl refl | _ ↦ inr (λ is. cc) ]
 
-name_held : (names : List (List ℕ)) (name : List ℕ) → Decided (Contains names name)
+pub name_held : (names : List (List ℕ)) (name : List ℕ) → Decided (Contains names name)
 name_held [] name = inr (λ found. omega (arith, found.1))
-name_held (next ∷ names) name = by (cases_Bool (bytes_eq next name)) (name_held names name)
+name_held (next ∷ names) name = by (same_text next name) (name_held names name)
   where
-    by : (bytes_eq next name ≡ true) ⊎ (bytes_eq next name ≡ false) → Decided (Contains names name) →
-        Decided (Contains (next ∷ names) name)
-    by (inl same) rest = inl (0, omega arith, (bytes_eq-Decides next name).0 same)
+    by : Decided (next ≡ name) → Decided (Contains names name) → Decided (Contains (next ∷ names) name)
+    by (inl same) rest = inl (0, omega arith, same)
     by (inr other) (inl (k, within, is)) = inl (suc k, omega (arith, within), is)
     by (inr other) (inr none) = inr not_there
       where
         not_there : ¬ Contains (next ∷ names) name
-        not_there (zero, within, is) = false≢true (sym other ∙ (bytes_eq-Decides next name).1 is)
+        not_there (zero, within, is) = other is
         not_there (suc k, within, is) = none (k, omega (arith, within), is)
 
 -- the token is one of these names
@@ -288,8 +284,15 @@ module _ (principals : Declared) (tokens front : List TokenKind) where
     where
       not_there : ¬ AreParts principals tokens
       not_there are =
-          let first = first_of_left (symbol Semicolon) part_tokens tokens front None are.parts no_semicolon cut are.left in
-          none (first.item, (first.front_is, (subst (AllByRecursion (HasDeclaredNames principals)) first.is are.held).0))
+          let first = first_of_left (symbol Semicolon) part_tokens tokens front None are.parts no_semicolon
+          cut are.left in
+          none (
+            first.item,
+            (
+              first.front_is,
+              (subst (AllByRecursion (HasDeclaredNames principals)) first.is are.held).0,
+            ),
+          )
 
   next_part : (after : List TokenKind) → CutsAt (symbol Semicolon) tokens front (Some after) →
       Decided ((part : Part) × IsPartOf principals front part) → Decided (AreParts principals after) →
@@ -496,7 +499,8 @@ label_or_none alone declared_too goes_on principals list declared = by (braced (
           },
         )
 
-    parts_of : (inside : List TokenKind) (label : Label) → IsPartsOf principals inside label → HasParts principals inside
+    parts_of : (inside : List TokenKind) (label : Label) → IsPartsOf principals inside label →
+        HasParts principals inside
     parts_of inside label is = (
       is.parts,
       is.written,

@@ -20,7 +20,8 @@ use Rattle.label_lattice.specs.Lattice.{empty_label}
 use Rattle.label_lattice.specs.Over.{IsLabelOver}
 use Rattle.label_lattice.specs.Written.{Part, policy, trust, HasDeclaredNames, KnownPart, policy_of, trust_of, IsKnown}
 use Rattle.label_lattice.specs.Written.{AreKnown, IsKnownPart, IsMadeOf}
-use Rattle.principals.proofs.Decisions.{Decided, never, both, either, any_of, acts_for}
+use Rattle.js_base.proofs.Decisions.{Decided, never, both, either, any_of}
+use Rattle.principals.proofs.Decisions.{acts_for}
 use Rattle.label_lattice.proofs.Decisions.{keeps_out}
 use Rattle.label_lattice.proofs.OverLemmas.{over_policy, over_trust}
 use Rattle.label_lattice.proofs.PartLemmas.{adds_policy, adds_trust}
@@ -225,7 +226,8 @@ module _ (alone : OutsiderIsAlone) (declared_too : LeadsToDeclared) (goes_on : G
 
 -- ---- names
 
-place_held : (names : List (List ℕ)) (name : List ℕ) → Contains names name → (n : ℕ) × (slice_get names n ≡ Some name)
+pub place_held : (names : List (List ℕ)) (name : List ℕ) → Contains names name →
+    (n : ℕ) × (slice_get names n ≡ Some name)
 place_held [] name (k, within, is) = absurd (omega (arith, within))
 place_held (next ∷ names) name (zero, within, is) = (zero, ap Some is)
 place_held (next ∷ names) name (suc k, within, is) =

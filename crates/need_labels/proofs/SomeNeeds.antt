@@ -3,8 +3,9 @@ use Rattle.std.proofs.Common.{◌≡◌, ℕ, ◌<◌, List, [], ◌∷◌, map,
 use Rattle.std.specs.Prelude.{Any}
 use Rattle.std.specs.List.{AllZip, flat_map, range_with_len}
 use Rattle.std.proofs.lemmas.Bool.{cases_eq}
+use Rattle.js_base.proofs.Decisions.{Decided, any_of}
 use Rattle.principals.specs.ActsFor.{Declared, ActsFor}
-use Rattle.principals.proofs.Decisions.{Decided, any_of, acts_for}
+use Rattle.principals.proofs.Decisions.{acts_for}
 use Rattle.label_lattice.proofs.Decisions.{trusts}
 use Rattle.label_lattice.proofs.MadeLabels.{some_word}
 use Rattle.need_labels.specs.Labelled.{Labelled}

@@ -9,7 +9,7 @@ use Rattle.js_base.specs.declared.limits.TheConstants.{HOSTS}
 use Rattle.label_lattice.specs.declared.label.Label.{Label}
 use Rattle.label_lattice.specs.Lattice.{join_of}
 use Rattle.label_lattice.proofs.Decisions.{conf_flows, is_trusted}
-use Rattle.principals.proofs.Decisions.{Decided, both}
+use Rattle.js_base.proofs.Decisions.{Decided, both}
 use Rattle.host_decl.specs.Hosts.{HostShape, HostsShape}
 use Rattle.jif_tree.specs.Trees.{FieldTree}
 use Rattle.need_labels.specs.Labelled.{Labelled}
