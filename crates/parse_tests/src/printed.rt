@@ -2,7 +2,7 @@
 
 use jif_lex::{lex, token_laws};
 use jif_parse::{parse, program_text};
-use jif_resolve::{resolve, size_laws};
+use jif_resolve::{limit_laws, resolve};
 use principals::Principals;
 use std::alloc::Global;
 use std::test::Fail;
@@ -17,7 +17,7 @@ fn alice_and_bob(alloc: Global) -> Result<Principals, Fail> {
 /// The printed form of the program that a text is.
 fn printed(alloc: Global, text: &str) -> Result<String, Fail> {
     token_laws();
-    size_laws();
+    limit_laws();
     let principals = alice_and_bob(alloc)?;
     let tokens = lex(alloc, text.as_bytes())?;
     let draft = parse(alloc, tokens.as_slice())?;

@@ -2,15 +2,15 @@
 
 ghost use Rattle.std.specs.Prelude.{IfOk};
 ghost use Rattle.jif_grammar.specs.DraftShapes.{draft_shape};
-ghost use Rattle.jif_resolve.specs.Sizes as drafts;
+ghost use Rattle.jif_resolve.specs.Sizes.{KeepsLimits};
 ghost use Rattle.jif_tree.specs.Trees.{program_tree};
-ghost use Rattle.jif_tree.specs.Sizes.{IsSized};
+ghost use Rattle.jif_tree.specs.Limits.{IsWithinLimits};
 ghost use Rattle.need_labels.specs.Needs.{AreAuthoritiesDeclared};
 
 use host_decl::{HostRow, Hosts, read_hosts};
 use jif_lex::{lex, token_laws};
 use jif_parse::parse;
-use jif_resolve::{limit_laws, program_laws, resolve, size_laws};
+use jif_resolve::{limit_laws, program_laws, resolve};
 use jif_tree::{Checked, Draft, Program};
 use js_base::HostId;
 use label_check::check;
@@ -27,11 +27,9 @@ pub fn hosts_of(alloc: Global, text: &str) -> Result<Hosts, Fail> {
 
 /// The draft of a text.
 fn drafted(alloc: Global, text: &str) -> Result<Draft, Fail>
-    ensures sized { IfOk result (λ draft. drafts.IsSized (draft_shape draft)) }
-    ensures limited { IfOk result (λ draft. drafts.IsLimited (draft_shape draft)) }
+    ensures { IfOk result (λ draft. KeepsLimits (draft_shape draft)) }
 {
     token_laws();
-    size_laws();
     limit_laws();
     let tokens = lex(alloc, text.as_bytes())?;
     Ok(parse(alloc, tokens.as_slice())?)
@@ -39,10 +37,9 @@ fn drafted(alloc: Global, text: &str) -> Result<Draft, Fail>
 
 /// The program of a text.
 fn resolved(alloc: Global, text: &str, principals: &Principals) -> Result<Program, Fail>
-    ensures sized { IfOk result (λ program. IsSized (program_tree program)) }
+    ensures within { IfOk result (λ program. IsWithinLimits (program_tree program)) }
     ensures authorities { IfOk result (λ program. AreAuthoritiesDeclared principals.now (program_tree program)) }
 {
-    limit_laws();
     program_laws();
     let draft = drafted(alloc, text)?;
     Ok(resolve(alloc, draft, principals)?)
@@ -50,7 +47,7 @@ fn resolved(alloc: Global, text: &str, principals: &Principals) -> Result<Progra
 
 /// The program of a text with its labels, whose principals are those of the hosts.
 pub fn checked(alloc: Global, text: &str, hosts: &Hosts) -> Result<Checked, Fail>
-    ensures sized { IfOk result (λ checked. IsSized (program_tree checked.program)) }
+    ensures within { IfOk result (λ checked. IsWithinLimits (program_tree checked.program)) }
     ensures authorities { IfOk result (λ checked.
         AreAuthoritiesDeclared hosts.now.principals (program_tree checked.program)) }
 {
