@@ -3,12 +3,12 @@
 ghost use Rattle.std.specs.Prelude.{◌<◌, ◌^◌, IfOk, length};
 ghost use Rattle.jif_tree.specs.Trees.{program_tree};
 ghost use Rattle.jif_grammar.specs.DraftShapes.{draft_shape};
-ghost use Rattle.jif_resolve.specs.Sizes.{IsSized};
+ghost use Rattle.jif_resolve.specs.Sizes.{KeepsLimits};
 ghost use Rattle.label_check.specs.Checking.{AreAuthorities};
 
 use jif_lex::{lex, token_laws};
 use jif_parse::parse;
-use jif_resolve::{program_laws, resolve, size_laws};
+use jif_resolve::{limit_laws, program_laws, resolve};
 use jif_tree::{Draft, Program};
 use principals::Principals;
 use std::alloc::Global;
@@ -28,10 +28,10 @@ pub fn three(alloc: Global) -> Result<Principals, Fail> {
 
 /// The draft of a text.
 pub fn drafted(alloc: Global, text: &str) -> Result<Draft, Fail>
-    ensures { IfOk result (λ draft. IsSized (draft_shape draft)) }
+    ensures { IfOk result (λ draft. KeepsLimits (draft_shape draft)) }
 {
     token_laws();
-    size_laws();
+    limit_laws();
     let tokens = lex(alloc, text.as_bytes())?;
     Ok(parse(alloc, tokens.as_slice())?)
 }
