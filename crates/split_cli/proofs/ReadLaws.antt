@@ -1,5 +1,5 @@
 -- A program that was read and checked can be split, wherever it stands.
-use Rattle.std.proofs.Common.{◌≡◌, List, sym, subst}
+use Rattle.std.proofs.Common.{◌≡◌, List, sym, subst, arith}
 use Rattle.jif_lex.specs.declared.token.Token.{Token}
 use Rattle.jif_lex.specs.TokenLists.{AreTokens}
 use Rattle.jif_grammar.specs.DraftShapes.{DraftShape}
@@ -18,7 +18,7 @@ use Rattle.principals.specs.ActsFor.{Declared}
 use Rattle.jif_tree.proofs.VariableCounts.{variable_count}
 use Rattle.split_rules.specs.Splittable.{IsSplittable}
 use Rattle.split_cli.specs.PlacedSources.{labelled_source}
-use Rattle.split_cli.specs.ReadPrograms.{IsReadDraft, IsReadProgram}
+use Rattle.split_cli.specs.ReadPrograms.{AreShort, IsReadDraft, IsReadProgram}
 
 -- what is known of the names of a program that was read
 abbrev pub NamedLaw : Type 0
@@ -40,9 +40,10 @@ read_program law file tree draft labelled is read resolved numbered sites within
     })
 
 pub splittable : (labelled : Labelled) (hosts : HostsShape) (plan : PlanShape) → IsReadProgram labelled →
-    AreHosts hosts → HasHosts hosts plan → IsSplittable labelled hosts plan
-splittable labelled hosts plan read are_hosts has = record {
+    AreHosts hosts → AreShort hosts → HasHosts hosts plan → IsSplittable labelled hosts plan
+splittable labelled hosts plan read are_hosts short has = record {
   are_hosts = are_hosts;
+  host_names = λ k d within. let few = short k d within in omega arith;
   numbered = read.numbered;
   sites = read.sites;
   named = read.named;

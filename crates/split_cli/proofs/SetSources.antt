@@ -42,6 +42,7 @@ use Rattle.split_rules.specs.Splittable.{IsSplittable}
 use Rattle.simulation.specs.Obeying.{IsSet}
 use Rattle.simulation.specs.Programs.{AreInOrder}
 use Rattle.split_cli.specs.PlacedSources.{PlacedSource, AreChosen, PlacedSources, labelled_source}
+use Rattle.split_cli.specs.ReadPrograms.{AreShort}
 use Rattle.split_cli.specs.Sources.{Source, Accepted, AcceptedWith, Drafted, Sources}
 use Rattle.split_cli.specs.Stages.{given, stopped}
 use Rattle.split_cli.proofs.ReadLaws.{splittable}
@@ -50,6 +51,7 @@ use Rattle.split_cli.proofs.ReadLaws.{splittable}
 
 pub record ReadingLaws : Type 0 where
   pub hosts : (bytes : List ℕ) (file : HostsShape) → ReadsHosts bytes file → AreHosts file
+  pub short : (bytes : List ℕ) (file : HostsShape) → ReadsHosts bytes file → AreShort file
   pub named : (text : List ℕ) (list : List Token) (principals : Declared) (draft : DraftShape) (program : ProgramTree) →
       length text ≤ PROGRAM_BYTES → ReadsAs text (tokens list) → grammar.IsProgramOf list draft →
       IsProgramOf principals draft program → AreNamed program
@@ -241,7 +243,7 @@ module _ (sources : ReadingLaws) (plans : PlanLaws) (granted : GrantedLaw) (prog
             read.read read.parsed read.resolved;
         within = within;
         var_labels = variable_count placed.source.file.principals placed.source.tree;
-      }) are_hosts
+      }) are_hosts (sources.short hosts placed.source.file read.file)
       (plans.hosts (labelled_source placed.source) placed.needs placed.source.file placed.allowed placed.plan choice.plan)
 
   trusted : AllZip (IsTrustedHost placed.source.file) placed.needs.need placed.plan.statements

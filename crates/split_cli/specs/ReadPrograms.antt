@@ -1,5 +1,7 @@
 -- What is known of a program that was read and checked, for whoever makes its code.
-use Rattle.std.specs.Prelude.{◌≡◌, List, length}
+use Rattle.std.specs.Prelude.{◌≡◌, ◌≤◌, List, All, length}
+use Rattle.js_base.specs.declared.limits.TheConstants.{HOSTS_BYTES}
+use Rattle.host_decl.specs.Hosts.{HostsShape}
 use Rattle.jif_lex.specs.declared.token.Token.{Token}
 use Rattle.jif_lex.specs.TokenLists.{AreTokens}
 use Rattle.jif_grammar.specs.DraftShapes.{DraftShape}
@@ -9,6 +11,10 @@ use Rattle.jif_tree.specs.Named.{AreNamed}
 use Rattle.jif_tree.specs.Numbering.{CountsFrom, site_numbers}
 use Rattle.jif_tree.specs.WellNumbered.{IsWellNumbered}
 use Rattle.need_labels.specs.Labelled.{Labelled}
+
+-- no name of a host is longer than a host file may be
+abbrev pub AreShort : HostsShape → Type 0
+AreShort hosts = All (λ host. length host.name ≤ HOSTS_BYTES) hosts.hosts
 
 -- the draft was parsed of the tokens of some text
 pub record IsReadDraft (draft : DraftShape) : Type 0 where

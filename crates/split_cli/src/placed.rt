@@ -13,7 +13,7 @@ ghost use Rattle.split_rules.specs.Splittable.{IsSplittable};
 ghost use Rattle.split_cli.specs.Loading.{EndsAs, IsLoaded};
 ghost use Rattle.split_cli.specs.PlacedShapes.{placed_shape};
 ghost use Rattle.split_cli.specs.PlacedSources.{OnHosts, PlacedSources, labelled_source};
-ghost use Rattle.split_cli.specs.ReadPrograms.{IsReadProgram};
+ghost use Rattle.split_cli.specs.ReadPrograms.{AreShort, IsReadProgram};
 ghost use Rattle.split_cli.specs.SourceShapes.{source_shape};
 
 use crate::load::Loaded;
@@ -60,6 +60,7 @@ fn placed(alloc: Global, source: Source) -> Result<PlacedSource, Stop>
     requires authorities { AreAuthorities source.hosts.principals (program_tree source.checked.program) }
     requires labelled { labelled_of source.checked ≡ labelled_source (source_shape source) }
     requires read { IsReadProgram (labelled_of source.checked) }
+    requires short { AreShort source.hosts }
     ensures placed { EndsAs placed_shape (OnHosts (source_shape source)) result }
     ensures kept { IfOk result (λ placed. placed.source ≡ source) }
     ensures hosts { IfOk result (λ placed. HasHosts source.hosts placed.plan) }

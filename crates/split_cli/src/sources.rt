@@ -16,7 +16,7 @@ ghost use Rattle.label_check.specs.Checking.{AreAuthorities};
 ghost use Rattle.need_labels.specs.Labelled.{labelled_of};
 ghost use Rattle.split_cli.specs.Loading.{EndsAs, IsLoaded};
 ghost use Rattle.split_cli.specs.PlacedSources.{labelled_source};
-ghost use Rattle.split_cli.specs.ReadPrograms.{IsReadDraft, IsReadProgram};
+ghost use Rattle.split_cli.specs.ReadPrograms.{AreShort, IsReadDraft, IsReadProgram};
 ghost use Rattle.split_cli.specs.SourceShapes.{source_shape};
 ghost use Rattle.split_cli.specs.Sources.{Lexed, Parsed, Drafted, HostsRead, Resolved, Labelled, Sources};
 
@@ -52,6 +52,7 @@ pub fn read_sources(alloc: Global, program: &Loaded, hosts: &Loaded) -> Result<S
     ensures authorities { IfOk result
         (λ source. AreAuthorities source.hosts.principals (program_tree source.checked.program)) }
     ensures read { IfOk result (λ source. IsReadProgram (labelled_of source.checked)) }
+    ensures short { IfOk result (λ source. AreShort source.hosts) }
 {
     named_laws();
     let draft = drafted(alloc, program)?;
@@ -113,7 +114,8 @@ fn parsed(alloc: Global, tokens: &[Token]) -> Result<Draft, Stop>
 
 /// The hosts of a host file.
 fn hosts_read(alloc: Global, file: &Loaded) -> Result<Hosts, Stop>
-    ensures { (h : List ℕ) → IsLoaded HOSTS_BYTES h file.now → EndsAs (λ hosts. hosts) (HostsRead h) result }
+    ensures read { (h : List ℕ) → IsLoaded HOSTS_BYTES h file.now → EndsAs (λ hosts. hosts) (HostsRead h) result }
+    ensures short { IfOk result AreShort }
 {
     match hosts_of(alloc, file) {
         Ok(hosts) => Ok(hosts),
@@ -123,9 +125,11 @@ fn hosts_read(alloc: Global, file: &Loaded) -> Result<Hosts, Stop>
 
 /// The hosts of a host file, or why it is refused.
 fn hosts_of(alloc: Global, file: &Loaded) -> Result<Hosts, HostsError>
-    ensures { (h : List ℕ) → IsLoaded HOSTS_BYTES h file.now →
+    ensures read { (h : List ℕ) → IsLoaded HOSTS_BYTES h file.now →
         MatchResult result (ReadsHosts h) (RefusesHosts h) }
+    ensures short { IfOk result AreShort }
 {
+    host_file_laws();
     match file {
         Loaded::Bytes(bytes) => read_hosts(alloc, bytes),
         Loaded::TooLong => Err(HostsError::TooLong),

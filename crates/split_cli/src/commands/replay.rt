@@ -63,13 +63,9 @@ fn due_for_loaded(
     let placed = read_places(alloc, program, hosts)?;
     let code = code_of(alloc, &placed)?;
     let script = read_script(alloc, name, &code, events)?;
-    let first = World::start(
-        alloc,
-        &code,
-        &placed.source.hosts,
-        script.bad(),
-        script.start(),
-    )?;
+    let bad = script.bad();
+    let store = script.start();
+    let first = World::start(alloc, &code, &placed.source.hosts, bad, store)?;
     let last = events_happen(alloc, name, &code, first, script.events())?;
     let text = replay_text(alloc, &code, &last)?;
     Ok(Verdict::Print {

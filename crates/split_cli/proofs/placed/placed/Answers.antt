@@ -18,5 +18,6 @@ returns-in-Ok-clause-each c =
 pub returns-in-Ok-clause-splittable : goal.returns-in-Ok-clause-splittable
 returns-in-Ok-clause-splittable c =
     splittable (labelled_of c.args.source.checked) c.args.source.hosts _ c.requires.read c.principals.ensures.sound
+    c.requires.short
     (c.placement_laws.ensures.hosts (labelled_of c.args.source.checked) c.in_ok-needs.needs c.args.source.hosts _ _
     c.in-Ok.ensures.placed)

@@ -18,7 +18,7 @@ returns-in-Err-NotThere-clause-happen c =
     (IfOk-weaker c.not_there.result _ _ (λ verdict is.
     subst Stops (sym is) (absent c.in-Err-NotThere.line
     ((rw c.in-Err-NotThere.field-0-is at c.in-Err-NotThere.ensures.absent) c.in-Err-NotThere.line refl)))
-    c.not_there.ensures)
+    (rw c.in-Err-NotThere.field-0-is at c.not_there.ensures))
     c.stopped.ensures
 
 pub returns-in-Err-HostBusy-clause-happen : goal.returns-in-Err-HostBusy-clause-happen
@@ -29,5 +29,5 @@ returns-in-Err-HostBusy-clause-happen c =
     (IfOk-weaker c.host_busy.result _ _ (λ verdict is.
     subst Stops (sym is) (busy c.in-Err-HostBusy.line
     ((rw c.in-Err-HostBusy.field-0-is at c.in-Err-HostBusy.ensures.busy) c.in-Err-HostBusy.line refl)))
-    c.host_busy.ensures)
+    (rw c.in-Err-HostBusy.field-0-is at c.host_busy.ensures))
     c.stopped-in-Err-HostBusy.ensures

@@ -21,7 +21,7 @@ returns-in_err-hosts-clause-sources c = λ p h loaded_p loaded_h.
     (after_draft p h (draft_shape c.in_ok-draft.draft) c.in_err-hosts.field-0.0
     (c.in_ok-draft.ensures.drafted p loaded_p)
     (then_stops (HostsRead h) (λ file. Accepted file (draft_shape c.in_ok-draft.draft)) c.in_err-hosts.field-0.0
-    (c.in_err-hosts.ensures h loaded_h)))
+    (c.in_err-hosts.ensures.read h loaded_h)))
 
 pub returns-in_err-program-clause-sources : goal.returns-in_err-program-clause-sources
 returns-in_err-program-clause-sources c = λ p h loaded_p loaded_h.
@@ -30,7 +30,7 @@ returns-in_err-program-clause-sources c = λ p h loaded_p loaded_h.
     (after_draft p h (draft_shape c.in_ok-draft.draft) c.in_err-program.field-0.0
     (c.in_ok-draft.ensures.drafted p loaded_p)
     (after_hosts h (draft_shape c.in_ok-draft.draft) c.in_ok-hosts.hosts c.in_err-program.field-0.0
-    (c.in_ok-hosts.ensures h loaded_h)
+    (c.in_ok-hosts.ensures.read h loaded_h)
     (then_stops (Resolved c.in_ok-hosts.hosts (draft_shape c.in_ok-draft.draft)) (Labelled c.in_ok-hosts.hosts)
     c.in_err-program.field-0.0 c.in_err-program.ensures.resolved)))
 
@@ -41,7 +41,7 @@ returns-in_err-checked-clause-sources c = λ p h loaded_p loaded_h.
     (after_draft p h (draft_shape c.in_ok-draft.draft) c.in_err-checked.field-0.0
     (c.in_ok-draft.ensures.drafted p loaded_p)
     (after_hosts h (draft_shape c.in_ok-draft.draft) c.in_ok-hosts.hosts c.in_err-checked.field-0.0
-    (c.in_ok-hosts.ensures h loaded_h)
+    (c.in_ok-hosts.ensures.read h loaded_h)
     (after_program c.in_ok-hosts.hosts (draft_shape c.in_ok-draft.draft) (program_tree c.in_ok-program.program)
     c.in_err-checked.field-0.0 c.in_ok-program.ensures.resolved c.in_err-checked.ensures.labelled)))
 
@@ -51,7 +51,7 @@ returns-clause-sources c = λ p h loaded_p loaded_h. inl (
   c.in_ok-draft.ensures.drafted p loaded_p,
   inl (
     c.in_ok-hosts.hosts,
-    c.in_ok-hosts.ensures h loaded_h,
+    c.in_ok-hosts.ensures.read h loaded_h,
     inl (program_tree c.in_ok-program.program, c.in_ok-program.ensures.resolved, c.in_ok-checked.ensures.labelled),
   ),
 )

@@ -5,6 +5,7 @@ all_laws : (g : _) (c : goal.After-answered g) → AllLaws
 all_laws g c = record {
   reading = record {
     hosts = c.host_file_laws.ensures.sound;
+    short = c.host_file_laws.ensures.short_names;
     named = c.named_laws.ensures.of_text;
     kept = c.limit_laws.ensures.kept;
     returned = c.limit_laws.ensures.returns;
