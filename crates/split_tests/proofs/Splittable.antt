@@ -10,7 +10,7 @@ use Rattle.label_check.specs.Checking.{IsChecked}
 use Rattle.need_labels.specs.Labelled.{labelled_of}
 use Rattle.need_labels.specs.Plan.{PlanShape}
 use Rattle.split_rules.specs.Splittable.{StandsAmong, IsSplittable}
-use Rattle.split_tests.specs.ReadPrograms.{IsReadProgram}
+use Rattle.split_tests.specs.ReadPrograms.{IsReadProgram, AreHostsShort}
 
 -- what was read of the program that is checked
 pub read_checked : (principals : Declared) (program : Program) (checked : Checked) →
@@ -21,14 +21,17 @@ read_checked principals program checked read is =
 
 pub splittable : (principals : Declared) (program : Program) (checked : Checked) (hosts : HostsShape)
     (plan : PlanShape) → IsReadProgram principals (program_tree program) → IsChecked principals program checked →
-    AreHosts hosts → StandsAmong (length hosts.hosts) plan → IsSplittable (labelled_of checked) hosts plan
-splittable principals program checked hosts plan read is are_hosts stands =
+    AreHosts hosts → AreHostsShort hosts → StandsAmong (length hosts.hosts) plan →
+    IsSplittable (labelled_of checked) hosts plan
+splittable principals program checked hosts plan read is are_hosts short stands =
     let kept = read_checked principals program checked read is in
     record {
       are_hosts = are_hosts;
+      host_names = short;
       numbered = kept.numbered;
       sites = kept.sites;
       named = kept.named;
+      within = kept.within;
       var_labels = ap length is.variables ∙ variable_count principals (program_tree program)
           ∙ ap (λ (same : Program). length (program_tree same).vars) (sym is.kept);
       stands = stands;

@@ -2,16 +2,16 @@
 
 ghost use Rattle.std.specs.Prelude.{◌<◌, All, IfOk, length};
 ghost use Rattle.jif_tree.specs.Trees.{program_tree};
-ghost use Rattle.jif_tree.specs.Sizes.{IsSized};
+ghost use Rattle.jif_tree.specs.Limits.{IsWithinLimits};
 ghost use Rattle.split_rules.specs.Splittable.{StandsAmong};
-ghost use Rattle.split_tests.specs.ReadPrograms.{IsReadProgram};
+ghost use Rattle.split_tests.specs.ReadPrograms.{IsReadProgram, AreHostsShort};
 
 use control_split::emit;
-use host_code::Code;
+use host_code::{Code, MOST_ITEMS};
 use host_decl::{Hosts, read_hosts};
 use jif_lex::{lex, token_laws};
 use jif_parse::{named_laws, parse};
-use jif_resolve::{limit_laws, program_laws, resolve, size_laws};
+use jif_resolve::{limit_laws, program_laws, resolve};
 use jif_tree::{Checked, Program};
 use js_base::HostId;
 use js_base::limits::HOSTS;
@@ -25,12 +25,24 @@ use std::test::Fail;
 /// stands for the host of that name.
 pub type Places = (&'static str, &'static str);
 
+/// The hosts of a host file whose names are not too long.
+fn hosts_of(alloc: Global, text: &str) -> Result<Hosts, Fail>
+    ensures { IfOk result (λ hosts. AreHostsShort hosts) }
+{
+    let hosts = read_hosts(alloc, text.as_bytes())?;
+    for row in hosts.hosts() {
+        if row.name().len() > MOST_ITEMS {
+            return Err(Fail::from("a host's name is too long"));
+        }
+    }
+    Ok(hosts)
+}
+
 /// The program of a text.
 fn resolved(alloc: Global, text: &str, hosts: &Hosts) -> Result<Program, Fail>
     ensures { IfOk result (λ program. IsReadProgram hosts.now.principals (program_tree program)) }
 {
     token_laws();
-    size_laws();
     limit_laws();
     program_laws();
     named_laws();
@@ -72,7 +84,7 @@ fn plan_of(
     hosts: &Hosts,
     places: Option<Places>,
 ) -> Result<Plan, Fail>
-    requires { IsSized (program_tree checked.now.program) }
+    requires { IsWithinLimits (program_tree checked.now.program) }
     ensures { IfOk result (λ plan. StandsAmong (length hosts.now.hosts) plan) }
 {
     placement_laws();
@@ -97,7 +109,7 @@ pub fn code_of(
     hosts: &str,
     places: Option<Places>,
 ) -> Result<Code, Fail> {
-    let hosts = read_hosts(alloc, hosts.as_bytes())?;
+    let hosts = hosts_of(alloc, hosts)?;
     let program = resolved(alloc, program, &hosts)?;
     let checked = check(alloc, program, hosts.principals())?;
     let needs = needs_of(alloc, &checked, hosts.principals())?;

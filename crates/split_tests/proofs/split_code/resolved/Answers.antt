@@ -8,7 +8,6 @@ returns c =
       numbered = c.program_laws.ensures.well_numbered _ _ _ is;
       sites = c.program_laws.ensures.sites _ _ _ is;
       named = c.named_laws.ensures.of_text _ _ _ _ _ c.in_ok-tokens.ensures.0 c.in_ok-tokens.ensures.1 read is;
-      sized = c.limit_laws.ensures.sized _ _ _ (c.size_laws.ensures _ _ read)
-          (c.limit_laws.ensures.limited _ _ read) is;
+      within = c.limit_laws.ensures.within _ _ _ (c.limit_laws.ensures.kept _ _ read) is;
       authorities = c.program_laws.ensures.authorities _ _ _ is;
     }
