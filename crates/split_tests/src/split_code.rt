@@ -7,8 +7,8 @@ ghost use Rattle.split_rules.specs.Splittable.{StandsAmong};
 ghost use Rattle.split_tests.specs.ReadPrograms.{IsReadProgram, AreHostsShort};
 
 use control_split::emit;
-use host_code::{Code, MOST_ITEMS};
-use host_decl::{Hosts, read_hosts};
+use host_code::Code;
+use host_decl::{Hosts, host_file_laws, read_hosts};
 use jif_lex::{lex, token_laws};
 use jif_parse::{named_laws, parse};
 use jif_resolve::{limit_laws, program_laws, resolve};
@@ -25,16 +25,12 @@ use std::test::Fail;
 /// stands for the host of that name.
 pub type Places = (&'static str, &'static str);
 
-/// The hosts of a host file whose names are not too long.
+/// The hosts of a host file.
 fn hosts_of(alloc: Global, text: &str) -> Result<Hosts, Fail>
     ensures { IfOk result (λ hosts. AreHostsShort hosts) }
 {
+    host_file_laws();
     let hosts = read_hosts(alloc, text.as_bytes())?;
-    for row in hosts.hosts() {
-        if row.name().len() > MOST_ITEMS {
-            return Err(Fail::from("a host's name is too long"));
-        }
-    }
     Ok(hosts)
 }
 
