@@ -1,5 +1,5 @@
 -- The integrity control stack of a host: the entries at which threads may start, each once, and only the top one.
-use Rattle.std.specs.Prelude.{◌≡◌, ℕ, ◌+◌, List, [], ◌∷◌, All, Option, Some, None, slice_index}
+use Rattle.std.specs.Prelude.{◌≡◌, ◌≢◌, ℕ, ◌+◌, ◌<◌, List, [], ◌∷◌, All, AllPairs, Option, Some, None, slice_index}
 use Rattle.std.specs.Prelude.{slice_set}
 use Rattle.js_base.specs.declared.ids.HostId.{HostId}
 use Rattle.js_base.specs.declared.ids.FrameId.{FrameId}
@@ -60,3 +60,21 @@ pub record IsOwnEntry (host : HostId) (on_stack : StackEntry) : Type 0 where
 
 abbrev pub AreOwnEntries : HostId → List StackEntry → Type 0
 AreOwnEntries host entries = All (IsOwnEntry host) entries
+
+-- the serial of each token is one that its entry's count has passed
+abbrev pub AreCounted : List ℕ → List StackEntry → Type 0
+AreCounted serials entries = All (λ on_stack. on_stack.token.serial < slice_index serials on_stack.entry.0) entries
+
+-- no entry has this token
+abbrev pub LackToken : List StackEntry → Token → Type 0
+LackToken entries token = All (λ on_stack. token ≢ on_stack.token) entries
+
+-- no two entries have the same token
+abbrev pub HaveOwnTokens : List StackEntry → Type 0
+HaveOwnTokens entries = AllPairs (λ above below. above.token ≢ below.token) entries
+
+-- what every stack keeps of its counts and its entries
+pub record StackFits (host : HostId) (serials : List ℕ) (entries : List StackEntry) : Type 0 where
+  pub own : AreOwnEntries host entries
+  pub counted : AreCounted serials entries
+  pub distinct : HaveOwnTokens entries

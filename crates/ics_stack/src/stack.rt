@@ -2,7 +2,7 @@
 
 ghost use Rattle.std.specs.Prelude.{◌≡◌, ◌≢◌, ◌+◌, ◌<◌, ◌≤◌, ◌^◌, [], length, replicate};
 ghost use Rattle.std.specs.Prelude.{IfOk, IfErr, OnOk, Some};
-ghost use Rattle.ics_stack.specs.Stack.{top_token, IsTakenOff, AreOwnEntries};
+ghost use Rattle.ics_stack.specs.Stack.{top_token, IsTakenOff, StackFits, LackToken};
 
 use capability::{Held, KEY_BYTES, Pending, Token, tag};
 use js_base::{EntryId, FrameId, HostId, OutOfMemory};
@@ -43,7 +43,7 @@ pub struct IcsStack {
 impl Model for IcsStack {
     ghost use Rattle.std.specs.Prelude.{◌-◌, ◌≤◌, ◌^◌, All, reverse, length};
     ghost use Rattle.std.specs.Vec.{vec_len, vec_capacity};
-    ghost use Rattle.ics_stack.specs.Stack.{StackShape, AreOwnEntries};
+    ghost use Rattle.ics_stack.specs.Stack.{StackShape, StackFits};
 
     ghost Value = { StackShape };
 
@@ -56,7 +56,9 @@ impl Model for IcsStack {
       room = vec_capacity s.entries - vec_len s.entries;
     } };
 
-    ghost invariant = { λ s. All (λ n. n ≤ s.pushes) s.serials.items × AreOwnEntries s.host s.entries.items };
+    ghost invariant = { λ s.
+        All (λ n. n ≤ s.pushes) s.serials.items
+        × StackFits s.host s.serials.items (reverse s.entries.items) };
 }
 
 impl IcsStack {
@@ -110,6 +112,7 @@ impl IcsStack {
         ensures serials { self.new.serials ≡ serials_after_push self.old entry }
         ensures pushes { self.new.pushes ≡ self.old.pushes + 1 }
         ensures same { (self.new.host ≡ self.old.host) × (self.new.key ≡ self.old.key) }
+        ensures fresh { LackToken self.old.entries result }
     {
         let place = entry.0 as usize;
         let serial = self.serials[place];
@@ -144,6 +147,7 @@ impl IcsStack {
         ensures err { IfErr result (λ error. self.new ≡ self.old) }
         ensures same { self.new ≡ record self.old { entries = self.new.entries; room = self.new.room } }
         ensures room { self.old.room ≤ self.new.room }
+        ensures once { IfOk result (λ pending. LackToken self.new.entries token) }
     {
         let Some(top) = self.entries.last().copied() else {
             return Err(NotTop { top: None });
@@ -160,7 +164,8 @@ impl IcsStack {
     /// How many entries there are.
     pub fn depth(&self) -> u64
         ensures depth { result ≡ length self.now.entries }
-        ensures own { AreOwnEntries self.now.host self.now.entries }
+        // Its entries are its own, and no two of them have the same token.
+        ensures own { StackFits self.now.host self.now.serials self.now.entries }
     {
         self.entries.len() as u64
     }
