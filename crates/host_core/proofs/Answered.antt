@@ -61,6 +61,7 @@ waking_kept code host place answered fits runs = record {
       (All-take (WaitingFits code host.me) place host.waiting fits.waiting)
       (All-drop (WaitingFits code host.me) (suc place) host.waiting fits.waiting);
   entries = fits.entries;
+  stack = fits.stack;
 }
 
 -- what holds of the thread at a place

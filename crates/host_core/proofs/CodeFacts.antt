@@ -4,7 +4,7 @@ use Rattle.std.specs.Prelude.{IsSomeAnd, slice_get}
 use Rattle.host_code.specs.Code.{CodeShape}
 use Rattle.host_code.specs.Sound.{IsSoundCode}
 
-some_within : {X : Type 0} (P : X → Type 0) (items : List X) (place : ℕ) → IsSomeAnd (slice_get items place) P
+pub some_within : {X : Type 0} (P : X → Type 0) (items : List X) (place : ℕ) → IsSomeAnd (slice_get items place) P
     → place < length items
 some_within P [] place there = absurd there
 some_within P (item ∷ items) zero there = omega arith

@@ -1,5 +1,5 @@
 -- The changes of which the table's rows are made keep what holds of a host of the code.
-use Rattle.std.proofs.Common.{◌≡◌, ℕ, ◌+◌, ◌<◌, ℤ, Bool, true, false, List, [], ◌∷◌, length, ◌∙◌, subst, refl}
+use Rattle.std.proofs.Common.{◌≡◌, ℕ, ◌+◌, ◌<◌, ℤ, Bool, true, false, List, [], ◌∷◌, length, ◌∙◌, subst, sym, refl}
 use Rattle.std.proofs.lemmas.Option.{slice_get_within, get_or_from_slice_get}
 use Rattle.std.proofs.Common.{get_or}
 use Rattle.host_code.specs.Sound.{EntryFits as CodeEntryFits}
@@ -14,6 +14,8 @@ use Rattle.js_base.specs.declared.ids.EntryId.{EntryId}
 use Rattle.jif_tree.specs.Store.{row_of, with_element}
 use Rattle.capability.specs.declared.token.Token.{Token}
 use Rattle.ics_stack.specs.declared.stack.StackEntry.{StackEntry}
+use Rattle.ics_stack.specs.Stack.{StackFits}
+use Rattle.ics_stack.proofs.Tokens.{fits_more, fits_below}
 use Rattle.host_code.specs.declared.code.Entry.{Entry}
 use Rattle.host_code.specs.Thread.{ThreadShape, Awaited}
 use Rattle.host_code.specs.Code.{CodeShape, part_of, entry_at, halt}
@@ -22,6 +24,7 @@ use Rattle.host_core.specs.Host.{HostShape, with_one_ignored, with_row_written, 
 use Rattle.host_core.specs.Host.{after_push, after_entering, after_pop, after_asking, thread_at}
 use Rattle.host_core.specs.Fits.{StateFits, RunningFits, WaitingFits, EntryFits, HeldFits, IsEntryOf, IsPlace}
 use Rattle.host_core.specs.Fits.{TokenFits}
+use Rattle.host_core.proofs.CodeFacts.{some_within}
 
 pub kept_ignored : (code : CodeShape) (host : HostShape) → StateFits code host → StateFits code (with_one_ignored host)
 kept_ignored code host fits = record {
@@ -33,6 +36,7 @@ kept_ignored code host fits = record {
   running = fits.running;
   waiting = fits.waiting;
   entries = fits.entries;
+  stack = fits.stack;
 }
 
 pub kept_row : (code : CodeShape) (host : HostShape) (field : FieldId) (index value : ℤ) → StateFits code host
@@ -46,6 +50,7 @@ kept_row code host field index value fits = record {
   running = fits.running;
   waiting = fits.waiting;
   entries = fits.entries;
+  stack = fits.stack;
 }
 
 pub kept_variable : (code : CodeShape) (host : HostShape) (frame : FrameId) (variable : VarId) (value : ℤ)
@@ -59,6 +64,7 @@ kept_variable code host frame variable value fits = record {
   running = fits.running;
   waiting = fits.waiting;
   entries = fits.entries;
+  stack = fits.stack;
 }
 
 pub kept_running : (code : CodeShape) (host : HostShape) (thread : ThreadShape) → StateFits code host
@@ -72,6 +78,7 @@ kept_running code host thread fits there = record {
   running = there;
   waiting = fits.waiting;
   entries = fits.entries;
+  stack = fits.stack;
 }
 
 pub kept_at_rest : (code : CodeShape) (host : HostShape) → StateFits code host → StateFits code (with_running host None)
@@ -84,6 +91,7 @@ kept_at_rest code host fits = record {
   running = tt;
   waiting = fits.waiting;
   entries = fits.entries;
+  stack = fits.stack;
 }
 
 pub kept_push : (code : CodeShape) (host : HostShape) (entry : EntryId) (frame : FrameId) (kept : Token)
@@ -99,6 +107,9 @@ kept_push code host entry frame kept fits there held = record {
   waiting = fits.waiting;
   entries = All-cons (EntryFits code host.me) _ host.entries
       (record { entry = there; token = refl; kept = held }) fits.entries;
+  stack = fits_more host.me host.serials host.entries _ fits.stack
+      (record { host_is = refl; entry_is = refl; frame_is = refl }) refl
+      (subst (λ (n : ℕ). entry.0 < n) (sym fits.serials) (some_within _ code.entries entry.0 there));
 }
 
 pub kept_frames : (code : CodeShape) (host : HostShape) (site : ℕ) (count : ℕ) → StateFits code host
@@ -112,6 +123,7 @@ kept_frames code host site count fits = record {
   running = fits.running;
   waiting = fits.waiting;
   entries = fits.entries;
+  stack = fits.stack;
 }
 
 pub kept_asking : (code : CodeShape) (host : HostShape) (at : ℕ) (thread : ThreadShape) (awaited : Awaited)
@@ -128,6 +140,7 @@ kept_asking code host at thread awaited asked fits place held other = record {
   waiting = All-push (WaitingFits code host.me) host.waiting _ fits.waiting
       (record { place = place; held = held; asked = other });
   entries = fits.entries;
+  stack = fits.stack;
 }
 
 -- a place at which a thread may start is one of the host's
@@ -169,13 +182,15 @@ popped code host entry frame kept true sound fits on held = record {
   running = tt;
   waiting = fits.waiting;
   entries = fits.entries;
+  stack = fits.stack;
 }
 popped code host entry frame kept false sound fits on held = kept_entering code host entry frame kept sound fits on held
 
 -- the entries below the top
 below_top : (code : CodeShape) (host : HostShape) (below : List StackEntry) → StateFits code host
-    → All (EntryFits code host.me) below → StateFits code (record host { entries = below })
-below_top code host below fits entries = record {
+    → All (EntryFits code host.me) below → StackFits host.me host.serials below
+    → StateFits code (record host { entries = below })
+below_top code host below fits entries stack = record {
   me = fits.me;
   rows = fits.rows;
   serials = fits.serials;
@@ -184,13 +199,16 @@ below_top code host below fits entries = record {
   running = fits.running;
   waiting = fits.waiting;
   entries = entries;
+  stack = stack;
 }
 
 pub kept_pop : (code : CodeShape) (host : HostShape) (entries : List StackEntry) → IsSoundCode code →
     StateFits code host
-    → All (EntryFits code host.me) entries → StateFits code (after_pop code host entries)
-kept_pop code host [] sound fits all = fits
-kept_pop code host (top ∷ below) sound fits all =
+    → All (EntryFits code host.me) entries → StackFits host.me host.serials entries
+    → StateFits code (after_pop code host entries)
+kept_pop code host [] sound fits all stack = fits
+kept_pop code host (top ∷ below) sound fits all stack =
     let on_top = All-head (EntryFits code host.me) top below all in
     popped code (record host { entries = below }) top.entry top.frame top.kept (top.entry.0 == halt.0) sound
-    (below_top code host below fits (All-tail (EntryFits code host.me) top below all)) on_top.entry on_top.kept
+    (below_top code host below fits (All-tail (EntryFits code host.me) top below all)
+    (fits_below host.me host.serials top below stack)) on_top.entry on_top.kept

@@ -1,9 +1,10 @@
 -- What holds of a host of the code holds at the start.
 use Rattle.std.proofs.Common.{◌≡◌, ℕ, ◌+◌, suc, ℤ, List, [], ◌∷◌, length, sym, ap, ◌∙◌, refl}
-use Rattle.std.specs.Prelude.{Option, Some, None, IsSomeAnd}
+use Rattle.std.specs.Prelude.{Option, Some, None, IsSomeAnd, replicate}
 use Rattle.std.proofs.lemmas.List.{length-replicate}
 use Rattle.std.proofs.lemmas.List.Elements.{All-nil}
 use Rattle.js_base.specs.declared.ids.HostId.{HostId}
+use Rattle.ics_stack.proofs.Tokens.{fits_empty}
 use Rattle.host_code.specs.declared.code.Entry.{Entry}
 use Rattle.host_code.specs.Code.{CodeShape, CodeFieldShape, halt, part_of, entry_at}
 use Rattle.host_code.specs.Sound.{IsHost, IsSoundCode}
@@ -30,6 +31,7 @@ idle_fits code store key me there = record {
   running = tt;
   waiting = All-nil (WaitingFits code me);
   entries = All-nil (EntryFits code me);
+  stack = fits_empty me (replicate (length code.entries) 0);
 }
 
 -- an entry on the root host is one of a host that is the root

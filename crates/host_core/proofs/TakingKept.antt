@@ -41,7 +41,7 @@ message_kept code host from (message.Rgoto frame entry token) true sound fits ot
   tt,
 )
 message_kept code host from (message.Lgoto token) true sound fits other tokens check =
-    (kept_pop code host host.entries sound fits fits.entries, tt)
+    (kept_pop code host host.entries sound fits fits.entries fits.stack, tt)
 message_kept code host from (message.Value request value) true sound fits other tokens check = (
   kept_answer code host value_of_field request from (with_temporary value) fits (λ same. cc) (λ thread. refl)
       (λ thread. refl),

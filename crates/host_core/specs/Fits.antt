@@ -1,11 +1,12 @@
 -- What holds of a host of the code from the start on: it has the code's hosts, fields, variables, entries and sites.
 -- Each place of a thread and each entry on the stack is one of the host's in the code, and each token names a host of
--- the code. A frame's site and a token's entry may be any number.
+-- the code. No two entries have the same token. A frame's site and a token's entry may be any number.
 use Rattle.std.specs.Prelude.{◌≡◌, ◌+◌, ◌<◌, ⊤, All, length, Option, None, IfSome, IsSomeAnd}
 use Rattle.js_base.specs.declared.ids.HostId.{HostId}
 use Rattle.js_base.specs.declared.ids.EntryId.{EntryId}
 use Rattle.capability.specs.declared.token.Token.{Token}
 use Rattle.ics_stack.specs.declared.stack.StackEntry.{StackEntry}
+use Rattle.ics_stack.specs.Stack.{StackFits}
 use Rattle.host_code.specs.declared.message.Message.{Message}
 use Rattle.host_code.specs.declared.message.Message.TheVariants as message
 use Rattle.host_code.specs.Thread.{ThreadShape, Awaited, WaitingShape}
@@ -56,6 +57,7 @@ pub record StateFits (code : CodeShape) (host : HostShape) : Type 0 where
   pub running : IfSome host.running (RunningFits code host.me)
   pub waiting : All (WaitingFits code host.me) host.waiting
   pub entries : All (EntryFits code host.me) host.entries
+  pub stack : StackFits host.me host.serials host.entries
 
 -- the host runs this code
 pub record HostFits (code : CodeShape) (host : HostModel) : Type 0 where
