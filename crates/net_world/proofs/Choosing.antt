@@ -14,7 +14,7 @@ use Rattle.net_world.specs.Fits.{WorldModel, world_of}
 use Rattle.net_world.proofs.Present.{present_states}
 
 -- a host of the number is the one below a number, or the last below the next
-below_more : (P : HostId → Type 0) (n : ℕ) → ((earlier : HostId) → earlier.0 < n → P earlier) →
+pub below_more : (P : HostId → Type 0) (n : ℕ) → ((earlier : HostId) → earlier.0 < n → P earlier) →
     P (record { 0 = n }) → (host : HostId) → host.0 < n + 1 → P host
 below_more P n before last host lt =
     elim (cases_lt host.0 n) [

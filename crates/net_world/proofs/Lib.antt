@@ -6,6 +6,7 @@ pub mod Named
 pub mod Present
 pub mod Queues
 pub mod Same
+pub mod Seeing
 pub mod Shapes
 pub mod Starts
 pub mod StepLaws

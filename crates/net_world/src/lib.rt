@@ -8,6 +8,7 @@ mod mail;
 mod matching;
 mod moves;
 mod refusals;
+mod secrets;
 mod steps;
 mod told;
 mod world;

@@ -93,7 +93,7 @@ impl World {
     }
 
     /// The message in flight at a place with its label.
-    fn flight(&self, from: HostId, to: HostId, place: u64) -> Option<(&Message, u32)>
+    pub(crate) fn flight(&self, from: HostId, to: HostId, place: u64) -> Option<(&Message, u32)>
         ensures { MatchOption result (slice_get ((world_of self.now).flying from to) place ≡ None)
             (λ found. slice_get ((world_of self.now).flying from to) place
             ≡ Some (record { message = found.0.now; label = found.1 })) }
