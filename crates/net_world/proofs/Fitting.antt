@@ -23,11 +23,13 @@ use Rattle.host_core.specs.Host.{HostShape, HostModel, Outcome, Letter}
 use Rattle.host_core.specs.Fits.{SentFits, TokensFit, TokenFits}
 use Rattle.net_world.specs.Flying.{Flight, Flying, with_flights}
 use Rattle.net_world.specs.Told.{SentMessage, token_in, tokens_in, token_presented, message_made}
-use Rattle.net_world.specs.World.{WorldShape, misbehaves, is_absent, given, without_flight, after_sending}
+use Rattle.net_world.specs.World.{WorldShape, lacks, misbehaves, is_absent, given, without_flight, after_sending}
 use Rattle.net_world.specs.World.{after_telling, after_posting, letter_of, tokens_sent}
 use Rattle.net_world.specs.Fits.{FlightFits, SentMessageFits, MailFits, OwnToken, OwnTokenIn, WorldModel, WorldFits}
-use Rattle.net_world.specs.Fits.{HostsFit, world_of}
+use Rattle.net_world.specs.Fits.{HostsFit, states_of, world_of}
+use Rattle.net_world.specs.Secret.{AreReadable}
 use Rattle.net_world.specs.Steps.{HasStepped}
+use Rattle.net_world.proofs.StepLaws.{absent_set}
 
 all_remove : {X : Type 0} (P : X → Type 0) (xs : List X) (i : ℕ) → All P xs → All P (remove xs i)
 all_remove P [] zero all k d lt = absurd (omega arith)
@@ -114,15 +116,39 @@ mail_sending code world from (Some label) (Some sent) fits is_host sent_fits lab
     (mail_posting code world from (record { to = sent.0; message = sent.1; label = label }) fits is_host sent_fits.0
     sent_fits.1 label_fits)
 
+-- where the same hosts misbehave, the same labels may be seen
+pub readable_kept : (code : CodeShape) (before after : WorldShape) (readable : List Bool) →
+    ((host : HostId) → misbehaves after host ≡ misbehaves before host) → AreReadable code before readable →
+    AreReadable code after readable
+readable_kept code before after readable same tells = record {
+  each = λ label. (
+    λ seen. let read = (tells.each label).0 seen in (read.0, (same read.0 ∙ read.1.0, read.1.1)),
+    λ read. (tells.each label).1 (read.0, (sym (same read.0) ∙ read.1.0, read.1.1)),
+  );
+}
+
+-- a step of a host that obeys leaves the same hosts misbehaving
+pub bad_stepped : (kind : HostShape → Outcome → Type 0) (before old new : WorldShape) (host : HostId)
+    (sent : Option (HostId × Message)) → old ≡ before → HasStepped kind old host sent new → (other : HostId) →
+    misbehaves new other ≡ misbehaves before other
+bad_stepped kind before old new host sent same stepped other =
+    ap (λ (w : WorldShape). misbehaves w other) (sym stepped.leaves)
+    ∙ absent_set old.hosts host.0 other.0 stepped.before stepped.after stepped.obeys
+    ∙ ap (λ (w : WorldShape). misbehaves w other) same
+
 -- a world after a step
 pub world_fits : (code : CodeShape) (before after : WorldModel) (hosts : List (Option HostModel)) →
     WorldFits code before → after.root ≡ before.root → after.hosts ≡ hosts → length hosts ≡ length before.hosts →
-    HostsFit code hosts → MailFits code (world_of after) → WorldFits code after
-world_fits code before after hosts fits root same count hosts_fit mail = record {
+    HostsFit code hosts → MailFits code (world_of after) → after.readable ≡ before.readable →
+    ((host : HostId) → lacks (states_of hosts) host ≡ misbehaves (world_of before) host) → WorldFits code after
+world_fits code before after hosts fits root same count hosts_fit mail list same_bad = record {
   root = root ∙ fits.root;
   count = ap length same ∙ count ∙ fits.count;
   hosts = subst (HostsFit code) (sym same) hosts_fit;
   mail = mail;
+  readable = readable_kept code (world_of before) (world_of after) after.readable
+      (λ host. ap (λ (h : List (Option HostModel)). lacks (states_of h) host) same ∙ same_bad host)
+      (subst (AreReadable code (world_of before)) (sym list) fits.readable);
 }
 
 -- ---- what a message in flight is
@@ -149,7 +175,7 @@ turned code from to is_host other = (is_host, λ same. other.1 (sym same))
 
 -- ---- what a misbehaving host makes
 
-is_bad_host : {X : Type 0} (hosts : List (Option X)) (i : ℕ) → IsTrue (is_absent (slice_get hosts i)) → i < length hosts
+pub is_bad_host : {X : Type 0} (hosts : List (Option X)) (i : ℕ) → IsTrue (is_absent (slice_get hosts i)) → i < length hosts
 is_bad_host [] i absent = absurd (cc)
 is_bad_host (host ∷ hosts) zero absent = omega arith
 is_bad_host (host ∷ hosts) (suc i) absent = let lt = is_bad_host hosts i absent in omega arith

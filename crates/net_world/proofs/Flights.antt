@@ -1,5 +1,5 @@
 -- Messages beside their labels, in two lists of one length.
-use Rattle.std.proofs.Common.{◌≡◌, ℕ, zero, suc, List, [], ◌∷◌, ◌++◌, length, map, refl, ap, arith}
+use Rattle.std.proofs.Common.{◌≡◌, ℕ, zero, suc, List, [], ◌∷◌, ◌++◌, length, map, refl, ap, sym, ◌<◌, get_or, arith}
 use Rattle.std.proofs.Common.{Some, None}
 use Rattle.std.specs.Prelude.{slice_get, remove}
 use Rattle.host_code.specs.declared.message.Message.{Message}
@@ -68,6 +68,17 @@ flights_get_no_label (first ∷ messages) [] place none = refl
 flights_get_no_label (first ∷ messages) (other ∷ labels) zero none = absurd (cc)
 flights_get_no_label (first ∷ messages) (other ∷ labels) (suc place) none =
     flights_get_no_label messages labels place none
+
+-- what stands at a place has the label of that place
+pub label_there : (messages : List Message) (labels : List ℕ) (place label : ℕ) → length messages ≡ length labels →
+    place < length labels → label ≡ get_or labels place label → (flight : Flight)
+    × (slice_get (flights_with messages labels) place ≡ Some flight) × (flight.label ≡ label)
+label_there [] labels place label same lt is = absurd (omega arith)
+label_there (first ∷ messages) [] place label same lt is = absurd (omega arith)
+label_there (first ∷ messages) (other ∷ labels) zero label same lt is =
+    (record { message = first; label = other }, refl, sym is)
+label_there (first ∷ messages) (other ∷ labels) (suc place) label same lt is =
+    label_there messages labels place label (omega arith) (omega arith) is
 
 pub ruleset flights = (
   messages_of_flights,

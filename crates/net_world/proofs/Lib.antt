@@ -1,6 +1,7 @@
 pub mod Choosing
 pub mod Fitting
 pub mod Flights
+pub mod Counted
 pub mod Letters
 pub mod Named
 pub mod Present

@@ -1,18 +1,23 @@
 -- What may be seen of a world, host by host and message by message.
-use Rattle.std.proofs.Common.{◌≡◌, ℕ, zero, suc, ◌+◌, ◌<◌, ◌≤◌, Bool, true, false, List, [], ◌∷◌, length, refl, arith}
+use Rattle.std.proofs.Common.{◌≡◌, ℕ, zero, suc, ◌+◌, ◌<◌, ◌≤◌, Bool, true, false, not, List, [], ◌∷◌, ◌++◌, length, refl, arith}
 use Rattle.std.proofs.Common.{Option, Some, None, inl, inr, subst, sym, ◌∙◌}
 use Rattle.std.specs.Prelude.{All, IfSome, IsSomeAnd, IsTrue, slice_get, nat_lt, ◌&&◌, if◌then◌else◌, ◌↔◌}
 use Rattle.std.proofs.lemmas.Bool.{cases_lt, false≢true}
 use Rattle.std.proofs.lemmas.Bool.Decides.{nat_tests}
-use Rattle.std.proofs.lemmas.List.Elements.{All-nil}
+use Rattle.std.proofs.lemmas.List.Elements.{All-nil, All-weaker}
 use Rattle.js_base.specs.declared.ids.HostId.{HostId}
+use Rattle.label_lattice.specs.declared.label.Label.{Label}
 use Rattle.host_code.specs.Code.{CodeShape}
-use Rattle.net_world.specs.Flying.{Flight, flights_of, flights_at, pair_place}
+use Rattle.entry_check.specs.Checks.{MaySee, label_of_host}
+use Rattle.host_core.specs.Host.{HostShape, HostModel}
+use Rattle.net_world.specs.Flying.{Flight, flights_of, flights_at, flying_of, pair_place, may_be_seen, hidden_in}
 use Rattle.net_world.specs.World.{WorldShape, given, state_at}
-use Rattle.net_world.specs.Fits.{WorldModel, world_of, states_of}
-use Rattle.net_world.specs.Secret.{Reads, IsReadable, FlyOpenly, RunsOpenly, AllRunOpenly, IsQuiet}
+use Rattle.net_world.specs.Fits.{WorldModel, WorldFits, world_of, states_of}
+use Rattle.net_world.specs.Secret.{Reads, IsReadBy, IsReadable, FlyOpenly, RunsOpenly, AllRunOpenly, IsQuiet}
 use Rattle.net_world.proofs.Choosing.{below_more}
-use Rattle.net_world.proofs.Fitting.{bad_within}
+use Rattle.net_world.proofs.Fitting.{is_bad_host}
+use Rattle.net_world.proofs.Counted.{each_seen, none_hidden}
+use Rattle.net_world.proofs.Letters.{flying_at}
 use Rattle.net_world.proofs.Present.{length_states}
 
 -- ---- answers
@@ -26,20 +31,79 @@ no fails = (λ is. absurd (cc), λ holds. absurd (fails holds))
 pub untrue : {P : Type 0} (b : Bool) → b ≡ false → (IsTrue b ↔ P) → ¬ P
 untrue b is exact holds = false≢true (sym is ∙ exact.1 holds)
 
+pub denied : {P Q : Type 0} (b : Bool) → (IsTrue b ↔ P) → ((¬ P) ↔ Q) → IsTrue (not b) ↔ Q
+denied true exact other = (λ is. absurd (cc), λ holds. absurd (other.1 holds (exact.0 refl)))
+denied false exact other = (λ is. other.0 (λ holds. false≢true (exact.1 holds)), λ holds. refl)
+
 -- ---- labels
 
-pub none_reads_more : (code : CodeShape) (world : WorldShape) (label n : ℕ) →
-    ((earlier : HostId) → earlier.0 < n → ¬ Reads code world label earlier) →
-    ¬ Reads code world label (record { 0 = n }) → (earlier : HostId) → earlier.0 < n + 1 →
-    ¬ Reads code world label earlier
-none_reads_more code world label n before last = below_more (λ host. ¬ Reads code world label host) n before last
+pub none_reads_more : (code : CodeShape) (hosts : List (Option HostShape)) (label n : ℕ) →
+    ((earlier : HostId) → earlier.0 < n → ¬ Reads code hosts label earlier) →
+    ¬ Reads code hosts label (record { 0 = n }) → (earlier : HostId) → earlier.0 < n + 1 →
+    ¬ Reads code hosts label earlier
+none_reads_more code hosts label n before last = below_more (λ host. ¬ Reads code hosts label host) n before last
 
-pub none_reads : (code : CodeShape) (world : WorldModel) (label n : ℕ) → length world.hosts ≤ n →
-    ((earlier : HostId) → earlier.0 < n → ¬ Reads code (world_of world) label earlier) →
-    ¬ IsReadable code (world_of world) label
-none_reads code world label n all before readable =
-    let lt = bad_within (world_of world) readable.0 (length world.hosts) (length_states world.hosts) readable.1.0 in
-    before readable.0 (omega arith) readable.1
+pub none_reads : (code : CodeShape) (hosts : List (Option HostModel)) (label n : ℕ) → length hosts ≤ n →
+    ((earlier : HostId) → earlier.0 < n → ¬ Reads code (states_of hosts) label earlier) →
+    ¬ IsReadBy code (states_of hosts) label
+none_reads code hosts label n all before read =
+    let within : read.0.0 < length (states_of hosts) = is_bad_host (states_of hosts) read.0.0 read.1.0 in
+    let long : length (states_of hosts) ≡ length hosts = length_states hosts in
+    before read.0 (omega arith) read.1
+
+seen_before : (readable : List Bool) (last : Bool) (k : ℕ) → k < length readable →
+    may_be_seen (readable ++ last ∷ []) k ≡ may_be_seen readable k
+seen_before [] last k lt = absurd (omega arith)
+seen_before (first ∷ readable) last zero lt = refl
+seen_before (first ∷ readable) last (suc k) lt = seen_before readable last k (omega arith)
+
+seen_last : (readable : List Bool) (last : Bool) → may_be_seen (readable ++ last ∷ []) (length readable) ≡ last
+seen_last [] last = refl
+seen_last (first ∷ readable) last = seen_last readable last
+
+unseen_past : (readable : List Bool) (k : ℕ) → length readable ≤ k → may_be_seen readable k ≡ false
+unseen_past [] k all = refl
+unseen_past (first ∷ readable) zero all = absurd (omega arith)
+unseen_past (first ∷ readable) (suc k) all = unseen_past readable k (omega arith)
+
+no_label : (labels : List Label) (k : ℕ) → length labels ≤ k → slice_get labels k ≡ None
+no_label [] k all = refl
+no_label (first ∷ labels) zero all = absurd (omega arith)
+no_label (first ∷ labels) (suc k) all = no_label labels k (omega arith)
+
+-- the list so far tells for each label
+abbrev pub Tells : CodeShape → List (Option HostShape) → List Bool → ℕ → Type 0
+Tells code hosts readable label = IsTrue (may_be_seen readable label) ↔ IsReadBy code hosts label
+
+pub tells_more : (code : CodeShape) (hosts : List (Option HostShape)) (readable : List Bool) (last : Bool) (n : ℕ) →
+    length readable ≡ n → ((k : ℕ) → k < n → Tells code hosts readable k) →
+    (IsTrue last ↔ IsReadBy code hosts n) → (k : ℕ) → k < n + 1 → Tells code hosts (readable ++ last ∷ []) k
+tells_more code hosts readable last n long before is k lt =
+    elim (cases_lt k n) [
+      | inl less ↦
+          subst (λ (b : Bool). IsTrue b ↔ IsReadBy code hosts k) (sym (seen_before readable last k (omega arith)))
+          (before k less)
+      | inr more ↦ (
+          let same : n ≡ k = omega arith in
+          subst (λ (i : ℕ). Tells code hosts (readable ++ last ∷ []) i) same
+          (subst (λ (i : ℕ). Tells code hosts (readable ++ last ∷ []) i) long
+          (subst (λ (b : Bool). IsTrue b ↔ IsReadBy code hosts (length readable)) (sym (seen_last readable last))
+          (subst (λ (i : ℕ). IsTrue last ↔ IsReadBy code hosts i) (sym long) is))))
+    ]
+
+pub tells_all : (code : CodeShape) (hosts : List (Option HostShape)) (readable : List Bool) (n : ℕ) →
+    length readable ≡ n → length code.labels ≤ n → ((k : ℕ) → k < n → Tells code hosts readable k) → (label : ℕ) →
+    Tells code hosts readable label
+tells_all code hosts readable n long all before label =
+    elim (cases_lt label n) [
+      | inl less ↦ before label less
+      | inr more ↦ (
+          let unseen : may_be_seen readable label ≡ false = unseen_past readable label (omega arith) in
+          let none : slice_get code.labels label ≡ None = no_label code.labels label (omega arith) in (
+            λ seen. absurd (false≢true (sym unseen ∙ seen)),
+            λ read. absurd (subst (λ (o : Option Label). MaySee o (label_of_host code read.0)) none read.1.1),
+          ))
+    ]
 
 -- ---- where there is something, or nothing
 
@@ -88,30 +152,6 @@ run_all code world n all before host =
 
 -- ---- what is in flight
 
-pub shows_more : (P : Flight → Type 0) (flights : List Flight) (n : ℕ) →
-    ((k : ℕ) → k < n → IfSome (slice_get flights k) P) → IfSome (slice_get flights n) P → (k : ℕ) → k < n + 1 →
-    IfSome (slice_get flights k) P
-shows_more P flights n before last k lt =
-    elim (cases_lt k n) [
-      | inl less ↦ before k less
-      | inr more ↦ (
-          let same : n ≡ k = omega arith in
-          subst (λ i. IfSome (slice_get flights i) P) same last)
-    ]
-
-pub all_shown : (P : Flight → Type 0) (flights : List Flight) (n : ℕ) → length flights ≤ n →
-    ((k : ℕ) → k < n → IfSome (slice_get flights k) P) → All P flights
-all_shown P [] n long before k d lt = absurd (omega arith)
-all_shown P (flight ∷ flights) zero long before k d lt = absurd (omega arith)
-all_shown P (flight ∷ flights) (suc n) long before zero d lt = before 0 (omega arith)
-all_shown P (flight ∷ flights) (suc n) long before (suc k) d lt =
-    all_shown P flights n (omega arith) (λ i less. before (suc i) (omega arith)) k d (omega arith)
-
-pub one_shown : (P : Flight → Type 0) (flights : List Flight) (k : ℕ) → All P flights → IfSome (slice_get flights k) P
-one_shown P [] k all = tt
-one_shown P (flight ∷ flights) zero all = all 0 flight (omega arith)
-one_shown P (flight ∷ flights) (suc k) all = one_shown P flights k (λ i d lt. all (suc i) d (omega arith))
-
 cell_past : (P : Flight → Type 0) (count : ℕ) (i j : HostId) (flights : List Flight) (there : Bool) →
     (nat_lt i.0 count && nat_lt j.0 count) ≡ there → ((i.0 < count) → (j.0 < count) → ⊥) →
     All P (if there then flights else [])
@@ -156,6 +196,30 @@ fly_all code world n all before from to =
       | inr more ↦ flies_past code world from to (λ first second. absurd (omega arith))
     ]
 
+-- nothing in the queue of two hosts is hidden where each message may be seen
+pub flies_openly : (code : CodeShape) (world : WorldModel) (from to : HostId) → WorldFits code world →
+    from.0 < length world.hosts → to.0 < length world.hosts →
+    (¬ (0 < hidden_in world.readable (flights_at (flights_of world.queues) (pair_place from to))))
+    ↔ FlyOpenly code (world_of world) from to
+flies_openly code world from to fits first second =
+    let queues : List (List Flight) = flights_of world.queues in
+    let flights : List Flight = flights_at queues (pair_place from to) in
+    let same : flying_of (length world.hosts) queues from to ≡ flights =
+    flying_at (length world.hosts) queues from to first second in
+    let P : Flight → Type 0 = λ flight. IsReadable code (world_of world) flight.label in
+    let Q : Flight → Type 0 = λ flight. IsTrue (may_be_seen world.readable flight.label) in (
+      λ none.
+          let nothing : hidden_in world.readable flights ≡ 0 = omega arith in
+          subst (All P) (sym same)
+          (All-weaker Q P (λ flight. (fits.readable.each flight.label).0) flights
+          (each_seen world.readable flights nothing)),
+      λ all some.
+          let nothing : hidden_in world.readable flights ≡ 0 =
+          none_hidden world.readable flights
+          (All-weaker P Q (λ flight. (fits.readable.each flight.label).1) flights (subst (All P) same all)) in
+          absurd (omega arith),
+    )
+
 -- ---- both
 
 pub quiet_from : (code : CodeShape) (world : WorldShape) → AllRunOpenly code world →
@@ -172,8 +236,6 @@ quiet_runs code world quiet host =
 pub ruleset reading = (none_reads_more, none_reads)
 
 pub ruleset runs = (run_more, run_all)
-
-pub ruleset flights_seen = (shows_more, all_shown, one_shown)
 
 pub ruleset flights_seen_to = (fly_to_more, fly_to_all)
 

@@ -199,7 +199,7 @@ others_stay code world after event host step other =
     ap (λ hosts. slice_get hosts host.0) put.puts
     ∙ get_other world.hosts (mover event).0 host.0 (Some put.state) other
 
-absent_set : {X : Type 0} (hosts : List (Option X)) (i j : ℕ) (x y : X) → given (slice_get hosts i) ≡ Some x →
+pub absent_set : {X : Type 0} (hosts : List (Option X)) (i j : ℕ) (x y : X) → given (slice_get hosts i) ≡ Some x →
     is_absent (slice_get (slice_set hosts i (Some y)) j) ≡ is_absent (slice_get hosts j)
 absent_set [] i j x y there = refl
 absent_set (None ∷ hosts) zero zero x y there = absurd (cc)

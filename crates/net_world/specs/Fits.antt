@@ -1,5 +1,5 @@
 -- A world in the program, and what holds of it from the start on: it is a world of the code.
-use Rattle.std.specs.Prelude.{◌≡◌, ⊤, List, All, length, map, Option, IfSome, IsTrue}
+use Rattle.std.specs.Prelude.{◌≡◌, ⊤, Bool, List, All, length, map, Option, IfSome, IsTrue}
 use Rattle.std.specs.Option.{option_map}
 use Rattle.js_base.specs.declared.ids.HostId.{HostId}
 use Rattle.event_text.specs.declared.event.Event.{Event}
@@ -16,12 +16,15 @@ use Rattle.host_core.specs.Fits.{HostFits, StateFits}
 use Rattle.net_world.specs.Flying.{Flight, Queue, flights_of, flying_of}
 use Rattle.net_world.specs.Told.{SentMessage, ToldShape}
 use Rattle.net_world.specs.World.{WorldShape, present, state_at, misbehaves}
+use Rattle.net_world.specs.Secret.{AreReadable}
 
--- the root host, the hosts, a queue for each pair of hosts, and what misbehaving hosts were sent
+-- The root host, the hosts, a queue for each pair of hosts, for each label whether a misbehaving host may see it, and
+-- what misbehaving hosts were sent.
 pub record WorldModel : Type 0 where
   pub root : HostId
   pub hosts : List (Option HostModel)
   pub queues : List Queue
+  pub readable : List Bool
   pub told : ToldShape
 
 abbrev pub states_of : List (Option HostModel) → List (Option HostShape)
@@ -70,6 +73,7 @@ pub record WorldFits (code : CodeShape) (world : WorldModel) : Type 0 where
   pub count : length world.hosts ≡ length code.hosts
   pub hosts : HostsFit code world.hosts
   pub mail : MailFits code (world_of world)
+  pub readable : AreReadable code (world_of world) world.readable
 
 -- ---- the same of the definitions alone
 

@@ -1,5 +1,5 @@
 -- What is in flight between the hosts, and how the program keeps it: a queue for each ordered pair of 16 hosts.
-use Rattle.std.specs.Prelude.{ℕ, ◌+◌, ◌*◌, ◌<◌, ◌==◌, ◌&&◌, if◌then◌else◌, nat_lt, List}
+use Rattle.std.specs.Prelude.{◌≡◌, ℕ, Bool, false, ◌+◌, ◌*◌, ◌<◌, ◌==◌, ◌&&◌, if◌then◌else◌, nat_lt, List}
 use Rattle.std.specs.Prelude.{[], ◌∷◌, map, IsSomeAnd}
 use Rattle.std.specs.Prelude.{unwrap_or, slice_get}
 use Rattle.js_base.specs.declared.ids.HostId.{HostId}
@@ -30,11 +30,32 @@ flights_with (message ∷ messages) [] = []
 flights_with (message ∷ messages) (label ∷ labels) =
     record { message = message; label = label } ∷ flights_with messages labels
 
--- what is in a queue, and for how many more messages and labels it has room
+-- whether the label at this place may be seen, by a list that tells it for each label
+abbrev pub may_be_seen : List Bool → ℕ → Bool
+may_be_seen readable label = unwrap_or (slice_get readable label) false
+
+-- how many messages carry a label that may not be seen
+abbrev pub one_if_hidden : List Bool → ℕ → ℕ
+one_if_hidden readable label = if may_be_seen readable label then 0 else 1
+
+abbrev pub hidden_in : List Bool → List Flight → ℕ
+hidden_in readable [] = 0
+hidden_in readable (flight ∷ flights) = one_if_hidden readable flight.label + hidden_in readable flights
+
+-- what is in a queue, the count of what may not be seen of it, and for how many more messages and labels it has room
 pub record Queue : Type 0 where
   pub flights : List Flight
+  pub hidden : ℕ
   pub message_room : ℕ
   pub label_room : ℕ
+
+abbrev pub IsCounted : List Bool → Queue → Type 0
+IsCounted readable queue = queue.hidden ≡ hidden_in readable queue.flights
+
+-- a queue for each pair of hosts, and for each label of the code whether a misbehaving host may see it
+pub record QueuesShape : Type 0 where
+  pub queues : List Queue
+  pub readable : List Bool
 
 -- the place of the queue from a host to a host
 abbrev pub pair_place : HostId → HostId → ℕ

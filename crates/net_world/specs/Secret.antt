@@ -1,5 +1,5 @@
 -- What no misbehaving host may see of a world: what is in flight, what runs, and what events happen.
-use Rattle.std.specs.Prelude.{◌≡◌, ◌⊎◌, ⊤, ℕ, List, [], ◌∷◌, All, Some, IfSome, IsSomeAnd, IsTrue, slice_get}
+use Rattle.std.specs.Prelude.{◌≡◌, ◌⊎◌, ◌↔◌, ⊤, ℕ, Bool, Option, List, [], ◌∷◌, All, Some, IfSome, IsSomeAnd, IsTrue, slice_get}
 use Rattle.js_base.specs.declared.ids.HostId.{HostId}
 use Rattle.event_text.specs.declared.event.Event.{Event}
 use Rattle.event_text.specs.declared.event.Event.TheVariants.{Take, Turn, Act}
@@ -7,15 +7,23 @@ use Rattle.host_code.specs.Code.{CodeShape}
 use Rattle.entry_check.specs.Checks.{MaySee, label_at, label_of_host}
 use Rattle.host_core.specs.Host.{HostShape}
 use Rattle.host_core.specs.Turn.{label_of_turn}
-use Rattle.net_world.specs.World.{WorldShape, state_at, misbehaves, IsStep}
+use Rattle.net_world.specs.Flying.{may_be_seen}
+use Rattle.net_world.specs.World.{WorldShape, state_at, lacks, IsStep}
 
 -- a misbehaving host that may see the label at this place among the code's labels
-abbrev pub Reads : CodeShape → WorldShape → ℕ → HostId → Type 0
-Reads code world label host = IsTrue (misbehaves world host) × MaySee (label_at code label) (label_of_host code host)
+abbrev pub Reads : CodeShape → List (Option HostShape) → ℕ → HostId → Type 0
+Reads code hosts label host = IsTrue (lacks hosts host) × MaySee (label_at code label) (label_of_host code host)
+
+abbrev pub IsReadBy : CodeShape → List (Option HostShape) → ℕ → Type 0
+IsReadBy code hosts label = (host : HostId) × Reads code hosts label host
 
 -- a label that some misbehaving host may see
 abbrev pub IsReadable : CodeShape → WorldShape → ℕ → Type 0
-IsReadable code world label = (host : HostId) × Reads code world label host
+IsReadable code world label = IsReadBy code world.hosts label
+
+-- the list tells for each label whether some misbehaving host may see it
+pub record AreReadable (code : CodeShape) (world : WorldShape) (readable : List Bool) : Type 0 where
+  pub each : (label : ℕ) → IsTrue (may_be_seen readable label) ↔ IsReadable code world label
 
 -- A turn is secret where the label of its instruction is not readable, and a take where the label is not that its
 -- message carries. An act never is.

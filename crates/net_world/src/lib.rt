@@ -7,6 +7,7 @@ pub mod laws;
 mod mail;
 mod matching;
 mod moves;
+mod readers;
 mod refusals;
 mod secrets;
 mod steps;

@@ -29,6 +29,7 @@ impl World {
         ensures world { world_of self.new ≡ world_of self.old }
         ensures hosts { self.new.hosts ≡ self.old.hosts }
         ensures root { self.new.root ≡ self.old.root }
+        ensures readable { self.new.readable ≡ self.old.readable }
     {
         // Only a look at a field tells the check what every world keeps, here that its hosts are few.
         let _hosts = &self.hosts;
@@ -42,6 +43,7 @@ impl World {
         ensures world { world_of self.new ≡ world_of self.old }
         ensures hosts { self.new.hosts ≡ self.old.hosts }
         ensures root { self.new.root ≡ self.old.root }
+        ensures readable { self.new.readable ≡ self.old.readable }
     {
         self.told.reserve()
     }
@@ -55,6 +57,7 @@ impl World {
         ensures world { world_of self.new ≡ world_of self.old }
         ensures hosts { self.new.hosts ≡ self.old.hosts }
         ensures root { self.new.root ≡ self.old.root }
+        ensures readable { self.new.readable ≡ self.old.readable }
     {
         // Only a look at a field tells the check what every world keeps, here that its hosts are few.
         let hosts = self.hosts.len();
@@ -87,6 +90,7 @@ impl World {
         ensures sent { OnOk result (SentFits code.now to sent.new) }
         ensures mail { (self.new.queues ≡ self.old.queues) × (self.new.told ≡ self.old.told) }
         ensures root { self.new.root ≡ self.old.root }
+        ensures readable { self.new.readable ≡ self.old.readable }
     {
         deliver_at(&mut self.hosts, code, to, from, message, sent)
     }
@@ -111,6 +115,7 @@ impl World {
         ensures sent { OnOk result (SentFits code.now host sent.new) }
         ensures mail { (self.new.queues ≡ self.old.queues) × (self.new.told ≡ self.old.told) }
         ensures root { self.new.root ≡ self.old.root }
+        ensures readable { self.new.readable ≡ self.old.readable }
     {
         turn_at(&mut self.hosts, code, host, sent)
     }
@@ -124,6 +129,7 @@ impl World {
         ensures room { (pair : ℕ) → HasRoom self.old.queues pair → HasRoom self.new.queues pair }
         ensures same { (self.new.hosts ≡ self.old.hosts) × (self.new.told ≡ self.old.told)
             × (self.new.root ≡ self.old.root) }
+        ensures readable { self.new.readable ≡ self.old.readable }
     {
         // Only a look at a field tells the check what every world keeps, here that its hosts are few.
         let _hosts = &self.hosts;
@@ -139,6 +145,7 @@ impl World {
         requires told { ToldHasRoom self.old.told }
         ensures world { world_of self.new ≡ after_sending (world_of self.old) from (letter_of label sent.now) }
         ensures same { (self.new.hosts ≡ self.old.hosts) × (self.new.root ≡ self.old.root) }
+        ensures readable { self.new.readable ≡ self.old.readable }
     {
         // Only a look at a field tells the check what every world keeps, here that its hosts are few.
         let _hosts = &self.hosts;
@@ -157,6 +164,7 @@ impl World {
         requires { ToldHasRoom self.old.told }
         ensures world { world_of self.new ≡ after_telling (world_of self.old) from sent.now }
         ensures same { (self.new.hosts ≡ self.old.hosts) × (self.new.root ≡ self.old.root) }
+        ensures readable { self.new.readable ≡ self.old.readable }
     {
         if let Some((to, message)) = sent {
             self.told.push(from, *to, message);

@@ -9,6 +9,7 @@ ghost use Rattle.net_world.specs.Fits.{WorldFits, world_of, host_at};
 ghost use Rattle.net_world.specs.Steps.{IsActive, IsTakeable, IsActable, IsRefused, IsRunnable, CannotRest};
 
 use crate::moves::label_of;
+use crate::readers::is_bad;
 use crate::world::{EventError, World};
 use event_text::{BadMessage, Event};
 use host_code::{Code, Message};
@@ -109,6 +110,6 @@ impl World {
     pub(crate) fn is_bad(&self, host: HostId) -> bool
         ensures { result ≡ misbehaves (world_of self.now) host }
     {
-        matches!(self.hosts.get(host.0 as usize), Some(None))
+        is_bad(&self.hosts, host)
     }
 }

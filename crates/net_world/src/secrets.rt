@@ -1,11 +1,10 @@
 //! What no misbehaving host may see of a world.
 
-ghost use Rattle.std.specs.Prelude.{◌↔◌, IfSome, IsTrue, slice_get};
+ghost use Rattle.std.specs.Prelude.{◌<◌, ◌↔◌, IfSome, IsTrue, length, slice_get};
 ghost use Rattle.js_base.specs.declared.ids.HostId.{HostId};
-ghost use Rattle.entry_check.specs.Checks.{MaySee, label_at, label_of_host};
 ghost use Rattle.net_world.specs.World.{state_at};
 ghost use Rattle.net_world.specs.Fits.{WorldFits, world_of};
-ghost use Rattle.net_world.specs.Secret.{IsSecret, IsQuiet, IsReadable, Reads, FlyOpenly, RunsOpenly, AllRunOpenly};
+ghost use Rattle.net_world.specs.Secret.{IsSecret, IsQuiet, IsReadable, FlyOpenly, RunsOpenly, AllRunOpenly};
 
 use crate::moves::label_of;
 use crate::world::World;
@@ -68,6 +67,7 @@ impl World {
     /// Whether all that is in flight may be seen.
     #[tactic(auto, using(crate::proofs::Seeing::flights_seen_from))]
     fn fly_openly(&self, code: &Code) -> bool
+        requires fits { WorldFits code.now self.now }
         ensures { IsTrue result ↔ ((from to : HostId) → FlyOpenly code.now (world_of self.now) from to) }
     {
         for from in 0..self.hosts.len() as u8 {
@@ -81,6 +81,8 @@ impl World {
     /// Whether all that is in flight from a host may be seen.
     #[tactic(auto, using(crate::proofs::Seeing::flights_seen_to))]
     fn fly_openly_from(&self, code: &Code, from: HostId) -> bool
+        requires fits { WorldFits code.now self.now }
+        requires from { from.0 < length self.now.hosts }
         ensures { IsTrue result ↔ ((to : HostId) → FlyOpenly code.now (world_of self.now) from to) }
     {
         for to in 0..self.hosts.len() as u8 {
@@ -92,20 +94,20 @@ impl World {
     }
 
     /// Whether all that is in flight from a host to a host may be seen.
-    #[tactic(auto, using(crate::proofs::Seeing::flights_seen))]
     fn fly_openly_to(&self, code: &Code, from: HostId, to: HostId) -> bool
+        requires fits { WorldFits code.now self.now }
+        requires from { from.0 < length self.now.hosts }
+        requires to { to.0 < length self.now.hosts }
         ensures { IsTrue result ↔ FlyOpenly code.now (world_of self.now) from to }
     {
-        for place in 0..self.flying(from, to).len() as u64 {
-            if !self.shows(code, from, to, place) {
-                return false;
-            }
-        }
-        true
+        // Only a look at a field tells the check what every world keeps, here that its hosts are few.
+        let _hosts = &self.hosts;
+        !self.flying.hides(from, to)
     }
 
     /// Whether a message in flight may be seen, where there is one at a place.
     fn shows(&self, code: &Code, from: HostId, to: HostId, place: u64) -> bool
+        requires fits { WorldFits code.now self.now }
         ensures { IsTrue result ↔ IfSome (slice_get ((world_of self.now).flying from to) place)
             (λ flight. IsReadable code.now (world_of self.now) flight.label) }
     {
@@ -116,32 +118,10 @@ impl World {
     }
 
     /// Whether the label at a place among the code's labels is one that some misbehaving host may see.
-    #[tactic(auto, using(crate::proofs::Seeing::reading))]
     fn readable(&self, code: &Code, label: u32) -> bool
+        requires fits { WorldFits code.now self.now }
         ensures { IsTrue result ↔ IsReadable code.now (world_of self.now) label }
     {
-        for host in 0..self.hosts.len() as u8 {
-            if self.reads(code, label, HostId(host)) {
-                return true;
-            }
-        }
-        false
-    }
-
-    /// Whether a host misbehaves and may see a label.
-    fn reads(&self, code: &Code, label: u32, host: HostId) -> bool
-        ensures { IsTrue result ↔ Reads code.now (world_of self.now) label host }
-    {
-        self.is_bad(host) && may_see(code, label, host)
-    }
-}
-
-/// Whether a host may see a label.
-fn may_see(code: &Code, label: u32, host: HostId) -> bool
-    ensures { IsTrue result ↔ MaySee (label_at code.now label) (label_of_host code.now host) }
-{
-    match (code.label(label), code.host(host)) {
-        (Some(label), Some(there)) => label.conf_flows(there.label()),
-        _ => false,
+        self.flying.may_be_seen(label)
     }
 }

@@ -10,6 +10,7 @@ ghost use Rattle.std.specs.Option.{option_map};
 ghost use Rattle.host_core.specs.Host.{state_of};
 
 use crate::flying::Flying;
+use crate::readers::readable_labels;
 use crate::told::Told;
 use host_code::{Code, Message};
 use host_core::Host;
@@ -61,7 +62,13 @@ impl Model for World {
 
     ghost Value = { WorldModel };
 
-    ghost view = { λ w. record { root = w.root; hosts = w.hosts.items; queues = w.flying; told = w.told } };
+    ghost view = { λ w. record {
+      root = w.root;
+      hosts = w.hosts.items;
+      queues = w.flying.queues;
+      readable = w.flying.readable;
+      told = w.told;
+    } };
 
     ghost invariant = { λ w. length w.hosts.items ≤ HOSTS };
 }
@@ -85,7 +92,8 @@ impl World {
         let root = code.root();
         let rows = hosts.hosts();
         let hosts = start_hosts(alloc, code, rows, bad, store)?;
-        let flying = Flying::new(alloc)?;
+        let readable = readable_labels(alloc, code, &hosts)?;
+        let flying = Flying::new(alloc, readable)?;
         let told = Told::new(alloc);
         Ok(World {
             root,

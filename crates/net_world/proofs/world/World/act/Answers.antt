@@ -6,7 +6,7 @@ use Rattle.net_world.specs.Fits.{MailFits, world_of}
 use Rattle.net_world.specs.Steps.{IsReady}
 use Rattle.net_world.proofs.Present.{get_lt, length_states}
 use Rattle.net_world.proofs.StepsOf.{acted, act_due, state_rests}
-use Rattle.net_world.proofs.Fitting.{world_fits, mail_stepped, mail_telling, made_tokens_fit}
+use Rattle.net_world.proofs.Fitting.{world_fits, bad_stepped, mail_stepped, mail_telling, made_tokens_fit}
 use Rattle.net_world.proofs.world.World.act.Goals as goal
 
 pub deliver-requires-clause-tokens : goal.deliver-requires-clause-tokens
@@ -55,3 +55,6 @@ returns-clause-fits c =
     world_fits code a.self.now c.tell.new.self c.deliver.new.self.hosts c.requires.fits
     (c.tell.ensures.same.1 ∙ c.in-Ok.ensures.root ∙ c.reserve_told.ensures.root) c.tell.ensures.same.0
     (c.in-Ok.ensures.others.count ∙ ap length c.reserve_told.ensures.hosts) c.in-Ok.ensures.fits mail
+    (c.tell.ensures.readable ∙ c.in-Ok.ensures.readable ∙ c.reserve_told.ensures.readable)
+    (bad_stepped kind (world_of a.self.now) (world_of c.reserve_told.new.self) (world_of c.deliver.new.self) a.to c.deliver.new.sent
+    c.reserve_told.ensures.world c.in-Ok.ensures.ok)

@@ -15,7 +15,8 @@ returns-clause-ok c =
     record {
       root = c.self.inside.root;
       hosts = c.self.inside.hosts.items;
-      queues = c.self.inside.flying;
+      queues = c.self.inside.flying.queues;
+      readable = c.self.inside.flying.readable;
       told = c.self.inside.told;
     } in
     let after : WorldModel = record before { hosts = c.deliver_at.new.hosts.items } in

@@ -12,12 +12,13 @@ returns-else-is_bad-clause-world c =
     record {
       root = c.self.inside.root;
       hosts = c.self.inside.hosts.items;
-      queues = c.self.inside.flying;
+      queues = c.self.inside.flying.queues;
+      readable = c.self.inside.flying.readable;
       told = c.self.inside.told;
     } in
-    let after : WorldModel = record before { queues = c.push-else-is_bad.new.self } in
+    let after : WorldModel = record before { queues = c.push-else-is_bad.new.self.queues } in
     subst (λ (w : WorldModel). world_of after ≡ after_sending (world_of w) a.from (letter_of a.label a.sent.now))
     c.self.view_is
-    (posted before c.push-else-is_bad.new.self a.from m.to m.message m.label a.label a.sent.now (search rules)
+    (posted before c.push-else-is_bad.new.self.queues a.from m.to m.message m.label a.label a.sent.now (search rules)
     c.push-else-is_bad.ensures.count (search rules) (search rules) (search rules) (search rules) (search rules)
     c.push-else-is_bad.ensures.flights)

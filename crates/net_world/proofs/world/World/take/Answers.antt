@@ -4,7 +4,7 @@ use Rattle.host_core.specs.Host.{HostShape, Outcome}
 use Rattle.host_core.specs.Taking.{IsTaking}
 use Rattle.net_world.specs.Fits.{MailFits, world_of}
 use Rattle.net_world.proofs.StepsOf.{still_there, taken, take_due, state_rests}
-use Rattle.net_world.proofs.Fitting.{world_fits, mail_stepped, mail_without, mail_sending, flight_fits}
+use Rattle.net_world.proofs.Fitting.{world_fits, bad_stepped, mail_stepped, mail_without, mail_sending, flight_fits}
 use Rattle.net_world.proofs.world.World.take.Goals as goal
 
 pub take_out-requires-clause-there : goal.take_out-requires-clause-there
@@ -54,3 +54,6 @@ returns-clause-fits c =
     (c.post.ensures.same.0 ∙ c.take_out.ensures.same.0)
     (c.in-Ok.ensures.others.count ∙ ap length c.reserve_to.ensures.hosts)
     c.in-Ok.ensures.fits mail
+    (c.post.ensures.readable ∙ c.take_out.ensures.readable ∙ c.in-Ok.ensures.readable ∙ c.reserve_to.ensures.readable)
+    (bad_stepped kind (world_of a.self.now) (world_of c.reserve_to.new.self) (world_of c.deliver.new.self) a.to c.deliver.new.sent
+    c.reserve_to.ensures.world c.in-Ok.ensures.ok)

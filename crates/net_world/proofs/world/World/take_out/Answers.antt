@@ -11,10 +11,11 @@ returns-clause-world c =
     record {
       root = c.self.inside.root;
       hosts = c.self.inside.hosts.items;
-      queues = c.self.inside.flying;
+      queues = c.self.inside.flying.queues;
+      readable = c.self.inside.flying.readable;
       told = c.self.inside.told;
     } in
-    let after : WorldModel = record before { queues = c.remove.new.self } in
+    let after : WorldModel = record before { queues = c.remove.new.self.queues } in
     subst (λ (w : WorldModel). world_of after ≡ without_flight (world_of w) a.from a.to a.place) c.self.view_is
-    (taken_out before c.remove.new.self a.from a.to a.place (search rules) c.remove.ensures.count (search rules)
+    (taken_out before c.remove.new.self.queues a.from a.to a.place (search rules) c.remove.ensures.count (search rules)
     (search rules) c.remove.ensures.flights)

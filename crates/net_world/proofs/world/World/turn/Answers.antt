@@ -4,7 +4,7 @@ use Rattle.host_core.specs.Turn.{IsTurn, label_of_turn}
 use Rattle.net_world.specs.Fits.{MailFits, world_of}
 use Rattle.net_world.specs.Steps.{IsActive}
 use Rattle.net_world.proofs.Present.{get_lt}
-use Rattle.net_world.proofs.Fitting.{world_fits, mail_stepped, mail_sending}
+use Rattle.net_world.proofs.Fitting.{world_fits, bad_stepped, mail_stepped, mail_sending}
 use Rattle.net_world.proofs.world.World.turn.Goals as goal
 
 pub returns-clause-fits : goal.returns-clause-fits
@@ -30,3 +30,6 @@ returns-clause-fits c =
     world_fits code a.self.now c.post.new.self c.run.new.self.hosts c.requires.fits
     (c.post.ensures.same.1 ∙ c.in-Ok.ensures.root ∙ c.reserve_from.ensures.root) c.post.ensures.same.0
     (c.in-Ok.ensures.others.count ∙ ap length c.reserve_from.ensures.hosts) c.in-Ok.ensures.fits mail
+    (c.post.ensures.readable ∙ c.in-Ok.ensures.readable ∙ c.reserve_from.ensures.readable)
+    (bad_stepped kind (world_of a.self.now) (world_of c.reserve_from.new.self) (world_of c.run.new.self) a.host c.run.new.sent
+    c.reserve_from.ensures.world c.in-Ok.ensures.ok)
