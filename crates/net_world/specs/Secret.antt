@@ -1,5 +1,6 @@
 -- What no misbehaving host may see of a world: what is in flight, what runs, and what events happen.
-use Rattle.std.specs.Prelude.{◌≡◌, ◌⊎◌, ◌↔◌, ⊤, ℕ, Bool, Option, List, [], ◌∷◌, All, Some, IfSome, IsSomeAnd, IsTrue, slice_get}
+use Rattle.std.specs.Prelude.{◌≡◌, ◌⊎◌, ◌↔◌, ⊤, ℕ, Bool, Option, List, [], ◌∷◌, All, Some, IfSome, IsSomeAnd, IsTrue}
+use Rattle.std.specs.Prelude.{slice_get}
 use Rattle.js_base.specs.declared.ids.HostId.{HostId}
 use Rattle.event_text.specs.declared.event.Event.{Event}
 use Rattle.event_text.specs.declared.event.Event.TheVariants.{Take, Turn, Act}

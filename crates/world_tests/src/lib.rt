@@ -8,4 +8,6 @@ mod programs;
 #[cfg(test)]
 mod runs;
 #[cfg(test)]
+mod secrets;
+#[cfg(test)]
 mod starting_values;

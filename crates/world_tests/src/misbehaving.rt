@@ -23,9 +23,9 @@ const P: HostId = OTHER;
 /// A misbehaves, or P.
 const BAD_OTHER: u16 = 2;
 
-const BAD_ROOT: u16 = 1;
+pub const BAD_ROOT: u16 = 1;
 
-const BAD_Q: u16 = 4;
+pub const BAD_Q: u16 = 4;
 
 /// Which hosts misbehave, what happens first and then, and how the world stands afterwards.
 type Row = (u16, &'static [Step], &'static [Step], &'static str);
@@ -71,7 +71,7 @@ const TO_RETURN_POINT: BadMessage = BadMessage::Rgoto {
     token: BadToken::Sent(0),
 };
 
-const TO_SEGMENT: BadMessage = BadMessage::Rgoto {
+pub const TO_SEGMENT: BadMessage = BadMessage::Rgoto {
     frame: MAIN,
     entry: SEGMENT,
     token: BadToken::Own(OF_T),
@@ -110,7 +110,7 @@ const FOUR_TOKENS: &[Step] = &[
 ];
 
 /// The counter goes on at P.
-const FOUR_TURNS: &[Step] = &[(4, What::Turn(T), OK)];
+pub const FOUR_TURNS: &[Step] = &[(4, What::Turn(T), OK)];
 
 /// The sum goes on at A.
 const FIVE_TURNS: &[Step] = &[(5, What::Turn(T), OK)];

@@ -46,7 +46,7 @@ pub fn world_of_code(alloc: Global, code: &Code, hosts: &str, bad: u16) -> Resul
     Ok(World::start(alloc, code, &hosts, bad, script.start())?)
 }
 
-fn event_of(what: What) -> Event {
+pub fn event_of(what: What) -> Event {
     match what {
         What::Turn(host) => Event::Turn(host),
         What::Take(from, to) => Event::Take(from, to, 0),
