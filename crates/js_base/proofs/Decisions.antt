@@ -74,7 +74,7 @@ any_of P each (x ∷ xs) = elim (each x) [
     neither P x xs not none (suc k, y, lt, read, holds) = none (k, y, omega arith, read, holds)
 
 pub less_than : (m n : ℕ) → Decided (m < n)
-less_than m n = elim (cases_lt m n) [ | inl lt ↦ inl lt | inr not ↦ inr (λ lt. omega (arith, lt, not)) ]
+less_than m n = elim (cases_lt m n) [ inl lt ↦ inl lt | inr not ↦ inr (λ lt. omega (arith, lt, not)) ]
 
 pub same_text : (first second : List ℕ) → Decided (first ≡ second)
 same_text first second = elim (cases_Bool (bytes_eq first second)) [

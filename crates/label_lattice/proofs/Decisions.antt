@@ -1,5 +1,5 @@
 -- Whether a label may flow to another, whether it is trusted, and what a policy forbids.
-use Rattle.std.proofs.Common.{◌≡◌, ◌⊎◌, ℕ, ◌<◌, List, length, All}
+use Rattle.std.proofs.Common.{◌≡◌, ℕ, ◌<◌, List, length}
 use Rattle.std.specs.Int.{bit_at}
 use Rattle.std.proofs.lemmas.Bool.{cases_eq}
 use Rattle.js_base.specs.declared.ids.PrincipalId.{PrincipalId}

@@ -68,7 +68,7 @@ returns-in_err-last c = λ names others p h e loaded_p loaded_h loaded_e.
           (script_of_program c.args.name.now e placed c.in_ok-code.code (given said) c.in_ok-code.ensures
           (c.in_ok-script.ensures.read e loaded_e))
           (events_of_program c.args.name.now placed c.in_ok-code.code said (world_of c.in_ok-first.first) _ _ _
-          (stopped verdict) c.in_ok-code.ensures c.in_ok-first.ensures.start c.bad.ensures c.start-store.ensures
+          (stopped verdict) c.in_ok-code.ensures c.in_ok-first.ensures.start c.bad-bad.ensures c.start-store.ensures
           c.events.ensures stops),
     ))
     c.in_err-last.ensures.happen)
@@ -90,7 +90,7 @@ returns c = λ names others p h e loaded_p loaded_h loaded_e.
           (script_of_program c.args.name.now e placed c.in_ok-code.code (given said) c.in_ok-code.ensures
           (c.in_ok-script.ensures.read e loaded_e))
           (events_of_program c.args.name.now placed c.in_ok-code.code said (world_of c.in_ok-first.first) _ _ _
-          (given (world_of c.in_ok-last.last)) c.in_ok-code.ensures c.in_ok-first.ensures.start c.bad.ensures
+          (given (world_of c.in_ok-last.last)) c.in_ok-code.ensures c.in_ok-first.ensures.start c.bad-bad.ensures
           c.start-store.ensures c.events.ensures c.in_ok-last.ensures.happen)
           c.in_ok-text.ensures,
     )
