@@ -3,7 +3,9 @@
 
 mod ask;
 mod checks;
+mod laws;
 mod rule;
 
 pub use ask::Ask;
 pub use checks::Checks;
+pub use laws::check_laws;
