@@ -3,6 +3,7 @@ pub mod CallsKept
 pub mod CodeFacts
 pub mod Kept
 pub mod Rooms
+pub mod SomeOutcome
 pub mod StartKept
 pub mod TakingKept
 pub mod TurnKept

@@ -4,6 +4,7 @@
 mod calls;
 mod changes;
 mod host;
+mod laws;
 mod starts;
 mod take_answers;
 mod take_requests;
@@ -13,3 +14,4 @@ mod turn_values;
 mod values;
 
 pub use host::{Host, HostError, Sent};
+pub use laws::step_laws;
