@@ -9,6 +9,7 @@ pub mod Queues
 pub mod Same
 pub mod Seeing
 pub mod Shapes
+pub mod SomeStep
 pub mod Starts
 pub mod StepLaws
 pub mod StepsOf

@@ -1,6 +1,6 @@
 //! What holds of every world. The calls do nothing: their contracts are the laws.
 
-ghost use Rattle.std.specs.Prelude.{◌≡◌, ◌≢◌, ◌++◌, ℕ, ℤ, None, List, All, slice_get};
+ghost use Rattle.std.specs.Prelude.{◌≡◌, ◌≢◌, ◌⊎◌, ◌++◌, ℕ, ℤ, Some, None, List, All, slice_get};
 ghost use Rattle.js_base.specs.declared.ids.HostId.{HostId};
 ghost use Rattle.event_text.specs.declared.event.Event.{Event};
 ghost use Rattle.host_code.specs.Code.{CodeShape};
@@ -8,7 +8,7 @@ ghost use Rattle.host_code.specs.Sound.{IsSoundCode};
 ghost use Rattle.host_decl.specs.Hosts.{HostShape};
 ghost use Rattle.net_world.specs.Fits.{WorldModel, WorldFits, ShapeFits, HasOwnToken, world_of};
 ghost use Rattle.net_world.specs.Told.{SentMessage};
-ghost use Rattle.net_world.specs.World.{WorldShape, IsStep, IsRun, refusal_of, mover, misbehaves};
+ghost use Rattle.net_world.specs.World.{WorldShape, IsStep, IsRun, Refusal, refusal_of, mover, misbehaves};
 ghost use Rattle.net_world.specs.World.{AreHostsOf, world_at_start};
 
 /// What an event leaves is determined, and it leaves most of the world alone.
@@ -19,6 +19,10 @@ pub fn step_laws()
     // What happens is not refused.
     ensures not_refused { (code : CodeShape) (world after : WorldShape) (event : Event) →
         IsStep code world event after → refusal_of world event ≡ None }
+    // What is not refused happens.
+    ensures happens_or_refused { (code : CodeShape) (world : WorldShape) (event : Event) →
+        ((after : WorldShape) × IsStep code world event after)
+        ⊎ ((why : Refusal) × (refusal_of world event ≡ Some why)) }
     // It is the step of one host.
     ensures others { (code : CodeShape) (world after : WorldShape) (event : Event) (host : HostId) →
         IsStep code world event after → host.0 ≢ (mover event).0 →
