@@ -2,6 +2,7 @@ pub mod Accepted
 pub mod Answering
 pub mod BlockLines
 pub mod CommandWords
+pub mod Completeness
 pub mod DriveDue
 pub mod Faithful
 pub mod LabelCounts

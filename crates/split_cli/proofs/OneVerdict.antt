@@ -206,7 +206,7 @@ due_once laws words holds _ _ _ _ (for_command command number first is asked one
 
 -- ---- what is due for words and for what the files did
 
-no_fault_and_fault : (before after : ℕ) → before < last_count → after ≡ before → ¬ Rose before after
+pub no_fault_and_fault : (before after : ℕ) → before < last_count → after ≡ before → ¬ Rose before after
 no_fault_and_fault before after below same rose = ⊎_elim (λ lt. omega arith) (λ last. omega arith) rose
 
 pub answer_once : AllLaws → (words : List (List ℕ)) (files : FilesChange) (holds : List ℕ → Option (List ℕ))

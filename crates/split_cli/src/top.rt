@@ -1,18 +1,22 @@
 //! The top call, from words and files to a status and what is put out.
 
-ghost use Rattle.std.specs.Prelude.{◌≡◌, ◌≤◌, ◌+◌, ◌⊎◌, ℕ, List, length, map, string_bytes, IfOk, OnOk, IsErrOf};
+ghost use Rattle.std.specs.Prelude.{◌≡◌, ◌<◌, ◌≤◌, ◌+◌, ◌⊎◌, ℕ, List, length, map, string_bytes, IfOk, OnOk, IsErrOf};
+ghost use Rattle.std.specs.Prelude.{Option, Some};
+ghost use Rattle.js_base.specs.Counts.{last_count};
+ghost use Rattle.js_base.specs.declared.status.Status.{Status};
 ghost use Rattle.js_base.specs.Sink.{TakesFront};
 ghost use Rattle.split_cli.specs.Answers.{AnswersTo};
 ghost use Rattle.split_cli.specs.Commands as command;
 ghost use Rattle.split_cli.specs.Asked.{command_shape};
-ghost use Rattle.split_cli.specs.Due.{IsDue, IsDueForCommand};
+ghost use Rattle.split_cli.specs.Due.{Due, IsDue, IsDueForCommand};
 ghost use Rattle.split_cli.specs.Faithful.{PutsDriven, PutsFaithfully};
-ghost use Rattle.split_cli.specs.Verdicts.{verdict_shape, no_memory_line};
+ghost use Rattle.split_cli.specs.Verdicts.{Print, verdict_shape, no_memory_line};
 
 use crate::commands::check::due_for_check;
 use crate::commands::drive::due_for_drive;
 use crate::commands::replay::due_for_replay;
 use crate::commands::run::due_for_run;
+use crate::laws::due_laws;
 use crate::stop::Stop;
 use crate::verdict::Verdict;
 use crate::words::{Command, command_of};
@@ -83,6 +87,13 @@ pub fn jifsplit<F: Files, S: Sink, E: Sink>(
         map string_bytes words.now ≡ command.words_of (command.Drive program hosts start events) →
         (result ≡ Status.Done) ⊎ (result ≡ Status.Spent) →
         PutsDriven program hosts start events result (F.held files.old) (S.taken out.old) (S.taken out.new) }
+    // Where a report is due for what the files hold, and neither they nor the output count a fault, the answer is the
+    // status of the report, or memory ran out.
+    ensures complete { (holds : List ℕ → Option (List ℕ)) (number : ℕ) (status : Status) (text : List ℕ) →
+        F.held files.old ≡ Some holds → Due (map string_bytes words.now) (Some holds) number (Print status text) →
+        F.faults files.new ≡ F.faults files.old → F.faults files.old < last_count →
+        S.faults out.new ≡ S.faults out.old → S.faults out.old < last_count →
+        (result ≡ status) ⊎ (result ≡ Status.NoMemory) }
     // Whatever it answers, it asks for no more loads than its words name files, saves nothing, and leaves what is held.
     ensures loads { (asked : command.CommandShape) → command.IsCommand asked →
         map string_bytes words.now ≡ command.words_of asked →
@@ -102,6 +113,7 @@ pub fn jifsplit<F: Files, S: Sink, E: Sink>(
     asking_laws();
     obeying_laws();
     ending_laws();
+    due_laws();
     answered(alloc, words, files, out, err)
 }
 

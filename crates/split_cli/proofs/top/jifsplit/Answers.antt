@@ -1,3 +1,4 @@
+use Rattle.split_cli.proofs.Completeness.{complete}
 use Rattle.split_cli.proofs.Faithful.{AllLaws, replay_is_faithful, drive_is_faithful}
 use Rattle.split_cli.proofs.top.jifsplit.Goals as goal
 
@@ -42,3 +43,8 @@ returns-clause-headline g c = λ program hosts events asked done.
 pub returns-clause-driven : goal.returns-clause-driven
 returns-clause-driven g c = λ program hosts start events few asked success.
     drive_is_faithful (all_laws g c) _ _ _ _ _ program hosts start events c.answered.ensures.answer few asked success
+
+pub returns-clause-complete : goal.returns-clause-complete
+returns-clause-complete g c = λ holds number status text tells due calm below quiet under.
+    complete c.due_laws.ensures.one_verdict _ _ _ _ _ holds number status text c.answered.ensures.answer tells due calm
+    below quiet under
