@@ -1,5 +1,6 @@
 -- How many messages may not be seen, after a change.
-use Rattle.std.proofs.Common.{◌≡◌, ℕ, zero, suc, ◌+◌, ◌≤◌, ◌<◌, Bool, true, false, List, [], ◌∷◌, ◌++◌, length, refl, ap}
+use Rattle.std.proofs.Common.{◌≡◌, ℕ, zero, suc, ◌+◌, ◌≤◌, ◌<◌, Bool, true, false, List}
+use Rattle.std.proofs.Common.{[], ◌∷◌, ◌++◌, length, refl, ap}
 use Rattle.std.proofs.Common.{arith, Some, get_or, ◌∙◌}
 use Rattle.std.specs.Prelude.{slice_get, remove, All, if◌then◌else◌, IsTrue}
 use Rattle.host_code.specs.declared.message.Message.{Message}

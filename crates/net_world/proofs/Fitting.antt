@@ -29,6 +29,7 @@ use Rattle.net_world.specs.Fits.{FlightFits, SentMessageFits, MailFits, OwnToken
 use Rattle.net_world.specs.Fits.{HostsFit, states_of, world_of}
 use Rattle.net_world.specs.Secret.{AreReadable}
 use Rattle.net_world.specs.Steps.{HasStepped}
+use Rattle.net_world.proofs.Present.{same_id}
 use Rattle.net_world.proofs.StepLaws.{absent_set}
 
 all_remove : {X : Type 0} (P : X → Type 0) (xs : List X) (i : ℕ) → All P xs → All P (remove xs i)
@@ -44,9 +45,6 @@ all_at P xs i x all there =
     subst P (get_or_from_slice_get xs i x x there) (All-get_or P xs i x (slice_get_within xs i x there) all)
 
 -- ---- what is in flight
-
-same_id : (i j : HostId) → i.0 ≡ j.0 → i ≡ j
-same_id i j same = let make : ℕ → HostId = λ n. record { 0 = n } in ap make same
 
 fits_cell : (P : HostId → HostId → Flight → Type 0) (flying : Flying) (from to i j : HostId) (flights : List Flight)
     (same : Bool) → (i.0 == from.0 && j.0 == to.0) ≡ same → All (P i j) (flying i j) → All (P from to) flights →

@@ -1,11 +1,13 @@
 pub mod Choosing
+pub mod Counted
 pub mod Fitting
 pub mod Flights
-pub mod Counted
 pub mod Letters
+pub mod Moved
 pub mod Named
 pub mod Present
 pub mod Queues
+pub mod Rows
 pub mod Same
 pub mod Seeing
 pub mod Shapes

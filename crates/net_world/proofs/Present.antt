@@ -13,6 +13,14 @@ use Rattle.net_world.specs.World.{given, present, host_before, hosts_before}
 use Rattle.net_world.specs.Fits.{states_of}
 use Rattle.net_world.specs.Steps.{HaveMade, HasMade, HasCounted, ChangesOnly}
 
+-- ---- hosts and what there is of them
+
+pub same_id : (one other : HostId) → one.0 ≡ other.0 → one ≡ other
+same_id one other same = let make : ℕ → HostId = λ n. record { 0 = n } in ap make same
+
+pub some_same : {X : Type 0} (o : Option X) (x y : X) → o ≡ Some x → o ≡ Some y → x ≡ y
+some_same o x y first second = let both : Some x ≡ Some y = sym first ∙ second in cc
+
 -- ---- one more host
 
 given_push : {X : Type 0} (hosts : List (Option X)) (host : Option X) (i : ℕ) (P : X → Type 0) →

@@ -1,5 +1,6 @@
 -- What may be seen of a world, host by host and message by message.
-use Rattle.std.proofs.Common.{◌≡◌, ℕ, zero, suc, ◌+◌, ◌<◌, ◌≤◌, Bool, true, false, not, List, [], ◌∷◌, ◌++◌, length, refl, arith}
+use Rattle.std.proofs.Common.{◌≡◌, ℕ, zero, suc, ◌+◌, ◌<◌, ◌≤◌, Bool, true, false, not, List}
+use Rattle.std.proofs.Common.{[], ◌∷◌, ◌++◌, length, refl, arith}
 use Rattle.std.proofs.Common.{Option, Some, None, inl, inr, subst, sym, ◌∙◌}
 use Rattle.std.specs.Prelude.{All, IfSome, IsSomeAnd, IsTrue, slice_get, nat_lt, ◌&&◌, if◌then◌else◌, ◌↔◌}
 use Rattle.std.proofs.lemmas.Bool.{cases_lt, false≢true}

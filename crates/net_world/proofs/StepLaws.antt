@@ -19,7 +19,7 @@ use Rattle.net_world.specs.World.{WorldShape, IsStep, IsRun, IsTakeStep, IsTurnS
 use Rattle.net_world.specs.World.{refusal_of_turn}
 use Rattle.net_world.specs.World.{misbehaves, is_absent, given, state_at, with_state, without_flight, after_step}
 use Rattle.net_world.specs.World.{after_sending, after_telling, letter_of, tokens_sent}
-use Rattle.net_world.proofs.Present.{get_other}
+use Rattle.net_world.proofs.Present.{get_other, some_same}
 use Rattle.net_world.proofs.StepsOf.{take_not_refused, act_not_refused}
 
 -- ---- one outcome
@@ -48,16 +48,12 @@ one_turn_of code host None first second turns also = sym turns ∙ also
 one_turn_of code host (Some thread) first second turns also =
     one_running code (with_running host None) thread (instruction_at code host.me thread.at) first second turns also
 
-one_some : {X : Type 0} (o : Option X) (x y : X) → o ≡ Some x → o ≡ Some y → x ≡ y
-one_some None x y first second = absurd (cc)
-one_some (Some z) x y first second = cc
-
 one_take : (code : CodeShape) (world first second : WorldShape) (from to : HostId) (place : ℕ) →
     IsTakeStep code world from to place first → IsTakeStep code world from to place second → first ≡ second
 one_take code world first second from to place a b =
-    let state : a.state ≡ b.state = one_some (state_at world to) a.state b.state a.obeys b.obeys in
+    let state : a.state ≡ b.state = some_same (state_at world to) a.state b.state a.obeys b.obeys in
     let flight : a.flight ≡ b.flight =
-    one_some (slice_get (world.flying from to) place) a.flight b.flight a.there b.there in
+    some_same (slice_get (world.flying from to) place) a.flight b.flight a.there b.there in
     let takes : IsTaking code b.state from b.flight.message a.outcome =
     subst (λ (f : Flight). IsTaking code b.state from f.message a.outcome) flight
     (subst (λ (s : HostShape). IsTaking code s from a.flight.message a.outcome) state a.takes) in
@@ -70,7 +66,7 @@ one_take code world first second from to place a b =
 one_turn : (code : CodeShape) (world first second : WorldShape) (host : HostId) →
     IsTurnStep code world host first → IsTurnStep code world host second → first ≡ second
 one_turn code world first second host a b =
-    let state : a.state ≡ b.state = one_some (state_at world host) a.state b.state a.obeys b.obeys in
+    let state : a.state ≡ b.state = some_same (state_at world host) a.state b.state a.obeys b.obeys in
     let turns : IsTurn code b.state a.outcome = subst (λ (s : HostShape). IsTurn code s a.outcome) state a.turns in
     let outcome : a.outcome ≡ b.outcome =
     one_turn_of code b.state b.state.running a.outcome b.outcome turns b.turns in
@@ -80,9 +76,9 @@ one_turn code world first second host a b =
 one_act : (code : CodeShape) (world first second : WorldShape) (from to : HostId) (made : BadMessage) →
     IsActStep code world from to made first → IsActStep code world from to made second → first ≡ second
 one_act code world first second from to made a b =
-    let state : a.state ≡ b.state = one_some (state_at world to) a.state b.state a.obeys b.obeys in
+    let state : a.state ≡ b.state = some_same (state_at world to) a.state b.state a.obeys b.obeys in
     let message : a.message ≡ b.message =
-    one_some (message_made (tokens_sent world) made) a.message b.message a.makes b.makes in
+    some_same (message_made (tokens_sent world) made) a.message b.message a.makes b.makes in
     let takes : IsTaking code b.state from b.message a.outcome =
     subst (λ (m : Message). IsTaking code b.state from m a.outcome) message
     (subst (λ (s : HostShape). IsTaking code s from a.message a.outcome) state a.takes) in

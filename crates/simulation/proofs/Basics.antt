@@ -1,12 +1,9 @@
 -- Facts on lists and options that several proofs need.
-use Rattle.std.proofs.Common.{◌≡◌, ◌∙◌, ℕ, List, [], ◌∷◌, Option, Some, None, sym, subst, true, inl, inr}
+use Rattle.std.proofs.Common.{◌≡◌, ℕ, List, [], ◌∷◌, Option, None, subst, true, inl, inr}
 use Rattle.std.specs.Prelude.{IsSome, nat_eq}
 use Rattle.std.specs.List.{AllByRecursion}
 use Rattle.std.proofs.lemmas.Bool.Decides.{eqb_tells}
 use Rattle.std.proofs.Common.{◌++◌}
-
-pub some_same : {X : Type 0} (o : Option X) (x y : X) → o ≡ Some x → o ≡ Some y → x ≡ y
-some_same o x y first second = let both : Some x ≡ Some y = sym first ∙ second in cc
 
 pub none_there : {X : Type 0} (o : Option X) → o ≡ None → IsSome o → ⊥
 none_there {X = X} o none some = let both : IsSome {T = X} None = subst IsSome none some in cc

@@ -30,6 +30,7 @@ use Rattle.split_rules.specs.Positions.{Argument, arguing}
 use Rattle.split_rules.specs.Typing as typing
 use Rattle.split_rules.specs.TypedCode.{IsTypedOp}
 use Rattle.net_world.specs.World.{WorldShape}
+use Rattle.net_world.proofs.Present.{same_id}
 use Rattle.simulation.proofs.Views.{Split, View, values_set, entries_of, place_of, with_chain}
 use Rattle.simulation.proofs.Chains.{IsLinked}
 use Rattle.simulation.proofs.Threads.{IsAt, IsCalling}
@@ -39,7 +40,6 @@ use Rattle.simulation.proofs.Transfers.{calm_calling, starting}
 use Rattle.simulation.proofs.Arguments.{framed, frame_at, arg_at}
 use Rattle.simulation.proofs.CallsMade.{call_made, enter_at}
 use Rattle.simulation.proofs.ResultsGiven.{return_at}
-use Rattle.simulation.proofs.Moved.{same_id}
 use Rattle.simulation.proofs.Holding.{is_sent, own_cell}
 use Rattle.simulation.proofs.HeldSteps.{holds_same, holds_calm, holds_chain, holds_argued, holds_framed}
 use Rattle.simulation.proofs.HeldSteps.{holds_called, holds_given}

@@ -12,14 +12,15 @@ use Rattle.host_core.specs.Turn.{IsTurn, label_of_turn}
 use Rattle.net_world.specs.Choice.{NoneRuns, NothingFlies}
 use Rattle.net_world.specs.Flying.{Flight, Flying}
 use Rattle.net_world.specs.World.{WorldShape, IsStep, IsTurnStep, IsTakeStep, state_at, after_step, has_halted}
+use Rattle.net_world.proofs.Present.{same_id, some_same}
 use Rattle.simulation.proofs.Views.{Split, View}
 use Rattle.simulation.proofs.Simulates.{only, Holder, runs, asked, answered, gives, goes, returns, halted, IsIdle}
 use Rattle.simulation.proofs.Simulates.{Stands, AreIdle, GoesOn, Simulates, Goes, Paced, IsFueled}
 use Rattle.net_world.specs.Fits.{ShapeFits}
-use Rattle.simulation.proofs.Moved.{same_id, none_taken, own_cell}
+use Rattle.simulation.proofs.Moved.{none_taken, own_cell}
 use Rattle.simulation.proofs.HolderTurns.{holder_turn}
 use Rattle.simulation.proofs.Takes.{asked_taken, answered_taken, giving_taken, going_taken, returning_taken}
-use Rattle.simulation.proofs.Basics.{none_there, some_same}
+use Rattle.simulation.proofs.Basics.{none_there}
 
 -- ---- turns
 

@@ -21,12 +21,12 @@ use Rattle.msg_cost.specs.Terms.{reads_on}
 use Rattle.net_world.specs.Flying.{Flying}
 use Rattle.net_world.specs.World.{WorldShape, state_at}
 use Rattle.split_rules.specs.Positions.{Forward, forwards_of}
+use Rattle.net_world.proofs.Moved.{Moved, either, mover_state}
 use Rattle.simulation.specs.Obeying.{FieldsAre}
 use Rattle.simulation.proofs.Views.{Split, Naming, View, Link, values_set, with_out, with_chain}
 use Rattle.simulation.proofs.Threads.{NoneKept}
 use Rattle.simulation.proofs.Variables.{Agree, IsUnused, AreFresh, HasResult, Holds}
 use Rattle.simulation.proofs.Simulates.{IsOrderly, IsFieldOn}
-use Rattle.simulation.proofs.Moved.{Moved, either, mover_state}
 use Rattle.simulation.proofs.Rows.{fields_same, fields_written}
 use Rattle.simulation.proofs.Calls.{long_set, value_set, named_set, get_front, get_last, long_last, value_front, value_last}
 use Rattle.simulation.proofs.Holding.{agree_same, agree_calm, agree_set, agree_forwarded, agree_given, fresh_same}

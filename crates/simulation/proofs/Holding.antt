@@ -21,10 +21,11 @@ use Rattle.net_world.specs.Flying.{Flying}
 use Rattle.net_world.specs.World.{WorldShape, state_at}
 use Rattle.split_rules.specs.Positions.{Forward, forwards_of}
 use Rattle.split_rules.proofs.NumberedLists.{number_there}
+use Rattle.net_world.proofs.Moved.{Moved, either}
+use Rattle.net_world.proofs.Present.{same_id}
 use Rattle.simulation.proofs.Views.{Split, Naming, View, values_set}
 use Rattle.simulation.proofs.Variables.{IsOut, AreSent, Sends, Agree, IsUnused, AreFresh, Holds}
 use Rattle.simulation.proofs.Simulates.{IsOrderly}
-use Rattle.simulation.proofs.Moved.{Moved, either, same_id}
 use Rattle.simulation.proofs.Kept.{host_within}
 
 -- ---- variables of frames

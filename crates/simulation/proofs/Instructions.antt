@@ -41,6 +41,7 @@ use Rattle.split_rules.specs.Positions.{entering, with_reads, with_forwards, for
 use Rattle.split_rules.specs.Typing as typing
 use Rattle.split_rules.specs.Typing.{Reads, Sets, Stores, IsValue, Follows}
 use Rattle.split_rules.proofs.TypedValues.{reads_many}
+use Rattle.net_world.proofs.Present.{same_id}
 use Rattle.simulation.proofs.KnownReaders.{IsReader, IsFit}
 use Rattle.simulation.proofs.Views.{Split, View, values_set, place_of, entries_of, with_out}
 use Rattle.simulation.proofs.Chains.{Duty, under, chain_due, FitsOver}
@@ -49,7 +50,6 @@ use Rattle.simulation.proofs.Owing.{front_of, busy, plainly_behind, none_kept}
 use Rattle.simulation.proofs.Owing.{stands_plainly}
 use Rattle.simulation.proofs.TreeValues.{tree_value, value_is, read_value, value_there, AreSame}
 use Rattle.simulation.proofs.Calls.{long_set}
-use Rattle.simulation.proofs.Moved.{same_id}
 use Rattle.simulation.proofs.Basics.{all_both, all_left, all_map, all_right, told_equal}
 
 -- the next instruction

@@ -7,10 +7,11 @@ use Rattle.host_code.specs.Code.{CodeShape}
 use Rattle.host_core.specs.Host.{HostShape}
 use Rattle.net_world.specs.Flying.{Flying}
 use Rattle.net_world.specs.World.{WorldShape, state_at, given}
+use Rattle.net_world.proofs.Moved.{Moved, either}
 use Rattle.simulation.proofs.Views.{Link}
 use Rattle.simulation.proofs.Chains.{on_stack}
 use Rattle.simulation.proofs.Simulates.{Holder, IsIdle, IsOrderly, AreStacks, AreIdle}
-use Rattle.simulation.proofs.Moved.{Moved, either, none_bad}
+use Rattle.simulation.proofs.Moved.{none_bad}
 
 -- ---- the world
 

@@ -1,76 +1,18 @@
 -- What a step of one host changes in a world where all obey and at most one message is in flight.
-use Rattle.std.proofs.Common.{◌≡◌, ◌≢◌, ◌∙◌, ℕ, zero, suc, ◌⊎◌, inl, inr, Bool, true, false, List, [], ◌∷◌}
-use Rattle.std.proofs.Common.{◌++◌, Option, Some, None, refl, ap, sym}
+use Rattle.std.proofs.Common.{◌≡◌, ◌∙◌, ℕ, zero, suc, Bool, true, false, List, [], ◌∷◌}
+use Rattle.std.proofs.Common.{◌++◌, Option, Some, refl, ap, sym}
 use Rattle.std.specs.Prelude.{slice_get, slice_set, remove, ◌==◌, ◌&&◌, if◌then◌else◌}
-use Rattle.std.proofs.lemmas.Bool.Decides.{eqb_tells}
 use Rattle.std.proofs.lemmas.Bool.{eq-eqb}
 use Rattle.js_base.specs.declared.ids.HostId.{HostId}
 use Rattle.host_code.specs.declared.message.Message.{Message}
-use Rattle.host_core.specs.Host.{HostShape, Outcome, Letter, without_message, with_message}
+use Rattle.host_core.specs.Host.{HostShape, Outcome, with_message}
 use Rattle.net_world.specs.Flying.{Flight, Flying, with_flights}
-use Rattle.net_world.specs.World.{WorldShape, given, present, lacks, is_absent, state_at, misbehaves, with_state}
-use Rattle.net_world.specs.World.{without_flight, after_sending, after_posting, after_telling, letter_of, after_step}
-use Rattle.net_world.proofs.Present.{get_other}
+use Rattle.net_world.specs.World.{WorldShape, lacks, is_absent, misbehaves}
+use Rattle.net_world.specs.World.{without_flight, after_step}
+use Rattle.net_world.proofs.Moved.{Moved, sends_to}
+use Rattle.net_world.proofs.Present.{same_id}
 use Rattle.simulation.proofs.Simulates.{nothing, only}
-use Rattle.simulation.proofs.Basics.{some_same, told_equal}
-
-pub same_id : (one other : HostId) → one.0 ≡ other.0 → one ≡ other
-same_id one other same = let make : ℕ → HostId = λ n. record { 0 = n } in ap make same
-
--- ---- hosts
-
-pub record Moved (world : WorldShape) (host : HostId) (state : HostShape) (flights : Flying) (after : WorldShape) :
-    Type 0 where
-  pub hosts : after.hosts ≡ slice_set world.hosts host.0 (Some state)
-  pub flying : after.flying ≡ flights
-
-there_of : {X : Type 0} (o : Option (Option X)) (x : X) → given o ≡ Some x → o ≡ Some (Some x)
-there_of None x is = absurd (cc)
-there_of (Some there) x is = ap Some is
-
-set_same : {X : Type 0} (xs : List X) (i : ℕ) (x y : X) → slice_get xs i ≡ Some y →
-    slice_get (slice_set xs i x) i ≡ Some x
-set_same [] i x y there = absurd (cc)
-set_same (first ∷ xs) zero x y there = refl
-set_same (first ∷ xs) (suc i) x y there = set_same xs i x y there
-
-pub mover_state : (world after : WorldShape) (host : HostId) (old state : HostShape) (flying : Flying) →
-    state_at world host ≡ Some old → Moved world host state flying after → state_at after host ≡ Some state
-mover_state world after host old state flying obeys moved =
-    ap (λ hosts. present hosts host) moved.hosts
-    ∙ ap given (set_same world.hosts host.0 (Some state) (Some old) (there_of (slice_get world.hosts host.0) old obeys))
-
-pub other_state : (world after : WorldShape) (host other : HostId) (state : HostShape) (flying : Flying) →
-    Moved world host state flying after → other.0 ≢ host.0 → state_at after other ≡ state_at world other
-other_state world after host other state flying moved apart =
-    ap (λ hosts. present hosts other) moved.hosts
-    ∙ ap given (get_other world.hosts host.0 other.0 (Some state) apart)
-
--- whoever holds a state of some host after a step is that host or another
-pub record Mover (host other : HostId) (state there : HostShape) : Type 0 where
-  pub same : other ≡ host
-  pub is : there ≡ state
-
-pub record Other (world : WorldShape) (host other : HostId) (there : HostShape) : Type 0 where
-  pub apart : other.0 ≢ host.0
-  pub obeys : state_at world other ≡ Some there
-
-pub either : (world after : WorldShape) (host : HostId) (old state : HostShape) (flying : Flying) →
-    state_at world host ≡ Some old → Moved world host state flying after → (other : HostId) (there : HostShape) →
-    state_at after other ≡ Some there → Mover host other state there ⊎ Other world host other there
-either world after host old state flying obeys moved other there is = elim (eqb_tells other.0 host.0) [
-  | inl same ↦
-      let one : other ≡ host = same_id other host same.1 in
-      inl (record {
-        same = one;
-        is = some_same (state_at after host) there state (ap (state_at after) (sym one) ∙ is)
-            (mover_state world after host old state flying obeys moved);
-      })
-  | inr apart ↦ inr (record {
-    apart = apart.1;
-    obeys = sym (other_state world after host other state flying moved apart.1) ∙ is;
-  })
-]
+use Rattle.simulation.proofs.Basics.{told_equal}
 
 -- ---- nobody misbehaves
 
@@ -90,29 +32,6 @@ none_bad world after host state flying before moved other =
 
 -- ---- what a step sends
 
-none_sent : (label : Option ℕ) → letter_of label None ≡ None
-none_sent None = refl
-none_sent (Some label) = refl
-
--- a step that sends nothing
-pub moved_silent : (world : WorldShape) (host : HostId) (outcome : Outcome) (state : HostShape) (label : Option ℕ)
-    (after : WorldShape) → without_message state ≡ outcome → after_step world host outcome label ≡ after →
-    Moved world host state world.flying after
-moved_silent world host outcome state label after is leaves =
-    let done : with_state world host state ≡ after =
-    sym (ap (after_sending (with_state world host state) host) (none_sent label))
-    ∙ ap (λ (o : Outcome). after_step world host o label) is ∙ leaves in
-    record {
-      hosts = ap (λ (w : WorldShape). w.hosts) (sym done);
-      flying = ap (λ (w : WorldShape). w.flying) (sym done);
-    }
-
-posts : (world : WorldShape) (from : HostId) (letter : Letter) → misbehaves world letter.to ≡ false →
-    after_sending world from (Some letter) ≡ after_posting world from letter
-posts world from letter obeys =
-    ap (λ (bad : Bool). if bad then after_telling world from (Some (letter.to, letter.message))
-    else after_posting world from letter) obeys
-
 -- a step that sends a message where nothing else is in flight
 pub moved_telling : (world : WorldShape) (host : HostId) (outcome : Outcome) (state : HostShape) (to : HostId)
     (message : Message) (labelled : Option ℕ) (label : ℕ) (after : WorldShape) →
@@ -121,13 +40,9 @@ pub moved_telling : (world : WorldShape) (host : HostId) (outcome : Outcome) (st
     Moved world host state (only host to (record { message = message; label = label } ∷ [])) after
 moved_telling world host outcome state to message labelled label after none flying labels is leaves =
     let flight : Flight = record { message = message; label = label } in
-    let letter : Letter = record { to = to; message = message; label = label } in
-    let moved = with_state world host state in
-    let obeys : misbehaves moved to ≡ false = none_absent world.hosts host.0 state to.0 (none to) in
-    let done : after_posting moved host letter ≡ after =
-    sym (posts moved host letter obeys)
-    ∙ sym (ap (λ l. after_step world host (with_message state to message) l) labels)
-    ∙ ap (λ (o : Outcome). after_step world host o labelled) is ∙ leaves in
+    let done =
+    sends_to world host outcome state to message labelled label false after
+    (none_absent world.hosts host.0 state to.0 (none to)) labels is leaves in
     record {
       hosts = ap (λ (w : WorldShape). w.hosts) (sym done);
       flying = ap (λ (w : WorldShape). w.flying) (sym done)

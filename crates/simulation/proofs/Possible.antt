@@ -28,6 +28,7 @@ use Rattle.net_world.specs.World.{after_step, without_flight}
 use Rattle.split_rules.specs.TypedCode.{IsTypedOp}
 use Rattle.net_world.specs.Fits.{ShapeFits}
 use Rattle.net_world.proofs.Fitting.{flight_fits}
+use Rattle.net_world.proofs.Present.{same_id, some_same}
 use Rattle.simulation.proofs.Simulates as simulates
 use Rattle.simulation.proofs.Views.{Split, View, entries_of}
 use Rattle.simulation.proofs.Chains.{IsChain}
@@ -38,10 +39,10 @@ use Rattle.simulation.proofs.Instructions.{Agrees}
 use Rattle.simulation.proofs.Transfers.{calm_calling}
 use Rattle.simulation.proofs.ResultsGiven.{return_at}
 use Rattle.simulation.proofs.Holding.{holder_agrees}
-use Rattle.simulation.proofs.Moved.{same_id, none_taken, the_one, own_cell}
+use Rattle.simulation.proofs.Moved.{none_taken, the_one, own_cell}
 use Rattle.simulation.proofs.Pops.{top_of, top_on_stack}
 use Rattle.simulation.proofs.Takes.{may_here, awaited_first}
-use Rattle.simulation.proofs.Basics.{none_there, some_same}
+use Rattle.simulation.proofs.Basics.{none_there}
 
 -- ---- checks that pass
 

@@ -31,6 +31,7 @@ use Rattle.split_rules.specs.Pace.{PACE}
 use Rattle.split_rules.specs.Positions as positions
 use Rattle.split_rules.specs.Positions.{Position, calm, all_due}
 use Rattle.split_rules.specs.Typing as typing
+use Rattle.net_world.proofs.Present.{same_id, some_same}
 use Rattle.simulation.proofs.Views.{Split, Naming, View, Link, place_of}
 use Rattle.simulation.proofs.Chains.{Duty, under, due_at, chain_due, FitsOver}
 use Rattle.simulation.proofs.Threads.{Owed, item_of, duty_of, IsLeft, NoneKept, IsCalling, IsAt}
@@ -40,9 +41,7 @@ use Rattle.simulation.proofs.Owing.{to_run_all, items_before, duties_before, kno
 use Rattle.simulation.proofs.Owing.{returned_before, none_kept, stands_plainly}
 use Rattle.simulation.proofs.CallsMade.{called}
 use Rattle.simulation.proofs.TreeValues.{read_value}
-use Rattle.simulation.proofs.Moved.{same_id}
 use Rattle.simulation.proofs.Pops.{own_stack, other_stack, entry_pace}
-use Rattle.simulation.proofs.Basics.{some_same}
 
 all_there : {X : Type 0} (P : X → Type 0) (xs : List X) (i : ℕ) (x : X) → All P xs → slice_get xs i ≡ Some x → P x
 all_there P xs i x all there =

@@ -29,6 +29,8 @@ use Rattle.host_core.specs.Taking.{IsTaking, Passes, after_taking, after_passing
 use Rattle.split_rules.specs.Pace.{PACE}
 use Rattle.net_world.specs.Flying.{Flight}
 use Rattle.net_world.specs.World.{WorldShape, IsTakeStep, state_at, without_flight, after_step}
+use Rattle.net_world.proofs.Moved.{Moved, mover_state, other_state, moved_silent}
+use Rattle.net_world.proofs.Present.{some_same}
 use Rattle.simulation.proofs.Views.{Split, View, Link, with_chain, with_out, values_set}
 use Rattle.simulation.proofs.Chains.{IsChain, IsLinked, on_stack}
 use Rattle.simulation.proofs.Threads.{IsAt}
@@ -37,14 +39,13 @@ use Rattle.simulation.proofs.Simulates.{only, runs, asked, answered, gives, goes
 use Rattle.simulation.proofs.Simulates.{IsRequest, IsAnswer, IsWaiting, IsAsked, IsAnswered, IsGiving, IsGoing}
 use Rattle.simulation.proofs.Simulates.{IsReturning, AreIdle, Simulates, Falls, Paced, STEP, weight_at}
 use Rattle.simulation.proofs.Simulates.{IsFueledRequest, Goes}
-use Rattle.simulation.proofs.Moved.{Moved, mover_state, other_state, moved_silent, moved_telling, the_one, emptied}
+use Rattle.simulation.proofs.Moved.{moved_telling, the_one, emptied}
 use Rattle.simulation.proofs.Rows.{row_there}
 use Rattle.simulation.proofs.Kept.{orderly_moved, NoneHalted, none_halted_moved, stacks_moved, idle_moved}
 use Rattle.simulation.proofs.HeldSteps.{holds_same, holds_calm, holds_chain, holds_written, holds_forwarded, holds_given}
 use Rattle.simulation.proofs.Transfers.{starting}
 use Rattle.simulation.proofs.Pops.{own_stack, other_stack, top_on_stack, pushed_chain, Ended, Continued, popped}
 use Rattle.simulation.proofs.Turns.{sends_nothing}
-use Rattle.simulation.proofs.Basics.{some_same}
 
 -- a message that passes does what it is for
 passing : (split : Split) (state : HostShape) (from : HostId) (m : Message) (outcome : Outcome) →

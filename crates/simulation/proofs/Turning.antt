@@ -10,6 +10,7 @@ use Rattle.host_core.specs.Host.{HostShape, Outcome, with_message, next_request,
 use Rattle.host_core.specs.Turn.{with_thread}
 use Rattle.net_world.specs.Flying.{Flight}
 use Rattle.net_world.specs.World.{WorldShape, after_step}
+use Rattle.net_world.proofs.Moved.{Moved, mover_state, moved_silent}
 use Rattle.simulation.proofs.Views.{Split, View}
 use Rattle.simulation.proofs.Chains.{IsChain, on_stack}
 use Rattle.simulation.proofs.Threads.{IsAt}
@@ -17,7 +18,7 @@ use Rattle.simulation.proofs.Variables.{Sends, Holds}
 use Rattle.simulation.proofs.Simulates.{only, runs, asked, Holder, IsIdle, IsRequest, IsRunning, IsWaiting, Stands}
 use Rattle.simulation.proofs.Simulates.{IsOrderly, AreStacks, AreIdle, GoesOn, Goes, Falls, Paced, weight_at}
 use Rattle.simulation.proofs.Simulates.{IsFueled, IsFueledRequest}
-use Rattle.simulation.proofs.Moved.{Moved, mover_state, moved_silent, moved_telling}
+use Rattle.simulation.proofs.Moved.{moved_telling}
 use Rattle.simulation.proofs.Kept.{orderly_moved, NoneHalted, none_halted_moved, stacks_moved, stacks_same, idle_moved}
 use Rattle.simulation.proofs.Transfers.{starting}
 use Rattle.simulation.proofs.HeldSteps.{holds_same, holds_calm}

@@ -39,6 +39,8 @@ use Rattle.split_rules.specs.Typing.{Cuts}
 use Rattle.split_rules.specs.TypedCode.{IsTypedOp}
 use Rattle.net_world.specs.World as world_steps
 use Rattle.net_world.specs.World.{WorldShape}
+use Rattle.net_world.proofs.Moved.{mover_state, moved_silent}
+use Rattle.net_world.proofs.Present.{same_id}
 use Rattle.simulation.proofs.Views.{Split, View, Link, values_set, entries_of, place_of, with_chain}
 use Rattle.simulation.proofs.Chains.{on_stack, IsLinked}
 use Rattle.simulation.proofs.Threads.{IsAt, IsCalling}
@@ -46,7 +48,6 @@ use Rattle.simulation.proofs.Variables.{AreSent, Sends}
 use Rattle.simulation.proofs.Simulates.{IsFieldOn, runs, goes, returns, halted, Goes, Paced, STEP, weight_at}
 use Rattle.simulation.proofs.Instructions.{Agrees, after_setting, read_at, let_at, put_at, send_at}
 use Rattle.simulation.proofs.Transfers.{calm_calling, push_at, pushed_fits, push_calm, starting, go_at, back_at, branch_at}
-use Rattle.simulation.proofs.Moved.{same_id, mover_state, moved_silent}
 use Rattle.simulation.proofs.Rows.{row_there}
 use Rattle.simulation.proofs.Kept.{orderly_moved, stacks_moved, idle_moved}
 use Rattle.simulation.proofs.Holding.{holder_agrees, is_sent, own_cell}

@@ -1,5 +1,6 @@
 -- The new entry is the top, with a token that no other has.
-use Rattle.std.proofs.Common.{rules, ◌≡◌, ◌+◌, ◌<◌, ◌++◌, ◌∷◌, [], length, reverse, ap, ◌∙◌, subst, List, ℕ, sym, Bool, true, refl}
+use Rattle.std.proofs.Common.{rules, ◌≡◌, ◌+◌, ◌<◌, ◌++◌, ◌∷◌, [], length, reverse, ap, ◌∙◌, subst}
+use Rattle.std.proofs.Common.{List, ℕ, sym, Bool, true, refl}
 use Rattle.std.specs.Prelude.{if◌then◌else◌, slice_index, slice_set}
 use Rattle.std.specs.Result.{is_ok}
 use Rattle.std.proofs.lemmas.List.{reverse-append, get_or_default}
