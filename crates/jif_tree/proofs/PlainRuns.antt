@@ -27,7 +27,7 @@ none_there P none (Some x) there = none x there
 no_variable : (exposure : Exposure) → exposure.bad ≡ [] → (x : VarId) → VariableIsAffected exposure x → ⊥
 no_variable exposure none x = none_there _ (λ label. none_of _ exposure.bad none) (slice_get exposure.variables x.0)
 
-no_field : (exposure : Exposure) → exposure.bad ≡ [] → (field : FieldId) → FieldIsAffected exposure field → ⊥
+pub no_field : (exposure : Exposure) → exposure.bad ≡ [] → (field : FieldId) → FieldIsAffected exposure field → ⊥
 no_field exposure none field = none_there _ (λ label. none_of _ exposure.bad none) (slice_get exposure.fields field.0)
 
 read_plainly : (affected : Type 0) (there value : ℤ) → (affected → ⊥) → MayRead affected there value → value ≡ there

@@ -15,3 +15,4 @@ pub mod Labelling
 pub mod ValueLabels
 pub mod Results
 pub mod Altered
+pub mod AlteredExamples

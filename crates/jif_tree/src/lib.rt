@@ -14,7 +14,7 @@ pub use draft::{
     StmtDraft, StmtKindDraft,
 };
 pub use labels::{begin_label, crossed, field_label};
-pub use laws::{altered_laws, tree_laws};
+pub use laws::{altered_examples, altered_laws, tree_laws};
 pub use methods::{params_of, result_of};
 pub use operators::{binary_value, inverted, negated};
 pub use program::{Checked, Expr, Field, Method, Program, Stmt, StmtKind, Var};
