@@ -1,8 +1,10 @@
 //! Laws of the label check, for whoever reasons about refusals. The call does nothing.
 
-ghost use Rattle.std.specs.Prelude.{◌≡◌, ◌≢◌, ◌⊎◌, List, [], ◌∷◌, All};
+ghost use Rattle.std.specs.Prelude.{◌≡◌, ◌≢◌, ◌⊎◌, List, [], ◌∷◌, map, All};
+ghost use Rattle.js_base.specs.declared.ids.PrincipalId.{PrincipalId};
 ghost use Rattle.principals.specs.ActsFor.{Declared};
 ghost use Rattle.jif_tree.specs.LabelRules.{Obligation, Meets, IsFirstFailure, IsWellLabelled, obligations};
+ghost use Rattle.jif_tree.specs.LabelRules.{program_labels};
 ghost use Rattle.label_lattice.specs.declared.label.Label.{Label};
 ghost use Rattle.label_lattice.specs.Label.{Flows};
 ghost use Rattle.label_lattice.specs.Over.{IsLabelOver};
@@ -15,6 +17,9 @@ ghost use Rattle.label_check.specs.declared.check_error.CheckError.TheVariants a
 ghost use Rattle.label_check.specs.RuleLaws.{AreNamedOver, read_in};
 ghost use Rattle.label_check.specs.RuleExamples.{only_alice, guarded_assignment, guarded_flow, released_assignment};
 ghost use Rattle.label_check.specs.RuleExamples.{release_asks, release_trust, released_argument, call_asks_for};
+ghost use Rattle.label_check.specs.RuleExamples.{trusted_only, endorsed_assignment, endorse_asks, alice_and_bob};
+ghost use Rattle.label_check.specs.RuleExamples.{endorsed_by_bob, released_guard, in_loop, outer_trust, inner_trust};
+ghost use Rattle.label_check.specs.RuleExamples.{loop_asks, returned_field, return_flow};
 
 use label_lattice::label_laws;
 
@@ -61,4 +66,19 @@ pub fn rule_examples()
     ensures release_fails { ¬ Meets only_alice release_trust }
     // A call asks for its arguments, its begin label, the flows of the arguments from the left, and that of the result.
     ensures called { obligations only_alice released_argument ≡ call_asks_for }
+    // An endorsement asks for the authority to endorse, and then for the flow of what is endorsed.
+    ensures endorsed { (authority : List PrincipalId) →
+        obligations only_alice (endorsed_assignment authority) ≡ endorse_asks authority }
+    // Bob may not endorse what Alice is to trust, for whom he does not act.
+    ensures endorse_fails { ¬ Meets alice_and_bob endorsed_by_bob }
+    // The guard of a loop is asked for under the outer program label and under the inner one.
+    ensures looped { obligations only_alice released_guard ≡ loop_asks }
+    // Alice trusts the program label outside the loop, and not that inside it, which the guard told.
+    ensures outer_met { Meets only_alice outer_trust }
+    ensures inner_fails { ¬ Meets only_alice inner_trust }
+    // The program label of a loop is the inner one, as that of its body.
+    ensures loop_labels { map (λ one. one.pc) (program_labels only_alice released_guard)
+        ≡ trusted_only ∷ in_loop ∷ in_loop ∷ [] }
+    // What a method gives back, joined with the program label, flows to its result.
+    ensures given_back { obligations only_alice returned_field ≡ return_flow ∷ [] }
 {}
