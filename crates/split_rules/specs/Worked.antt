@@ -143,14 +143,17 @@ lent_back =
     (set_field (heading 1) (field_id 0) (increased 0 (number (pos 1)))
     (set_field (heading 2) (field_id 1) (increased 1 (number (pos 1))) done))
 
+-- the last statement of the body of a loop
+abbrev pub loop_end : BlockTree
+loop_end = set_field (heading 3) (field_id 0) (increased 0 (number (pos 1))) done
+
 -- A loop whose body stands partly on another host.
 abbrev pub looped : PlannedShape
 looped =
     planned_on (a_host 1 ∷ a_host 0 ∷ []) ((0 ∷ 1 ∷ []) ∷ (1 ∷ 0 ∷ []) ∷ []) (1 ∷ 1 ∷ 0 ∷ 1 ∷ []) []
     (host_id 0 ∷ host_id 1 ∷ []) (host_id 0 ∷ host_id 0 ∷ host_id 1 ∷ host_id 0 ∷ [])
     (loop (heading 1) (binary operator.Less (scalar (field_id 0)) (number (pos 4)))
-    (set_field (heading 2) (field_id 1) (increased 1 (scalar (field_id 0)))
-    (set_field (heading 3) (field_id 0) (increased 0 (number (pos 1))) done)) done)
+    (set_field (heading 2) (field_id 1) (increased 1 (scalar (field_id 0))) loop_end) done)
 
 -- A branch of which the first block stands on another host, which is handed the right to go on.
 abbrev pub branched : PlannedShape
@@ -161,13 +164,21 @@ branched =
     (set_field (heading 2) (field_id 1) (increased 1 (number (pos 1))) done)
     (set_field (heading 3) (field_id 0) (increased 0 (number (pos 1))) done) done)
 
+-- `x = m(3);`
+abbrev pub calling : BlockTree
+calling = call (heading 1) (site_id 1) (record { 0 = 1 }) (number (pos 3) ∷ []) (Some (var_id 0)) done
+
+-- `return y + 1;`
+abbrev pub returning : BlockTree
+returning = give_back (heading 3) (binary operator.Add (local (var_id 1)) (number (pos 1))) done
+
 -- `x = m(3);`, and `m(y) { return y + 1; }` on another host, which reads the parameter.
 abbrev pub called : PlannedShape
 called =
     planned_for
     (program_with [] (variable_of 0 ∷ variable_of 1 ∷ variable_of 1 ∷ [])
-    (main_of (call (heading 1) (site_id 1) (record { 0 = 1 }) (number (pos 3) ∷ []) (Some (var_id 0)) done)
-    ∷ record (main_of (give_back (heading 3) (binary operator.Add (local (var_id 1)) (number (pos 1))) done)) {
+    (main_of calling
+    ∷ record (main_of returning) {
       name = codes "m";
       params = var_id 1 ∷ [];
       result = Some (var_id 2);

@@ -16,7 +16,7 @@ ghost use Rattle.split_rules.specs.Pace.{PACE, Allowance, IsPaced};
 ghost use Rattle.split_rules.specs.ThreadRun.{Thread, Runs, IsAtMain};
 ghost use Rattle.split_rules.specs.TypedCode.{Table, IsTypedCode};
 ghost use Rattle.split_rules.specs.Typing.{Follows, Divides};
-ghost use Rattle.split_rules.specs.Positions.{Position, Entrance};
+ghost use Rattle.split_rules.specs.Positions.{Position, Entrance, IsIn, IsOf};
 ghost use Rattle.split_rules.specs.Emissions.{counts_after};
 ghost use Rattle.split_rules.specs.Settled.{AreSettled};
 ghost use Rattle.split_rules.specs.Walk.{program_emissions};
@@ -31,6 +31,7 @@ ghost use Rattle.split_rules.specs.Expressions.{first_element};
 ghost use Rattle.split_rules.specs.Walk.{entry_id};
 ghost use Rattle.split_rules.specs.Worked.{sent_local, lent_past, lent_back, looped, branched, called, indexed};
 ghost use Rattle.split_rules.specs.Worked.{labelled_apart, operations_on, entry_hosts, label_words};
+ghost use Rattle.split_rules.specs.Worked.{returning, loop_end};
 ghost use Rattle.split_rules.specs.Worked.{field_id, var_id, site_id, host_id, trusted_by};
 
 /// Whatever the plan, the code of a split program is sound, and its entries stand and its branches lead where they
@@ -93,7 +94,8 @@ pub fn typing_laws()
         Divides planned me here guard other other_target → (next ≡ other) × (target ≡ other_target) }
 {}
 
-/// The instructions of some small programs on each of their hosts, and the hosts of their entries.
+/// The instructions of some small programs on each of their hosts, the hosts of their entries, and which statements are
+/// theirs.
 pub fn worked_laws()
     // A local is sent to the host that reads it, and then that host is handed the right to go on.
     ensures sent { operations_on sent_local 0 ≡ op.Let (var_id 0) (node.Number (pos 7) ∷ [])
@@ -140,6 +142,13 @@ pub fn worked_laws()
         ≡ op.Ret (var_id 2) (node.Var (var_id 1) ∷ node.Number (pos 1) ∷ node.Binary operator.Add ∷ [])
         ∷ op.Back ∷ [] }
     ensures call_entries { entry_hosts called ≡ 0 ∷ 0 ∷ 1 ∷ 0 ∷ [] }
+    // What a method gives back is a statement of that method, and so of the program.
+    ensures is_in { IsIn called.program (record { 0 = 1 }) returning }
+    ensures is_of { IsOf called.program returning }
+    // It is none of `main`, which calls the method.
+    ensures is_not_in { ¬ IsIn called.program (record { 0 = 0 }) returning }
+    // A statement inside a loop is one of the method's too.
+    ensures is_inside { IsIn looped.program (record { 0 = 0 }) loop_end }
     // The index of an array is read before the value.
     ensures indexes { operations_on indexed 0 ≡ op.Read (field_id 0) first_element
         ∷ op.Read (field_id 1) (node.Number (pos 2) ∷ [])

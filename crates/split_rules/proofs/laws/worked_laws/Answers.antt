@@ -1,5 +1,7 @@
-use Rattle.std.proofs.Common.{refl}
+use Rattle.std.proofs.Common.{◌≡◌, ◌∙◌, zero, suc, refl, arith, ◌∷◌, [], Any}
 use Rattle.msg_cost.specs.Moves.{is_trusted_by}
+use Rattle.split_rules.specs.Positions.{IsIn}
+use Rattle.split_rules.specs.Worked.{called, calling, returning, loop_end}
 use Rattle.split_rules.proofs.laws.worked_laws.Goals as goal
 
 pub returns-clause-sent : goal.returns-clause-sent
@@ -57,6 +59,27 @@ returns-clause-gives_back c = refl
 pub returns-clause-call_entries : goal.returns-clause-call_entries
 unfolding is_trusted_by
 returns-clause-call_entries c = refl
+
+returning_in : IsIn called.program (record { 0 = 1 }) returning
+returning_in = (0, returning, omega arith, refl, refl)
+
+pub returns-clause-is_in : goal.returns-clause-is_in
+returns-clause-is_in c = returning_in
+
+pub returns-clause-is_of : goal.returns-clause-is_of
+returns-clause-is_of c = (record { 0 = 1 }, returning_in)
+
+not_calling : ¬ Any (λ one. one ≡ returning) (calling ∷ [])
+not_calling (zero, statement, within, read, same) =
+    let both : calling ≡ returning = read ∙ same in
+    absurd (cc)
+not_calling (suc k, statement, within, read, same) = absurd (omega (arith, within))
+
+pub returns-clause-is_not_in : goal.returns-clause-is_not_in
+returns-clause-is_not_in c = not_calling
+
+pub returns-clause-is_inside : goal.returns-clause-is_inside
+returns-clause-is_inside c = (2, loop_end, omega arith, refl, refl)
 
 pub returns-clause-indexes : goal.returns-clause-indexes
 unfolding is_trusted_by
