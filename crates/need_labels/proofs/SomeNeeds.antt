@@ -1,8 +1,7 @@
 -- A program has needs.
-use Rattle.std.proofs.Common.{◌≡◌, ℕ, ◌<◌, List, [], ◌∷◌, map, length, refl, arith}
+use Rattle.std.proofs.Common.{ℕ, List, [], ◌∷◌, map, length, refl, arith}
 use Rattle.std.specs.Prelude.{Any}
 use Rattle.std.specs.List.{AllZip, flat_map, range_with_len}
-use Rattle.std.proofs.lemmas.Bool.{cases_eq}
 use Rattle.js_base.proofs.Decisions.{Decided, any_of}
 use Rattle.principals.specs.ActsFor.{Declared, ActsFor}
 use Rattle.principals.proofs.Decisions.{acts_for}
