@@ -58,10 +58,9 @@ stepped kind world hosts host sent moved =
 
 -- ---- whole events
 
-pub has_some : (o : Option HostModel) (P : HostModel → Type 0) → IsSomeAnd o P →
-    (host : HostModel) × (o ≡ Some host) × P host
+pub has_some : {X : Type 0} (o : Option X) (P : X → Type 0) → IsSomeAnd o P → (x : X) × (o ≡ Some x) × P x
 has_some None P has = absurd has
-has_some (Some host) P has = (host, refl, has)
+has_some (Some x) P has = (x, refl, has)
 
 -- the state of a host that is ready runs no thread
 pub state_rests : (world : WorldModel) (host : HostId) → IsSomeAnd (host_at world host) IsReady →

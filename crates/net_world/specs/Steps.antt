@@ -1,14 +1,18 @@
 -- What the parts of an event find and leave: the tests before it, the step of its host, and its answer.
 use Rattle.std.specs.Prelude.{◌≡◌, ◌≢◌, ◌⊎◌, ◌≤◌, ◌+◌, ℕ, false, List, length, Option, Some}
-use Rattle.std.specs.Prelude.{None, IsSome, IsTrue}
+use Rattle.std.specs.Prelude.{None, IsSome, IsTrue, ⊤}
 use Rattle.std.specs.Prelude.{IsSomeAnd, IfSome, slice_get, slice_set, Result, Ok, Err}
 use Rattle.js_base.specs.declared.ids.HostId.{HostId}
 use Rattle.host_code.specs.declared.message.Message.{Message}
 use Rattle.host_code.specs.Code.{CodeShape}
-use Rattle.host_code.specs.Sound.{IsLabel}
+use Rattle.host_code.specs.Sound.{IsLabel, IsOther}
+use Rattle.host_core.specs.Fits.{TokensFit}
 use Rattle.host_core.specs.Host.{HostShape, HostModel, Outcome, state_of, IsStopped}
-use Rattle.host_core.specs.Turn.{label_of_turn}
+use Rattle.host_core.specs.Taking.{IsTaking}
+use Rattle.host_core.specs.Turn.{IsTurn, label_of_turn}
 use Rattle.event_text.specs.declared.event.Event.{Event}
+use Rattle.net_world.specs.declared.moves.Move.{Move}
+use Rattle.net_world.specs.declared.moves.Move.TheVariants as move
 use Rattle.net_world.specs.declared.world.EventError.{EventError}
 use Rattle.net_world.specs.declared.world.EventError.TheVariants as answer
 use Rattle.event_text.specs.declared.event.BadMessage.{BadMessage}
@@ -23,6 +27,21 @@ IsReady host = (host.running ≡ None) × ¬ IsStopped host
 
 abbrev pub IsActive : HostModel → Type 0
 IsActive host = IsSome host.running × ¬ IsStopped host
+
+-- it can make the move
+abbrev pub IsMovable : Move → HostModel → Type 0
+IsMovable (move.Take from message) host = IsReady host
+IsMovable move.Turn host = IsActive host
+
+-- a message that is taken is from another host, and its tokens name hosts of the code
+abbrev pub MoveFits : CodeShape → HostId → Move → Type 0
+MoveFits code me (move.Take from message) = IsOther code me from × TokensFit code message.now
+MoveFits code me move.Turn = ⊤
+
+-- this is what the move leaves and sends
+abbrev pub IsMove : CodeShape → Move → HostShape → Outcome → Type 0
+IsMove code (move.Take from message) state outcome = IsTaking code state from message.now outcome
+IsMove code move.Turn state outcome = IsTurn code state outcome
 
 -- a host that answers, and has made at most so many steps
 pub record HasMade (most : ℕ) (host : HostModel) : Type 0 where

@@ -11,11 +11,12 @@ ghost use Rattle.net_world.specs.Flying.{HasRoom, pair_place};
 ghost use Rattle.net_world.specs.Told.{ToldHasRoom};
 ghost use Rattle.net_world.specs.World.{without_flight, after_sending, after_telling, letter_of};
 ghost use Rattle.net_world.specs.Fits.{HostsFit, world_of, host_at};
-ghost use Rattle.net_world.specs.Steps.{IsReady, IsActive, HaveMade, HasStepped, HasCounted, ChangesOnly, HasStopped};
+ghost use Rattle.net_world.specs.Steps.{IsMove, IsMovable, MoveFits, HaveMade, HasStepped, HasCounted, ChangesOnly};
+ghost use Rattle.net_world.specs.Steps.{HasStopped};
 
-use crate::moves::{deliver_at, turn_at};
+use crate::moves::{Move, move_at};
 use crate::world::World;
-use host_code::{Code, Message};
+use host_code::Code;
 use host_core::Sent;
 use js_base::{HostId, OutOfMemory};
 
@@ -65,47 +66,18 @@ impl World {
         self.flying.reserve_from(from, hosts)
     }
 
-    /// A host that is ready takes a message. After want of memory it answers no more.
-    pub(crate) fn deliver(
-        &mut self,
-        code: &Code,
-        to: HostId,
-        from: HostId,
-        message: &Message,
-        sent: &mut Sent,
-    ) -> Result<(), OutOfMemory>
-        requires ready { IsSomeAnd (host_at self.old to) IsReady }
-        requires fits { HostsFit code.now self.old.hosts }
-        requires from { IsOther code.now to from }
-        requires tokens { TokensFit code.now message.now }
-        ensures ok { OnOk result
-            (HasStepped (λ state outcome. IsTaking code.now state from message.now outcome)
-            (world_of self.old) to sent.new (world_of self.new)) }
-        ensures err { OnErr result (world_of self.new ≡ world_of self.old) }
-        ensures stopped { OnErr result (HasStopped self.new to) }
-        ensures made { OnOk result ((n : ℕ) → HaveMade n self.old.hosts → HaveMade (n + 1) self.new.hosts) }
-        ensures counted { OnOk result (HasCounted to self.old.hosts self.new.hosts) }
-        ensures others { ChangesOnly to self.old.hosts self.new.hosts }
-        ensures fits { HostsFit code.now self.new.hosts }
-        ensures sent { OnOk result (SentFits code.now to sent.new) }
-        ensures mail { (self.new.queues ≡ self.old.queues) × (self.new.told ≡ self.old.told) }
-        ensures root { self.new.root ≡ self.old.root }
-        ensures readable { self.new.readable ≡ self.old.readable }
-    {
-        deliver_at(&mut self.hosts, code, to, from, message, sent)
-    }
-
-    /// A host whose thread runs makes a turn. After want of memory it answers no more.
-    pub(crate) fn run(
+    /// A host that can make a move makes it. After want of memory it answers no more.
+    pub(crate) fn move_host(
         &mut self,
         code: &Code,
         host: HostId,
+        step: Move,
         sent: &mut Sent,
     ) -> Result<(), OutOfMemory>
-        requires active { IsSomeAnd (host_at self.old host) IsActive }
+        requires movable { IsSomeAnd (host_at self.old host) (IsMovable step) }
         requires fits { HostsFit code.now self.old.hosts }
-        ensures ok { OnOk result (HasStepped (λ state outcome. IsTurn code.now state outcome)
-            (world_of self.old) host sent.new (world_of self.new)) }
+        requires move_fits { MoveFits code.now host step }
+        ensures ok { OnOk result (HasStepped (IsMove code.now step.entry) (world_of self.old) host sent.new (world_of self.new)) }
         ensures err { OnErr result (world_of self.new ≡ world_of self.old) }
         ensures stopped { OnErr result (HasStopped self.new host) }
         ensures made { OnOk result ((n : ℕ) → HaveMade n self.old.hosts → HaveMade (n + 1) self.new.hosts) }
@@ -117,7 +89,7 @@ impl World {
         ensures root { self.new.root ≡ self.old.root }
         ensures readable { self.new.readable ≡ self.old.readable }
     {
-        turn_at(&mut self.hosts, code, host, sent)
+        move_at(&mut self.hosts, code, host, step, sent)
     }
 
     /// A message in flight is taken out.

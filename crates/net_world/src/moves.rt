@@ -9,7 +9,8 @@ ghost use Rattle.host_core.specs.Taking.{IsTaking};
 ghost use Rattle.host_core.specs.Turn.{IsTurn, label_of_turn};
 ghost use Rattle.net_world.specs.World.{present};
 ghost use Rattle.net_world.specs.Fits.{HostsFit, PresentFits, states_of};
-ghost use Rattle.net_world.specs.Steps.{IsReady, IsActive, HaveMade, HasMade, HasMoved, HasCounted, ChangesOnly};
+ghost use Rattle.net_world.specs.Steps.{IsMove, IsMovable, MoveFits, HaveMade, HasMade, HasMoved, HasCounted};
+ghost use Rattle.net_world.specs.Steps.{ChangesOnly};
 
 use host_code::{Code, Message};
 use host_core::{Host, HostError, Sent};
@@ -27,20 +28,25 @@ pub fn label_of(host: &Host, code: &Code, me: HostId) -> Option<u32>
     Some(instruction.label)
 }
 
-/// A host that is ready takes a message. After want of memory it answers no more.
-fn deliver_to(
+/// What a host does at an event: it takes a message from another host, or makes a turn.
+#[derive(Clone, Copy)]
+pub enum Move<'a> {
+    Take(HostId, &'a Message),
+    Turn,
+}
+
+/// A host that can make a move makes it. After want of memory it answers no more.
+fn move_of(
     host: &mut Host,
     code: &Code,
     me: HostId,
-    from: HostId,
-    message: &Message,
+    step: Move,
     sent: &mut Sent,
 ) -> Result<(), OutOfMemory>
-    requires ready { IsReady host.old }
+    requires movable { IsMovable step host.old }
     requires fits { PresentFits code.now me host.old }
-    requires from { IsOther code.now me from }
-    requires tokens { TokensFit code.now message.now }
-    ensures ok { OnOk result (IsTaking code.now (state_of host.old) from message.now
+    requires move_fits { MoveFits code.now me step }
+    ensures ok { OnOk result (IsMove code.now step.entry (state_of host.old)
         (record { state = state_of host.new; sent = sent.new })) }
     ensures err { OnErr result (state_of host.new ≡ state_of host.old) }
     ensures stopped { OnErr result (IsStopped host.new) }
@@ -50,74 +56,29 @@ fn deliver_to(
     ensures fits { PresentFits code.now me host.new }
     ensures sent { OnOk result (SentFits code.now me sent.new) }
 {
-    match host.deliver_into(code, from, message, sent) {
+    let done = match step {
+        Move::Take(from, message) => host.deliver_into(code, from, message, sent),
+        Move::Turn => host.turn_into(code, sent),
+    };
+    match done {
         Ok(()) => Ok(()),
         Err(HostError::OutOfMemory) => Err(OutOfMemory),
         Err(HostError::Stopped) => unreachable!(),
     }
 }
 
-/// A host whose thread runs makes a turn. After want of memory it answers no more.
-fn turn_of(host: &mut Host, code: &Code, me: HostId, sent: &mut Sent) -> Result<(), OutOfMemory>
-    requires active { IsActive host.old }
-    requires fits { PresentFits code.now me host.old }
-    ensures ok { OnOk result (IsTurn code.now (state_of host.old)
-        (record { state = state_of host.new; sent = sent.new })) }
-    ensures err { OnErr result (state_of host.new ≡ state_of host.old) }
-    ensures stopped { OnErr result (IsStopped host.new) }
-    ensures made { OnOk result ((n : ℕ) → HasMade n host.old → HasMade (n + 1) host.new) }
-    ensures counted { OnOk result
-        ((host.new.calls ≡ host.old.calls + 1) × (host.new.stopped ≡ host.old.stopped)) }
-    ensures fits { PresentFits code.now me host.new }
-    ensures sent { OnOk result (SentFits code.now me sent.new) }
-{
-    match host.turn_into(code, sent) {
-        Ok(()) => Ok(()),
-        Err(HostError::OutOfMemory) => Err(OutOfMemory),
-        Err(HostError::Stopped) => unreachable!(),
-    }
-}
-
-/// The host of a number takes a message.
-pub fn deliver_at(
-    hosts: &mut Vec<Option<Host>>,
-    code: &Code,
-    to: HostId,
-    from: HostId,
-    message: &Message,
-    sent: &mut Sent,
-) -> Result<(), OutOfMemory>
-    requires ready { IsSomeAnd (present hosts.old.items to) IsReady }
-    requires fits { HostsFit code.now hosts.old.items }
-    requires from { IsOther code.now to from }
-    requires tokens { TokensFit code.now message.now }
-    ensures ok { OnOk result (HasMoved (λ state outcome. IsTaking code.now state from message.now outcome)
-        hosts.old.items hosts.new.items to sent.new) }
-    ensures err { OnErr result (states_of hosts.new.items ≡ states_of hosts.old.items) }
-    ensures stopped { OnErr result (IsSomeAnd (present hosts.new.items to) IsStopped) }
-    ensures made { OnOk result ((n : ℕ) → HaveMade n hosts.old.items → HaveMade (n + 1) hosts.new.items) }
-    ensures counted { OnOk result (HasCounted to hosts.old.items hosts.new.items) }
-    ensures others { ChangesOnly to hosts.old.items hosts.new.items }
-    ensures fits { HostsFit code.now hosts.new.items }
-    ensures sent { OnOk result (SentFits code.now to sent.new) }
-{
-    match &mut hosts[to.0 as usize] {
-        Some(host) => deliver_to(host, code, to, from, message, sent),
-        None => unreachable!(),
-    }
-}
-
-/// The host of a number makes a turn.
-pub fn turn_at(
+/// The host of a number makes a move.
+pub fn move_at(
     hosts: &mut Vec<Option<Host>>,
     code: &Code,
     me: HostId,
+    step: Move,
     sent: &mut Sent,
 ) -> Result<(), OutOfMemory>
-    requires active { IsSomeAnd (present hosts.old.items me) IsActive }
+    requires movable { IsSomeAnd (present hosts.old.items me) (IsMovable step) }
     requires fits { HostsFit code.now hosts.old.items }
-    ensures ok { OnOk result (HasMoved (λ state outcome. IsTurn code.now state outcome)
-        hosts.old.items hosts.new.items me sent.new) }
+    requires move_fits { MoveFits code.now me step }
+    ensures ok { OnOk result (HasMoved (IsMove code.now step.entry) hosts.old.items hosts.new.items me sent.new) }
     ensures err { OnErr result (states_of hosts.new.items ≡ states_of hosts.old.items) }
     ensures stopped { OnErr result (IsSomeAnd (present hosts.new.items me) IsStopped) }
     ensures made { OnOk result ((n : ℕ) → HaveMade n hosts.old.items → HaveMade (n + 1) hosts.new.items) }
@@ -127,7 +88,7 @@ pub fn turn_at(
     ensures sent { OnOk result (SentFits code.now me sent.new) }
 {
     match &mut hosts[me.0 as usize] {
-        Some(host) => turn_of(host, code, me, sent),
+        Some(host) => move_of(host, code, me, step, sent),
         None => unreachable!(),
     }
 }

@@ -17,10 +17,10 @@ ghost use Rattle.net_world.specs.Steps.{IsReady, IsActive, HaveMade, IsStuck, Ha
 ghost use Rattle.net_world.specs.Steps.{HasNoMemory};
 ghost use Rattle.net_world.specs.Steps.{IsAnswer, HasStopped, IsTakeable, IsActable, IsRefused, CannotRest};
 
-use crate::moves::{deliver_at, label_of, turn_at};
+use crate::moves::Move;
 use crate::world::{EventError, World};
 use event_text::{BadMessage, Event};
-use host_code::{Code, Message};
+use host_code::Code;
 use host_core::{Host, Sent};
 use js_base::{HostId, OutOfMemory};
 
@@ -82,7 +82,7 @@ impl World {
             return Err(EventError::OutOfMemory);
         }
         let mut sent = None;
-        let Ok(()) = self.deliver(code, to, from, &message, &mut sent) else {
+        let Ok(()) = self.move_host(code, to, Move::Take(from, &message), &mut sent) else {
             return Err(EventError::OutOfMemory);
         };
         self.take_out(from, to, place);
@@ -104,7 +104,7 @@ impl World {
             return Err(EventError::OutOfMemory);
         }
         let mut sent = None;
-        let Ok(()) = self.run(code, host, &mut sent) else {
+        let Ok(()) = self.move_host(code, host, Move::Turn, &mut sent) else {
             return Err(EventError::OutOfMemory);
         };
         self.post(host, label, &sent);
@@ -132,7 +132,7 @@ impl World {
             return Err(EventError::OutOfMemory);
         }
         let mut sent = None;
-        let Ok(()) = self.deliver(code, to, from, &message, &mut sent) else {
+        let Ok(()) = self.move_host(code, to, Move::Take(from, &message), &mut sent) else {
             return Err(EventError::OutOfMemory);
         };
         self.tell(to, &sent);

@@ -1,20 +1,31 @@
 -- The message is taken at once, and its answer is told to the sender.
-use Rattle.std.proofs.Common.{◌∙◌, ◌<◌, ap, sym, subst, length, inr}
+use Rattle.std.proofs.Common.{◌≡◌, ◌∙◌, ◌<◌, ap, sym, subst, length, inr, None}
 use Rattle.host_core.specs.Host.{HostShape, Outcome}
 use Rattle.host_core.specs.Taking.{IsTaking}
 use Rattle.net_world.specs.Fits.{MailFits, world_of}
 use Rattle.net_world.specs.Steps.{IsReady}
 use Rattle.net_world.proofs.Present.{get_lt, length_states}
-use Rattle.net_world.proofs.StepsOf.{acted, act_due, state_rests}
-use Rattle.net_world.proofs.Fitting.{world_fits, bad_stepped, mail_stepped, mail_telling, made_tokens_fit}
+use Rattle.net_world.proofs.StepsOf.{acted, act_due, has_some, state_rests}
+use Rattle.net_world.specs.World.{state_at}
+use Rattle.net_world.proofs.Fitting.{world_fits, bad_stepped, mail_stepped, mail_telling, made_tokens_fit, bad_within}
+use Rattle.net_world.proofs.Fitting.{bad_differs}
 use Rattle.net_world.proofs.world.World.act.Goals as goal
 
-pub deliver-requires-clause-tokens : goal.deliver-requires-clause-tokens
-deliver-requires-clause-tokens c =
+pub move_host-requires-clause-move_fits : goal.move_host-requires-clause-move_fits
+move_host-requires-clause-move_fits c =
     let a = c.args in
-    made_tokens_fit a.code.now (world_of a.self.now) a.made c.in_ok-message.message
-    (length_states a.self.now.hosts ∙ c.requires.fits.count) c.requires.fits.mail c.requires.own
-    c.in_ok-message.ensures.ok.makes
+    let code = a.code.now in
+    let world = world_of a.self.now in
+    let actable = c.in_ok-message.ensures.ok in
+    let count = length_states a.self.now.hosts ∙ c.requires.fits.count in
+    let there =
+    has_some (state_at world a.to) (λ state. state.running ≡ None) (state_rests a.self.now a.to actable.host) in (
+      (
+        bad_within world a.from (length code.hosts) count actable.bad,
+        bad_differs world a.from a.to there.0 actable.bad there.1,
+      ),
+      made_tokens_fit code world a.made c.in_ok-message.message count c.requires.fits.mail c.requires.own actable.makes,
+    )
 
 pub returns-in_default-clause-answer : goal.returns-in_default-clause-answer
 returns-in_default-clause-answer c =
@@ -29,8 +40,8 @@ returns-clause-answer c =
     let a = c.args in
     let actable = c.in_ok-message.ensures.ok in (
       act_due a.self.now a.from a.to a.made c.in_ok-message.message actable,
-      acted a.code.now (world_of a.self.now) (world_of c.reserve_told.new.self) (world_of c.deliver.new.self)
-          (world_of c.tell.new.self) a.from a.to a.made c.in_ok-message.message c.deliver.new.sent actable.bad actable.makes
+      acted a.code.now (world_of a.self.now) (world_of c.reserve_told.new.self) (world_of c.move_host.new.self)
+          (world_of c.tell.new.self) a.from a.to a.made c.in_ok-message.message c.move_host.new.sent actable.bad actable.makes
           (state_rests a.self.now a.to actable.host) c.reserve_told.ensures.world c.in-Ok.ensures.ok
           c.tell.ensures.world,
     )
@@ -47,14 +58,14 @@ returns-clause-fits c =
     let reserved : MailFits code (world_of c.reserve_told.new.self) =
     subst (MailFits code) (sym c.reserve_told.ensures.world) c.requires.fits.mail in
     let moved =
-    mail_stepped code kind (world_of c.reserve_told.new.self) a.to c.deliver.new.sent (world_of c.deliver.new.self)
+    mail_stepped code kind (world_of c.reserve_told.new.self) a.to c.move_host.new.sent (world_of c.move_host.new.self)
     c.in-Ok.ensures.ok reserved in
     let mail : MailFits code (world_of c.tell.new.self) =
     subst (MailFits code) (sym c.tell.ensures.world)
-    (mail_telling code (world_of c.deliver.new.self) a.to c.deliver.new.sent moved is_host c.in-Ok.ensures.sent) in
-    world_fits code a.self.now c.tell.new.self c.deliver.new.self.hosts c.requires.fits
+    (mail_telling code (world_of c.move_host.new.self) a.to c.move_host.new.sent moved is_host c.in-Ok.ensures.sent) in
+    world_fits code a.self.now c.tell.new.self c.move_host.new.self.hosts c.requires.fits
     (c.tell.ensures.same.1 ∙ c.in-Ok.ensures.root ∙ c.reserve_told.ensures.root) c.tell.ensures.same.0
     (c.in-Ok.ensures.others.count ∙ ap length c.reserve_told.ensures.hosts) c.in-Ok.ensures.fits mail
     (c.tell.ensures.readable ∙ c.in-Ok.ensures.readable ∙ c.reserve_told.ensures.readable)
-    (bad_stepped kind (world_of a.self.now) (world_of c.reserve_told.new.self) (world_of c.deliver.new.self) a.to c.deliver.new.sent
+    (bad_stepped kind (world_of a.self.now) (world_of c.reserve_told.new.self) (world_of c.move_host.new.self) a.to c.move_host.new.sent
     c.reserve_told.ensures.world c.in-Ok.ensures.ok)

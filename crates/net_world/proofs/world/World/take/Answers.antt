@@ -12,8 +12,8 @@ take_out-requires-clause-there c =
     let a = c.args in
     let kind : HostShape → Outcome → Type 0 =
     λ state outcome. IsTaking a.code.now state a.from c.in_ok-found.found.now outcome in
-    still_there kind (world_of a.self.now) (world_of c.reserve_to.new.self) (world_of c.deliver.new.self) a.to
-    c.deliver.new.sent a.from a.to a.place (record { message = c.in_ok-found.found.now; label = c.in_ok-found.label })
+    still_there kind (world_of a.self.now) (world_of c.reserve_to.new.self) (world_of c.move_host.new.self) a.to
+    c.move_host.new.sent a.from a.to a.place (record { message = c.in_ok-found.found.now; label = c.in_ok-found.label })
     c.reserve_to.ensures.world c.in-Ok.ensures.ok c.in_ok-found.ensures.ok.there
 
 pub returns-clause-answer : goal.returns-clause-answer
@@ -21,9 +21,9 @@ returns-clause-answer c =
     let a = c.args in
     let takeable = c.in_ok-found.ensures.ok in (
       take_due a.self.now a.from a.to a.place (c.in_ok-found.found.now, c.in_ok-found.label) takeable,
-      taken a.code.now (world_of a.self.now) (world_of c.reserve_to.new.self) (world_of c.deliver.new.self)
+      taken a.code.now (world_of a.self.now) (world_of c.reserve_to.new.self) (world_of c.move_host.new.self)
           (world_of c.take_out.new.self) (world_of c.post.new.self) a.from a.to a.place c.in_ok-found.found.now
-          c.in_ok-found.label c.deliver.new.sent takeable.there (state_rests a.self.now a.to takeable.host)
+          c.in_ok-found.label c.move_host.new.sent takeable.there (state_rests a.self.now a.to takeable.host)
           c.reserve_to.ensures.world c.in-Ok.ensures.ok c.take_out.ensures.world c.post.ensures.world,
     )
 
@@ -40,20 +40,20 @@ returns-clause-fits c =
     let reserved : MailFits code (world_of c.reserve_to.new.self) =
     subst (MailFits code) (sym c.reserve_to.ensures.world) c.requires.fits.mail in
     let moved =
-    mail_stepped code kind (world_of c.reserve_to.new.self) a.to c.deliver.new.sent (world_of c.deliver.new.self)
+    mail_stepped code kind (world_of c.reserve_to.new.self) a.to c.move_host.new.sent (world_of c.move_host.new.self)
     c.in-Ok.ensures.ok reserved in
     let without : MailFits code (world_of c.take_out.new.self) =
     subst (MailFits code) (sym c.take_out.ensures.world)
-    (mail_without code (world_of c.deliver.new.self) a.from a.to a.place moved) in
+    (mail_without code (world_of c.move_host.new.self) a.from a.to a.place moved) in
     let mail : MailFits code (world_of c.post.new.self) =
     subst (MailFits code) (sym c.post.ensures.world)
-    (mail_sending code (world_of c.take_out.new.self) a.to (Some c.in_ok-found.label) c.deliver.new.sent without
+    (mail_sending code (world_of c.take_out.new.self) a.to (Some c.in_ok-found.label) c.move_host.new.sent without
     flight.target.0 c.in-Ok.ensures.sent flight.label) in
-    world_fits code a.self.now c.post.new.self c.deliver.new.self.hosts c.requires.fits
+    world_fits code a.self.now c.post.new.self c.move_host.new.self.hosts c.requires.fits
     (c.post.ensures.same.1 ∙ c.take_out.ensures.same.2 ∙ c.in-Ok.ensures.root ∙ c.reserve_to.ensures.root)
     (c.post.ensures.same.0 ∙ c.take_out.ensures.same.0)
     (c.in-Ok.ensures.others.count ∙ ap length c.reserve_to.ensures.hosts)
     c.in-Ok.ensures.fits mail
     (c.post.ensures.readable ∙ c.take_out.ensures.readable ∙ c.in-Ok.ensures.readable ∙ c.reserve_to.ensures.readable)
-    (bad_stepped kind (world_of a.self.now) (world_of c.reserve_to.new.self) (world_of c.deliver.new.self) a.to c.deliver.new.sent
+    (bad_stepped kind (world_of a.self.now) (world_of c.reserve_to.new.self) (world_of c.move_host.new.self) a.to c.move_host.new.sent
     c.reserve_to.ensures.world c.in-Ok.ensures.ok)

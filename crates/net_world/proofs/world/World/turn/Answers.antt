@@ -21,15 +21,15 @@ returns-clause-fits c =
     let reserved : MailFits code (world_of c.reserve_from.new.self) =
     subst (MailFits code) (sym c.reserve_from.ensures.world) c.requires.fits.mail in
     let moved =
-    mail_stepped code kind (world_of c.reserve_from.new.self) a.host c.run.new.sent (world_of c.run.new.self)
+    mail_stepped code kind (world_of c.reserve_from.new.self) a.host c.move_host.new.sent (world_of c.move_host.new.self)
     c.in-Ok.ensures.ok reserved in
     let mail : MailFits code (world_of c.post.new.self) =
     subst (MailFits code) (sym c.post.ensures.world)
-    (mail_sending code (world_of c.run.new.self) a.host c.in_ok-label.label c.run.new.sent moved is_host
+    (mail_sending code (world_of c.move_host.new.self) a.host c.in_ok-label.label c.move_host.new.sent moved is_host
     c.in-Ok.ensures.sent c.in_ok-label.ensures.ok.1) in
-    world_fits code a.self.now c.post.new.self c.run.new.self.hosts c.requires.fits
+    world_fits code a.self.now c.post.new.self c.move_host.new.self.hosts c.requires.fits
     (c.post.ensures.same.1 ∙ c.in-Ok.ensures.root ∙ c.reserve_from.ensures.root) c.post.ensures.same.0
     (c.in-Ok.ensures.others.count ∙ ap length c.reserve_from.ensures.hosts) c.in-Ok.ensures.fits mail
     (c.post.ensures.readable ∙ c.in-Ok.ensures.readable ∙ c.reserve_from.ensures.readable)
-    (bad_stepped kind (world_of a.self.now) (world_of c.reserve_from.new.self) (world_of c.run.new.self) a.host c.run.new.sent
+    (bad_stepped kind (world_of a.self.now) (world_of c.reserve_from.new.self) (world_of c.move_host.new.self) a.host c.move_host.new.sent
     c.reserve_from.ensures.world c.in-Ok.ensures.ok)
