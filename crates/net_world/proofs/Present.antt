@@ -1,8 +1,9 @@
 -- Lists that have something or nothing for each host.
 use Rattle.std.proofs.Common.{◌≡◌, ◌≢◌, ℕ, zero, suc, ◌+◌, ◌<◌, List, [], ◌∷◌, ◌++◌, length, refl, ap, sym, subst}
-use Rattle.std.proofs.Common.{◌∙◌, arith, Option, Some, None, get_or, length-set, take, add-one}
+use Rattle.std.proofs.Common.{◌∙◌, inl, inr, arith, Option, Some, None, get_or, length-set, take, add-one}
 use Rattle.std.specs.Prelude.{slice_set, slice_get, IfSome, IsSomeAnd, ℤ}
 use Rattle.std.specs.Option.{option_map}
+use Rattle.std.proofs.lemmas.Bool.Decides.{eqb_tells}
 use Rattle.std.proofs.lemmas.List.{map_push, map-set}
 use Rattle.std.proofs.lemmas.Option.{slice_get-map}
 use Rattle.js_base.specs.declared.ids.HostId.{HostId}
@@ -159,13 +160,6 @@ more_made : (n : ℕ) (o : Option HostModel) → IfSome o (HasMade n) → IfSome
 more_made n None made = tt
 more_made n (Some host) made = let few = made.steps in record { answers = made.answers; steps = omega arith }
 
-pub made_set : (hosts : List (Option HostModel)) (host : HostId) (before after : HostModel) (n : ℕ) →
-    slice_get hosts host.0 ≡ Some (Some before) → (HasMade n before → HasMade (n + 1) after) → HaveMade n hosts →
-    HaveMade (n + 1) (slice_set hosts host.0 (Some after))
-made_set hosts host before after n there step made =
-    present_set (λ number. HasMade (n + 1)) hosts host after (λ number. more_made n (present hosts number) (made number))
-    (step (subst (λ o. IfSome (given o) (HasMade n)) there (made host)))
-
 at_set : {X : Type 0} (xs : List X) (i : ℕ) (x y : X) → slice_get xs i ≡ Some y →
     slice_get (slice_set xs i x) i ≡ Some x
 at_set [] i x y there = absurd (cc)
@@ -184,6 +178,23 @@ counted_set hosts host before after there counted = record {
   calls = counted.0;
   stopped = counted.1;
 }
+
+-- a host that has answered one more call has made one more step, and so all have made no more
+pub made_counted : (number : HostId) (old new : List (Option HostModel)) → HasCounted number old new →
+    ChangesOnly number old new → (n : ℕ) → HaveMade n old → HaveMade (n + 1) new
+made_counted number old new counted changes n made host = elim (eqb_tells host.0 number.0) [
+  | inl same ↦
+      let was = subst (λ o. IfSome o (HasMade n)) counted.was (made number) in
+      let few = was.steps in
+      let calls = counted.calls in
+      let is : HasMade (n + 1) counted.after =
+      record { answers = counted.stopped ∙ was.answers; steps = omega arith } in
+      subst (λ (h : HostId). IfSome (present new h) (HasMade (n + 1))) (sym (same_id host number same.1))
+      (subst (λ o. IfSome o (HasMade (n + 1))) (sym counted.is) is)
+  | inr apart ↦
+      subst (λ o. IfSome (given o) (HasMade (n + 1))) (sym (changes.others host apart.1))
+      (more_made n (present old host) (made host))
+]
 
 -- a host whose state is the same leaves all states the same
 pub states_same : (hosts : List (Option HostModel)) (i : ℕ) (before after : HostModel) →

@@ -1,17 +1,14 @@
 //! What becomes of the messages of an event.
 
-ghost use Rattle.std.specs.Prelude.{◌≡◌, ◌<◌, ◌+◌, ℕ, length, OnOk, OnErr, IfSome, IsSomeAnd};
+ghost use Rattle.std.specs.Prelude.{◌≡◌, ◌<◌, ℕ, length, OnOk, OnErr, IfSome, IsSomeAnd};
 ghost use Rattle.std.specs.Prelude.{slice_get, IsSome};
 ghost use Rattle.js_base.specs.declared.ids.HostId.{HostId};
-ghost use Rattle.host_code.specs.Sound.{IsOther};
-ghost use Rattle.host_core.specs.Fits.{SentFits, TokensFit};
-ghost use Rattle.host_core.specs.Taking.{IsTaking};
-ghost use Rattle.host_core.specs.Turn.{IsTurn};
+ghost use Rattle.host_core.specs.Fits.{SentFits};
 ghost use Rattle.net_world.specs.Flying.{HasRoom, pair_place};
 ghost use Rattle.net_world.specs.Told.{ToldHasRoom};
 ghost use Rattle.net_world.specs.World.{without_flight, after_sending, after_telling, letter_of};
 ghost use Rattle.net_world.specs.Fits.{HostsFit, world_of, host_at};
-ghost use Rattle.net_world.specs.Steps.{IsMove, IsMovable, MoveFits, HaveMade, HasStepped, HasCounted, ChangesOnly};
+ghost use Rattle.net_world.specs.Steps.{IsMove, IsMovable, MoveFits, HasStepped, HasCounted, ChangesOnly};
 ghost use Rattle.net_world.specs.Steps.{HasStopped};
 
 use crate::moves::{Move, move_at};
@@ -80,7 +77,6 @@ impl World {
         ensures ok { OnOk result (HasStepped (IsMove code.now step.entry) (world_of self.old) host sent.new (world_of self.new)) }
         ensures err { OnErr result (world_of self.new ≡ world_of self.old) }
         ensures stopped { OnErr result (HasStopped self.new host) }
-        ensures made { OnOk result ((n : ℕ) → HaveMade n self.old.hosts → HaveMade (n + 1) self.new.hosts) }
         ensures counted { OnOk result (HasCounted host self.old.hosts self.new.hosts) }
         ensures others { ChangesOnly host self.old.hosts self.new.hosts }
         ensures fits { HostsFit code.now self.new.hosts }

@@ -1,15 +1,14 @@
 //! The step of one host among all.
 
-ghost use Rattle.std.specs.Prelude.{◌≡◌, ◌+◌, ℕ, None, OnOk, OnErr, IfSome, IsSome, IsSomeAnd};
-ghost use Rattle.std.specs.Prelude.{slice_set, Some};
-ghost use Rattle.host_code.specs.Sound.{IsOther, IsLabel};
-ghost use Rattle.host_core.specs.Fits.{SentFits, TokensFit};
+ghost use Rattle.std.specs.Prelude.{◌≡◌, ◌+◌, None, OnOk, OnErr, IfSome, IsSomeAnd};
+ghost use Rattle.std.specs.Prelude.{Some};
+ghost use Rattle.host_code.specs.Sound.{IsLabel};
+ghost use Rattle.host_core.specs.Fits.{SentFits};
 ghost use Rattle.host_core.specs.Host.{state_of, IsStopped};
-ghost use Rattle.host_core.specs.Taking.{IsTaking};
-ghost use Rattle.host_core.specs.Turn.{IsTurn, label_of_turn};
+ghost use Rattle.host_core.specs.Turn.{label_of_turn};
 ghost use Rattle.net_world.specs.World.{present};
 ghost use Rattle.net_world.specs.Fits.{HostsFit, PresentFits, states_of};
-ghost use Rattle.net_world.specs.Steps.{IsMove, IsMovable, MoveFits, HaveMade, HasMade, HasMoved, HasCounted};
+ghost use Rattle.net_world.specs.Steps.{IsMove, IsMovable, MoveFits, HasMoved, HasCounted};
 ghost use Rattle.net_world.specs.Steps.{ChangesOnly};
 
 use host_code::{Code, Message};
@@ -50,7 +49,6 @@ fn move_of(
         (record { state = state_of host.new; sent = sent.new })) }
     ensures err { OnErr result (state_of host.new ≡ state_of host.old) }
     ensures stopped { OnErr result (IsStopped host.new) }
-    ensures made { OnOk result ((n : ℕ) → HasMade n host.old → HasMade (n + 1) host.new) }
     ensures counted { OnOk result
         ((host.new.calls ≡ host.old.calls + 1) × (host.new.stopped ≡ host.old.stopped)) }
     ensures fits { PresentFits code.now me host.new }
@@ -81,7 +79,6 @@ pub fn move_at(
     ensures ok { OnOk result (HasMoved (IsMove code.now step.entry) hosts.old.items hosts.new.items me sent.new) }
     ensures err { OnErr result (states_of hosts.new.items ≡ states_of hosts.old.items) }
     ensures stopped { OnErr result (IsSomeAnd (present hosts.new.items me) IsStopped) }
-    ensures made { OnOk result ((n : ℕ) → HaveMade n hosts.old.items → HaveMade (n + 1) hosts.new.items) }
     ensures counted { OnOk result (HasCounted me hosts.old.items hosts.new.items) }
     ensures others { ChangesOnly me hosts.old.items hosts.new.items }
     ensures fits { HostsFit code.now hosts.new.items }

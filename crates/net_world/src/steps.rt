@@ -1,21 +1,14 @@
 //! The events that move a world on.
 
-ghost use Rattle.std.specs.Prelude.{◌≡◌, ◌≢◌, ◌<◌, ◌+◌, ◌↔◌, ℕ, length, None, Some, OnOk};
-ghost use Rattle.std.specs.Prelude.{OnErr, IfOk, IfErr, IfSome};
-ghost use Rattle.std.specs.Prelude.{IsErrOf, IsSomeAnd, IsTrue, slice_get, MatchOption};
-ghost use Rattle.host_code.specs.Sound.{IsOther};
-ghost use Rattle.host_core.specs.Fits.{SentFits, TokensFit};
-ghost use Rattle.host_core.specs.Host.{state_of};
-ghost use Rattle.host_core.specs.Taking.{IsTaking};
-ghost use Rattle.host_core.specs.Turn.{IsTurn, label_of_turn};
-ghost use Rattle.net_world.specs.Flying.{HasRoom, pair_place};
-ghost use Rattle.net_world.specs.Told.{ToldHasRoom};
+ghost use Rattle.std.specs.Prelude.{◌≡◌, ◌≢◌, ◌<◌, ◌+◌, ◌↔◌, ℕ, None, Some, OnOk};
+ghost use Rattle.std.specs.Prelude.{OnErr, IfErr};
+ghost use Rattle.std.specs.Prelude.{IsErrOf};
 ghost use Rattle.net_world.specs.World.{IsStep, refusal_of, mover, not_bad, not_there, host_busy, no_such_token};
-ghost use Rattle.net_world.specs.World.{misbehaves, without_flight, after_sending, after_telling, letter_of};
-ghost use Rattle.net_world.specs.Fits.{WorldFits, HostsFit, HasOwnToken, world_of, host_at};
-ghost use Rattle.net_world.specs.Steps.{IsReady, IsActive, HaveMade, IsStuck, HasStepped, HasCounted, ChangesOnly};
+ghost use Rattle.net_world.specs.World.{misbehaves};
+ghost use Rattle.net_world.specs.Fits.{WorldFits, HasOwnToken, world_of};
+ghost use Rattle.net_world.specs.Steps.{HaveMade, IsStuck, HasCounted, ChangesOnly};
 ghost use Rattle.net_world.specs.Steps.{HasNoMemory};
-ghost use Rattle.net_world.specs.Steps.{IsAnswer, HasStopped, IsTakeable, IsActable, IsRefused, CannotRest};
+ghost use Rattle.net_world.specs.Steps.{IsAnswer};
 
 use crate::moves::Move;
 use crate::world::{EventError, World};
@@ -34,6 +27,7 @@ impl World {
     /// `NotBad` where the sender does not misbehave; then `NotThere` where the target misbehaves or is no host of the
     /// code; then `HostBusy`; then `NoSuchToken` with the count of tokens sent. After these `Stopped` where the host
     /// answers no more.
+    #[tactic(auto, using(crate::proofs::Present::made_counted))]
     pub fn apply(&mut self, code: &Code, event: &Event) -> Result<(), EventError>
         requires fits { WorldFits code.now self.old }
         requires own { HasOwnToken (world_of self.old) event.now }
@@ -71,7 +65,6 @@ impl World {
     fn take(&mut self, code: &Code, from: HostId, to: HostId, place: u64) -> Result<(), EventError>
         requires fits { WorldFits code.now self.old }
         ensures answer { IsAnswer code.now self.old (Event.Take from to place) result self.new }
-        ensures made { OnOk result ((n : ℕ) → HaveMade n self.old.hosts → HaveMade (n + 1) self.new.hosts) }
         ensures counted { OnOk result (HasCounted to self.old.hosts self.new.hosts) }
         ensures others { ChangesOnly to self.old.hosts self.new.hosts }
         ensures fits { WorldFits code.now self.new }
@@ -94,7 +87,6 @@ impl World {
     fn turn(&mut self, code: &Code, host: HostId) -> Result<(), EventError>
         requires fits { WorldFits code.now self.old }
         ensures answer { IsAnswer code.now self.old (Event.Turn host) result self.new }
-        ensures made { OnOk result ((n : ℕ) → HaveMade n self.old.hosts → HaveMade (n + 1) self.new.hosts) }
         ensures counted { OnOk result (HasCounted host self.old.hosts self.new.hosts) }
         ensures others { ChangesOnly host self.old.hosts self.new.hosts }
         ensures fits { WorldFits code.now self.new }
@@ -122,7 +114,6 @@ impl World {
         requires fits { WorldFits code.now self.old }
         requires own { HasOwnToken (world_of self.old) (Event.Act from to made) }
         ensures answer { IsAnswer code.now self.old (Event.Act from to made) result self.new }
-        ensures made { OnOk result ((n : ℕ) → HaveMade n self.old.hosts → HaveMade (n + 1) self.new.hosts) }
         ensures counted { OnOk result (HasCounted to self.old.hosts self.new.hosts) }
         ensures others { ChangesOnly to self.old.hosts self.new.hosts }
         ensures fits { WorldFits code.now self.new }

@@ -3,7 +3,7 @@ use Rattle.std.proofs.lemmas.Result.{on_err_weaker, on_ok_weaker}
 use Rattle.host_core.specs.Host.{IsStopped}
 use Rattle.net_world.specs.Fits.{PresentFits}
 use Rattle.net_world.specs.Steps.{IsMovable}
-use Rattle.net_world.proofs.Present.{at_get_or, get_lt, states_same, present_set, has_set, made_set, counted_set}
+use Rattle.net_world.proofs.Present.{at_get_or, get_lt, states_same, present_set, has_set, counted_set}
 use Rattle.net_world.proofs.Present.{changes_only}
 use Rattle.net_world.proofs.moves.move_at.Goals as goal
 
@@ -21,14 +21,6 @@ returns-clause-stopped c =
     (get_lt c.args.hosts.now.items c.args.me.0 (IsMovable c.args.step) c.requires.movable) (sym c.index_mut.ensures.value ∙ c.in-Some.is))
     stopped)
     c.move_of.ensures.stopped
-
-pub returns-clause-made : goal.returns-clause-made
-returns-clause-made c =
-    on_ok_weaker c.move_of.result
-    (λ made. λ n all. made_set c.args.hosts.now.items c.args.me c.in-Some.host c.move_of.new.host n (at_get_or c.args.hosts.now.items c.args.me.0 _ c.in-Some.host
-    (get_lt c.args.hosts.now.items c.args.me.0 (IsMovable c.args.step) c.requires.movable) (sym c.index_mut.ensures.value ∙ c.in-Some.is))
-    (made n) all)
-    c.move_of.ensures.made
 
 pub returns-clause-counted : goal.returns-clause-counted
 returns-clause-counted c =
