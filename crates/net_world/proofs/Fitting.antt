@@ -63,11 +63,12 @@ fits_with P flying from to flights old new i j =
 
 -- ---- the parts of a step
 
-pub mail_stepped : (code : CodeShape) (kind : HostShape → Outcome → Type 0) (old : WorldShape) (host : HostId)
-    (sent : Option (HostId × Message)) (new : WorldShape) → HasStepped kind old host sent new → MailFits code old →
+pub mail_stepped : (code : CodeShape) (kind : HostShape → Outcome → Type 0) (before old new : WorldShape) (host : HostId)
+    (sent : Option (HostId × Message)) → old ≡ before → HasStepped kind old host sent new → MailFits code before →
     MailFits code new
-mail_stepped code kind old host sent new stepped fits =
-    subst (MailFits code) stepped.leaves (record { flying = fits.flying; sent = fits.sent })
+mail_stepped code kind before old new host sent same stepped fits =
+    let moved = subst (MailFits code) (sym same) fits in
+    subst (MailFits code) stepped.leaves (record { flying = moved.flying; sent = moved.sent })
 
 pub mail_without : (code : CodeShape) (world : WorldShape) (from to : HostId) (place : ℕ) → MailFits code world →
     MailFits code (without_flight world from to place)
@@ -126,7 +127,7 @@ readable_kept code before after readable same tells = record {
 }
 
 -- a step of a host that obeys leaves the same hosts misbehaving
-pub bad_stepped : (kind : HostShape → Outcome → Type 0) (before old new : WorldShape) (host : HostId)
+bad_stepped : (kind : HostShape → Outcome → Type 0) (before old new : WorldShape) (host : HostId)
     (sent : Option (HostId × Message)) → old ≡ before → HasStepped kind old host sent new → (other : HostId) →
     misbehaves new other ≡ misbehaves before other
 bad_stepped kind before old new host sent same stepped other =
@@ -135,17 +136,19 @@ bad_stepped kind before old new host sent same stepped other =
     ∙ ap (λ (w : WorldShape). misbehaves w other) same
 
 -- a world after a step
-pub world_fits : (code : CodeShape) (before after : WorldModel) (hosts : List (Option HostModel)) →
-    WorldFits code before → after.root ≡ before.root → after.hosts ≡ hosts → length hosts ≡ length before.hosts →
-    HostsFit code hosts → MailFits code (world_of after) → after.readable ≡ before.readable →
-    ((host : HostId) → lacks (states_of hosts) host ≡ misbehaves (world_of before) host) → WorldFits code after
-world_fits code before after hosts fits root same count hosts_fit mail list same_bad = record {
+pub world_fits : (code : CodeShape) (kind : HostShape → Outcome → Type 0) (before reserved moved after : WorldModel)
+    (host : HostId) (sent : Option (HostId × Message)) → WorldFits code before → world_of reserved ≡ world_of before →
+    HasStepped kind (world_of reserved) host sent (world_of moved) → HostsFit code moved.hosts →
+    length moved.hosts ≡ length before.hosts → after.root ≡ before.root → after.hosts ≡ moved.hosts →
+    MailFits code (world_of after) → after.readable ≡ before.readable → WorldFits code after
+world_fits code kind before reserved moved after host sent fits room stepped hosts_fit count root same mail list = record {
   root = root ∙ fits.root;
   count = ap length same ∙ count ∙ fits.count;
   hosts = subst (HostsFit code) (sym same) hosts_fit;
   mail = mail;
   readable = readable_kept code (world_of before) (world_of after) after.readable
-      (λ host. ap (λ (h : List (Option HostModel)). lacks (states_of h) host) same ∙ same_bad host)
+      (λ other. ap (λ (h : List (Option HostModel)). lacks (states_of h) other) same
+      ∙ bad_stepped kind (world_of before) (world_of reserved) (world_of moved) host sent room stepped other)
       (subst (AreReadable code (world_of before)) (sym list) fits.readable);
 }
 

@@ -1,5 +1,5 @@
 -- What a step of one host changes: its state, and what is in flight, or what misbehaving hosts were sent.
-use Rattle.std.proofs.Common.{◌≡◌, ◌≢◌, ◌∙◌, ℕ, zero, suc, ◌⊎◌, inl, inr, Bool, true, false, List, [], ◌∷◌}
+use Rattle.std.proofs.Common.{◌≡◌, ◌≢◌, ◌∙◌, ℕ, ◌⊎◌, inl, inr, Bool, true, false, [], ◌∷◌}
 use Rattle.std.proofs.Common.{◌++◌, Option, Some, None, refl, ap, sym}
 use Rattle.std.specs.Prelude.{slice_get, slice_set, if◌then◌else◌}
 use Rattle.std.proofs.lemmas.Bool.Decides.{eqb_tells}
@@ -9,7 +9,7 @@ use Rattle.host_core.specs.Host.{HostShape, Outcome, Letter, without_message, wi
 use Rattle.net_world.specs.Flying.{Flying, with_flights}
 use Rattle.net_world.specs.World.{WorldShape, given, present, state_at, lacks, misbehaves, with_state}
 use Rattle.net_world.specs.World.{after_sending, after_posting, after_telling, letter_of, after_step}
-use Rattle.net_world.proofs.Present.{get_other, same_id, some_same}
+use Rattle.net_world.proofs.Present.{at_set, get_other, same_id, some_same}
 use Rattle.net_world.proofs.StepLaws.{absent_set}
 
 -- ---- hosts
@@ -23,17 +23,11 @@ there_of : {X : Type 0} (o : Option (Option X)) (x : X) → given o ≡ Some x �
 there_of None x is = absurd (cc)
 there_of (Some there) x is = ap Some is
 
-set_same : {X : Type 0} (xs : List X) (i : ℕ) (x y : X) → slice_get xs i ≡ Some y →
-    slice_get (slice_set xs i x) i ≡ Some x
-set_same [] i x y there = absurd (cc)
-set_same (first ∷ xs) zero x y there = refl
-set_same (first ∷ xs) (suc i) x y there = set_same xs i x y there
-
 pub mover_state : (world after : WorldShape) (host : HostId) (old state : HostShape) (flying : Flying) →
     state_at world host ≡ Some old → Moved world host state flying after → state_at after host ≡ Some state
 mover_state world after host old state flying obeys moved =
     ap (λ hosts. present hosts host) moved.hosts
-    ∙ ap given (set_same world.hosts host.0 (Some state) (Some old) (there_of (slice_get world.hosts host.0) old obeys))
+    ∙ ap given (at_set world.hosts host.0 (Some state) (Some old) (there_of (slice_get world.hosts host.0) old obeys))
 
 pub other_state : (world after : WorldShape) (host other : HostId) (state : HostShape) (flying : Flying) →
     Moved world host state flying after → other.0 ≢ host.0 → state_at after other ≡ state_at world other

@@ -126,12 +126,12 @@ get_or_at [] i d x there = absurd (cc)
 get_or_at (host ∷ hosts) zero d x there = cc
 get_or_at (host ∷ hosts) (suc i) d x there = get_or_at hosts i d x there
 
--- and the other way
-pub at_get_or : {X : Type 0} (hosts : List (Option X)) (i : ℕ) (d : Option X) (x : X) → i < length hosts →
-    get_or hosts i d ≡ Some x → slice_get hosts i ≡ Some (Some x)
-at_get_or [] i d x lt there = absurd (omega arith)
-at_get_or (host ∷ hosts) zero d x lt there = ap Some there
-at_get_or (host ∷ hosts) (suc i) d x lt there = at_get_or hosts i d x (omega arith) there
+-- and the other way, where something holds of it
+pub at_get_or : {X : Type 0} (hosts : List (Option X)) (i : ℕ) (d : Option X) (x : X) (P : X → Type 0) →
+    IsSomeAnd (given (slice_get hosts i)) P → get_or hosts i d ≡ Some x → slice_get hosts i ≡ Some (Some x)
+at_get_or [] i d x P has there = absurd has
+at_get_or (host ∷ hosts) zero d x P has there = ap Some there
+at_get_or (host ∷ hosts) (suc i) d x P has there = at_get_or hosts i d x P has there
 
 -- ---- states
 
@@ -160,7 +160,7 @@ more_made : (n : ℕ) (o : Option HostModel) → IfSome o (HasMade n) → IfSome
 more_made n None made = tt
 more_made n (Some host) made = let few = made.steps in record { answers = made.answers; steps = omega arith }
 
-at_set : {X : Type 0} (xs : List X) (i : ℕ) (x y : X) → slice_get xs i ≡ Some y →
+pub at_set : {X : Type 0} (xs : List X) (i : ℕ) (x y : X) → slice_get xs i ≡ Some y →
     slice_get (slice_set xs i x) i ≡ Some x
 at_set [] i x y there = absurd (cc)
 at_set (first ∷ xs) zero x y there = refl

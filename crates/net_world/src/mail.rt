@@ -8,8 +8,7 @@ ghost use Rattle.net_world.specs.Flying.{HasRoom, pair_place};
 ghost use Rattle.net_world.specs.Told.{ToldHasRoom};
 ghost use Rattle.net_world.specs.World.{without_flight, after_sending, after_telling, letter_of};
 ghost use Rattle.net_world.specs.Fits.{HostsFit, world_of, host_at};
-ghost use Rattle.net_world.specs.Steps.{IsMove, IsMovable, MoveFits, HasStepped, HasCounted, ChangesOnly};
-ghost use Rattle.net_world.specs.Steps.{HasStopped};
+ghost use Rattle.net_world.specs.Steps.{IsMove, IsMovable, MoveFits, HasStepped, HasStopped, HasCounted, ChangesOnly};
 
 use crate::moves::{Move, move_at};
 use crate::world::World;
@@ -74,7 +73,8 @@ impl World {
         requires movable { IsSomeAnd (host_at self.old host) (IsMovable step) }
         requires fits { HostsFit code.now self.old.hosts }
         requires move_fits { MoveFits code.now host step }
-        ensures ok { OnOk result (HasStepped (IsMove code.now step.entry) (world_of self.old) host sent.new (world_of self.new)) }
+        ensures ok { OnOk result (HasStepped (IsMove code.now step.entry) (world_of self.old) host sent.new
+            (world_of self.new)) }
         ensures err { OnErr result (world_of self.new ≡ world_of self.old) }
         ensures stopped { OnErr result (HasStopped self.new host) }
         ensures counted { OnOk result (HasCounted host self.old.hosts self.new.hosts) }

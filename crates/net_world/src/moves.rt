@@ -1,15 +1,13 @@
 //! The step of one host among all.
 
-ghost use Rattle.std.specs.Prelude.{◌≡◌, ◌+◌, None, OnOk, OnErr, IfSome, IsSomeAnd};
-ghost use Rattle.std.specs.Prelude.{Some};
+ghost use Rattle.std.specs.Prelude.{◌≡◌, ◌+◌, None, Some, OnOk, OnErr, IfSome, IsSomeAnd};
 ghost use Rattle.host_code.specs.Sound.{IsLabel};
 ghost use Rattle.host_core.specs.Fits.{SentFits};
 ghost use Rattle.host_core.specs.Host.{state_of, IsStopped};
 ghost use Rattle.host_core.specs.Turn.{label_of_turn};
 ghost use Rattle.net_world.specs.World.{present};
 ghost use Rattle.net_world.specs.Fits.{HostsFit, PresentFits, states_of};
-ghost use Rattle.net_world.specs.Steps.{IsMove, IsMovable, MoveFits, HasMoved, HasCounted};
-ghost use Rattle.net_world.specs.Steps.{ChangesOnly};
+ghost use Rattle.net_world.specs.Steps.{IsMove, IsMovable, MoveFits, HasMoved, HasCounted, ChangesOnly};
 
 use host_code::{Code, Message};
 use host_core::{Host, HostError, Sent};

@@ -1,13 +1,11 @@
 -- The message is taken at once, and its answer is told to the sender.
 use Rattle.std.proofs.Common.{◌≡◌, ◌∙◌, ◌<◌, ap, sym, subst, length, inr, None}
-use Rattle.host_core.specs.Host.{HostShape, Outcome}
-use Rattle.host_core.specs.Taking.{IsTaking}
 use Rattle.net_world.specs.Fits.{MailFits, world_of}
 use Rattle.net_world.specs.Steps.{IsReady}
 use Rattle.net_world.proofs.Present.{get_lt, length_states}
 use Rattle.net_world.proofs.StepsOf.{acted, act_due, has_some, state_rests}
 use Rattle.net_world.specs.World.{state_at}
-use Rattle.net_world.proofs.Fitting.{world_fits, bad_stepped, mail_stepped, mail_telling, made_tokens_fit, bad_within}
+use Rattle.net_world.proofs.Fitting.{world_fits, mail_stepped, mail_telling, made_tokens_fit, bad_within}
 use Rattle.net_world.proofs.Fitting.{bad_differs}
 use Rattle.net_world.proofs.world.World.act.Goals as goal
 
@@ -50,22 +48,17 @@ pub returns-clause-fits : goal.returns-clause-fits
 returns-clause-fits c =
     let a = c.args in
     let code = a.code.now in
-    let kind : HostShape → Outcome → Type 0 =
-    λ state outcome. IsTaking code state a.from c.in_ok-message.message outcome in
     let within : a.to.0 < length a.self.now.hosts =
     get_lt a.self.now.hosts a.to.0 IsReady c.in_ok-message.ensures.ok.host in
     let is_host : a.to.0 < length code.hosts = subst (λ n. a.to.0 < n) c.requires.fits.count within in
-    let reserved : MailFits code (world_of c.reserve_told.new.self) =
-    subst (MailFits code) (sym c.reserve_told.ensures.world) c.requires.fits.mail in
     let moved =
-    mail_stepped code kind (world_of c.reserve_told.new.self) a.to c.move_host.new.sent (world_of c.move_host.new.self)
-    c.in-Ok.ensures.ok reserved in
+    mail_stepped code _ (world_of a.self.now) (world_of c.reserve_told.new.self) (world_of c.move_host.new.self) a.to
+    c.move_host.new.sent c.reserve_told.ensures.world c.in-Ok.ensures.ok c.requires.fits.mail in
     let mail : MailFits code (world_of c.tell.new.self) =
     subst (MailFits code) (sym c.tell.ensures.world)
     (mail_telling code (world_of c.move_host.new.self) a.to c.move_host.new.sent moved is_host c.in-Ok.ensures.sent) in
-    world_fits code a.self.now c.tell.new.self c.move_host.new.self.hosts c.requires.fits
-    (c.tell.ensures.same.1 ∙ c.in-Ok.ensures.root ∙ c.reserve_told.ensures.root) c.tell.ensures.same.0
-    (c.in-Ok.ensures.others.count ∙ ap length c.reserve_told.ensures.hosts) c.in-Ok.ensures.fits mail
+    world_fits code _ a.self.now c.reserve_told.new.self c.move_host.new.self c.tell.new.self a.to
+    c.move_host.new.sent c.requires.fits c.reserve_told.ensures.world c.in-Ok.ensures.ok c.in-Ok.ensures.fits
+    (c.in-Ok.ensures.others.count ∙ ap length c.reserve_told.ensures.hosts)
+    (c.tell.ensures.same.1 ∙ c.in-Ok.ensures.root ∙ c.reserve_told.ensures.root) c.tell.ensures.same.0 mail
     (c.tell.ensures.readable ∙ c.in-Ok.ensures.readable ∙ c.reserve_told.ensures.readable)
-    (bad_stepped kind (world_of a.self.now) (world_of c.reserve_told.new.self) (world_of c.move_host.new.self) a.to c.move_host.new.sent
-    c.reserve_told.ensures.world c.in-Ok.ensures.ok)
