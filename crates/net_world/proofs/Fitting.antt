@@ -63,8 +63,8 @@ fits_with P flying from to flights old new i j =
 
 -- ---- the parts of a step
 
-pub mail_stepped : (code : CodeShape) (kind : HostShape → Outcome → Type 0) (before old new : WorldShape) (host : HostId)
-    (sent : Option (HostId × Message)) → old ≡ before → HasStepped kind old host sent new → MailFits code before →
+pub mail_stepped : (code : CodeShape) (kind : HostShape → Outcome → Type 0) (before old new : WorldShape)
+    (host : HostId) (sent : Option (HostId × Message)) → old ≡ before → HasStepped kind old host sent new → MailFits code before →
     MailFits code new
 mail_stepped code kind before old new host sent same stepped fits =
     let moved = subst (MailFits code) (sym same) fits in
@@ -141,16 +141,17 @@ pub world_fits : (code : CodeShape) (kind : HostShape → Outcome → Type 0) (b
     HasStepped kind (world_of reserved) host sent (world_of moved) → HostsFit code moved.hosts →
     length moved.hosts ≡ length before.hosts → after.root ≡ before.root → after.hosts ≡ moved.hosts →
     MailFits code (world_of after) → after.readable ≡ before.readable → WorldFits code after
-world_fits code kind before reserved moved after host sent fits room stepped hosts_fit count root same mail list = record {
-  root = root ∙ fits.root;
-  count = ap length same ∙ count ∙ fits.count;
-  hosts = subst (HostsFit code) (sym same) hosts_fit;
-  mail = mail;
-  readable = readable_kept code (world_of before) (world_of after) after.readable
-      (λ other. ap (λ (h : List (Option HostModel)). lacks (states_of h) other) same
-      ∙ bad_stepped kind (world_of before) (world_of reserved) (world_of moved) host sent room stepped other)
-      (subst (AreReadable code (world_of before)) (sym list) fits.readable);
-}
+world_fits code kind before reserved moved after host sent fits room stepped hosts_fit count root same mail list =
+    record {
+      root = root ∙ fits.root;
+      count = ap length same ∙ count ∙ fits.count;
+      hosts = subst (HostsFit code) (sym same) hosts_fit;
+      mail = mail;
+      readable = readable_kept code (world_of before) (world_of after) after.readable
+          (λ other. ap (λ (h : List (Option HostModel)). lacks (states_of h) other) same
+          ∙ bad_stepped kind (world_of before) (world_of reserved) (world_of moved) host sent room stepped other)
+          (subst (AreReadable code (world_of before)) (sym list) fits.readable);
+    }
 
 -- ---- what a message in flight is
 

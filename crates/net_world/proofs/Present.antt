@@ -179,7 +179,7 @@ counted_set hosts host before after there counted = record {
   stopped = counted.1;
 }
 
--- a host that has answered one more call has made one more step, and so all have made no more
+-- where one host has answered one more call, and no other has changed, each has made at most one more step
 pub made_counted : (number : HostId) (old new : List (Option HostModel)) → HasCounted number old new →
     ChangesOnly number old new → (n : ℕ) → HaveMade n old → HaveMade (n + 1) new
 made_counted number old new counted changes n made host = elim (eqb_tells host.0 number.0) [

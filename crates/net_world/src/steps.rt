@@ -1,20 +1,14 @@
 //! The events that move a world on.
 
-ghost use Rattle.std.specs.Prelude.{◌≡◌, ◌≢◌, ◌<◌, ◌+◌, ◌↔◌, ℕ, None, Some, OnOk};
-ghost use Rattle.std.specs.Prelude.{OnErr, IfErr};
-ghost use Rattle.std.specs.Prelude.{IsErrOf};
+ghost use Rattle.std.specs.Prelude.{◌≡◌, ◌≢◌, ◌+◌, ◌↔◌, ℕ, Some, OnOk, OnErr, IfErr, IsErrOf};
 ghost use Rattle.net_world.specs.World.{IsStep, refusal_of, mover, not_bad, not_there, host_busy, no_such_token};
-ghost use Rattle.net_world.specs.World.{misbehaves};
 ghost use Rattle.net_world.specs.Fits.{WorldFits, HasOwnToken, world_of};
-ghost use Rattle.net_world.specs.Steps.{HaveMade, IsStuck, HasCounted, ChangesOnly};
-ghost use Rattle.net_world.specs.Steps.{HasNoMemory};
-ghost use Rattle.net_world.specs.Steps.{IsAnswer};
+ghost use Rattle.net_world.specs.Steps.{HaveMade, IsStuck, HasCounted, ChangesOnly, HasNoMemory, IsAnswer};
 
 use crate::moves::Move;
 use crate::world::{EventError, World};
 use event_text::{BadMessage, Event};
 use host_code::Code;
-use host_core::{Host, Sent};
 use js_base::{HostId, OutOfMemory};
 
 impl World {

@@ -39,8 +39,8 @@ returns-clause-answer c =
     let actable = c.in_ok-message.ensures.ok in (
       act_due a.self.now a.from a.to a.made c.in_ok-message.message actable,
       acted a.code.now (world_of a.self.now) (world_of c.reserve_told.new.self) (world_of c.move_host.new.self)
-          (world_of c.tell.new.self) a.from a.to a.made c.in_ok-message.message c.move_host.new.sent actable.bad actable.makes
-          (state_rests a.self.now a.to actable.host) c.reserve_told.ensures.world c.in-Ok.ensures.ok
+          (world_of c.tell.new.self) a.from a.to a.made c.in_ok-message.message c.move_host.new.sent actable.bad
+          actable.makes (state_rests a.self.now a.to actable.host) c.reserve_told.ensures.world c.in-Ok.ensures.ok
           c.tell.ensures.world,
     )
 
