@@ -79,6 +79,16 @@ pub events_reported : (file script : List ℕ) (placed : PlacedSource) (program 
     code ≡ code_of placed → ScriptRead file script (code_of placed) (given said) →
     EventsHappen file (code_of placed) (first_world placed said.bad said.start) said.events (given last) →
     text ≡ replay_text code last → DueForReplay file script placed (Print Done text)
-events_reported file script placed program code said last text same code_is was happen is =
-    (program, same, inl (said, was, inl (last, happen,
-    ap (Print Done) (is ∙ ap (λ (c : CodeShape). replay_text c last) code_is))))
+events_reported file script placed program code said last text same code_is was happen is = (
+  program,
+  same,
+  inl (
+    said,
+    was,
+    inl (
+      last,
+      happen,
+      ap (Print Done) (is ∙ ap (λ (c : CodeShape). replay_text c last) code_is),
+    ),
+  ),
+)

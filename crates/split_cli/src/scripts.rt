@@ -20,12 +20,7 @@ use std::alloc::Global;
 ///
 /// # Errors
 /// `Due` where the script is too long or a line of it has no form.
-pub fn read_script(
-    alloc: Global,
-    name: &str,
-    code: &Code,
-    script: &Loaded,
-) -> Result<Script, Stop>
+pub fn read_script(alloc: Global, name: &str, code: &Code, script: &Loaded) -> Result<Script, Stop>
     ensures read { (e : List ℕ) → IsLoaded SCRIPT_BYTES e script.now →
         EndsAs (λ said. said) (ScriptRead name.now e code.now) result }
     ensures obeying { IfOk result (λ said. All (λ one. IsObeying one.1) said.events) }
