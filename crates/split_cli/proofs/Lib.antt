@@ -31,6 +31,9 @@ pub mod RunDue
 pub mod RunReport
 pub mod SeenItems
 pub mod SetSources
+pub mod SomePlaced
+pub mod SomeSource
+pub mod SomeStages
 pub mod Stages
 pub mod StartingDue
 pub mod StepCounts

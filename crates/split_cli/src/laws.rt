@@ -14,9 +14,9 @@ ghost use Rattle.split_cli.specs.Sources.{Source, Sources};
 ghost use Rattle.split_cli.specs.Stages.{Outcome};
 
 use host_decl::host_file_laws;
-use jif_grammar::grammar_laws;
-use jif_lex::lex_laws;
-use jif_resolve::{program_laws, resolve_laws};
+use jif_grammar::{grammar_laws, verdict_laws as token_verdicts};
+use jif_lex::{lex_laws, reading_laws};
+use jif_resolve::{program_laws, resolve_laws, verdict_laws as name_verdicts};
 use label_check::failure_laws;
 use need_labels::need_laws;
 use net_world::laws::step_laws;
@@ -30,9 +30,15 @@ pub fn due_laws()
     ensures one_source { (program hosts : List ℕ) (first second : Outcome Source) →
         Sources program hosts first → Sources program hosts second → first ≡ second }
 
+    // And so it is for all bytes.
+    ensures some_source { (program hosts : List ℕ) → (end : Outcome Source) × Sources program hosts end }
+
     // Its parts get one row of places, or the first that no host may hold is named.
     ensures one_plan { (program hosts : List ℕ) (first second : Outcome PlacedSource) →
         PlacedSources program hosts first → PlacedSources program hosts second → first ≡ second }
+
+    // And so it is for all bytes.
+    ensures some_plan { (program hosts : List ℕ) → (end : Outcome PlacedSource) × PlacedSources program hosts end }
 
     // For words and files that tell what they hold one verdict is due, after one number of loads.
     ensures one_verdict { (words : List (List ℕ)) (holds : List ℕ → Option (List ℕ))
@@ -56,10 +62,13 @@ pub fn due_laws()
         files.loads_after < last_count → one.place ≡ two.place }
 {
     lex_laws();
+    reading_laws();
     grammar_laws();
+    token_verdicts();
     host_file_laws();
     resolve_laws();
     program_laws();
+    name_verdicts();
     failure_laws();
     need_laws();
     place_rule_laws();

@@ -2,6 +2,8 @@ use Rattle.split_cli.proofs.OneDrive.{driven_run}
 use Rattle.split_cli.proofs.OnePlaced.{PlaceLaws, places_once}
 use Rattle.split_cli.proofs.OneSource.{SourceLaws, sources_once}
 use Rattle.split_cli.proofs.OneVerdict.{AllLaws, due_once, answer_once, one_fault_place}
+use Rattle.split_cli.proofs.SomePlaced.{PlaceCauses, places_some}
+use Rattle.split_cli.proofs.SomeSource.{SourceCauses, sources_some}
 use Rattle.split_cli.proofs.laws.due_laws.Goals as goal
 
 source_laws : (c : goal.After-step_laws) → SourceLaws
@@ -37,6 +39,29 @@ place_laws c = record {
   never_both = c.place_rule_laws.ensures.never_both;
 }
 
+-- the first laws of verdicts are those of tokens, the second those of names
+source_causes : (c : goal.After-step_laws) → SourceCauses
+source_causes c = record {
+  lexing = c.reading_laws.ensures.tokens_or_fault;
+  grammar = record {
+    refused = c.verdict_laws.ensures.refused;
+    whole = c.verdict_laws.ensures.whole;
+  };
+  hosts = record {
+    some = c.host_file_laws.ensures.meaning_or_refusal;
+    sound = c.host_file_laws.ensures.sound;
+  };
+  names = c.verdict_laws-2.ensures.program_or_refusal;
+  labels = c.failure_laws.ensures.accepted_or_refused;
+}
+
+place_causes : (c : goal.After-step_laws) → PlaceCauses
+place_causes c = record {
+  some_needs = c.need_laws.ensures.some_needs;
+  allowed_or_refused = c.place_rule_laws.ensures.allowed_or_refused;
+  some_plan = c.placement_laws.ensures.some_plan;
+}
+
 all_laws : (c : goal.After-step_laws) → AllLaws
 all_laws c = record {
   sources = source_laws c;
@@ -50,6 +75,12 @@ all_laws c = record {
 
 pub returns-clause-one_source : goal.returns-clause-one_source
 returns-clause-one_source c = sources_once (source_laws c)
+
+pub returns-clause-some_source : goal.returns-clause-some_source
+returns-clause-some_source c = sources_some (source_causes c)
+
+pub returns-clause-some_plan : goal.returns-clause-some_plan
+returns-clause-some_plan c = places_some (source_causes c) (place_causes c)
 
 pub returns-clause-one_plan : goal.returns-clause-one_plan
 returns-clause-one_plan c = places_once (source_laws c) (place_laws c)
