@@ -7,8 +7,13 @@ pub mod DriveDue
 pub mod Faithful
 pub mod LabelCounts
 pub mod LineCounts
+pub mod ListLimits
 pub mod LoadedFiles
 pub mod Loading
+pub mod NativeBlocks
+pub mod NativeParts
+pub mod NativePrograms
+pub mod NativeSources
 pub mod NextEvents
 pub mod OneDrive
 pub mod OnePlaced
@@ -32,10 +37,13 @@ pub mod RunReport
 pub mod SeenItems
 pub mod SetSources
 pub mod SomePlaced
+pub mod SomeRun
 pub mod SomeSource
 pub mod SomeStages
+pub mod SomeVerdict
 pub mod Stages
 pub mod StartingDue
 pub mod StepCounts
 pub mod Stops
+pub mod WordForms
 pub mod WorldLines

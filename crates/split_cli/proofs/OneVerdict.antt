@@ -94,7 +94,7 @@ files_once laws holds command first second one two =
     bytes_once laws command one.bytes first second one.due
     (subst (λ (bytes : List (List ℕ)). DueForBytes command bytes second) same two.due)
 
-told_held : (holds : List ℕ → Option (List ℕ)) (name bytes : List ℕ) → Told (Some holds) name (Some bytes) →
+pub told_held : (holds : List ℕ → Option (List ℕ)) (name bytes : List ℕ) → Told (Some holds) name (Some bytes) →
     IsHeld (Some holds) name
 told_held holds name bytes told = subst (IsSome {T = List ℕ}) (sym told) refl
 

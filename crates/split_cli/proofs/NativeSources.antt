@@ -1,0 +1,48 @@
+-- The tree of a source that was read is that of a program of the code.
+use Rattle.std.proofs.Common.{ℕ, ◌≤◌, List, length, arith}
+use Rattle.js_base.specs.declared.limits.TheConstants.{PROGRAM_BYTES}
+use Rattle.principals.specs.ActsFor.{Declared}
+use Rattle.jif_lex.specs.declared.token.Token.{Token}
+use Rattle.jif_lex.specs.TokenLists.{AreTokens}
+use Rattle.jif_lex.specs.Tokens.{ReadsAs, tokens}
+use Rattle.jif_grammar.specs.DraftShapes.{DraftShape}
+use Rattle.jif_grammar.specs.Programs as grammar
+use Rattle.jif_tree.specs.Limits.{IsWithinLimits}
+use Rattle.jif_tree.specs.Named.{AreNamed}
+use Rattle.jif_tree.specs.Trees.{ProgramTree, program_tree}
+use Rattle.jif_tree.specs.WellNumbered.{IsWellNumbered}
+use Rattle.jif_resolve.specs.Sizes.{KeepsLimits}
+use Rattle.jif_resolve.specs.Verdicts.{IsProgramOf}
+use Rattle.split_cli.specs.Sources.{Source, Sources}
+use Rattle.split_cli.specs.Stages.{given}
+use Rattle.split_cli.proofs.ListLimits.{short_variables, short_authorities}
+use Rattle.split_cli.proofs.NativeParts.{IsSeen}
+use Rattle.split_cli.proofs.NativePrograms.{program_seen}
+use Rattle.split_cli.proofs.SetSources.{read_source}
+
+-- what is known of the lists and names of programs that were read
+pub record NativeLaws : Type 0 where
+  pub small : (text : List ℕ) (list : List Token) → length text ≤ PROGRAM_BYTES → ReadsAs text (tokens list) →
+      AreTokens list
+  pub named : (list : List Token) (principals : Declared) (draft : DraftShape) (program : ProgramTree) →
+      AreTokens list → grammar.IsProgramOf list draft → IsProgramOf principals draft program → AreNamed program
+  pub kept : (list : List Token) (draft : DraftShape) → grammar.IsProgramOf list draft → KeepsLimits draft
+  pub within : (principals : Declared) (draft : DraftShape) (tree : ProgramTree) → KeepsLimits draft →
+      IsProgramOf principals draft tree → IsWithinLimits tree
+  pub numbered : (principals : Declared) (draft : DraftShape) (tree : ProgramTree) →
+      IsProgramOf principals draft tree → IsWellNumbered tree
+
+pub source_seen : NativeLaws → (program hosts : List ℕ) (source : Source) → Sources program hosts (given source) →
+    IsSeen program_tree source.tree
+source_seen laws program hosts source accepted =
+    let read = read_source program hosts source accepted in
+    let principals = source.file.principals in
+    let small = laws.small program read.list read.few read.read in
+    let keeps = laws.kept read.list read.draft read.parsed in
+    program_seen source.tree (record {
+      named = laws.named read.list principals read.draft source.tree small read.parsed read.resolved;
+      within = laws.within principals read.draft source.tree keeps read.resolved;
+      numbered = laws.numbered principals read.draft source.tree read.resolved;
+      variables = omega (arith, short_variables principals read.draft source.tree keeps read.resolved);
+      authorities = short_authorities read.list principals read.draft source.tree small.0 read.parsed read.resolved;
+    })

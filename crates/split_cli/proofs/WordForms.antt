@@ -1,0 +1,110 @@
+-- Whether words ask for a command can be decided.
+use Rattle.std.proofs.Common.{◌≡◌, ◌≢◌, ◌⊎◌, ℕ, ◌<◌, List, [], ◌∷◌, inl, inr, ⊎_elim, sym, ap, ◌∙◌, arith}
+use Rattle.std.proofs.Common.{refl}
+use Rattle.std.specs.Prelude.{codes}
+use Rattle.std.specs.Fmt.{decimal}
+use Rattle.std.specs.Str.Parse.{AllDigits, digits_value}
+use Rattle.std.proofs.lemmas.Fmt.{digits_value-decimal}
+use Rattle.std.proofs.lemmas.Str.Parse.{IsNumeralModel, numerals_by_value, tells_digits}
+use Rattle.js_base.proofs.Decisions.{Decided, same_text, less_than}
+use Rattle.split_cli.specs.Commands.{CommandShape, Check, Run, Replay, Drive, IsCommand, IsStepCount, words_of}
+use Rattle.split_cli.specs.Commands.{HaveNoForm}
+use Rattle.split_cli.specs.declared.words.TheConstants.{STEPS}
+use Rattle.split_cli.proofs.CommandWords.{no_steps, no_verb}
+
+-- the words ask for this command
+abbrev pub AskFor : List (List ℕ) → Type 0
+AskFor words = (command : CommandShape) × IsCommand command × (words ≡ words_of command)
+
+-- ---- numbers of steps
+
+-- what writes a number of steps
+abbrev IsCountWord : List ℕ → Type 0
+IsCountWord word = (steps : ℕ) × IsStepCount steps × (word ≡ decimal steps)
+
+own : IsNumeralModel (AllDigits 10) (digits_value 10)
+own = numerals_by_value (AllDigits 10) tells_digits
+
+-- it writes the value of its digits
+same_value : (word : List ℕ) (steps : ℕ) → IsStepCount steps → word ≡ decimal steps → digits_value 10 word ≡ steps
+same_value word steps is same =
+    ap (digits_value 10) same ∙ digits_value-decimal own steps (omega (arith, is.most))
+
+count_by_value : (word : List ℕ) → Decided (digits_value 10 word < 1) → Decided (STEPS < digits_value 10 word) →
+    Decided (word ≡ decimal (digits_value 10 word)) →
+    IsCountWord word ⊎ ((steps : ℕ) → IsStepCount steps → word ≢ decimal steps)
+count_by_value word (inl none) many written =
+    inr (λ steps is same. omega (arith, none, is.least, same_value word steps is same))
+count_by_value word (inr some) (inl many) written =
+    inr (λ steps is same. omega (arith, many, is.most, same_value word steps is same))
+count_by_value word (inr some) (inr few) (inl written) =
+    inl (digits_value 10 word, record { least = omega (arith, some); most = omega (arith, few) }, written)
+count_by_value word (inr some) (inr few) (inr other) =
+    inr (λ steps is same. other (same ∙ ap decimal (sym (same_value word steps is same))))
+
+count_word : (word : List ℕ) → IsCountWord word ⊎ ((steps : ℕ) → IsStepCount steps → word ≢ decimal steps)
+count_word word =
+    let value = digits_value 10 word in
+    count_by_value word (less_than value 1) (less_than STEPS value) (same_text word (decimal value))
+
+-- ---- so many words
+
+none_asked : HaveNoForm []
+none_asked (Check program hosts) is same = let never : ⊥ = cc in never
+none_asked (Run program hosts start steps) is same = let never : ⊥ = cc in never
+none_asked (Replay program hosts events) is same = let never : ⊥ = cc in never
+none_asked (Drive program hosts start events) is same = let never : ⊥ = cc in never
+
+one_asked : (a : List ℕ) → HaveNoForm (a ∷ [])
+one_asked a (Check program hosts) is same = let never : ⊥ = cc in never
+one_asked a (Run program hosts start steps) is same = let never : ⊥ = cc in never
+one_asked a (Replay program hosts events) is same = let never : ⊥ = cc in never
+one_asked a (Drive program hosts start events) is same = let never : ⊥ = cc in never
+
+two_asked : (a b : List ℕ) → HaveNoForm (a ∷ b ∷ [])
+two_asked a b (Check program hosts) is same = let never : ⊥ = cc in never
+two_asked a b (Run program hosts start steps) is same = let never : ⊥ = cc in never
+two_asked a b (Replay program hosts events) is same = let never : ⊥ = cc in never
+two_asked a b (Drive program hosts start events) is same = let never : ⊥ = cc in never
+
+three_asked : (a b c : List ℕ) → a ≢ codes "check" → HaveNoForm (a ∷ b ∷ c ∷ [])
+three_asked a b c not (Check program hosts) is same = not (let first : a ≡ codes "check" = cc in first)
+three_asked a b c not (Run program hosts start steps) is same = let never : ⊥ = cc in never
+three_asked a b c not (Replay program hosts events) is same = let never : ⊥ = cc in never
+three_asked a b c not (Drive program hosts start events) is same = let never : ⊥ = cc in never
+
+four_asked : (a b c d : List ℕ) → a ≢ codes "replay" → HaveNoForm (a ∷ b ∷ c ∷ d ∷ [])
+four_asked a b c d not (Check program hosts) is same = let never : ⊥ = cc in never
+four_asked a b c d not (Run program hosts start steps) is same = let never : ⊥ = cc in never
+four_asked a b c d not (Replay program hosts events) is same = not (let first : a ≡ codes "replay" = cc in first)
+four_asked a b c d not (Drive program hosts start events) is same = let never : ⊥ = cc in never
+
+six_asked : (a b c d e f : List ℕ) (more : List (List ℕ)) → HaveNoForm (a ∷ b ∷ c ∷ d ∷ e ∷ f ∷ more)
+six_asked a b c d e f more (Check program hosts) is same = let never : ⊥ = cc in never
+six_asked a b c d e f more (Run program hosts start steps) is same = let never : ⊥ = cc in never
+six_asked a b c d e f more (Replay program hosts events) is same = let never : ⊥ = cc in never
+six_asked a b c d e f more (Drive program hosts start events) is same = let never : ⊥ = cc in never
+
+-- ---- forms
+
+counted_form : (a b c d e : List ℕ) → Decided (a ≡ codes "run") → Decided (a ≡ codes "drive") →
+    IsCountWord e ⊎ ((steps : ℕ) → IsStepCount steps → e ≢ decimal steps) →
+    AskFor (a ∷ b ∷ c ∷ d ∷ e ∷ []) ⊎ HaveNoForm (a ∷ b ∷ c ∷ d ∷ e ∷ [])
+counted_form a b c d e runs drives (inr none) = inr (no_steps (a ∷ b ∷ c ∷ d ∷ e ∷ []) a b c d e e refl refl none)
+counted_form a b c d e (inl is) drives (inl (steps, count, written)) = inl (Run b c d steps, count, cc)
+counted_form a b c d e (inr not) (inl is) (inl (steps, count, written)) = inl (Drive b c d steps, count, cc)
+counted_form a b c d e (inr not) (inr neither) (inl count) = inr (no_verb a b c d e not neither)
+
+pub words_form : (words : List (List ℕ)) → AskFor words ⊎ HaveNoForm words
+words_form [] = inr none_asked
+words_form (a ∷ []) = inr (one_asked a)
+words_form (a ∷ b ∷ []) = inr (two_asked a b)
+words_form (a ∷ b ∷ c ∷ []) =
+    ⊎_elim (λ is. inl (Check b c, tt, ap (λ x. x ∷ b ∷ c ∷ []) is)) (λ not. inr (three_asked a b c not))
+    (same_text a (codes "check"))
+words_form (a ∷ b ∷ c ∷ d ∷ []) =
+    ⊎_elim (λ is. inl (Replay b c d, tt, ap (λ x. x ∷ b ∷ c ∷ d ∷ []) is)) (λ not. inr (four_asked a b c d not))
+    (same_text a (codes "replay"))
+words_form (a ∷ b ∷ c ∷ d ∷ e ∷ []) =
+    counted_form a b c d e (same_text a (codes "run")) (same_text a (codes "drive")) (count_word e)
+words_form (a ∷ b ∷ c ∷ d ∷ e ∷ f ∷ more) = inr (six_asked a b c d e f more)
