@@ -4,7 +4,9 @@ pub mod BlockLines
 pub mod CommandWords
 pub mod Completeness
 pub mod DriveDue
+pub mod DriveEnds
 pub mod Faithful
+pub mod FirstHosts
 pub mod LabelCounts
 pub mod LineCounts
 pub mod ListLimits
@@ -36,7 +38,9 @@ pub mod RunDue
 pub mod RunReport
 pub mod SeenItems
 pub mod SetSources
+pub mod SomeDrive
 pub mod SomePlaced
+pub mod SomeReplay
 pub mod SomeRun
 pub mod SomeSource
 pub mod SomeStages

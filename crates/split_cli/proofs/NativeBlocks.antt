@@ -55,7 +55,8 @@ few_arguments program within gives called args has =
     let at = has.1 in
     let inside = slice_get_within program.methods called.0 method at in
     let few = within.params called.0 method inside in
-    let here = ap (λ (m : MethodTree). length m.params) (get_or_from_slice_get program.methods called.0 method method at) in
+    let same = get_or_from_slice_get program.methods called.0 method method at in
+    let here = ap (λ (m : MethodTree). length m.params) same in
     omega (arith, few, here, has.2)
 
 same_branch : {test guard : ExprTree} {one first other second : BlockTree} (heading : Heading) (rest : BlockTree) →
@@ -102,7 +103,8 @@ block_seen program within method gives (tree.set_element heading field index val
     (ap (λ e. tree.set_element heading field e (expr_tree native.0) rest) place.1
     ∙ ap (λ e. tree.set_element heading field index e rest) native.1) (omega arith)
 block_seen program within method gives (tree.branch heading guard first second rest) is fits =
-    let counted = both_fit heading.id.0 (block_statements first) (block_statements second) (block_statements rest) in
+    let counted =
+    both_fit heading.id.0 (block_statements first) (block_statements second) (block_statements rest) in
     let first_fits : length (block_statements first) ≤ STATEMENTS = omega (arith, counted, fits) in
     let second_fits : length (block_statements second) ≤ STATEMENTS = omega (arith, counted, fits) in
     let test = expr_seen guard in
@@ -112,7 +114,8 @@ block_seen program within method gives (tree.branch heading guard first second r
     let then_part = vector one.statements (short_block one first_fits) in
     let else_part = vector other.statements (short_block other second_fits) in
     with_statement (kind.If test.0 then_part else_part) heading rest _ more
-    (branch_seen test.0 then_part else_part heading guard first second rest test.1 one.is other.is) (omega (arith, counted))
+    (branch_seen test.0 then_part else_part heading guard first second rest test.1 one.is other.is)
+    (omega (arith, counted))
 block_seen program within method gives (tree.loop heading guard body rest) is fits =
     let counted = one_fits heading.id.0 (block_statements body) (block_statements rest) in
     let body_fits : length (block_statements body) ≤ STATEMENTS = omega (arith, counted, fits) in

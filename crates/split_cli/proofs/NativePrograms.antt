@@ -158,7 +158,12 @@ program_seen program short =
     (recursion_from_All (λ method. length method.authority ≤ PROGRAM_BYTES) program.methods short.authorities)
     short.within.statements)) in
     let of_fields : List FieldTree → ProgramTree =
-    λ x. record { fields = x; vars = map var_tree variables.0.items; methods = map method_tree methods.0.items; main = program.main } in
+    λ x. record {
+      fields = x;
+      vars = map var_tree variables.0.items;
+      methods = map method_tree methods.0.items;
+      main = program.main;
+    } in
     let of_vars : List VarTree → ProgramTree =
     λ x. record { fields = program.fields; vars = x; methods = map method_tree methods.0.items; main = program.main } in
     let of_methods : List MethodTree → ProgramTree =

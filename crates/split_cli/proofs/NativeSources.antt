@@ -9,10 +9,14 @@ use Rattle.jif_grammar.specs.DraftShapes.{DraftShape}
 use Rattle.jif_grammar.specs.Programs as grammar
 use Rattle.jif_tree.specs.Limits.{IsWithinLimits}
 use Rattle.jif_tree.specs.Named.{AreNamed}
+use Rattle.jif_tree.specs.Numbering.{CountsFrom, site_numbers}
 use Rattle.jif_tree.specs.Trees.{ProgramTree, program_tree}
 use Rattle.jif_tree.specs.WellNumbered.{IsWellNumbered}
 use Rattle.jif_resolve.specs.Sizes.{KeepsLimits}
 use Rattle.jif_resolve.specs.Verdicts.{IsProgramOf}
+use Rattle.jif_tree.proofs.VariableCounts.{variable_count}
+use Rattle.split_cli.specs.PlacedSources.{labelled_source}
+use Rattle.split_cli.specs.ReadPrograms.{IsReadProgram}
 use Rattle.split_cli.specs.Sources.{Source, Sources}
 use Rattle.split_cli.specs.Stages.{given}
 use Rattle.split_cli.proofs.ListLimits.{short_variables, short_authorities}
@@ -31,6 +35,22 @@ pub record NativeLaws : Type 0 where
       IsProgramOf principals draft tree → IsWithinLimits tree
   pub numbered : (principals : Declared) (draft : DraftShape) (tree : ProgramTree) →
       IsProgramOf principals draft tree → IsWellNumbered tree
+
+-- what is known of a source, with the numbers of its call sites
+pub is_read : NativeLaws → (program hosts : List ℕ) (source : Source) → CountsFrom 1 (site_numbers source.tree) →
+    Sources program hosts (given source) → IsReadProgram (labelled_source source)
+is_read laws program hosts source sites accepted =
+    let read = read_source program hosts source accepted in
+    let principals = source.file.principals in
+    let small = laws.small program read.list read.few read.read in
+    let keeps = laws.kept read.list read.draft read.parsed in
+    record {
+      numbered = laws.numbered principals read.draft source.tree read.resolved;
+      sites = sites;
+      named = laws.named read.list principals read.draft source.tree small read.parsed read.resolved;
+      within = laws.within principals read.draft source.tree keeps read.resolved;
+      var_labels = variable_count principals source.tree;
+    }
 
 pub source_seen : NativeLaws → (program hosts : List ℕ) (source : Source) → Sources program hosts (given source) →
     IsSeen program_tree source.tree

@@ -23,7 +23,7 @@ use Rattle.net_world.specs.World.{WorldShape, IsStep, not_bad, not_there, host_b
 use Rattle.net_world.specs.World.{refusal_of_take}
 use Rattle.net_world.specs.World.{refusal_of_turn, mover, misbehaves, is_absent, given, state_at}
 use Rattle.net_world.specs.World.{hosts_before, world_at_start}
-use Rattle.net_world.specs.Fits.{WorldModel, WorldFits, FlightFits, HasOwnToken, host_at, world_of}
+use Rattle.net_world.specs.Fits.{WorldModel, WorldFits, FlightFits, MailFits, HasOwnToken, host_at, world_of}
 use Rattle.net_world.specs.Steps.{HasMade, HaveMade, IsStuck}
 use Rattle.net_world.specs.Choice.{IsNextEvent}
 use Rattle.split_cli.specs.declared.words.TheConstants.{STEPS}
@@ -102,19 +102,23 @@ target_within code from to [] some all = absurd (some refl)
 target_within code from to (flight ∷ flights) some all =
     (All-head (FlightFits code from to) flight flights all).target.0
 
+-- in a world that has the hosts of the code, and whose mail fits it
+pub shape_goes : (code : CodeShape) (world : WorldShape) (event : Event) → length world.hosts ≡ length code.hosts →
+    MailFits code world → AllObey world → IsNextEvent world (Some event) → refusal_of world event ≡ None
+shape_goes code world (Turn host) count mail obey next = turn_goes (state_at world host) next.runs
+shape_goes code world (Act from to made) count mail obey next = absurd next
+shape_goes code world (Take from to place) count mail obey next =
+    let flies = next.1.target.flies in
+    let found = first_of (world.flying from to) flies in
+    let within = target_within code from to (world.flying from to) flies (mail.flying from to) in
+    let there = there_among world.hosts to.0 (omega (arith, count, within)) (obey to) in
+    take_goes (slice_get (world.flying from to) place) found.0 (state_at world to) there.0
+    (ap (λ (k : ℕ). slice_get (world.flying from to) k) next.2 ∙ found.1) there.1 (next.0 to)
+
 pub next_goes : (code : CodeShape) (world : WorldModel) (event : Event) → WorldFits code world →
     AllObey (world_of world) → IsNextEvent (world_of world) (Some event) → refusal_of (world_of world) event ≡ None
-next_goes code world (Turn host) fits obey next = turn_goes (state_at (world_of world) host) next.runs
-next_goes code world (Act from to made) fits obey next = absurd next
-next_goes code world (Take from to place) fits obey next =
-    let w = world_of world in
-    let flies = next.1.target.flies in
-    let found = first_of (w.flying from to) flies in
-    let count : length w.hosts ≡ length code.hosts = length-map world.hosts _ ∙ fits.count in
-    let within = target_within code from to (w.flying from to) flies (fits.mail.flying from to) in
-    let there = there_among w.hosts to.0 (omega (arith, count, within)) (obey to) in
-    take_goes (slice_get (w.flying from to) place) found.0 (state_at w to) there.0
-    (ap (λ (k : ℕ). slice_get (w.flying from to) k) next.2 ∙ found.1) there.1 (next.0 to)
+next_goes code world event fits obey next =
+    shape_goes code (world_of world) event (length-map world.hosts _ ∙ fits.count) fits.mail obey next
 
 pub next_own : (world : WorldShape) (event : Event) → IsNextEvent world (Some event) → HasOwnToken world event
 next_own world (Turn host) next = tt

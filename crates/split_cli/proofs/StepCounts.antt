@@ -12,10 +12,10 @@ use Rattle.split_cli.specs.declared.words.TheConstants.{STEPS}
 use Rattle.split_cli.specs.Commands.{IsStepCount}
 use Rattle.split_cli.specs.StepCounts.{BeginsWithCount}
 
-own : IsNumeralModel (AllDigits 10) (digits_value 10)
+pub own : IsNumeralModel (AllDigits 10) (digits_value 10)
 own = numerals_by_value (AllDigits 10) tells_digits
 
-small : (steps : ℕ) → IsStepCount steps → steps < 2 ^ 64
+pub small : (steps : ℕ) → IsStepCount steps → steps < 2 ^ 64
 small steps is = omega (arith, is.most)
 
 -- what writes a number of steps begins with such a digit

@@ -3,13 +3,13 @@ use Rattle.std.proofs.Common.{◌≡◌, ◌≢◌, ◌⊎◌, ℕ, ◌<◌, Lis
 use Rattle.std.proofs.Common.{refl}
 use Rattle.std.specs.Prelude.{codes}
 use Rattle.std.specs.Fmt.{decimal}
-use Rattle.std.specs.Str.Parse.{AllDigits, digits_value}
+use Rattle.std.specs.Str.Parse.{digits_value}
 use Rattle.std.proofs.lemmas.Fmt.{digits_value-decimal}
-use Rattle.std.proofs.lemmas.Str.Parse.{IsNumeralModel, numerals_by_value, tells_digits}
 use Rattle.js_base.proofs.Decisions.{Decided, same_text, less_than}
 use Rattle.split_cli.specs.Commands.{CommandShape, Check, Run, Replay, Drive, IsCommand, IsStepCount, words_of}
 use Rattle.split_cli.specs.Commands.{HaveNoForm}
 use Rattle.split_cli.specs.declared.words.TheConstants.{STEPS}
+use Rattle.split_cli.proofs.StepCounts.{own, small}
 use Rattle.split_cli.proofs.CommandWords.{no_steps, no_verb}
 
 -- the words ask for this command
@@ -22,13 +22,10 @@ AskFor words = (command : CommandShape) × IsCommand command × (words ≡ words
 abbrev IsCountWord : List ℕ → Type 0
 IsCountWord word = (steps : ℕ) × IsStepCount steps × (word ≡ decimal steps)
 
-own : IsNumeralModel (AllDigits 10) (digits_value 10)
-own = numerals_by_value (AllDigits 10) tells_digits
-
 -- it writes the value of its digits
 same_value : (word : List ℕ) (steps : ℕ) → IsStepCount steps → word ≡ decimal steps → digits_value 10 word ≡ steps
 same_value word steps is same =
-    ap (digits_value 10) same ∙ digits_value-decimal own steps (omega (arith, is.most))
+    ap (digits_value 10) same ∙ digits_value-decimal own steps (small steps is)
 
 count_by_value : (word : List ℕ) → Decided (digits_value 10 word < 1) → Decided (STEPS < digits_value 10 word) →
     Decided (word ≡ decimal (digits_value 10 word)) →

@@ -13,16 +13,19 @@ ghost use Rattle.split_cli.specs.PlacedSources.{PlacedSource, PlacedSources};
 ghost use Rattle.split_cli.specs.Sources.{Source, Sources};
 ghost use Rattle.split_cli.specs.Stages.{Outcome};
 
+use event_text::script_laws;
 use host_decl::host_file_laws;
 use jif_grammar::{grammar_laws, verdict_laws as token_verdicts};
-use jif_lex::{lex_laws, reading_laws};
-use jif_resolve::{program_laws, resolve_laws, verdict_laws as name_verdicts};
+use jif_lex::{lex_laws, reading_laws, token_laws};
+use jif_parse::named_laws;
+use jif_resolve::{limit_laws, program_laws, resolve_laws, verdict_laws as name_verdicts};
 use label_check::failure_laws;
 use need_labels::need_laws;
-use net_world::laws::step_laws;
+use net_world::laws::{fits_laws, step_laws};
 use place_rules::place_rule_laws;
 use placement::placement_laws;
 use source_run::run_laws;
+use split_rules::split_laws;
 
 /// Laws of what is due, for who reasons about answers. The call does nothing.
 pub fn due_laws()
@@ -30,14 +33,14 @@ pub fn due_laws()
     ensures one_source { (program hosts : List ℕ) (first second : Outcome Source) →
         Sources program hosts first → Sources program hosts second → first ≡ second }
 
-    // And so it is for all bytes.
+    // One of the two comes of all bytes.
     ensures some_source { (program hosts : List ℕ) → (end : Outcome Source) × Sources program hosts end }
 
     // Its parts get one row of places, or the first that no host may hold is named.
     ensures one_plan { (program hosts : List ℕ) (first second : Outcome PlacedSource) →
         PlacedSources program hosts first → PlacedSources program hosts second → first ≡ second }
 
-    // And so it is for all bytes.
+    // One of the two comes of all bytes.
     ensures some_plan { (program hosts : List ℕ) → (end : Outcome PlacedSource) × PlacedSources program hosts end }
 
     // For words and files that tell what they hold one verdict is due, after one number of loads.
@@ -52,6 +55,10 @@ pub fn due_laws()
         files.held ≡ Some holds → files.faults_before < last_count →
         IsDue words files first → IsDue words files second → first ≡ second }
 
+    // For all words something is due, whatever the files hold and whether they tell or not.
+    ensures some_verdict { (words : List (List ℕ)) (held : Option (List ℕ → Option (List ℕ))) →
+        (number : ℕ) × (verdict : VerdictShape) × Due words held number verdict }
+
     // The events of a drive are a run of the world.
     ensures driven_runs { (code : CodeShape) (world after : WorldShape) (events : List Event) →
         IsDriven code world events after → IsRun code world events after }
@@ -63,16 +70,22 @@ pub fn due_laws()
 {
     lex_laws();
     reading_laws();
+    token_laws();
+    named_laws();
     grammar_laws();
     token_verdicts();
     host_file_laws();
     resolve_laws();
     program_laws();
+    limit_laws();
     name_verdicts();
     failure_laws();
     need_laws();
     place_rule_laws();
     placement_laws();
     run_laws();
+    split_laws();
+    script_laws();
+    fits_laws();
     step_laws();
 }

@@ -2,6 +2,8 @@ use Rattle.split_cli.proofs.OneDrive.{driven_run}
 use Rattle.split_cli.proofs.OnePlaced.{PlaceLaws, places_once}
 use Rattle.split_cli.proofs.OneSource.{SourceLaws, sources_once}
 use Rattle.split_cli.proofs.OneVerdict.{AllLaws, due_once, answer_once, one_fault_place}
+use Rattle.split_cli.proofs.NativeSources.{NativeLaws}
+use Rattle.split_cli.proofs.SomeVerdict.{AllCauses, due_some}
 use Rattle.split_cli.proofs.SomePlaced.{PlaceCauses, places_some}
 use Rattle.split_cli.proofs.SomeSource.{SourceCauses, sources_some}
 use Rattle.split_cli.proofs.laws.due_laws.Goals as goal
@@ -62,6 +64,38 @@ place_causes c = record {
   some_plan = c.placement_laws.ensures.some_plan;
 }
 
+native_laws : (c : goal.After-step_laws) → NativeLaws
+native_laws c = record {
+  small = c.token_laws.ensures;
+  named = c.named_laws.ensures.of_tokens;
+  kept = c.limit_laws.ensures.kept;
+  within = c.limit_laws.ensures.within;
+  numbered = c.program_laws.ensures.well_numbered;
+}
+
+all_causes : (c : goal.After-step_laws) → AllCauses
+all_causes c = record {
+  sources = source_causes c;
+  places = place_causes c;
+  code = record {
+    native = native_laws c;
+    sites = c.program_laws.ensures.sites;
+    hosts = c.host_file_laws.ensures.sound;
+    short_names = c.host_file_laws.ensures.short_names;
+    places = c.placement_laws.ensures.hosts;
+    sound = c.split_laws.ensures.sound;
+    start = c.fits_laws.ensures.start;
+  };
+  start = c.script_laws.ensures.some_start;
+  ends = c.run_laws.ensures.some_answer;
+  scripts = c.script_laws.ensures.some_script;
+  steps = record {
+    some = c.step_laws.ensures.happens_or_refused;
+    obeying = c.step_laws.ensures.misbehaving;
+    fits = c.fits_laws.ensures.step;
+  };
+}
+
 all_laws : (c : goal.After-step_laws) → AllLaws
 all_laws c = record {
   sources = source_laws c;
@@ -87,6 +121,9 @@ returns-clause-one_plan c = places_once (source_laws c) (place_laws c)
 
 pub returns-clause-one_verdict : goal.returns-clause-one_verdict
 returns-clause-one_verdict c = due_once (all_laws c)
+
+pub returns-clause-some_verdict : goal.returns-clause-some_verdict
+returns-clause-some_verdict c = due_some (all_causes c)
 
 pub returns-clause-one_answer : goal.returns-clause-one_answer
 returns-clause-one_answer c = answer_once (all_laws c)
