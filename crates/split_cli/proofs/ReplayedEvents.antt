@@ -2,7 +2,7 @@
 use Rattle.std.proofs.Common.{◌≡◌, ℕ, zero, suc, ◌+◌, ◌<◌, Bool, true, false, List, [], ◌∷◌, ◌++◌, map, length, get_or}
 use Rattle.std.proofs.Common.{take, Option, Some, None, Result, Ok, Err, refl, sym, ap, subst, ◌∙◌, arith, ⊎_elim}
 use Rattle.std.proofs.Common.{inl, inr}
-use Rattle.std.specs.Prelude.{◌≤◌, ◌⊎◌, All, IsSomeAnd, IsTrue, IfSome, is_some, if◌then◌else◌}
+use Rattle.std.specs.Prelude.{◌⊎◌, All, is_some, if◌then◌else◌}
 use Rattle.std.specs.List.{AllByRecursion}
 use Rattle.std.specs.Option.{option_map}
 use Rattle.std.specs.Str.{bytes_eq}
@@ -18,13 +18,11 @@ use Rattle.event_text.specs.Numbers.{number_of}
 use Rattle.event_text.specs.Script.{ScriptShape, script_of, with_start}
 use Rattle.event_text.specs.Settings.{form_of, past_settings, settings_in_front, starting_rows, after_settings}
 use Rattle.host_code.specs.Code.{CodeShape, CodeHostShape}
-use Rattle.host_core.specs.declared.host.TheConstants.{MOST_CALLS}
-use Rattle.host_core.specs.Host.{HostShape, HostModel, IsStopped}
+use Rattle.host_core.specs.Host.{HostShape}
 use Rattle.net_world.specs.Flying.{Flight}
-use Rattle.net_world.specs.Fits.{WorldModel, HasOwnToken, host_at}
-use Rattle.net_world.specs.Steps.{HasMade, HaveMade, IsStuck}
+use Rattle.net_world.specs.Fits.{HasOwnToken}
 use Rattle.net_world.specs.World.{WorldShape, IsStep, IsRun, Refusal, not_bad, not_there, host_busy, no_such_token}
-use Rattle.net_world.specs.World.{refusal_of, refusal_of_take, refusal_of_turn, mover, state_at}
+use Rattle.net_world.specs.World.{refusal_of, refusal_of_take, refusal_of_turn, state_at}
 use Rattle.split_cli.specs.Replay.{events_in, IsRefusedAt, IsObeying}
 use Rattle.std.specs.Prelude.{ℤ, slice_get}
 
@@ -107,20 +105,6 @@ pub own_tokens : (world : WorldShape) (event : Event) → IsObeying event → Ha
 own_tokens world (Take from to place) obeys = tt
 own_tokens world (Turn host) obeys = tt
 own_tokens world (Act from to made) obeys = absurd obeys
-
--- ---- nor is a host stopped
-
-answers_on : (made : ℕ) (host : Option HostModel) → made < MOST_CALLS → IfSome host (HasMade made) →
-    ¬ IsSomeAnd host IsStopped
-answers_on made None few has stopped = absurd stopped
-answers_on made (Some host) few has stopped =
-    ⊎_elim (λ (is : IsTrue host.stopped). let answers = has.answers in let none : ⊥ = cc in none)
-    (λ (many : MOST_CALLS ≤ host.calls). let steps = has.steps in let none : ⊥ = omega arith in none) stopped
-
-pub never_stuck : (world : WorldModel) (event : Event) (made : ℕ) → made < MOST_CALLS → HaveMade made world.hosts →
-    ¬ IsStuck world event
-never_stuck world event made few have stuck =
-    answers_on made (host_at world (mover event)) few (have (mover event)) stuck.stopped
 
 -- ---- scripts
 
