@@ -46,7 +46,7 @@ count_word word =
 
 -- ---- so many words
 
-none_asked : HaveNoForm []
+pub none_asked : HaveNoForm []
 none_asked (Check program hosts) is same = let never : ⊥ = cc in never
 none_asked (Run program hosts start steps) is same = let never : ⊥ = cc in never
 none_asked (Replay program hosts events) is same = let never : ⊥ = cc in never

@@ -1,12 +1,12 @@
 //! The laws of what is due.
 
-ghost use Rattle.std.specs.Prelude.{◌≡◌, ◌<◌, ℕ, List, Option, Some};
+ghost use Rattle.std.specs.Prelude.{◌≡◌, ◌<◌, ℕ, List, [], ◌∷◌, Option, Some, None, codes};
 ghost use Rattle.js_base.specs.Counts.{last_count};
 ghost use Rattle.event_text.specs.declared.event.Event.{Event};
 ghost use Rattle.host_code.specs.Code.{CodeShape};
 ghost use Rattle.net_world.specs.World.{WorldShape, IsRun};
 ghost use Rattle.simulation.specs.Driven.{IsDriven};
-ghost use Rattle.split_cli.specs.Verdicts.{VerdictShape};
+ghost use Rattle.split_cli.specs.Verdicts.{VerdictShape, usage, no_such_file};
 ghost use Rattle.split_cli.specs.Loads.{FilesChange, IsFileFault};
 ghost use Rattle.split_cli.specs.Due.{Due, IsDue};
 ghost use Rattle.split_cli.specs.PlacedSources.{PlacedSource, PlacedSources};
@@ -58,6 +58,12 @@ pub fn due_laws()
     // For all words something is due, whatever the files hold and whether they tell or not.
     ensures some_verdict { (words : List (List ℕ)) (held : Option (List ℕ → Option (List ℕ))) →
         (number : ℕ) × (verdict : VerdictShape) × Due words held number verdict }
+
+    // Worked: no words are due the usage line after no load. Where no file is held, a check is due the line that its
+    // program is absent, after one load.
+    ensures worked_no_words { (held : Option (List ℕ → Option (List ℕ))) → Due [] held 0 usage }
+    ensures worked_absent { Due (codes "check" ∷ codes "P" ∷ codes "H" ∷ []) (Some (λ name. None)) 1
+        (no_such_file (codes "P")) }
 
     // The events of a drive are a run of the world.
     ensures driven_runs { (code : CodeShape) (world after : WorldShape) (events : List Event) →

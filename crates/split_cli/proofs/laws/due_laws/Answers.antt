@@ -1,3 +1,4 @@
+use Rattle.std.proofs.Common.{codes, refl, zero}
 use Rattle.split_cli.proofs.OneDrive.{driven_run}
 use Rattle.split_cli.proofs.OnePlaced.{PlaceLaws, places_once}
 use Rattle.split_cli.proofs.OneSource.{SourceLaws, sources_once}
@@ -6,6 +7,10 @@ use Rattle.split_cli.proofs.NativeSources.{NativeLaws}
 use Rattle.split_cli.proofs.SomeVerdict.{AllCauses, due_some}
 use Rattle.split_cli.proofs.SomePlaced.{PlaceCauses, places_some}
 use Rattle.split_cli.proofs.SomeSource.{SourceCauses, sources_some}
+use Rattle.split_cli.proofs.WordForms.{none_asked}
+use Rattle.split_cli.specs.Commands.{Check}
+use Rattle.split_cli.specs.Due.{no_words, for_command, absent}
+use Rattle.split_cli.specs.Verdicts.{no_such_file}
 use Rattle.split_cli.proofs.laws.due_laws.Goals as goal
 
 source_laws : (c : goal.After-step_laws) → SourceLaws
@@ -133,3 +138,10 @@ returns-clause-one_fault c = one_fault_place
 
 pub returns-clause-driven_runs : goal.returns-clause-driven_runs
 returns-clause-driven_runs c = driven_run
+
+pub returns-clause-worked_no_words : goal.returns-clause-worked_no_words
+returns-clause-worked_no_words c held = no_words none_asked
+
+pub returns-clause-worked_absent : goal.returns-clause-worked_absent
+returns-clause-worked_absent c = for_command (Check (codes "P") (codes "H")) 1 (no_such_file (codes "P")) tt refl
+    (absent zero (codes "P") (record { here = refl; absent = refl; before = tt }))
