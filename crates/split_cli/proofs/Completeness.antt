@@ -44,4 +44,4 @@ complete one words files answer out err holds number status text answers tells d
     (λ put. put.0)
     (λ fault. absurd (no_fault_and_fault out.faults_before out.faults_after under quiet fault.1))
     answered.1))
-    answers
+    answers.1

@@ -553,7 +553,7 @@ answer_put Text command program hosts others words files answer out err is names
     (λ spent. let out_of = memory.0 in let no : ⊥ = cc in no) success))
     (λ whole. verdict_put Text program hosts others files.held answer out err whole.0 success
     (due_says Text command program hosts others words files whole.0 is names says asked whole.1) whole.2)
-    answers
+    answers.1
 
 -- ---- the headline, from the answer
 

@@ -24,10 +24,9 @@ long_file (Some holds) name most long = let found =
 
 -- the first files, so many, were loaded
 pub record HaveLoaded
-    (count : ℕ) (asked : List Asked) (given : List Loaded) (change : FilesChange)
-    (held_now : Option (List ℕ → Option (List ℕ))) (saves_before saves_now : ℕ) : Type 0 where
+    (count : ℕ) (asked : List Asked) (given : List Loaded) (change : FilesChange) : Type 0 where
   pub given_are : AllZip (GivesAsked change.held) (take count asked) given
   pub loads : change.loads_after ≡ counted_by count change.loads_before
   pub faults : change.faults_after ≡ change.faults_before
-  pub held : held_now ≡ change.held
-  pub saves : saves_now ≡ saves_before
+  pub held : change.held_after ≡ change.held
+  pub saves : change.saves_after ≡ change.saves_before

@@ -5,7 +5,7 @@ use Rattle.js_base.specs.Sink.{Takes, TakesFront}
 use Rattle.js_base.specs.declared.status.Status.{Status}
 use Rattle.js_base.specs.declared.status.Status.TheVariants.{OutFault, NoMemory}
 use Rattle.split_cli.specs.Verdicts.{VerdictShape, Refuse, Print, no_memory_line}
-use Rattle.split_cli.specs.Loads.{FilesChange}
+use Rattle.split_cli.specs.Loads.{FilesChange, AreKept}
 use Rattle.split_cli.specs.Due.{IsDue}
 
 -- a sink before and after: its faults, and what it has taken where it tells
@@ -58,8 +58,9 @@ RanOut words files out err =
     (IsUntouched out × PutsFront no_memory_line err)
     ⊎ ((verdict : VerdictShape) × IsDue words files verdict × IsCutShort verdict out err)
 
--- the answer is that to what is due, or want of memory
+-- The answer is that to what is due, or want of memory. No command saves, and none changes what is held.
 abbrev pub AnswersTo : List (List ℕ) → FilesChange → Status → SinkChange → SinkChange → Type 0
 AnswersTo words files answer out err =
-    ((answer ≡ NoMemory) × RanOut words files out err)
-    ⊎ ((verdict : VerdictShape) × IsDue words files verdict × IsAnswered verdict answer out err)
+    AreKept files
+    × (((answer ≡ NoMemory) × RanOut words files out err)
+    ⊎ ((verdict : VerdictShape) × IsDue words files verdict × IsAnswered verdict answer out err))

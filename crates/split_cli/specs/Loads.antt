@@ -5,12 +5,15 @@ use Rattle.std.specs.List.{AllByRecursion}
 use Rattle.js_base.specs.Counts.{counted, Rose}
 use Rattle.split_cli.specs.Verdicts.{VerdictShape, file_fault}
 
--- What files hold, where they tell, and what they counted before and after a call: loads, and faults, of which the last
--- was at this name.
+-- What files hold before and after a call, where they tell, and what they counted: loads, saves, and faults, of which
+-- the last was at this name.
 pub record FilesChange : Type 0 where
   pub held : Option (List ℕ → Option (List ℕ))
+  pub held_after : Option (List ℕ → Option (List ℕ))
   pub loads_before : ℕ
   pub loads_after : ℕ
+  pub saves_before : ℕ
+  pub saves_after : ℕ
   pub faults_before : ℕ
   pub faults_after : ℕ
   pub failed : List ℕ
@@ -32,6 +35,11 @@ counted_by (suc more) count = counted (counted_by more count)
 pub record LoadsWell (number : ℕ) (files : FilesChange) : Type 0 where
   pub loads : files.loads_after ≡ counted_by number files.loads_before
   pub no_fault : files.faults_after ≡ files.faults_before
+
+-- nothing was saved, and what is held stays
+pub record AreKept (files : FilesChange) : Type 0 where
+  pub saves : files.saves_after ≡ files.saves_before
+  pub held : files.held_after ≡ files.held
 
 -- the file at this place is absent, and each before it is held
 pub record IsFirstAbsent

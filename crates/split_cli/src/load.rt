@@ -47,8 +47,11 @@ pub fn load_all<F: Files>(
     ensures stopped { IfErr result (StopsWith (StopsLoading (map (λ one. one.name.now) asked.now)
         (record {
           held = F.held files.old;
+          held_after = F.held files.new;
           loads_before = F.loads files.old;
           loads_after = F.loads files.new;
+          saves_before = F.saves files.old;
+          saves_after = F.saves files.new;
           faults_before = F.faults files.old;
           faults_after = F.faults files.new;
           failed = F.failed files.new;

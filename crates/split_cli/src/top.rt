@@ -58,8 +58,11 @@ pub fn jifsplit<F: Files, S: Sink, E: Sink>(
     ensures answer { AnswersTo (map string_bytes words.now)
         (record {
           held = F.held files.old;
+          held_after = F.held files.new;
           loads_before = F.loads files.old;
           loads_after = F.loads files.new;
+          saves_before = F.saves files.old;
+          saves_after = F.saves files.new;
           faults_before = F.faults files.old;
           faults_after = F.faults files.new;
           failed = F.failed files.new;
@@ -128,8 +131,11 @@ fn answered<F: Files, S: Sink, E: Sink>(
     ensures answer { AnswersTo (map string_bytes words.now)
         (record {
           held = F.held files.old;
+          held_after = F.held files.new;
           loads_before = F.loads files.old;
           loads_after = F.loads files.new;
+          saves_before = F.saves files.old;
+          saves_after = F.saves files.new;
           faults_before = F.faults files.old;
           faults_after = F.faults files.new;
           failed = F.failed files.new;
@@ -172,8 +178,11 @@ fn due<F: Files>(alloc: Global, words: &[String], files: &mut F) -> Result<Verdi
     ensures due { IfOk result (λ verdict. IsDue (map string_bytes words.now)
         (record {
           held = F.held files.old;
+          held_after = F.held files.new;
           loads_before = F.loads files.old;
           loads_after = F.loads files.new;
+          saves_before = F.saves files.old;
+          saves_after = F.saves files.new;
           faults_before = F.faults files.old;
           faults_after = F.faults files.new;
           failed = F.failed files.new;
@@ -202,8 +211,11 @@ fn due_for<F: Files>(
     ensures due { IfOk result (λ verdict. IsDueForCommand (command_shape asked.now)
         (record {
           held = F.held files.old;
+          held_after = F.held files.new;
           loads_before = F.loads files.old;
           loads_after = F.loads files.new;
+          saves_before = F.saves files.old;
+          saves_after = F.saves files.new;
           faults_before = F.faults files.old;
           faults_after = F.faults files.new;
           failed = F.failed files.new;

@@ -39,8 +39,11 @@ pub fn due_for_check<F: Files>(
     ensures due { EndsIn (IsDueForCommand (command.Check program.now hosts.now)
         (record {
           held = F.held files.old;
+          held_after = F.held files.new;
           loads_before = F.loads files.old;
           loads_after = F.loads files.new;
+          saves_before = F.saves files.old;
+          saves_after = F.saves files.new;
           faults_before = F.faults files.old;
           faults_after = F.faults files.new;
           failed = F.failed files.new;

@@ -43,8 +43,11 @@ pub fn due_for_drive<F: Files>(
     ensures due { EndsIn (IsDueForCommand (command.Drive program.now hosts.now start.now events)
         (record {
           held = F.held files.old;
+          held_after = F.held files.new;
           loads_before = F.loads files.old;
           loads_after = F.loads files.new;
+          saves_before = F.saves files.old;
+          saves_after = F.saves files.new;
           faults_before = F.faults files.old;
           faults_after = F.faults files.new;
           failed = F.failed files.new;
