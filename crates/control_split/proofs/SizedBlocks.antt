@@ -9,7 +9,7 @@ use Rattle.jif_tree.specs.declared.program.Stmt.{Stmt}
 use Rattle.jif_tree.specs.declared.program.StmtKind.{StmtKind}
 use Rattle.jif_tree.specs.declared.program.StmtKind as kind
 use Rattle.jif_tree.specs.Trees.{Heading, ExprTree, BlockTree, done, branch, loop, call, statement_tree, block_tree, expr_tree}
-use Rattle.jif_tree.specs.Trees.{row_tree, tree_before}
+use Rattle.jif_tree.specs.Trees.{row_tree, tree_before, head_of}
 use Rattle.jif_tree.specs.Sizes.{expr_nodes, block_nodes}
 use Rattle.host_code.specs.declared.code_expr.TheConstants.{MOST_NODES}
 use Rattle.control_split.specs.Views.{IsSizedExpr, IsSizedBlock}
@@ -48,11 +48,11 @@ pub sized_part : (statements : List Stmt) (place : ℕ) (statement : Stmt) → p
 sized_part [] place statement within is sized = absurd (omega arith)
 sized_part (first ∷ others) zero statement within is sized =
     let P : Stmt → Type 0 = λ one. IsSizedBlock (tree_before one done) in
-    let heading : Heading = record { id = first.id; line = first.line } in
+    let heading : Heading = head_of first in
     subst P (sym is) (all_first (block_nodes (tree_before first done)) (block_nodes (block_tree others))
     (subst (All IsFew) (nodes_apart first.kind heading (block_tree others)) sized))
 sized_part (first ∷ others) (suc place) statement within is sized =
-    let heading : Heading = record { id = first.id; line = first.line } in
+    let heading : Heading = head_of first in
     sized_part others place statement (omega arith) is
     (all_second (block_nodes (tree_before first done)) (block_nodes (block_tree others))
     (subst (All IsFew) (nodes_apart first.kind heading (block_tree others)) sized))

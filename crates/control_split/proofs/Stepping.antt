@@ -4,7 +4,7 @@ use Rattle.js_base.specs.declared.ids.StmtId.{StmtId}
 use Rattle.jif_tree.specs.declared.program.Stmt.{Stmt}
 use Rattle.jif_tree.specs.declared.program.StmtKind.{StmtKind}
 use Rattle.jif_tree.specs.declared.program.StmtKind as kind
-use Rattle.jif_tree.specs.Trees.{Heading, BlockTree, done, statement_tree, block_tree, tree_before}
+use Rattle.jif_tree.specs.Trees.{Heading, BlockTree, done, statement_tree, block_tree, tree_before, head_of}
 use Rattle.msg_cost.proofs.Statements.{own_ids}
 use Rattle.msg_cost.specs.declared.spot.Spot.{Spot}
 use Rattle.msg_cost.specs.Moves.{next_spot, own_statements}
@@ -107,7 +107,7 @@ pub one_walked : (walked : Walked) (around : Around) (start trace moved own : Tr
     traced trace (block_emissions walked around trace.counts lane (block_tree (statement ∷ others))) ≡ start →
     traced own (block_emissions walked around own.counts there (block_tree others)) ≡ start
 one_walked walked around start trace moved own lane there next statement others next_is moved_is there_is own_is so =
-    let heading : Heading = record { id = statement.id; line = statement.line } in
+    let heading : Heading = head_of statement in
     let rest = block_tree others in
     let P : List StmtId → Type 0 = λ ids.
     traced trace (one_by_one walked around trace.counts lane (next_spot walked.planned lane.spot statement.id ids)

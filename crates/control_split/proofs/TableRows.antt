@@ -9,8 +9,9 @@ use Rattle.host_code.specs.Code.{CodeFieldShape, CodeVariableShape}
 use Rattle.jif_tree.specs.declared.program.Field.{Field}
 use Rattle.jif_tree.specs.declared.program.Var.{Var}
 use Rattle.jif_tree.specs.Trees.{FieldTree, VarTree, ProgramTree, field_tree, var_tree}
-use Rattle.need_labels.specs.Plan.{PlanShape, field_host}
-use Rattle.split_rules.specs.SplitCode.{label_place, with_labels, placed_code_fields, code_variable}
+use Rattle.need_labels.specs.Plan.{PlanShape}
+use Rattle.split_rules.specs.SplitCode.{with_labels, placed_code_fields, code_variable}
+use Rattle.split_rules.proofs.CodeItems.{code_field}
 use Rattle.control_split.specs.Trace.{TraceShape}
 use Rattle.control_split.specs.Tables.{naming}
 use Rattle.control_split.proofs.LabelPlaces.{IsAmong, among_kept, among_named, place_kept, with_labels_append}
@@ -31,14 +32,6 @@ all_named there (label ∷ others) =
 abbrev pub labels_in : List FieldTree → List Label
 labels_in fields = map (λ field. field.label) fields
 
-abbrev pub field_row : List Label → PlanShape → ℕ → FieldTree → CodeFieldShape
-field_row labels plan number field = record {
-  name = field.name;
-  label = label_place 0 field.label labels;
-  size = field.size;
-  array = field.array;
-  first = field.first;
-  host = field_host plan (record { 0 = number });
 }
 
 pub rows_kept : (there more : List Label) (plan : PlanShape) (number : ℕ) (fields : List FieldTree) →
@@ -50,15 +43,15 @@ rows_kept there more plan number (field ∷ fields) named =
 
 rows_push : (labels : List Label) (plan : PlanShape) (number : ℕ) (fields : List FieldTree) (field : FieldTree) →
     placed_code_fields labels plan number (fields ++ field ∷ [])
-    ≡ placed_code_fields labels plan number fields ++ field_row labels plan (number + length fields) field ∷ []
+    ≡ placed_code_fields labels plan number fields ++ code_field labels plan (number + length fields) field ∷ []
 rows_push labels plan number [] field =
     let same : number ≡ number + length {A = FieldTree} [] = omega arith in
-    ap (λ (place : ℕ). field_row labels plan place field ∷ []) same
+    ap (λ (place : ℕ). code_field labels plan place field ∷ []) same
 rows_push labels plan number (first ∷ fields) field =
     let same : suc number + length fields ≡ number + suc (length fields) = omega arith in
-    ap (λ (rows : List CodeFieldShape). field_row labels plan number first ∷ rows)
+    ap (λ (rows : List CodeFieldShape). code_field labels plan number first ∷ rows)
     (rows_push labels plan (suc number) fields field
-    ∙ ap (λ (place : ℕ). placed_code_fields labels plan (suc number) fields ++ field_row labels plan place field ∷ [])
+    ∙ ap (λ (place : ℕ). placed_code_fields labels plan (suc number) fields ++ code_field labels plan place field ∷ [])
     same)
 
 -- one field further
@@ -66,14 +59,14 @@ pub rows_more : (there : List Label) (plan : PlanShape) (fields : List FieldTree
     let before = with_labels there (labels_in fields) in
     let after = with_labels before (field.label ∷ []) in
     placed_code_fields after plan 0 (fields ++ field ∷ [])
-    ≡ placed_code_fields before plan 0 fields ++ field_row after plan (length fields) field ∷ []
+    ≡ placed_code_fields before plan 0 fields ++ code_field after plan (length fields) field ∷ []
 rows_more there plan fields field =
     let before = with_labels there (labels_in fields) in
     let after = with_labels before (field.label ∷ []) in
     let count : 0 + length fields ≡ length fields = omega arith in
     rows_push after plan 0 fields field
-    ∙ ap (λ (place : ℕ). placed_code_fields after plan 0 fields ++ field_row after plan place field ∷ []) count
-    ∙ ap (λ (rows : List CodeFieldShape). rows ++ field_row after plan (length fields) field ∷ [])
+    ∙ ap (λ (place : ℕ). placed_code_fields after plan 0 fields ++ code_field after plan place field ∷ []) count
+    ∙ ap (λ (rows : List CodeFieldShape). rows ++ code_field after plan (length fields) field ∷ [])
     (rows_kept before (field.label ∷ []) plan 0 fields (all_named there (labels_in fields)))
 
 -- labels that a trace names in two goes
@@ -92,7 +85,7 @@ pub fields_further : (plan : PlanShape) (all : List Field) (number : ℕ) (field
     before ≡ naming start (labels_in (map field_tree (take number all))) →
     rows ≡ placed_code_fields before.labels plan 0 (map field_tree (take number all)) →
     after ≡ naming before (field.label ∷ []) →
-    row ≡ field_row after.labels plan number (field_tree field) →
+    row ≡ code_field after.labels plan number (field_tree field) →
     pushed ≡ rows ++ row ∷ [] →
     (after ≡ naming start (labels_in (map field_tree (take (number + 1) all))))
     × (pushed ≡ placed_code_fields after.labels plan 0 (map field_tree (take (number + 1) all)))
@@ -115,12 +108,12 @@ fields_further plan all number field start before after rows pushed row within i
       last
           ∙ ap (λ (some : List CodeFieldShape). some ++ row ∷ []) were
           ∙ ap (λ (next : CodeFieldShape). placed_code_fields before.labels plan 0 trees ++ next ∷ []) made
-          ∙ ap (λ (place : ℕ). placed_code_fields before.labels plan 0 trees ++ field_row after.labels plan place tree ∷ [])
+          ∙ ap (λ (place : ℕ). placed_code_fields before.labels plan 0 trees ++ code_field after.labels plan place tree ∷ [])
           count
           ∙ ap (λ (names : List Label). placed_code_fields names plan 0 trees
-          ++ field_row after.labels plan (length trees) tree ∷ []) names_before
+          ++ code_field after.labels plan (length trees) tree ∷ []) names_before
           ∙ ap (λ (names : List Label). placed_code_fields first plan 0 trees
-          ++ field_row names plan (length trees) tree ∷ []) names_after
+          ++ code_field names plan (length trees) tree ∷ []) names_after
           ∙ sym (rows_more start.labels plan trees tree)
           ∙ ap (λ (names : List Label). placed_code_fields names plan 0 (trees ++ tree ∷ [])) (sym names_after)
           ∙ ap (λ (some : List FieldTree). placed_code_fields after.labels plan 0 some) (sym more),

@@ -1,13 +1,13 @@
 -- Settings, from what their words name.
-use Rattle.std.proofs.Common.{◌≡◌, ℕ, ◌+◌, ℤ, Bool, not, List, [], ◌∷◌, Option, Some, refl, ap, sym}
+use Rattle.std.proofs.Common.{◌≡◌, ℕ, ◌+◌, Bool, not, List, [], ◌∷◌, Option, refl, ap, sym}
 use Rattle.std.proofs.Common.{◌∙◌}
 use Rattle.std.specs.Prelude.{map, position, slice_get, if◌then◌else◌}
-use Rattle.std.specs.Option.{option_map, option_and_then}
+use Rattle.std.specs.Option.{option_map}
 use Rattle.std.specs.List.{prefix_len}
 use Rattle.std.specs.Str.{bytes_eq}
 use Rattle.std.proofs.lemmas.List.{length-map}
 use Rattle.std.proofs.lemmas.Option.{slice_get-map}
-use Rattle.event_text.specs.Settings.{FieldForm, field_named, of_plain, of_element, plain_setting, element_setting}
+use Rattle.event_text.specs.Settings.{FieldForm, field_named}
 
 prefix_len-map : {X Y : Type 0} (p : Y → Bool) (f : X → Y) (xs : List X) →
     prefix_len p (map f xs) ≡ prefix_len (λ x. p (f x)) xs
@@ -27,20 +27,3 @@ field_named-at form xs word place at = at ∙ sym (position-map (λ field. bytes
 form_at : {X : Type 0} (form : X → FieldForm) (xs : List X) (place : ℕ) (found : Option X) →
     found ≡ slice_get xs place → slice_get (map form xs) place ≡ option_map form found
 form_at form xs place found is = slice_get-map form xs place ∙ ap (option_map form) (sym is)
-
-pub plain_setting-at : {X : Type 0} (form : X → FieldForm) (xs : List X) (place : ℕ) (value : ℤ)
-    (found : Option X)
-    (named : Option ℕ) (number : Option ℤ) →
-    Some place ≡ named → Some value ≡ number → found ≡ slice_get xs place →
-    plain_setting (map form xs) named number ≡ option_and_then (of_plain place value) (option_map form found)
-plain_setting-at form xs place value found named number at written is =
-    rw (← at, ← written) (ap (option_and_then (of_plain place value)) (form_at form xs place found is))
-
-pub element_setting-at : {X : Type 0} (form : X → FieldForm) (xs : List X) (place index : ℕ) (value : ℤ)
-    (found : Option X) (named number : Option ℕ) (signed : Option ℤ) →
-    Some place ≡ named → Some index ≡ number → Some value ≡ signed → found ≡ slice_get xs place →
-    element_setting (map form xs) named number signed
-    ≡ option_and_then (of_element place index value) (option_map form found)
-element_setting-at form xs place index value found named number signed at second third is =
-    rw (← at, ← second, ← third)
-    (ap (option_and_then (of_element place index value)) (form_at form xs place found is))

@@ -22,7 +22,7 @@ use Rattle.host_decl.specs.Schema.{is_unfit, is_bad, required_keys, HoldsUnfit, 
 use Rattle.host_decl.specs.Schema.{IsLeast, IsNotAfter, IsFirstBadKey, IsSoundFile, file_tables, items_at, tables_of}
 use Rattle.host_decl.specs.Schema.{table_in, of_kind, with_first}
 use Rattle.host_decl.proofs.Items.{selection_drop}
-use Rattle.host_decl.proofs.Least.{equal_texts, IsAscending, IsIn, find_least, find_none, any_from_in, in_from_any}
+use Rattle.host_decl.proofs.Least.{equal_texts, IsAscending, IsIn, find_least, find_none}
 use Rattle.host_decl.proofs.Least.{not_after_trans}
 
 -- ---- the keys of the entries
@@ -103,31 +103,6 @@ none_unfit kind entries none key = λ unfit.
 abbrev pub holds_nothing : Members → List ℕ → Bool
 holds_nothing members key = is_none (get_member key members)
 
-required_ascend : (kind : TableKind) → IsAscending (required_keys kind)
-unfolding IsStrictlySortedBy
-required_ascend File = (tt, tt)
-required_ascend Host = ((refl, tt), (tt, tt))
-required_ascend Link = ((refl, (refl, tt)), ((refl, tt), (tt, tt)))
-
-nothing_is_None : (held : Option Data) → is_none held ≡ true → held ≡ None
-nothing_is_None None nothing = refl
-nothing_is_None (Some value) nothing = absurd (false≢true nothing)
-
-pub least_missing : (kind : TableKind) (members : Members) (key : List ℕ)
-    → find (holds_nothing members) (required_keys kind) ≡ Some key → IsLeast (IsMissing kind members) key
-least_missing kind members key found =
-    let is = find_least (holds_nothing members) (required_keys kind) key (required_ascend kind) found in
-    record {
-      holds = (nothing_is_None _ is.passes, any_from_in (required_keys kind) key is.here);
-      least = λ other missing. is.least other (in_from_any (required_keys kind) other missing.1) (ap is_none missing.0);
-    }
-
-pub none_missing : (kind : TableKind) (members : Members) → find (holds_nothing members) (required_keys kind) ≡ None
-    → (key : List ℕ) → ¬ IsMissing kind members key
-none_missing kind members none key = λ missing.
-    find_none (holds_nothing members) (required_keys kind) none key (in_from_any (required_keys kind) key missing.1)
-    (ap is_none missing.0)
-
 -- ---- bad keys
 
 bad_cases : (kind : TableKind) (key : List ℕ) (held : Option Data) → is_bad kind key held ≡ true
@@ -203,34 +178,6 @@ missing_is_least kind members unfit missing first second before =
       ];
     }
 
-pub only_unfit : (kind : TableKind) (members : Members) (unfit : List ℕ) → IsLeast (HoldsUnfit kind members) unfit
-    → ((key : List ℕ) → ¬ IsMissing kind members key) → IsLeast (IsBadKey kind members) unfit
-only_unfit kind members unfit first none =
-    record {
-      holds = unfit_is_bad kind members unfit first.holds;
-      least = λ other bad. elim (bad_is kind members other bad) [
-        | inl also_unfit ↦ first.least other also_unfit
-        | inr also_missing ↦ absurd (none other also_missing)
-      ];
-    }
-
-pub only_missing : (kind : TableKind) (members : Members) (missing : List ℕ)
-    → ((key : List ℕ) → ¬ HoldsUnfit kind members key) → IsLeast (IsMissing kind members) missing
-    → IsLeast (IsBadKey kind members) missing
-only_missing kind members missing none second =
-    record {
-      holds = missing_is_bad kind members missing second.holds;
-      least = λ other bad. elim (bad_is kind members other bad) [
-        | inl also_unfit ↦ absurd (none other also_unfit)
-        | inr also_missing ↦ second.least other also_missing
-      ];
-    }
-
-pub no_bad_key : (kind : TableKind) (members : Members) → ((key : List ℕ) → ¬ HoldsUnfit kind members key)
-    → ((key : List ℕ) → ¬ IsMissing kind members key) → IsSound kind members
-no_bad_key kind members no_unfit no_missing = λ key bad.
-    elim (bad_is kind members key bad) [ inl unfit ↦ no_unfit key unfit | inr missing ↦ no_missing key missing ]
-
 -- ---- several tables
 
 pub sound_then : (first rest : List (TableKind × Members)) (key : List ℕ) → AllByRecursion IsSoundAs first
@@ -271,10 +218,6 @@ file_is_sound members file hosts links = (
   sound_both _ _ (all_sound Host (tables_of (items_at (codes "host") members)) hosts)
       (all_sound Link (tables_of (items_at (codes "link") members)) links),
 )
-
-pub file_key_is_first : (file : Members) (key : List ℕ) → IsLeast (IsBadKey File file) key
-    → IsFirstBadKey (file_tables file) key
-file_key_is_first file key bad = inl bad
 
 -- the items are those of the file's hosts, or of its links
 pub host_key_is_first : (file : Members) (hosts : Items) (key : List ℕ) → hosts ≡ items_at (codes "host") file

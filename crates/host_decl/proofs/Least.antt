@@ -157,9 +157,6 @@ reversed Less not_less = λ same. not_less refl
 reversed Equal not_less = λ same. let clash : Equal ≡ Greater = same in cc
 reversed Greater not_less = λ same. let clash : Less ≡ Greater = same in cc
 
-pub not_after_from_less : (first second : List ℕ) → slice_cmp nat_cmp first second ≡ Less → IsNotAfter first second
-not_after_from_less first second less = less_is_not_after first second less
-
 pub not_after_from_not_less : (first second : List ℕ) → slice_cmp nat_cmp second first ≢ Less → IsNotAfter first second
 not_after_from_not_less first second not_less =
     subst (λ order. order ≢ Greater) (sym (nat_list_cmp_total.antisymm first second))

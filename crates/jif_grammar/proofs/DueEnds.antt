@@ -122,11 +122,6 @@ some_field_end unset r is = cc
 some_field_end (sized size) r is = cc
 some_field_end (set negative first) r is = cc
 
-some_local : (label : Option LabelPhrase) (kind : TokenKind) (r : List TokenKind) →
-    [] ≢ optional_label_then label (kind ∷ r)
-some_local None kind r is = cc
-some_local (Some label) kind r is = cc
-
 some_written : (first : Due) (rest : List TokenKind) → ¬ Written first [] rest
 some_written (due.exactly fixed) rest w = cc
 some_written due.int_word rest w = cc

@@ -25,6 +25,7 @@ pub mod FaultTable
 pub mod ExprMarks
 pub mod ProgramMarks
 pub mod ExcessOf
+pub mod StaysWithin
 pub mod Walking
 pub mod Widths
 pub mod DraftRows

@@ -25,6 +25,7 @@ use Rattle.jif_grammar.proofs.OneRefusal.{kinds_length, same_length}
 use Rattle.jif_grammar.proofs.Refusing.{too_deep_at, too_many_at, unexpected_at}
 use Rattle.jif_grammar.proofs.DueLaws.{due_at_beginning, beginning_of_due}
 use Rattle.jif_grammar.proofs.DueEnds.{nothing_due_at_end, program_of_nothing_due}
+use Rattle.jif_grammar.proofs.StaysWithin.{tokens_behind}
 
 -- ---- what is due, without its nesting
 
@@ -119,11 +120,6 @@ at_token (first ∷ front) kind rest (token ∷ tokens) is =
       dropped_too = there.dropped_too;
       taken = ap (λ ts. token ∷ ts) there.taken;
     }
-
-tokens_behind : (t : Tally) (front more : List Marked) →
-    after_tokens t (front ++ more) ≡ after_tokens (after_tokens t front) more
-tokens_behind t [] more = refl
-tokens_behind t (token ∷ front) more = tokens_behind (after_token t token) front more
 
 -- ---- how far the walk has come
 

@@ -4,6 +4,7 @@ use Rattle.std.proofs.Common.{subst, arith}
 use Rattle.std.specs.List.{flat_map}
 use Rattle.std.proofs.lemmas.List.{length-append}
 use Rattle.js_base.specs.declared.ids.VarId.{VarId}
+use Rattle.js_base.proofs.Lists.{none_in_two, none_in_three, none_in_four}
 use Rattle.jif_tree.specs.Trees.{BlockTree, done, set_element, give_back}
 use Rattle.jif_grammar.specs.DraftShapes.{BlockShape, end_shape}
 use Rattle.jif_grammar.specs.DraftShapes.{declaration_shape, assignment_shape, element_assignment_shape}
@@ -22,7 +23,7 @@ use Rattle.jif_parse.specs.PrintedNames.{Naming, field_name}
 use Rattle.jif_parse.specs.PrintedExprs.{expr_phrase}
 use Rattle.jif_parse.specs.PrintedProgram.{seen_behind, is_done}
 use Rattle.jif_parse.specs.PrintedBack.{block_without_lines, without_line}
-use Rattle.jif_parse.proofs.PrintedLists.{none_in_two, none_in_three, none_in_four, none_where}
+use Rattle.jif_parse.proofs.PrintedLists.{none_where}
 use Rattle.jif_parse.proofs.PrintedPhrases.{block_phrase}
 use Rattle.jif_parse.proofs.PrintedBackExprs.{array_back, expr_back}
 use Rattle.jif_parse.proofs.PrintedKnown.{IsVariableAt, LocalsAre, locals_front, locals_behind, name_there, KnownAre}

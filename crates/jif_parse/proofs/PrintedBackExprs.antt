@@ -8,6 +8,7 @@ use Rattle.std.proofs.lemmas.Slice.Eq.{bytes_eq-Decides}
 use Rattle.js_base.specs.Name.{IsName}
 use Rattle.js_base.specs.declared.ids.FieldId.{FieldId}
 use Rattle.js_base.specs.declared.ids.PrincipalId.{PrincipalId}
+use Rattle.js_base.proofs.Lists.{none_joined}
 use Rattle.principals.specs.ActsFor.{Declared, IsDeclared}
 use Rattle.label_lattice.specs.declared.label.Label.{Label}
 use Rattle.label_lattice.specs.Written.{KnownPart, policy_of, trust_of, IsKnown, AreKnown, IsKnownPart}
@@ -32,7 +33,6 @@ use Rattle.jif_resolve.specs.declared.fault.Fault.{Fault}
 use Rattle.jif_resolve.specs.declared.fault.FaultKind.TheVariants.{UnknownName}
 use Rattle.jif_resolve.specs.declared.meaning.Meaning.{Meaning}
 use Rattle.jif_resolve.specs.declared.meaning.Meaning.TheVariants as sense
-use Rattle.jif_parse.proofs.PrintedLists.{none_joined}
 use Rattle.jif_parse.specs.PrintedNames.{Naming, field_name, variable_name, method_name}
 use Rattle.jif_parse.specs.PrintedExprs.{operand, parenthesized_where, expr_phrase}
 use Rattle.jif_parse.proofs.PrintedApart.{IsNamed, IsNamedLabel, IsSmall}

@@ -10,6 +10,7 @@ use Rattle.std.proofs.lemmas.Bool.Decides.{nat_tests}
 use Rattle.std.proofs.lemmas.List.{append_assoc, length-append, length-map}
 use Rattle.std.proofs.lemmas.Slice.Eq.{bytes_eq-Decides}
 use Rattle.js_base.specs.declared.ids.VarId.{VarId}
+use Rattle.js_base.proofs.Lists.{none_in_two}
 use Rattle.jif_lex.specs.declared.token.TokenKind.TheVariants.{Name}
 use Rattle.jif_lex.specs.declared.token.Symbol.TheVariants.{LeftBrace, RightBrace, LeftParenthesis, RightParenthesis}
 use Rattle.label_lattice.specs.Written.{symbol}
@@ -37,7 +38,7 @@ use Rattle.jif_resolve.specs.declared.meaning.Meaning.{Meaning}
 use Rattle.jif_resolve.specs.declared.meaning.Meaning.TheVariants as sense
 use Rattle.jif_parse.specs.PrintedNames.{Naming, name_of_field, name_of_method}
 use Rattle.jif_parse.specs.PrintedProgram.{seen_after_method}
-use Rattle.jif_parse.proofs.PrintedLists.{none_in_two, none_where}
+use Rattle.jif_parse.proofs.PrintedLists.{none_where}
 use Rattle.jif_parse.proofs.PrintedPhrases.{field_end_phrase, field_phrase, fields_phrases, param_phrase}
 use Rattle.jif_parse.proofs.PrintedPhrases.{kind_phrase, method_phrase, methods_phrases}
 use Rattle.jif_parse.proofs.PrintedLabels.{Laws, label_back}

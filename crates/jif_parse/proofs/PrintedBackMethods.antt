@@ -10,6 +10,7 @@ use Rattle.js_base.specs.Name.{IsName}
 use Rattle.js_base.specs.declared.ids.VarId.{VarId}
 use Rattle.js_base.specs.declared.ids.MethodId.{MethodId}
 use Rattle.js_base.specs.declared.ids.PrincipalId.{PrincipalId}
+use Rattle.js_base.proofs.Lists.{none_in_three, none_in_six}
 use Rattle.principals.specs.ActsFor.{Declared, IsDeclared}
 use Rattle.label_lattice.specs.declared.label.Label.{Label}
 use Rattle.label_lattice.specs.Written.{AreKnown}
@@ -37,7 +38,7 @@ use Rattle.jif_parse.specs.PrintedNames.{Naming, name_of_variable, label_of_vari
 use Rattle.jif_parse.specs.PrintedNames.{variable_label, principal_name}
 use Rattle.jif_parse.specs.PrintedProgram.{seen_after_all, seen_behind, seen_after_result, seen_after_method}
 use Rattle.jif_parse.specs.PrintedBack.{method_without_lines}
-use Rattle.jif_parse.proofs.PrintedLists.{none_in_three, none_in_six, six_joined, none_where}
+use Rattle.jif_parse.proofs.PrintedLists.{six_joined, none_where}
 use Rattle.jif_parse.proofs.PrintedApart.{IsNamedLabel, IsNamedOptional, IsNamedParam, AreNames, IsNamedItem}
 use Rattle.jif_parse.proofs.PrintedPhrases.{label_or_none, block_phrase, result_phrase, param_phrase}
 use Rattle.jif_parse.proofs.PrintedPhrases.{kind_phrase, method_phrase}

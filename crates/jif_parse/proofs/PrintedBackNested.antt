@@ -7,6 +7,7 @@ use Rattle.std.specs.List.{AllZip}
 use Rattle.std.proofs.lemmas.List.{length-append, length-map, map-append}
 use Rattle.js_base.specs.declared.ids.VarId.{VarId}
 use Rattle.js_base.specs.declared.ids.MethodId.{MethodId}
+use Rattle.js_base.proofs.Lists.{none_joined}
 use Rattle.jif_tree.specs.Trees.{ExprTree, BlockTree, done, set_local, set_field, set_element, branch, loop}
 use Rattle.jif_tree.specs.Trees.{call}
 use Rattle.jif_tree.specs.Trees.{give_back}
@@ -32,7 +33,6 @@ use Rattle.jif_parse.specs.PrintedNames.{method_name}
 use Rattle.jif_parse.specs.PrintedExprs.{expr_phrase}
 use Rattle.jif_parse.specs.PrintedProgram.{seen_behind, is_done}
 use Rattle.jif_parse.specs.PrintedBack.{block_without_lines, without_line}
-use Rattle.jif_parse.proofs.PrintedLists.{none_joined}
 use Rattle.jif_parse.proofs.PrintedApart.{IsNamed, IsNamedBlock}
 use Rattle.jif_parse.proofs.PrintedPhrases.{branch_phrase, block_phrase}
 use Rattle.jif_parse.proofs.PrintedPhrases.{result_phrase}

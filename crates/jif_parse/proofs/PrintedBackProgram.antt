@@ -9,6 +9,7 @@ use Rattle.std.proofs.lemmas.List.{length-append, length-map}
 use Rattle.std.proofs.lemmas.List.Sums.{sum_by-append}
 use Rattle.js_base.specs.Name.{IsName}
 use Rattle.js_base.specs.declared.ids.MethodId.{MethodId}
+use Rattle.js_base.proofs.Lists.{none_joined, none_in_two, none_in_three}
 use Rattle.principals.specs.ActsFor.{Declared, IsDeclared}
 use Rattle.jif_tree.specs.Trees.{FieldTree, VarTree, MethodTree, ProgramTree}
 use Rattle.jif_grammar.specs.Phrases as phrase
@@ -27,7 +28,6 @@ use Rattle.jif_resolve.specs.Returns.{ReturnsLast}
 use Rattle.jif_parse.specs.PrintedNames.{Naming}
 use Rattle.jif_parse.specs.PrintedProgram.{seen_after_method}
 use Rattle.jif_parse.specs.PrintedBack.{method_without_lines, without_lines}
-use Rattle.jif_parse.proofs.PrintedLists.{none_joined, none_in_two, none_in_three}
 use Rattle.jif_parse.proofs.PrintedApart.{IsSmall, IsNamedEnd, IsNamedItem, IsNamedProgram}
 use Rattle.jif_parse.proofs.PrintedPhrases.{fields_phrases, method_phrase, methods_phrases, program_phrase}
 use Rattle.jif_parse.proofs.PrintedPhrases.{field_phrase, field_end_phrase, HasElements}

@@ -8,6 +8,7 @@ use Rattle.std.specs.Str.{bytes_eq}
 use Rattle.std.proofs.lemmas.Bool.Decides.{nat_tests}
 use Rattle.js_base.specs.Name.{IsName}
 use Rattle.js_base.specs.declared.ids.VarId.{VarId}
+use Rattle.js_base.proofs.Lists.{none_joined}
 use Rattle.principals.specs.ActsFor.{Declared}
 use Rattle.label_lattice.specs.declared.label.Label.{Label}
 use Rattle.jif_tree.specs.Trees.{ExprTree, BlockTree, set_local, set_field}
@@ -35,7 +36,7 @@ use Rattle.jif_parse.specs.PrintedNames.{variable_label}
 use Rattle.jif_parse.specs.PrintedExprs.{expr_phrase}
 use Rattle.jif_parse.specs.PrintedProgram.{seen_behind}
 use Rattle.jif_parse.specs.PrintedBack.{without_line}
-use Rattle.jif_parse.proofs.PrintedLists.{none_joined, none_where}
+use Rattle.jif_parse.proofs.PrintedLists.{none_where}
 use Rattle.jif_parse.proofs.PrintedApart.{IsNamedBlock}
 use Rattle.jif_parse.proofs.PrintedPhrases.{label_phrase, assigned_phrase, block_phrase}
 use Rattle.jif_parse.proofs.PrintedPhrases.{result_phrase}

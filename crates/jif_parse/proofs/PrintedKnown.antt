@@ -10,6 +10,7 @@ use Rattle.std.proofs.lemmas.Slice.Eq.{bytes_eq-Decides}
 use Rattle.js_base.specs.Name.{IsName}
 use Rattle.js_base.specs.declared.ids.VarId.{VarId}
 use Rattle.js_base.specs.declared.ids.MethodId.{MethodId}
+use Rattle.js_base.proofs.Lists.{none_joined, none_in_two}
 use Rattle.principals.specs.ActsFor.{Declared, IsDeclared}
 use Rattle.label_lattice.specs.declared.label.Label.{Label}
 use Rattle.jif_tree.specs.Trees.{ExprTree}
@@ -30,7 +31,7 @@ use Rattle.jif_resolve.specs.declared.meaning.Meaning.TheVariants as sense
 use Rattle.jif_parse.specs.PrintedNames.{Naming, name_of_variable, variable_name}
 use Rattle.jif_parse.specs.PrintedNames.{method_name}
 use Rattle.jif_parse.specs.PrintedExprs.{expr_phrase}
-use Rattle.jif_parse.proofs.PrintedLists.{none_joined, none_in_two, none_where}
+use Rattle.jif_parse.proofs.PrintedLists.{none_where}
 use Rattle.jif_parse.proofs.PrintedApart.{AreNamed, IsNamedOptional}
 use Rattle.jif_parse.proofs.PrintedPhrases.{label_phrase}
 use Rattle.jif_parse.proofs.PrintedLabels.{Laws, label_back}

@@ -28,13 +28,14 @@ use Rattle.jif_grammar.specs.Spelling.{field_end_spelling, field_spelling}
 use Rattle.jif_grammar.specs.Spelling.{method_spelling, item_spelling, spelling}
 use Rattle.jif_grammar.specs.Programs.{IsWithin, IsWithinLimits}
 use Rattle.jif_grammar.specs.Drafts.{methods_at, fields_at, after_item, size_of, is_array}
+use Rattle.jif_grammar.proofs.StaysWithin.{StaysWithin, tokens_behind, program_stays, stays_program}
+use Rattle.jif_grammar.proofs.StaysWithin.{within_parts, within_joined, within_at_start, within_at_end}
 use Rattle.jif_resolve.specs.Resolved.{IsFieldFor}
 use Rattle.jif_parse.specs.PrintedNames.{Naming}
 use Rattle.jif_parse.proofs.PrintedPhrases.{field_end_phrase, field_phrase}
 use Rattle.jif_parse.proofs.PrintedPhrases.{fields_phrases}
 use Rattle.jif_parse.proofs.PrintedBackProgram.{MethodsAlike}
-use Rattle.jif_parse.proofs.PrintedTallies.{StaysWithin, program_stays, stays_program, tokens_behind, within_parts}
-use Rattle.jif_parse.proofs.PrintedTallies.{within_joined, Below, nested_as, same_counts}
+use Rattle.jif_parse.proofs.PrintedTallies.{Below, nested_as, same_counts}
 use Rattle.jif_parse.proofs.PrintedMethodLimits.{InFields, methods_sim}
 
 -- ---- the fields of a program
@@ -296,24 +297,6 @@ spelling_append (item ∷ front) more =
     ap (λ (ts : List Marked). item_spelling item ++ ts) (spelling_append front more)
     ∙ sym (append_assoc (item_spelling item) (spelling front) (spelling more))
 
-pub start_within : IsWithin tally_at_start
-start_within = record { nesting = λ deep. omega (arith, deep); counts = none_at_start }
-  where
-    none_at_start : (what : What) → ¬ HasTooMany what tally_at_start
-    none_at_start counted.Fields many = omega (arith, many)
-    none_at_start counted.Methods many = omega (arith, many)
-    none_at_start counted.Parameters many = omega (arith, many)
-    none_at_start counted.Locals many = omega (arith, many)
-    none_at_start counted.Statements many = omega (arith, many)
-    none_at_start counted.Nodes many = omega (arith, many)
-    none_at_start counted.Elements (inl many) = omega (arith, many)
-    none_at_start counted.Elements (inr many) = omega (arith, many)
-
-pub within_at_end : (t : Tally) (tokens : List Marked) → IsWithin t → StaysWithin t tokens →
-    IsWithin (after_tokens t tokens)
-within_at_end t [] first within = first
-within_at_end t (token ∷ tokens) first within = within_at_end (after_token t token) tokens within.0 within.1
-
 pub few_in : (t : Tally) → IsWithin t → (t.fields ≤ FIELDS) × (t.elements ≤ ELEMENTS)
 few_in t within = (
   by t.fields FIELDS (within.counts counted.Fields),
@@ -345,7 +328,7 @@ printed_within principals naming lines program fields items grouped limits are a
     } in
     let one = (fields_sim principals program 0 fields are).run start start nothing_yet within in
     let last = few_in (after_tokens start (spelling program))
-    (within_at_end start (spelling program) start_within within) in
+    (within_at_end start (spelling program) within_at_start within) in
     let below : Below (after_tokens start front) start = record {
       methods = one.1.methods;
       statements = one.1.statements;

@@ -24,11 +24,12 @@ use Rattle.jif_grammar.specs.Spelling.{param_spelling, params_spelling, authorit
 use Rattle.jif_grammar.specs.Spelling.{head_spelling, method_spelling, spelling}
 use Rattle.jif_grammar.specs.Drafts.{optional_label_at, params_at}
 use Rattle.jif_grammar.specs.Drafts.{method_at, methods_at, after_item}
+use Rattle.jif_grammar.proofs.StaysWithin.{tokens_behind, within_parts}
 use Rattle.jif_parse.specs.PrintedNames.{Naming}
 use Rattle.jif_parse.proofs.PrintedAlike.{SameSome}
 use Rattle.jif_parse.proofs.PrintedBackMethods.{MethodAlike}
 use Rattle.jif_parse.proofs.PrintedBackProgram.{MethodsAlike}
-use Rattle.jif_parse.proofs.PrintedTallies.{tokens_behind, within_parts, Below, nested_as, below_nested, Stands, Sim}
+use Rattle.jif_parse.proofs.PrintedTallies.{Below, nested_as, below_nested, Stands, Sim}
 use Rattle.jif_parse.proofs.PrintedTallies.{sim_nil, sim_both, sim_append, sim_run, label_sim, sim_plain}
 use Rattle.jif_parse.proofs.PrintedStatementLimits.{block_sim, result_of, result_sim}
 

@@ -4,46 +4,17 @@ use Rattle.std.proofs.lemmas.Bool.Decides.{nat_tests}
 use Rattle.std.proofs.Common.{◌≡◌, ◌∙◌, ℕ, ◌<◌, false, List, [], ◌∷◌, ◌++◌, length, refl, ap, sym, codes}
 use Rattle.std.proofs.Common.{arith}
 use Rattle.std.proofs.lemmas.List.{append_assoc}
-use Rattle.std.specs.Global.{Vec}
 use Rattle.jif_tree.specs.declared.program.Stmt.{Stmt}
-use Rattle.jif_tree.specs.declared.program.StmtKind.{StmtKind, If, While}
+use Rattle.jif_tree.specs.declared.program.StmtKind.{StmtKind}
 use Rattle.jif_tree.specs.declared.program.StmtKind as kind
-use Rattle.jif_tree.specs.declared.program.Expr.{Expr}
-use Rattle.jif_tree.specs.Trees.{ExprTree, Heading, BlockTree, branch, loop, block_tree, expr_tree}
-use Rattle.jif_tree.specs.Trees.{statement_tree, tree_before}
+use Rattle.jif_tree.specs.Trees.{ExprTree, Heading, BlockTree, branch, loop, block_tree}
+use Rattle.jif_tree.specs.Trees.{statement_tree, head_of}
 use Rattle.jif_parse.specs.PrintedNames.{Naming}
 use Rattle.jif_parse.specs.PrintedExprs.{expr_text}
 use Rattle.jif_parse.specs.PrintedProgram.{else_text, is_done, block_text, seen_behind}
 use Rattle.jif_parse.specs.PrintedBlocks.{PrintsBefore}
 
 -- ---- the trees of statements with blocks
-
-abbrev pub head_of : Stmt → Heading
-head_of statement = record { id = statement.id; line = statement.line }
-
-abbrev pub Branches : Type 0
-Branches = (guard : Expr) (first second : Vec Stmt) (heading : Heading) (rest : BlockTree) →
-    statement_tree (If guard first second) heading rest
-    ≡ branch heading (expr_tree guard) (block_tree first.items) (block_tree second.items) rest
-
-abbrev pub Loops : Type 0
-Loops = (guard : Expr) (body : Vec Stmt) (heading : Heading) (rest : BlockTree) →
-    statement_tree (While guard body) heading rest ≡ loop heading (expr_tree guard) (block_tree body.items) rest
-
-pub if_is : (statement : Stmt) (guard : Expr) (first second : Vec Stmt) (rest : BlockTree) →
-    statement.kind ≡ If guard first second → Branches →
-    tree_before statement rest
-    ≡ branch (head_of statement) (expr_tree guard) (block_tree first.items) (block_tree second.items) rest
-if_is statement guard first second rest is branches =
-    ap (λ (what : StmtKind). statement_tree what (head_of statement) rest) is
-    ∙ branches guard first second (head_of statement) rest
-
-pub while_is : (statement : Stmt) (guard : Expr) (body : Vec Stmt) (rest : BlockTree) →
-    statement.kind ≡ While guard body → Loops →
-    tree_before statement rest ≡ loop (head_of statement) (expr_tree guard) (block_tree body.items) rest
-while_is statement guard body rest is loops =
-    ap (λ (what : StmtKind). statement_tree what (head_of statement) rest) is
-    ∙ loops guard body (head_of statement) rest
 
 not_done : (what : StmtKind) (heading : Heading) (rest : BlockTree) → is_done (statement_tree what heading rest) ≡ false
 not_done (kind.Let x value) heading rest = refl
@@ -57,7 +28,7 @@ not_done (kind.Return value) heading rest = refl
 pub some_is : (statements : List Stmt) → 0 < length statements → is_done (block_tree statements) ≡ false
 some_is [] some = absurd (omega (arith, some))
 some_is (statement ∷ statements) some =
-    not_done statement.kind (record { id = statement.id; line = statement.line }) (block_tree statements)
+    not_done statement.kind (head_of statement) (block_tree statements)
 
 -- ---- their texts
 

@@ -18,54 +18,11 @@ use Rattle.jif_grammar.specs.Marks.{tally_at_start, after_beginning, after_token
 use Rattle.jif_grammar.specs.Spelling.{label_spelling}
 use Rattle.jif_grammar.specs.Spelling.{spelling}
 use Rattle.jif_grammar.specs.Programs.{IsWithin, IsWithinLimits}
+use Rattle.jif_grammar.proofs.StaysWithin.{StaysWithin, tokens_behind, within_parts, within_joined}
 
 -- ---- within the limits
 
--- no token passes a limit, where this has begun before
-abbrev pub StaysWithin : Tally → List Marked → Type 0
-StaysWithin t [] = ⊤
-StaysWithin t (token ∷ tokens) = IsWithin (after_token t token) × StaysWithin (after_token t token) tokens
-
-pub stays : (t : Tally) (tokens : List Marked) →
-    ((n : ℕ) → n < length tokens → IsWithin (after_tokens t (take (n + 1) tokens))) → StaysWithin t tokens
-stays t [] each = tt
-stays t (token ∷ tokens) each = (
-  each 0 (omega arith),
-  stays (after_token t token) tokens (λ n less.
-      let one_more : suc n + 1 ≡ suc (n + 1) = omega arith in
-      subst (λ k. IsWithin (after_tokens t (take k (token ∷ tokens)))) one_more (each (suc n) (omega (arith, less)))),
 )
-
-pub each_within : (t : Tally) (tokens : List Marked) → StaysWithin t tokens → (n : ℕ) → n < length tokens →
-    IsWithin (after_tokens t (take (n + 1) tokens))
-each_within t [] within n less = absurd (omega (arith, less))
-each_within t (token ∷ tokens) within zero less = within.0
-each_within t (token ∷ tokens) within (suc n) less =
-    let one_more : suc (n + 1) ≡ suc n + 1 = omega arith in
-    subst (λ k. IsWithin (after_tokens t (take k (token ∷ tokens)))) one_more
-    (each_within (after_token t token) tokens within.1 n (omega (arith, less)))
-
-pub program_stays : (program : ProgramPhrase) → IsWithinLimits program → StaysWithin tally_at_start (spelling program)
-program_stays program within = stays tally_at_start (spelling program) within
-
-pub stays_program : (program : ProgramPhrase) → StaysWithin tally_at_start (spelling program) → IsWithinLimits program
-stays_program program within = each_within tally_at_start (spelling program) within
-
-pub tokens_behind : (t : Tally) (front more : List Marked) →
-    after_tokens t (front ++ more) ≡ after_tokens (after_tokens t front) more
-tokens_behind t [] more = refl
-tokens_behind t (token ∷ front) more = tokens_behind (after_token t token) front more
-
-pub within_parts : (t : Tally) (front more : List Marked) → StaysWithin t (front ++ more) →
-    StaysWithin t front × StaysWithin (after_tokens t front) more
-within_parts t [] more within = (tt, within)
-within_parts t (token ∷ front) more within =
-    let rest = within_parts (after_token t token) front more within.1 in ((within.0, rest.0), rest.1)
-
-pub within_joined : (t : Tally) (front more : List Marked) → StaysWithin t front →
-    StaysWithin (after_tokens t front) more → StaysWithin t (front ++ more)
-within_joined t [] more one two = two
-within_joined t (token ∷ front) more one two = (one.0, within_joined (after_token t token) front more one.1 two)
 
 -- ---- no more has begun
 

@@ -4,7 +4,6 @@ use Rattle.std.proofs.Common.{drop, take, map}
 use Rattle.std.proofs.Common.{ap, sym, ◌∙◌, arith, add-one}
 use Rattle.std.specs.Prelude.{nat_lt}
 use Rattle.std.specs.List.{join_by}
-use Rattle.std.proofs.Math.Seq.{drop-cons}
 use Rattle.std.proofs.lemmas.Bool.Decides.{nat_tests}
 use Rattle.std.proofs.lemmas.List.{append_assoc, take_all, take-map}
 use Rattle.label_lattice.proofs.PrintedLemmas.{joined_same}
@@ -14,12 +13,6 @@ use Rattle.jif_grammar.specs.Phrases.{ExprPhrase, binary, element}
 use Rattle.jif_grammar.specs.Operators.{operator_symbol, operator_level}
 use Rattle.jif_grammar.specs.Grouping.{level}
 use Rattle.jif_parse.specs.PrintedExprs.{operand, parenthesized_where, phrase_text}
-
--- the items that are left begin with the next
-pub next_of : {X : Type 0} (items : List X) (place : ℕ) (item : X) → place < length items → item ≡ get_or items place item →
-    drop place items ≡ item ∷ drop (suc place) items
-next_of {X = X} items place item within is =
-    drop-cons items place item within ∙ ap (λ (next : X). next ∷ drop (suc place) items) (sym is)
 
 -- ---- expressions
 

@@ -3,6 +3,7 @@ use Rattle.std.proofs.Common.{◌≡◌, ℕ, ◌+◌, ◌<◌, ◌≤◌, List,
 use Rattle.std.proofs.Common.{Vec, Global, ap, sym, ◌∙◌, subst}
 use Rattle.std.specs.Option.{option_map}
 use Rattle.std.proofs.lemmas.List.{drop_all}
+use Rattle.js_base.proofs.Lists.{none_in_two, none_in_three, none_in_four}
 use Rattle.jif_tree.specs.declared.draft.ExprDraft.{ExprDraft}
 use Rattle.jif_tree.specs.declared.draft.LabelDraft.{LabelDraft}
 use Rattle.jif_tree.specs.declared.draft.NameDraft.{NameDraft}
@@ -14,6 +15,7 @@ use Rattle.jif_tree.specs.declared.program.Stmt.{Stmt}
 use Rattle.jif_tree.specs.declared.program.StmtKind as made_kind
 use Rattle.jif_tree.specs.declared.program.StmtKind.{StmtKind}
 use Rattle.jif_tree.specs.Trees.{Heading, BlockTree, done, branch, loop, expr_tree, statement_tree, block_tree}
+use Rattle.jif_tree.specs.Trees.{head_of}
 use Rattle.jif_grammar.proofs.DraftRows.{if_shape, while_shape}
 use Rattle.jif_grammar.specs.DraftShapes.{Start, end_shape, branch_shape, loop_shape}
 use Rattle.jif_grammar.specs.DraftShapes.{label_shape, name_shape, expr_shape, statement_shape, block_shape}
@@ -24,7 +26,6 @@ use Rattle.jif_resolve.specs.KnownNames.{IsCounted, left}
 use Rattle.jif_resolve.specs.Walks.{behind}
 use Rattle.jif_resolve.specs.Resolved.{heading_of, IsExprFor, IsBlockFor}
 use Rattle.jif_resolve.specs.Making.{IsKindFor, IsStatementFor}
-use Rattle.jif_resolve.proofs.Usable.{none_in_two, none_in_three, none_in_four}
 use Rattle.jif_resolve.proofs.Walks.{WalkedSoFar, at_place, next_faults, walk_counted, walk_goes_on, walk_left}
 use Rattle.jif_resolve.proofs.Walks.{if_alone, while_alone}
 
@@ -34,19 +35,19 @@ use Rattle.jif_resolve.proofs.Walks.{if_alone, while_alone}
 abbrev pub before : List Stmt → BlockTree → BlockTree
 before [] tree = tree
 before (statement ∷ statements) tree =
-    statement_tree statement.kind (record { id = statement.id; line = statement.line }) (before statements tree)
+    statement_tree statement.kind (head_of statement) (before statements tree)
 
 before_more : (statements : List Stmt) (last : Stmt) (tree : BlockTree) →
     before (statements ++ last ∷ []) tree ≡ before statements (before (last ∷ []) tree)
 before_more [] last tree = refl
 before_more (statement ∷ statements) last tree =
-    ap (statement_tree statement.kind (record { id = statement.id; line = statement.line }))
+    ap (statement_tree statement.kind (head_of statement))
     (before_more statements last tree)
 
 before_none : (statements : List Stmt) → before statements done ≡ block_tree statements
 before_none [] = refl
 before_none (statement ∷ statements) =
-    ap (statement_tree statement.kind (record { id = statement.id; line = statement.line })) (before_none statements)
+    ap (statement_tree statement.kind (head_of statement)) (before_none statements)
 
 -- what is made of a block where the walk has come so far: whatever is made of what is left, with it the block is made
 pub record MadeSoFar (s : Setting) (start : Place) (block : List StmtDraft) (i : ℕ) (p : Place)

@@ -1,13 +1,13 @@
 -- The parts of a draft without faults.
 use Rattle.std.proofs.Common.{◌≡◌, []}
 use Rattle.std.specs.List.{flat_map}
+use Rattle.js_base.proofs.Lists.{none_in_three}
 use Rattle.principals.specs.ActsFor.{Declared}
 use Rattle.jif_grammar.specs.DraftShapes.{DraftShape}
 use Rattle.jif_resolve.specs.Meanings.{globals_of}
 use Rattle.jif_resolve.specs.Faults.{label_faults, global_faults, methods_faults, faults_of}
 use Rattle.jif_resolve.specs.Variables.{variables_from}
 use Rattle.jif_resolve.specs.AddedVariables.{AreLabelled}
-use Rattle.jif_resolve.proofs.Usable.{none_in_three}
 use Rattle.jif_resolve.proofs.HasProgram.{all_labelled}
 
 pub clean_draft : (principals : Declared) (draft : DraftShape) → faults_of principals draft ≡ [] →

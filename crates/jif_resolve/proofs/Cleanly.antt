@@ -5,6 +5,7 @@ use Rattle.std.specs.List.{AllZip, flat_map}
 use Rattle.std.proofs.lemmas.List.{take_more, map-append, append_assoc}
 use Rattle.js_base.proofs.Lists.{zip_push}
 use Rattle.js_base.specs.declared.ids.PrincipalId.{PrincipalId}
+use Rattle.js_base.proofs.Lists.{none_in_two, none_in_four}
 use Rattle.principals.specs.ActsFor.{Declared}
 use Rattle.label_lattice.specs.Written.{IsKnown, AreKnown}
 use Rattle.jif_tree.specs.declared.draft.NameDraft.{NameDraft}
@@ -15,7 +16,6 @@ use Rattle.jif_resolve.specs.Faults.{label_faults, array_faults, expr_faults, bl
 use Rattle.jif_resolve.specs.Labels.{texts}
 use Rattle.jif_resolve.specs.Places.{Setting, Place, meaning_at}
 use Rattle.jif_resolve.specs.Making.{no_start}
-use Rattle.jif_resolve.proofs.Usable.{none_in_two, none_in_four}
 
 clean_place : {X Y : Type 0} (shape : X → Y) (faults : Y → List Fault) (xs : List X) (i : ℕ) (d : X) →
     i < length xs → flat_map faults (map shape xs) ≡ [] → faults (shape (get_or xs i d)) ≡ []

@@ -7,6 +7,7 @@ use Rattle.std.proofs.lemmas.Grind.{flat_map-append}
 use Rattle.std.proofs.lemmas.List.Folds.{flat_map-map}
 use Rattle.js_base.specs.declared.ids.VarId.{VarId}
 use Rattle.js_base.specs.declared.ids.MethodId.{MethodId}
+use Rattle.js_base.proofs.Lists.{none_joined, none_in_two, none_in_three, none_in_four, none_in_six}
 use Rattle.principals.specs.ActsFor.{Declared}
 use Rattle.jif_tree.specs.Trees.{ExprTree, number, element, inverted, negated, binary, declassified}
 use Rattle.jif_tree.specs.Trees.{endorsed, BlockTree, done, set_local, set_element, branch, loop}
@@ -33,7 +34,7 @@ use Rattle.jif_resolve.specs.Resolved.{IsExprFor, heading_of, into_tree, IsBlock
 use Rattle.jif_resolve.specs.Resolved.{IsVariableFor, IsMethodFor, AreMethodsFor}
 use Rattle.jif_resolve.specs.Verdicts.{Refusal, for_fault, no_main, IsRefused, IsProgramOf, IsFirst}
 use Rattle.jif_resolve.proofs.FirstFault.{first_fault}
-use Rattle.jif_resolve.proofs.Usable.{none_in_two, none_in_three, none_in_four, none_in_six, none_joined, each_made}
+use Rattle.jif_resolve.proofs.Usable.{each_made}
 use Rattle.jif_resolve.proofs.Usable.{principals_of, HasLabels}
 use Rattle.jif_resolve.proofs.Usable.{optional_label, use_variable, use_assigned, use_array, use_keeper, use_called}
 

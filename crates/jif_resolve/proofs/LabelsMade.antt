@@ -2,6 +2,7 @@
 use Rattle.std.proofs.Common.{◌≡◌, List, [], ◌∷◌, ◌++◌, map, Option, Some, None}
 use Rattle.std.specs.Prelude.{Contains}
 use Rattle.std.specs.List.{AllByRecursion, AllZip, flat_map}
+use Rattle.js_base.proofs.Lists.{none_in_two}
 use Rattle.principals.specs.ActsFor.{Declared, IsDeclared}
 use Rattle.label_lattice.specs.declared.label.Label.{Label}
 use Rattle.label_lattice.specs.Over.{IsLabelOver}
@@ -10,7 +11,7 @@ use Rattle.label_lattice.proofs.KnownNames.{known_is_held}
 use Rattle.jif_grammar.specs.DraftShapes.{NameShape, PolicyShape}
 use Rattle.jif_resolve.specs.Faults.{principal_faults, principals_faults, policy_faults, trust_faults}
 use Rattle.jif_resolve.specs.Labels.{texts, policy_part, trust_parts, parts_of}
-use Rattle.jif_resolve.proofs.Usable.{none_in_two, principal_of, HasLabels}
+use Rattle.jif_resolve.proofs.Usable.{principal_of, HasLabels}
 
 -- what the law of written labels says
 abbrev pub PartsMake : Type 0

@@ -26,12 +26,13 @@ use Rattle.jif_grammar.specs.DraftShapes.{BlockShape, end_shape, DraftShape}
 use Rattle.jif_grammar.specs.Drafts.{expr_at, args_at, expr_width, block_at, block_width, result_at, field_at}
 use Rattle.jif_grammar.specs.Drafts.{size_of, method_at, after_item, fields_at, methods_at}
 use Rattle.jif_grammar.specs.Programs.{IsWithin, IsProgramOf, line_at}
+use Rattle.jif_grammar.proofs.StaysWithin.{StaysWithin, tokens_behind, within_at_start, within_at_end, program_stays}
 use Rattle.jif_resolve.specs.Counts.{nodes_in, nodes_in_all}
 use Rattle.jif_resolve.specs.Sizes.{IsSizedField, elements_in, HasFewNodes, MethodKeepsLimits, KeepsLimits}
 use Rattle.jif_resolve.proofs.Begun.{begun, begun_append, of_optional_label, of_expr, of_args, worth_is}
-use Rattle.jif_resolve.proofs.Tallies.{read_after, tokens_behind, never_begun, IsRenewed, elements_of, a_node}
-use Rattle.jif_resolve.proofs.Tallies.{other_nodes, elements_read, nodes_read, StaysWithin}
-use Rattle.jif_resolve.proofs.Tallies.{within_at_end, within_at_start, program_within, few_elements, small_array}
+use Rattle.jif_resolve.proofs.Tallies.{read_after, never_begun, IsRenewed, elements_of, a_node}
+use Rattle.jif_resolve.proofs.Tallies.{other_nodes, elements_read, nodes_read}
+use Rattle.jif_resolve.proofs.Tallies.{few_elements, small_array}
 use Rattle.jif_resolve.proofs.Tallies.{few_nodes, parted}
 use Rattle.jif_resolve.proofs.Tallies.{few_fields, few_methods, few_statements, fields_read, methods_read}
 use Rattle.jif_resolve.proofs.Tallies.{statements_read}
@@ -339,7 +340,7 @@ draft_keeps list draft program =
     let phrases = program.program in
     let lines = line_at list in
     let tokens = spelling phrases in
-    let within = program_within phrases program.text.limits in
+    let within = program_stays phrases program.text.limits in
     let last = after_tokens tally_at_start tokens in
     let end_within = within_at_end tally_at_start tokens within_at_start within in
     let on = never_begun tokens in

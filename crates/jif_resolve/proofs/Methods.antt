@@ -4,6 +4,7 @@ use Rattle.std.proofs.Common.{get_or, refl, ap, sym, ◌∙◌, subst, arith}
 use Rattle.std.proofs.lemmas.List.{append-nil, append_assoc, map-append, length-append, length-map}
 use Rattle.js_base.specs.declared.ids.VarId.{VarId}
 use Rattle.js_base.specs.declared.ids.StmtId.{StmtId}
+use Rattle.js_base.proofs.Lists.{none_in_two}
 use Rattle.principals.specs.ActsFor.{Declared}
 use Rattle.jif_tree.specs.declared.draft.ParamDraft.{ParamDraft}
 use Rattle.jif_tree.specs.declared.draft.MethodDraft.{MethodDraft}
@@ -21,7 +22,6 @@ use Rattle.jif_resolve.specs.KnownNames.{IsCounted, after_method}
 use Rattle.jif_resolve.specs.Sizes.{KeepsLimits}
 use Rattle.jif_resolve.specs.Variables.{param_ids}
 use Rattle.jif_resolve.specs.Resolved.{IsBlockFor, IsMethodFor, AreMethodsFor}
-use Rattle.jif_resolve.proofs.Usable.{none_in_two}
 use Rattle.jif_resolve.proofs.MethodWalks.{FewBefore, shapes_from, params_taken, params_counted, next_head, few_before}
 
 -- ---- parameters

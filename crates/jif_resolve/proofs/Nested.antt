@@ -18,8 +18,8 @@ use Rattle.jif_grammar.specs.Spelling.{label_spelling, expr_spelling, args_spell
 use Rattle.jif_grammar.specs.Spelling.{block_spelling, result_spelling}
 use Rattle.jif_grammar.specs.DraftShapes.{BlockShape, end_shape}
 use Rattle.jif_grammar.specs.Drafts.{expr_at, args_at, expr_width, block_at, result_at}
+use Rattle.jif_grammar.proofs.StaysWithin.{StaysWithin}
 use Rattle.jif_resolve.specs.Sizes.{IsExprNested, IsBlockNested}
-use Rattle.jif_resolve.proofs.Tallies.{StaysWithin}
 
 -- ---- tokens
 

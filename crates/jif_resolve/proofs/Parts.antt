@@ -5,6 +5,7 @@ use Rattle.std.specs.List.{flat_map}
 use Rattle.std.proofs.lemmas.List.{append-nil, map-append}
 use Rattle.js_base.proofs.Lists.{zip_push}
 use Rattle.js_base.specs.declared.ids.PrincipalId.{PrincipalId}
+use Rattle.js_base.proofs.Lists.{none_in_two}
 use Rattle.principals.specs.ActsFor.{Declared}
 use Rattle.label_lattice.specs.declared.label.Label.{Label}
 use Rattle.label_lattice.specs.Label.{ForbidsNothing, IsUntrusted, SameForbidden, SameTrust, AddsPolicy, AddsTrust}
@@ -19,7 +20,6 @@ use Rattle.jif_resolve.specs.Labels.{texts, policy_part, parts_of, IsLabelFor}
 use Rattle.jif_resolve.specs.Faults.{policy_faults, trust_faults, label_faults}
 use Rattle.jif_resolve.specs.Making.{IsOfParts}
 use Rattle.jif_resolve.proofs.Cleanly.{shapes_more}
-use Rattle.jif_resolve.proofs.Usable.{none_in_two}
 
 pub of_none : (principals : Declared) (label : Label) → ForbidsNothing label → IsUntrusted label →
     IsLabelOver principals label → IsOfParts principals [] label

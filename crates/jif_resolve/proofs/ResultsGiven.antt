@@ -4,6 +4,7 @@ use Rattle.std.proofs.Common.{◌≡◌, zero, suc, ℕ, Bool, true, false, not,
 use Rattle.std.proofs.Common.{None, slice_get, refl, ap, sym, ◌∙◌, subst, arith}
 use Rattle.std.proofs.lemmas.Bool.{false≢true}
 use Rattle.js_base.specs.declared.ids.VarId.{VarId}
+use Rattle.js_base.proofs.Lists.{none_in_two}
 use Rattle.principals.specs.ActsFor.{Declared}
 use Rattle.jif_tree.specs.Results.{GivesBack, AreGivenBack}
 use Rattle.jif_tree.specs.Trees.{ExprTree, Heading, BlockTree, set_local, set_field, MethodTree, ProgramTree}
@@ -23,7 +24,7 @@ use Rattle.jif_resolve.proofs.CleanDrafts.{clean_draft}
 use Rattle.jif_resolve.proofs.HasProgram.{clean_parts}
 use Rattle.jif_resolve.proofs.Meant.{gives_result}
 use Rattle.jif_resolve.proofs.Returning.{nothing_behind}
-use Rattle.jif_resolve.proofs.Usable.{none_in_two, none_where}
+use Rattle.jif_resolve.proofs.Usable.{none_where}
 use Rattle.jif_resolve.specs.declared.meaning.Meaning.{Meaning}
 use Rattle.jif_resolve.specs.declared.meaning.Meaning.TheVariants as sense
 

@@ -6,6 +6,7 @@ use Rattle.std.proofs.Common.{length, take, Some, None, slice_get, refl, ap, sym
 use Rattle.std.specs.List.{AllByRecursion}
 use Rattle.js_base.specs.declared.ids.VarId.{VarId}
 use Rattle.js_base.specs.declared.ids.MethodId.{MethodId}
+use Rattle.js_base.proofs.Lists.{none_in_two}
 use Rattle.principals.specs.ActsFor.{Declared}
 use Rattle.jif_tree.specs.Results.{IsNoResult, ReadsNoResult, BlockReadsNoResult, AreUnread}
 use Rattle.jif_tree.specs.Trees.{ExprTree, number, local, scalar, element, inverted, negated, binary, declassified}
@@ -25,7 +26,6 @@ use Rattle.jif_resolve.proofs.HasProgram.{clean_parts}
 use Rattle.jif_resolve.proofs.Meant.{GlobalIs, StandsFrom, from_start, head_stands, tail_stands, fields_are}
 use Rattle.jif_resolve.proofs.Meant.{methods_are, both_all}
 use Rattle.jif_resolve.proofs.StandingVariables.{VariablesStand, all_stand, front_stands, other_variables}
-use Rattle.jif_resolve.proofs.Usable.{none_in_two}
 use Rattle.jif_resolve.proofs.WellNumbered.{params_first, params_earlier, params_known, own_variables, well_numbered}
 use Rattle.jif_resolve.proofs.Within.{HasVariables, block_in}
 

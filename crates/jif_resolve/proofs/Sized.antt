@@ -19,13 +19,14 @@ use Rattle.jif_grammar.specs.DraftShapes.{end_shape}
 use Rattle.jif_grammar.specs.Drafts.{result_at, method_at, after_item, fields_at, methods_at}
 use Rattle.jif_grammar.specs.Drafts.{block_at, block_width, method_name_place}
 use Rattle.jif_grammar.specs.Programs.{IsWithin}
+use Rattle.jif_grammar.proofs.StaysWithin.{StaysWithin, tokens_behind, within_at_end}
 use Rattle.jif_resolve.specs.Places.{numbered_in, counted}
 use Rattle.jif_resolve.specs.Sizes.{declared_in}
 use Rattle.jif_resolve.proofs.Begun.{begun, begun_append, of_label, of_params, of_authority, of_block, worth}
 use Rattle.jif_resolve.proofs.Begun.{begun_plain, worth_is, CountsNoNodes, expr_counts_nothing}
-use Rattle.jif_resolve.proofs.Tallies.{Reading, read_after, tokens_behind, IsRenewed, renewed_append}
+use Rattle.jif_resolve.proofs.Tallies.{Reading, read_after, IsRenewed, renewed_append}
 use Rattle.jif_resolve.proofs.Tallies.{a_field, a_method, a_statement, a_parameter, a_variable}
-use Rattle.jif_resolve.proofs.Tallies.{parameters_read, variables_read, StaysWithin, within_at_end}
+use Rattle.jif_resolve.proofs.Tallies.{parameters_read, variables_read}
 use Rattle.jif_resolve.proofs.Tallies.{few_parameters, few_variables}
 
 -- ---- fields and methods

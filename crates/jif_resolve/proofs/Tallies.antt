@@ -11,6 +11,7 @@ use Rattle.jif_grammar.specs.Marks.{Beginning, Marked, Tally, tally_at_start, af
 use Rattle.jif_grammar.specs.Spelling.{spelling}
 use Rattle.jif_grammar.specs.Phrases.{ProgramPhrase}
 use Rattle.jif_grammar.specs.Programs.{IsWithin, IsWithinLimits}
+use Rattle.jif_grammar.proofs.StaysWithin.{StaysWithin, tokens_behind, within_at_end, within_parts}
 use Rattle.jif_resolve.proofs.Begun.{begun, begun_append}
 
 -- ---- counts of a tally
@@ -35,11 +36,6 @@ read_after r t (token ∷ tokens) on =
       r.nests t token,
       r.goes_on t token.begins (omega (arith, on)),
     )
-
-pub tokens_behind : (t : Tally) (front more : List Marked) →
-    after_tokens t (front ++ more) ≡ after_tokens (after_tokens t front) more
-tokens_behind t [] more = refl
-tokens_behind t (token ∷ front) more = tokens_behind (after_token t token) front more
 
 -- whatever has begun before, the count is what begins at the tokens
 abbrev pub IsRenewed : Reading → List Marked → Type 0
@@ -211,51 +207,7 @@ nodes_read = record {
 
 -- ---- within the limits
 
--- no token passes a limit, where this has begun before
-abbrev pub StaysWithin : Tally → List Marked → Type 0
-StaysWithin t [] = ⊤
-StaysWithin t (token ∷ tokens) = IsWithin (after_token t token) × StaysWithin (after_token t token) tokens
-
-pub within_front : (t : Tally) (front more : List Marked) → StaysWithin t (front ++ more) → StaysWithin t front
-within_front t [] more within = tt
-within_front t (token ∷ front) more within =
-    (within.0, within_front (after_token t token) front more within.1)
-
-pub within_behind : (t : Tally) (front more : List Marked) → StaysWithin t (front ++ more) →
-    StaysWithin (after_tokens t front) more
-within_behind t [] more within = within
-within_behind t (token ∷ front) more within = within_behind (after_token t token) front more within.1
-
-pub within_at_end : (t : Tally) (tokens : List Marked) → IsWithin t → StaysWithin t tokens →
-    IsWithin (after_tokens t tokens)
-within_at_end t [] first within = first
-within_at_end t (token ∷ tokens) first within = within_at_end (after_token t token) tokens within.0 within.1
-
-pub within_at_start : IsWithin tally_at_start
-within_at_start = record { nesting = λ deep. omega (arith, deep); counts = none_at_start }
-  where
-    none_at_start : (what : What) → ¬ marks.HasTooMany what tally_at_start
-    none_at_start counted.Fields many = omega (arith, many)
-    none_at_start counted.Methods many = omega (arith, many)
-    none_at_start counted.Parameters many = omega (arith, many)
-    none_at_start counted.Locals many = omega (arith, many)
-    none_at_start counted.Statements many = omega (arith, many)
-    none_at_start counted.Nodes many = omega (arith, many)
-    none_at_start counted.Elements (inl many) = omega (arith, many)
-    none_at_start counted.Elements (inr many) = omega (arith, many)
-
-stays_within : (t : Tally) (tokens : List Marked) →
-    ((n : ℕ) → n < length tokens → IsWithin (after_tokens t (take (n + 1) tokens))) → StaysWithin t tokens
-stays_within t [] each = tt
-stays_within t (token ∷ tokens) each = (
-  each 0 (omega arith),
-  stays_within (after_token t token) tokens (λ n less.
-      let one_more : suc n + 1 ≡ suc (n + 1) = omega arith in
-      subst (λ k. IsWithin (after_tokens t (take k (token ∷ tokens)))) one_more (each (suc n) (omega (arith, less)))),
 )
-
-pub program_within : (program : ProgramPhrase) → IsWithinLimits program → StaysWithin tally_at_start (spelling program)
-program_within program within = stays_within tally_at_start (spelling program) within
 
 at_most : (count limit : ℕ) → ¬ (limit < count) → count ≤ limit
 at_most count limit within = omega (arith, within)
@@ -292,9 +244,10 @@ pub record Parted (t : Tally) (front more : List Marked) : Type 0 where
 
 pub parted : (t : Tally) (front more : List Marked) → IsWithin t → StaysWithin t (front ++ more) → Parted t front more
 parted t front more first within =
-    let front_is = within_front t front more within in
+    let parts = within_parts t front more within in
+    let front_is = parts.0 in
     record {
       front_is = front_is;
       between = within_at_end t front first front_is;
-      more_is = within_behind t front more within;
+      more_is = parts.1;
     }

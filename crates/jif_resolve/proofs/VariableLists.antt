@@ -6,6 +6,7 @@ use Rattle.std.proofs.lemmas.Grind.{flat_map-append}
 use Rattle.std.proofs.lemmas.List.{append-nil, append_assoc, map-append, drop_all}
 use Rattle.js_base.proofs.Lists.{zip_push}
 use Rattle.js_base.specs.declared.ids.MethodId.{MethodId}
+use Rattle.js_base.proofs.Lists.{none_in_two}
 use Rattle.principals.specs.ActsFor.{Declared}
 use Rattle.jif_tree.specs.declared.draft.ExprDraft.{ExprDraft}
 use Rattle.jif_tree.specs.declared.draft.ParamDraft.{ParamDraft}
@@ -23,7 +24,6 @@ use Rattle.jif_resolve.specs.Variables.{VariableShape, result_variables, method_
 use Rattle.jif_resolve.specs.Resolved.{IsVariableFor}
 use Rattle.jif_resolve.specs.AddedVariables.{param_variable, local_variable, local_variables, AreLabelled}
 use Rattle.jif_resolve.specs.AddedVariables.{AddsVariables}
-use Rattle.jif_resolve.proofs.Usable.{none_in_two}
 use Rattle.jif_resolve.proofs.Walks.{at_place, if_alone, while_alone}
 use Rattle.jif_resolve.proofs.MethodWalks.{shapes_from}
 

@@ -9,6 +9,7 @@ use Rattle.std.proofs.lemmas.Bool.{false≢true}
 use Rattle.std.proofs.lemmas.List.{length-append}
 use Rattle.js_base.specs.declared.ids.VarId.{VarId}
 use Rattle.js_base.specs.declared.ids.MethodId.{MethodId}
+use Rattle.js_base.proofs.Lists.{none_in_two, none_in_three}
 use Rattle.principals.specs.ActsFor.{Declared}
 use Rattle.jif_tree.specs.Trees.{MethodTree, ProgramTree}
 use Rattle.jif_tree.specs.WellNumbered.{is_some, HasVariable, HasOptionalVariable, HasMethod, IsBlockIn, IsMethodIn}
@@ -28,7 +29,7 @@ use Rattle.jif_resolve.proofs.Meant.{GlobalIs, AreKnownIn, StandsFrom, from_star
 use Rattle.jif_resolve.proofs.Meant.{gives_result, methods_are, method_there, both_all}
 use Rattle.jif_resolve.proofs.StandingVariables.{VariablesStand, all_stand, front_stands, variables_long}
 use Rattle.jif_resolve.proofs.StandingVariables.{other_variables}
-use Rattle.jif_resolve.proofs.Usable.{none_in_two, none_in_three, true_or_false}
+use Rattle.jif_resolve.proofs.Usable.{true_or_false}
 use Rattle.jif_resolve.proofs.Within.{HasVariables, block_in}
 
 -- ---- parameters

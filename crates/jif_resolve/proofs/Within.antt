@@ -9,6 +9,7 @@ use Rattle.std.proofs.lemmas.Slice.Zip.{AllZip-long}
 use Rattle.js_base.specs.declared.ids.FieldId.{FieldId}
 use Rattle.js_base.specs.declared.ids.VarId.{VarId}
 use Rattle.js_base.specs.declared.ids.MethodId.{MethodId}
+use Rattle.js_base.proofs.Lists.{none_in_two, none_in_three, none_in_four}
 use Rattle.jif_tree.specs.Trees.{ExprTree, local, scalar}
 use Rattle.jif_tree.specs.Trees.{Heading, BlockTree, set_local, set_field}
 use Rattle.jif_tree.specs.Trees.{ProgramTree}
@@ -29,7 +30,7 @@ use Rattle.jif_resolve.specs.Faults.{block_faults}
 use Rattle.jif_resolve.specs.Resolved.{variable_tree, array_of, local_of, method_of, assignment_tree, IsExprFor}
 use Rattle.jif_resolve.specs.Resolved.{heading_of, into_tree, IsBlockFor}
 use Rattle.jif_resolve.proofs.Meant.{Means, GlobalIs, AreKnownIn, means_at}
-use Rattle.jif_resolve.proofs.Usable.{none_in_two, none_in_three, none_in_four, none_where, not_false}
+use Rattle.jif_resolve.proofs.Usable.{none_where, not_false}
 use Rattle.jif_resolve.specs.declared.meaning.Meaning.{Meaning}
 use Rattle.jif_resolve.specs.declared.meaning.Meaning.TheVariants as sense
 

@@ -8,7 +8,7 @@ use Rattle.label_lattice.specs.Over.{IsLabelOver}
 use Rattle.label_lattice.specs.Written.{Part, KnownPart, IsKnownPart, IsMadeOf}
 use Rattle.jif_tree.specs.declared.program.Stmt.{Stmt}
 use Rattle.jif_tree.specs.declared.program.StmtKind.{StmtKind}
-use Rattle.jif_tree.specs.Trees.{BlockTree, statement_tree}
+use Rattle.jif_tree.specs.Trees.{BlockTree, statement_tree, head_of}
 use Rattle.jif_grammar.specs.DraftShapes.{Start, BlockShape}
 use Rattle.jif_resolve.specs.Places.{Setting, Place}
 use Rattle.jif_resolve.specs.Resolved.{heading_of, IsBlockFor}
@@ -39,4 +39,4 @@ abbrev pub IsStatementFor : Setting → Place → Place → (BlockShape → Bloc
 IsStatementFor setting place next shape statement =
     (rest : BlockShape) (behind : BlockTree) → IsBlockFor setting next rest behind →
     IsBlockFor setting place (shape rest)
-    (statement_tree statement.kind (record { id = statement.id; line = statement.line }) behind)
+    (statement_tree statement.kind (head_of statement) behind)

@@ -4,7 +4,7 @@ use Rattle.jif_tree.specs.declared.program.Stmt.{Stmt}
 use Rattle.jif_tree.specs.declared.program.StmtKind.{StmtKind}
 use Rattle.jif_tree.specs.declared.program.StmtKind as kind
 use Rattle.jif_tree.specs.Trees.{Heading, BlockTree, done, set_local, set_field, set_element, branch, loop, call}
-use Rattle.jif_tree.specs.Trees.{give_back, statement_tree, block_tree, tree_before}
+use Rattle.jif_tree.specs.Trees.{give_back, statement_tree, block_tree, tree_before, head_of}
 
 abbrev pub count_in : BlockTree → ℕ
 count_in done = 0
@@ -33,10 +33,10 @@ pub part_counts : (statements : List Stmt) (place : ℕ) (statement : Stmt) → 
 part_counts [] place statement within is = absurd (omega arith)
 part_counts (first ∷ others) zero statement within is =
     let P : Stmt → Type 0 = λ one. count_in (tree_before one done) ≤ count_in (block_tree (first ∷ others)) in
-    let apart = counted_apart first.kind (record { id = first.id; line = first.line }) (block_tree others) in
+    let apart = counted_apart first.kind (head_of first) (block_tree others) in
     subst P (sym is) (omega arith)
 part_counts (first ∷ others) (suc place) statement within is =
-    let apart = counted_apart first.kind (record { id = first.id; line = first.line }) (block_tree others) in
+    let apart = counted_apart first.kind (head_of first) (block_tree others) in
     let so = part_counts others place statement (omega arith) is in
     omega arith
 

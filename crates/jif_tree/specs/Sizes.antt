@@ -52,8 +52,8 @@ IsBlockNested around (set_field heading field value rest) = IsExprNested around 
 IsBlockNested around (set_element heading field index value rest) =
     IsExprNested around index × IsExprNested around value × IsBlockNested around rest
 IsBlockNested around (branch heading guard first second rest) =
-    IsExprNested around guard × (around < NESTING) × IsBlockNested (around + 1) first × IsBlockNested (around + 1) second
-    × IsBlockNested around rest
+    IsExprNested around guard × (around < NESTING) × IsBlockNested (around + 1) first
+    × IsBlockNested (around + 1) second × IsBlockNested around rest
 IsBlockNested around (loop heading guard body rest) =
     IsExprNested around guard × (around < NESTING) × IsBlockNested (around + 1) body × IsBlockNested around rest
 IsBlockNested around (call heading site method arguments into rest) =

@@ -107,15 +107,16 @@ abbrev mutual
   row_tree (kind.more_of-Stmt id line what rest) =
       statement_tree what (record { id = id; line = line }) (row_tree rest)
 
-abbrev pub block_tree : List Stmt → BlockTree
-block_tree [] = done
-block_tree (statement ∷ statements) =
-    statement_tree statement.kind (record { id = statement.id; line = statement.line }) (block_tree statements)
+abbrev pub head_of : Stmt → Heading
+head_of statement = record { id = statement.id; line = statement.line }
 
 -- a statement and those after it, which may be of no list
 abbrev pub tree_before : Stmt → BlockTree → BlockTree
-tree_before statement rest =
-    statement_tree statement.kind (record { id = statement.id; line = statement.line }) rest
+tree_before statement rest = statement_tree statement.kind (head_of statement) rest
+
+abbrev pub block_tree : List Stmt → BlockTree
+block_tree [] = done
+block_tree (statement ∷ statements) = tree_before statement (block_tree statements)
 
 abbrev pub field_tree : Field → FieldTree
 field_tree field = record {

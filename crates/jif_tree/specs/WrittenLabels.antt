@@ -1,12 +1,10 @@
 -- The labels that are written in a program.
-use Rattle.std.specs.Prelude.{List, [], ◌∷◌, ◌++◌, map, Option, Some, None, All}
+use Rattle.std.specs.Prelude.{List, [], ◌∷◌, ◌++◌, Option, Some, None}
 use Rattle.std.specs.List.{flat_map}
-use Rattle.principals.specs.ActsFor.{Declared}
 use Rattle.label_lattice.specs.declared.label.Label.{Label}
-use Rattle.label_lattice.specs.Over.{IsLabelOver}
 use Rattle.jif_tree.specs.Trees.{ExprTree, number, local, scalar, element, inverted, negated, binary, declassified}
 use Rattle.jif_tree.specs.Trees.{endorsed, BlockTree, done, set_local, set_field, set_element, branch, loop}
-use Rattle.jif_tree.specs.Trees.{call, give_back, MethodTree, ProgramTree}
+use Rattle.jif_tree.specs.Trees.{call, give_back}
 
 abbrev pub written_in : ExprTree → List Label
 written_in (number value) = []
@@ -35,17 +33,3 @@ written_in_block (give_back heading value rest) = written_in value ++ written_in
 abbrev pub label_of_variable : Option Label → List Label
 label_of_variable None = []
 label_of_variable (Some label) = label ∷ []
-
-abbrev pub written_in_method : MethodTree → List Label
-written_in_method method = method.begin ∷ written_in_block method.body
-
--- of its fields, of its variables, and of its methods
-abbrev pub written_labels : ProgramTree → List Label
-written_labels program =
-    map (λ field. field.label) program.fields
-    ++ flat_map (λ variable. label_of_variable variable.label) program.vars
-    ++ flat_map written_in_method program.methods
-
--- every label that is written is one over these principals
-abbrev pub AreLabelsOver : Declared → ProgramTree → Type 0
-AreLabelsOver principals program = All (IsLabelOver principals) (written_labels program)

@@ -1,5 +1,5 @@
 -- Words of 64 bits, bit by bit.
-use Rattle.std.proofs.Common.{ℕ, ◌≡◌, ◌<◌, ◌-◌, ◌^◌, ◌∙◌, ap, min, arith, bit_and, w64, get_or, replicate}
+use Rattle.std.proofs.Common.{ℕ, zero, suc, ◌≡◌, ◌<◌, ◌≤◌, ◌-◌, ◌^◌, ◌∙◌, ap, min, arith, bit_and, w64, get_or, replicate}
 use Rattle.std.specs.Int.{bit_at, bit_not}
 use Rattle.std.proofs.lemmas.Nat.{and_le_l}
 use Rattle.std.proofs.lemmas.List.{get_or-replicate}
@@ -25,3 +25,14 @@ pub set_in_ones : (word row k : ℕ) → word ≡ 2 ^ 64 - 1 → row < 63 → k 
     bit_at (get_or (replicate 63 word) row 0) k ≡ 1
 set_in_ones word row k is row_in k_in =
     ap (λ n. bit_at n k) (get_or-replicate 63 row word 0 row_in ∙ is) ∙ bit_at_ones 64 k k_in
+
+pub is_bit : (word place : ℕ) → bit_at word place < 2
+is_bit word place = omega arith
+
+-- a bit that is clear, or where the other is set too, is no more than it
+pub bits_in_order : (first second : ℕ) → first < 2 → (first ≡ 1 → second ≡ 1) → first ≤ second
+bits_in_order zero second bit implied = omega arith
+bits_in_order (suc first) second bit implied =
+    let one : suc first ≡ 1 = omega arith in
+    let other : second ≡ 1 = implied one in
+    omega arith

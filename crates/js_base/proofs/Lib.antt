@@ -6,5 +6,6 @@ mod HeldFiles
 pub mod Lists
 pub mod NameTexts
 pub mod NamedItems
+pub mod Options
 pub mod Repeats
 pub mod Texts

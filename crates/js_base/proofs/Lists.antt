@@ -1,7 +1,8 @@
 -- Lists in general.
-use Rattle.std.proofs.Common.{◌≡◌, ℕ, zero, suc, List, [], ◌∷◌, ◌++◌, Some, slice_get, refl, ap, ◌∙◌, subst, arith}
+use Rattle.std.proofs.Common.{◌≡◌, ℕ, suc, ◌<◌, List, [], ◌∷◌, ◌++◌, length, get_or, drop, refl, ap, sym, ◌∙◌, arith}
 use Rattle.std.specs.Prelude.{Contains}
 use Rattle.std.specs.List.{AllZip}
+use Rattle.std.proofs.Math.Seq.{drop-cons}
 
 -- ---- elements
 
@@ -32,15 +33,6 @@ zip_at R [] x after (y ∷ ys) all = (y, all.0)
 zip_at R (z ∷ before) x after [] all = absurd all
 zip_at R (z ∷ before) x after (y ∷ ys) all = zip_at R before x after ys all.1
 
--- each element of the second list has one of the first
-pub zip_get : {X Y : Type 0} (R : X → Y → Type 0) (xs : List X) (ys : List Y) (place : ℕ) (y : Y) →
-    AllZip R xs ys → slice_get ys place ≡ Some y → (x : X) × R x y
-zip_get R [] [] place y all there = absurd (cc)
-zip_get R [] (w ∷ ys) place y all there = absurd all
-zip_get R (x ∷ xs) [] place y all there = absurd all
-zip_get R (x ∷ xs) (w ∷ ys) zero y all there = (x, subst (R x) (let same : w ≡ y = cc in same) all.0)
-zip_get R (x ∷ xs) (w ∷ ys) (suc place) y all there = zip_get R xs ys place y all.1 there
-
 -- what stands for each element of a list is determined, where it is for each element
 pub one_zipped : {X Y : Type 0} (R : X → Y → Type 0) → ((x : X) (y z : Y) → R x y → R x z → y ≡ z) →
     (xs : List X) (ys zs : List Y) → AllZip R xs ys → AllZip R xs zs → ys ≡ zs
@@ -51,3 +43,40 @@ one_zipped R one (x ∷ xs) [] zs first second = absurd first
 one_zipped R one (x ∷ xs) (y ∷ ys) [] first second = absurd second
 one_zipped R one (x ∷ xs) (y ∷ ys) (z ∷ zs) first second =
     ap (λ w. w ∷ ys) (one x y z first.0 second.0) ∙ ap (λ ws. z ∷ ws) (one_zipped R one xs ys zs first.1 second.1)
+
+-- ---- what is left of a list
+
+-- the items that are left begin with the next
+pub next_of : {X : Type 0} (items : List X) (place : ℕ) (item : X) → place < length items →
+    item ≡ get_or items place item → drop place items ≡ item ∷ drop (suc place) items
+next_of {X = X} items place item within is =
+    drop-cons items place item within ∙ ap (λ (next : X). next ∷ drop (suc place) items) (sym is)
+
+-- ---- lists of nothing
+
+pub none_joined : {X : Type 0} (xs ys : List X) → xs ≡ [] → ys ≡ [] → xs ++ ys ≡ []
+none_joined xs ys one two = ap (λ r. r ++ ys) one ∙ two
+
+pub none_in_two : {X : Type 0} (xs ys : List X) → xs ++ ys ≡ [] → (xs ≡ []) × (ys ≡ [])
+none_in_two [] ys none = (refl, none)
+none_in_two (x ∷ xs) ys none = absurd cc
+
+pub none_in_three : {X : Type 0} (xs ys zs : List X) → xs ++ ys ++ zs ≡ [] → (xs ≡ []) × (ys ≡ []) × (zs ≡ [])
+none_in_three xs ys zs none =
+    let outer = none_in_two (xs ++ ys) zs none in
+    let inner = none_in_two xs ys outer.0 in
+    (inner.0, inner.1, outer.1)
+
+pub none_in_four : {X : Type 0} (xs ys zs ws : List X) → xs ++ ys ++ zs ++ ws ≡ [] →
+    (xs ≡ []) × (ys ≡ []) × (zs ≡ []) × (ws ≡ [])
+none_in_four xs ys zs ws none =
+    let outer = none_in_two (xs ++ ys ++ zs) ws none in
+    let inner = none_in_three xs ys zs outer.0 in
+    (inner.0, inner.1, inner.2, outer.1)
+
+pub none_in_six : {X : Type 0} (us vs xs ys zs ws : List X) → us ++ vs ++ xs ++ ys ++ zs ++ ws ≡ [] →
+    (us ≡ []) × (vs ≡ []) × (xs ≡ []) × (ys ≡ []) × (zs ≡ []) × (ws ≡ [])
+none_in_six us vs xs ys zs ws none =
+    let outer = none_in_three (us ++ vs ++ xs ++ ys) zs ws none in
+    let inner = none_in_four us vs xs ys outer.0 in
+    (inner.0, inner.1, inner.2, inner.3, outer.1, outer.2)

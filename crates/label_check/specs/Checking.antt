@@ -1,7 +1,7 @@
 -- What `check` answers.
-use Rattle.std.specs.Prelude.{◌≡◌, ◌⊎◌, ◌<◌, List, All, length, map, ⊤}
+use Rattle.std.specs.Prelude.{◌≡◌, ◌⊎◌, List, All, map, ⊤}
 use Rattle.js_base.specs.declared.ids.PrincipalId.{PrincipalId}
-use Rattle.principals.specs.ActsFor.{Declared}
+use Rattle.principals.specs.ActsFor.{Declared, AreDeclared}
 use Rattle.label_lattice.specs.declared.label.Label.{Label}
 use Rattle.jif_tree.specs.declared.program.Program.{Program}
 use Rattle.jif_tree.specs.declared.program.Checked.{Checked}
@@ -11,13 +11,9 @@ use Rattle.jif_tree.specs.LabelRules.{obligations, IsWellLabelled, IsFirstFailur
 use Rattle.label_check.specs.declared.check_error.CheckError.{CheckError}
 use Rattle.label_check.specs.declared.check_error.CheckError.TheVariants as error
 
--- each principal of an authority is declared
-abbrev pub IsAuthority : Declared → List PrincipalId → Type 0
-IsAuthority principals authority = All (λ member. member.0 < length principals.names) authority
-
 -- by whose authority a method releases and endorses is declared
 abbrev pub AreAuthorities : Declared → ProgramTree → Type 0
-AreAuthorities principals program = All (λ method. IsAuthority principals method.authority) program.methods
+AreAuthorities principals program = All (λ method. AreDeclared principals method.authority) program.methods
 
 -- the program is well labelled, and is handed back with the labels of its variables and of its statements
 pub record IsChecked (principals : Declared) (program : Program) (checked : Checked) : Type 0 where

@@ -1,12 +1,11 @@
 //! Assignments and returns.
 
 ghost use Rattle.std.specs.Prelude.{◌≡◌, ◌++◌, [], ◌∷◌, OnOk, IfErr};
-ghost use Rattle.principals.specs.ActsFor.{Declared};
+ghost use Rattle.principals.specs.ActsFor.{Declared, AreDeclared};
 ghost use Rattle.jif_tree.specs.Trees.{expr_tree, program_tree};
 ghost use Rattle.jif_tree.specs.LabelRules.{expr_constraints, expr_label, flow_of, variable_label, field_label};
 ghost use Rattle.jif_tree.specs.LabelRules.{labels_after_assignment, return_flows};
 ghost use Rattle.label_lattice.specs.Lattice.{join_of};
-ghost use Rattle.label_check.specs.Checking.{IsAuthority};
 ghost use Rattle.label_check.specs.Parts.{asked, AreMet, Refuses};
 ghost use Rattle.label_check.specs.Places.{setting_at};
 
@@ -28,7 +27,7 @@ pub fn assign_variable(
     var: VarId,
     value: &Expr,
 ) -> Result<(), CheckError>
-    requires { IsAuthority place.now.principals.now place.now.method.now.authority.items }
+    requires { AreDeclared place.now.principals.now place.now.method.now.authority.items }
     ensures labels { OnOk result (
         let from = expr_label (setting_at place.now) pc.now labels.old.items (expr_tree value.now) in
         labels.new.items ≡ labels_after_assignment labels.old.items var (join_of from pc.now)) }
@@ -59,7 +58,7 @@ pub fn assign_field(
     field: FieldId,
     value: &Expr,
 ) -> Result<(), CheckError>
-    requires { IsAuthority place.now.principals.now place.now.method.now.authority.items }
+    requires { AreDeclared place.now.principals.now place.now.method.now.authority.items }
     ensures ok { OnOk result (AreMet place.now.principals.now
         (asked statement (expr_constraints (setting_at place.now) pc.now labels.now (expr_tree value.now)
         ++ flow_of pc.now (expr_label (setting_at place.now) pc.now labels.now (expr_tree value.now))
@@ -83,7 +82,7 @@ pub fn assign_element(
     index: &Expr,
     value: &Expr,
 ) -> Result<(), CheckError>
-    requires { IsAuthority place.now.principals.now place.now.method.now.authority.items }
+    requires { AreDeclared place.now.principals.now place.now.method.now.authority.items }
     ensures ok { OnOk result (
         let setting = setting_at place.now in
         AreMet place.now.principals.now
@@ -119,7 +118,7 @@ pub fn give_back(
     labels: &[Option<Label>],
     value: &Expr,
 ) -> Result<(), CheckError>
-    requires { IsAuthority place.now.principals.now place.now.method.now.authority.items }
+    requires { AreDeclared place.now.principals.now place.now.method.now.authority.items }
     ensures ok { OnOk result (
         let setting = setting_at place.now in
         AreMet place.now.principals.now

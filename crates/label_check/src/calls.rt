@@ -2,11 +2,10 @@
 
 ghost use Rattle.std.specs.Prelude.{◌≡◌, ◌++◌, map, OnOk, IfOk, IfErr};
 ghost use Rattle.std.specs.List.{flat_map};
-ghost use Rattle.principals.specs.ActsFor.{Declared};
+ghost use Rattle.principals.specs.ActsFor.{Declared, AreDeclared};
 ghost use Rattle.jif_tree.specs.Trees.{expr_tree};
 ghost use Rattle.jif_tree.specs.LabelRules.{expr_constraints, expr_label, call_constraints, result_flows};
 ghost use Rattle.jif_tree.specs.LabelRules.{method_at};
-ghost use Rattle.label_check.specs.Checking.{IsAuthority};
 ghost use Rattle.label_check.specs.Parts.{asked, AreMet, Refuses, flows_to_params};
 ghost use Rattle.label_check.specs.Places.{setting_at};
 
@@ -29,7 +28,7 @@ fn argument_labels(
     labels: &[Option<Label>],
     args: &[Expr],
 ) -> Result<Vec<Label>, CheckError>
-    requires { IsAuthority place.now.principals.now place.now.method.now.authority.items }
+    requires { AreDeclared place.now.principals.now place.now.method.now.authority.items }
     ensures labels { IfOk result (λ found. found.items
         ≡ map (expr_label (setting_at place.now) pc.now labels.now) (map expr_tree args.now)) }
     ensures ok { OnOk result (AreMet place.now.principals.now
@@ -107,7 +106,7 @@ pub fn check_call(
     args: &[Expr],
     into: Option<VarId>,
 ) -> Result<(), CheckError>
-    requires { IsAuthority place.now.principals.now place.now.method.now.authority.items }
+    requires { AreDeclared place.now.principals.now place.now.method.now.authority.items }
     ensures ok { OnOk result (
         let setting = setting_at place.now in
         let trees = map expr_tree args.now in

@@ -1,8 +1,9 @@
 //! Whether a program is well labelled.
 
 ghost use Rattle.std.specs.Prelude.{◌≡◌, ◌∷◌, [], List, map, OnOk, IfOk, IfErr};
+ghost use Rattle.principals.specs.ActsFor.{AreDeclared};
 ghost use Rattle.jif_tree.specs.Trees.{MethodTree, program_tree, method_tree};
-ghost use Rattle.label_check.specs.Checking.{AreAuthorities, IsAuthority, IsChecked, IsRefusedFor};
+ghost use Rattle.label_check.specs.Checking.{AreAuthorities, IsChecked, IsRefusedFor};
 ghost use Rattle.label_check.specs.Parts.{Refuses};
 ghost use Rattle.label_check.specs.Places.{PassesMethods, asks_of_methods};
 
@@ -68,7 +69,7 @@ fn check_method(
     method: &Method,
     found: &mut Found,
 ) -> Result<(), CheckError>
-    requires { IsAuthority principals.now method.now.authority.items }
+    requires { AreDeclared principals.now method.now.authority.items }
     ensures ok { OnOk result ((rest : List MethodTree) → PassesMethods principals.now (program_tree program.now)
         found.old (method_tree method.now ∷ rest) found.new rest) }
     ensures err { IfErr result (λ why. (rest : List MethodTree) → Refuses principals.now

@@ -1,9 +1,8 @@
 //! What is asked of labels, one test for each kind of constraint.
 
 ghost use Rattle.std.specs.Prelude.{OnOk, IfErr, [], ◌∷◌};
-ghost use Rattle.principals.specs.ActsFor.{Declared};
+ghost use Rattle.principals.specs.ActsFor.{Declared, AreDeclared};
 ghost use Rattle.jif_tree.specs.LabelRules.{flow_of, may_begin, may_release, trusted, may_endorse};
-ghost use Rattle.label_check.specs.Checking.{IsAuthority};
 ghost use Rattle.label_check.specs.Parts.{asked, AreMet, Refuses};
 
 use crate::CheckError;
@@ -50,7 +49,7 @@ pub fn ask_release(
     from: &Label,
     to: &Label,
 ) -> Result<(), CheckError>
-    requires { IsAuthority principals.now authority.now }
+    requires { AreDeclared principals.now authority.now }
     ensures ok { OnOk result (AreMet principals.now
         (asked statement (may_release authority.now from.now to.now ∷ trusted authority.now pc.now ∷ []))) }
     ensures err { IfErr result (Refuses principals.now
@@ -73,7 +72,7 @@ pub fn ask_endorse(
     from: &Label,
     to: &Label,
 ) -> Result<(), CheckError>
-    requires { IsAuthority principals.now authority.now }
+    requires { AreDeclared principals.now authority.now }
     ensures ok { OnOk result (AreMet principals.now
         (asked statement (may_endorse authority.now from.now to.now ∷ []))) }
     ensures err { IfErr result (Refuses principals.now

@@ -2,9 +2,9 @@
 
 ghost use Rattle.std.specs.Prelude.{◌≡◌, OnOk, IfOk, IfErr};
 ghost use Rattle.js_base.specs.declared.binary_operator.BinOp.{BinOp};
+ghost use Rattle.principals.specs.ActsFor.{AreDeclared};
 ghost use Rattle.jif_tree.specs.Trees.{expr_tree, element, binary, declassified, endorsed};
 ghost use Rattle.jif_tree.specs.LabelRules.{expr_label, expr_constraints};
-ghost use Rattle.label_check.specs.Checking.{IsAuthority};
 ghost use Rattle.label_check.specs.Parts.{asked, AreMet, Refuses};
 ghost use Rattle.label_check.specs.Places.{setting_at};
 
@@ -29,7 +29,7 @@ fn element_label(
     array: FieldId,
     index: &Expr,
 ) -> Result<Label, CheckError>
-    requires { IsAuthority place.now.principals.now place.now.method.now.authority.items }
+    requires { AreDeclared place.now.principals.now place.now.method.now.authority.items }
     ensures label { IfOk result (λ label.
         label ≡ expr_label (setting_at place.now) pc.now labels.now (element array (expr_tree index.now))) }
     ensures ok { OnOk result (AreMet place.now.principals.now (asked statement
@@ -54,7 +54,7 @@ fn binary_label(
     left: &Expr,
     right: &Expr,
 ) -> Result<Label, CheckError>
-    requires { IsAuthority place.now.principals.now place.now.method.now.authority.items }
+    requires { AreDeclared place.now.principals.now place.now.method.now.authority.items }
     ensures label { (operator : BinOp) → IfOk result (λ label. label ≡ expr_label (setting_at place.now) pc.now
         labels.now (binary operator (expr_tree left.now) (expr_tree right.now))) }
     ensures ok { (operator : BinOp) → OnOk result (AreMet place.now.principals.now (asked statement
@@ -82,7 +82,7 @@ fn release_label(
     operand: &Expr,
     to: &Label,
 ) -> Result<Label, CheckError>
-    requires { IsAuthority place.now.principals.now place.now.method.now.authority.items }
+    requires { AreDeclared place.now.principals.now place.now.method.now.authority.items }
     ensures label { IfOk result (λ label. label
         ≡ expr_label (setting_at place.now) pc.now labels.now (declassified (expr_tree operand.now) to.now)) }
     ensures ok { OnOk result (AreMet place.now.principals.now (asked statement
@@ -115,7 +115,7 @@ fn endorsement_label(
     operand: &Expr,
     to: &Label,
 ) -> Result<Label, CheckError>
-    requires { IsAuthority place.now.principals.now place.now.method.now.authority.items }
+    requires { AreDeclared place.now.principals.now place.now.method.now.authority.items }
     ensures label { IfOk result (λ label. label
         ≡ expr_label (setting_at place.now) pc.now labels.now (endorsed (expr_tree operand.now) to.now)) }
     ensures ok { OnOk result (AreMet place.now.principals.now (asked statement
@@ -148,7 +148,7 @@ pub fn expr_label(
     labels: &[Option<Label>],
     expr: &Expr,
 ) -> Result<Label, CheckError>
-    requires { IsAuthority place.now.principals.now place.now.method.now.authority.items }
+    requires { AreDeclared place.now.principals.now place.now.method.now.authority.items }
     ensures label { IfOk result (λ label.
         label ≡ expr_label (setting_at place.now) pc.now labels.now (expr_tree expr.now)) }
     ensures ok { OnOk result (AreMet place.now.principals.now

@@ -1,9 +1,9 @@
 //! The guards of branches and loops.
 
 ghost use Rattle.std.specs.Prelude.{◌≡◌, ◌++◌, [], ◌∷◌, OnOk, IfOk, IfErr};
+ghost use Rattle.principals.specs.ActsFor.{AreDeclared};
 ghost use Rattle.jif_tree.specs.Trees.{expr_tree};
 ghost use Rattle.jif_tree.specs.LabelRules.{expr_constraints, guarded};
-ghost use Rattle.label_check.specs.Checking.{IsAuthority};
 ghost use Rattle.label_check.specs.Parts.{asked, AreMet, Refuses};
 ghost use Rattle.label_check.specs.Places.{setting_at};
 
@@ -23,7 +23,7 @@ pub fn enter_branch(
     guard: &Expr,
     pcs: &mut Vec<Label>,
 ) -> Result<Label, CheckError>
-    requires { IsAuthority place.now.principals.now place.now.method.now.authority.items }
+    requires { AreDeclared place.now.principals.now place.now.method.now.authority.items }
     ensures pcs { OnOk result (pcs.new.items ≡ pcs.old.items ++ pc.now ∷ []) }
     ensures label { IfOk result (λ label.
         label ≡ guarded (setting_at place.now) pc.now labels.now (expr_tree guard.now)) }
@@ -47,7 +47,7 @@ pub fn enter_loop(
     guard: &Expr,
     pcs: &mut Vec<Label>,
 ) -> Result<Label, CheckError>
-    requires { IsAuthority place.now.principals.now place.now.method.now.authority.items }
+    requires { AreDeclared place.now.principals.now place.now.method.now.authority.items }
     ensures pcs { OnOk result (
         let inside = guarded (setting_at place.now) pc.now labels.now (expr_tree guard.now) in
         pcs.new.items ≡ pcs.old.items ++ inside ∷ []) }

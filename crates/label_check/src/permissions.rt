@@ -1,9 +1,9 @@
 //! What the principals of an authority may do.
 
 ghost use Rattle.std.specs.Prelude.{◌↔◌, ◌<◌, IsTrue, length};
+ghost use Rattle.principals.specs.ActsFor.{AreDeclared};
 ghost use Rattle.label_lattice.specs.Label.{Trusts};
 ghost use Rattle.jif_tree.specs.LabelRules.{Holds, may_release, trusted, may_endorse};
-ghost use Rattle.label_check.specs.Checking.{IsAuthority};
 
 use js_base::PrincipalId;
 use js_base::bits::with_bit;
@@ -18,7 +18,7 @@ pub fn may_release(
     from: &Label,
     to: &Label,
 ) -> bool
-    requires { IsAuthority principals.now authority.now }
+    requires { AreDeclared principals.now authority.now }
     ensures { IsTrue result ↔ Holds principals.now (may_release authority.now from.now to.now) }
 {
     let mut allowed = *to;
@@ -35,7 +35,7 @@ pub fn may_endorse(
     from: &Label,
     to: &Label,
 ) -> bool
-    requires { IsAuthority principals.now authority.now }
+    requires { AreDeclared principals.now authority.now }
     ensures { IsTrue result ↔ Holds principals.now (may_endorse authority.now from.now to.now) }
 {
     from.with_trust(principals, authority).integ_flows(to)
@@ -43,7 +43,7 @@ pub fn may_endorse(
 
 /// Whether each of these trusts the label.
 pub fn is_trusted(principals: &Principals, authority: &[PrincipalId], label: &Label) -> bool
-    requires { IsAuthority principals.now authority.now }
+    requires { AreDeclared principals.now authority.now }
     ensures { IsTrue result ↔ Holds principals.now (trusted authority.now label.now) }
 {
     for member in authority {

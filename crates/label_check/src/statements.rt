@@ -1,9 +1,9 @@
 //! Statements and blocks.
 
 ghost use Rattle.std.specs.Prelude.{◌≡◌, ◌++◌, [], ◌∷◌, OnOk, IfErr};
+ghost use Rattle.principals.specs.ActsFor.{AreDeclared};
 ghost use Rattle.jif_tree.specs.Trees.{BlockTree, done, block_tree, tree_before};
 ghost use Rattle.label_check.specs.declared.check_error.CheckError.TheVariants as error;
-ghost use Rattle.label_check.specs.Checking.{IsAuthority};
 ghost use Rattle.label_check.specs.Parts.{Refuses};
 ghost use Rattle.label_check.specs.Places.{asks_of, PassesTo};
 
@@ -25,7 +25,7 @@ pub fn check_block(
     statements: &[Stmt],
     found: &mut Found,
 ) -> Result<(), CheckError>
-    requires { IsAuthority place.now.principals.now place.now.method.now.authority.items }
+    requires { AreDeclared place.now.principals.now place.now.method.now.authority.items }
     ensures ok { OnOk result (PassesTo place.now pc.now found.old (block_tree statements.now) found.new done) }
     ensures err { IfErr result (Refuses place.now.principals.now
         (asks_of place.now pc.now found.old (block_tree statements.now))) }
@@ -45,7 +45,7 @@ fn check_statement(
     statement: &Stmt,
     found: &mut Found,
 ) -> Result<(), CheckError>
-    requires { IsAuthority place.now.principals.now place.now.method.now.authority.items }
+    requires { AreDeclared place.now.principals.now place.now.method.now.authority.items }
     ensures ok { OnOk result ((rest : BlockTree) →
         PassesTo place.now pc.now found.old (tree_before statement.now rest) found.new rest) }
     ensures err { IfErr result (λ why. (rest : BlockTree) → Refuses place.now.principals.now

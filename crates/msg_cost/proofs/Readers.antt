@@ -1,7 +1,7 @@
 -- Words with a bit for each host on which a statement reads a variable.
 use Rattle.std.proofs.Common.{◌≡◌, ◌≢◌, ℕ, ◌<◌, ◌≤◌, ◌↔◌, ◌||◌, Bool, true, false, nat_eq, List, [], take, length}
 use Rattle.std.proofs.Common.{get_or}
-use Rattle.std.proofs.Common.{◌/◌, ◌^◌, sym, ◌∙◌, subst, ◌+◌, ◌⊎◌, inl, inr, refl, ne_eqb, arith}
+use Rattle.std.proofs.Common.{◌/◌, ◌^◌, sym, ◌∙◌, subst, ◌+◌, ◌⊎◌, inl, inr, arith}
 use Rattle.std.proofs.Math.Nat.{zero-div}
 use Rattle.std.specs.Int.{bit_at}
 use Rattle.std.specs.List.{list_any}
@@ -31,9 +31,6 @@ clear host set =
 
 pub no_readers : (plan : PlanShape) → IsReadWord plan [] 0
 no_readers plan = record { bits = λ host within. ((λ set. absurd (clear host set)), (λ found. cc)) }
-
-or_found : (found stands : Bool) → found ≡ true → (found || stands) ≡ true
-or_found found stands is = rw is refl
 
 or_stands : (found stands : Bool) → stands ≡ true → (found || stands) ≡ true
 or_stands found stands is = rw is (or-true found)
@@ -70,23 +67,6 @@ one_more plan statements at statement old new within is set others so = record {
       (others host) (eqb_tells _ host) (so.bits host small)));
 }
 
-past_all : (place host : ℕ) → WORD_BITS ≤ place → host < WORD_BITS → place ≡ host → ⊥
-past_all place host large small same = omega arith
-
--- a statement more on a host for which there is no bit
-pub one_past : (plan : PlanShape) (statements : List StmtId) (at : ℕ) (statement : StmtId) (word : ℕ) →
-    at < length statements → statement ≡ get_or statements at statement →
-    WORD_BITS ≤ (statement_host plan statement).0 →
-    IsReadWord plan (take at statements) word → IsReadWord plan (take (at + 1) statements) word
-one_past plan statements at statement word within is large so = record {
-  bits = λ host small.
-      let P : Bool → Type 0 = λ found. (bit_at word host ≡ 1) ↔ (found ≡ true) in
-      let Q : StmtId → Type 0 = λ one. (bit_at word host ≡ 1)
-      ↔ ((list_any (stands_on plan host) (take at statements) || stands_on plan host one) ≡ true) in
-      let other : stands_on plan host statement ≡ false = ne_eqb (statement_host plan statement).0 host
-      (λ same. past_all _ host large small same) in
-      subst P (sym (list_any_more (stands_on plan host) statements at statement within))
-      (subst Q is (subst P (sym (or_only _ (stands_on plan host statement) other)) (so.bits host small)));
 }
 
 -- the word of one more variable

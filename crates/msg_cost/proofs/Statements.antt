@@ -5,7 +5,7 @@ use Rattle.jif_tree.specs.declared.program.Stmt.{Stmt}
 use Rattle.jif_tree.specs.declared.program.StmtKind.{StmtKind}
 use Rattle.jif_tree.specs.declared.program.StmtKind as kind
 use Rattle.jif_tree.specs.Trees.{Heading, BlockTree}
-use Rattle.jif_tree.specs.Trees.{statement_tree, block_tree}
+use Rattle.jif_tree.specs.Trees.{statement_tree, block_tree, head_of}
 use Rattle.msg_cost.specs.Moves.{own_statements}
 use Rattle.msg_cost.specs.Views.{ids_of}
 
@@ -23,5 +23,5 @@ own_first (kind.Return value) heading rest = refl
 pub own_ids : (statements : List Stmt) → own_statements (block_tree statements) ≡ ids_of statements
 own_ids [] = refl
 own_ids (first ∷ others) =
-    own_first first.kind (record { id = first.id; line = first.line }) (block_tree others)
+    own_first first.kind (head_of first) (block_tree others)
     ∙ ap (λ (ids : List StmtId). first.id ∷ ids) (own_ids others)

@@ -1,5 +1,5 @@
 -- Sums that stop at the largest number of 64 bits.
-use Rattle.std.proofs.Common.{◌≡◌, ◌∙◌, ℕ, ◌+◌, ◌-◌, ◌^◌, ◌<◌, min, List, [], ◌++◌, zero-add, lit<, ap, sym, arith}
+use Rattle.std.proofs.Common.{◌≡◌, ◌∙◌, ℕ, ◌+◌, ◌-◌, ◌^◌, ◌<◌, min, List, ◌++◌, ap, sym, arith}
 use Rattle.std.proofs.lemmas.List.Sums.{sum_by-append}
 use Rattle.host_decl.specs.Hosts.{HostsShape}
 use Rattle.msg_cost.specs.Cost.{cost_of, term_cost}
@@ -31,9 +31,6 @@ pub record CostsWith (hosts : HostsShape) (all : List Term) (total : ℕ) (left 
   pub fits : total < 2 ^ 64
   pub is : capped (cost_of hosts all) ≡ capped (total + cost_of hosts left)
 
-pub with_all : (hosts : HostsShape) (all : List Term) → CostsWith hosts all 0 all
-with_all hosts all = record { fits = lit< tt; is = ap capped (sym (zero-add (cost_of hosts all))) }
-
 capped_step : (all total other first rest : ℕ) → all ≡ capped (total + (first + rest)) → other ≡ capped first →
     all ≡ capped (min (total + other) (2 ^ 64 - 1) + rest)
 capped_step all total other first rest is one = omega arith
@@ -49,13 +46,6 @@ with_less hosts all first rest total other so one = record {
   is = capped_step (capped (cost_of hosts all)) total other (cost_of hosts first) (cost_of hosts rest)
       (so.is ∙ ap (λ sum. capped (total + sum)) (cost-append hosts first rest)) one;
 }
-
-capped_end : (all total : ℕ) → total < 2 ^ 64 → capped all ≡ capped (total + 0) → total ≡ capped all
-capped_end all total fits is = omega arith
-
-pub with_none : (hosts : HostsShape) (all : List Term) (total : ℕ) → CostsWith hosts all total [] →
-    total ≡ capped (cost_of hosts all)
-with_none hosts all total so = capped_end (cost_of hosts all) total so.fits so.is
 
 pub sum_of_two : (hosts : HostsShape) (first second : List Term) (one two : ℕ) →
     one ≡ capped (cost_of hosts first) → two ≡ capped (cost_of hosts second) →

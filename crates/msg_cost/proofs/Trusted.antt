@@ -6,6 +6,7 @@ use Rattle.std.specs.List.{list_all, range_with_len}
 use Rattle.std.proofs.lemmas.Bool.{leb-true, le-leb}
 use Rattle.std.proofs.lemmas.List.FromFn.{length-range_with_len, get_or-range_with_len}
 use Rattle.std.proofs.lemmas.List.Sums.{AllPass-from_list_all, list_all-from_AllPass}
+use Rattle.js_base.proofs.BitLemmas.{is_bit, bits_in_order}
 use Rattle.label_lattice.specs.declared.label.Label.{Label}
 use Rattle.label_lattice.specs.declared.label.TheConstants.{READERS}
 use Rattle.label_lattice.specs.Label.{IsTrustedBy}
@@ -37,16 +38,6 @@ of_places label word n holds =
 set_too : (first second : ℕ) → second < 2 → first ≤ second → first ≡ 1 → second ≡ 1
 set_too first second bit most set = omega arith
 
-in_order : (first second : ℕ) → first < 2 → (first ≡ 1 → second ≡ 1) → first ≤ second
-in_order zero second bit implied = omega arith
-in_order (suc first) second bit implied =
-    let one : suc first ≡ 1 = omega arith in
-    let other : second ≡ 1 = implied one in
-    omega arith
-
-is_bit : (word principal : ℕ) → bit_at word principal < 2
-is_bit word principal = omega arith
-
 pub test_decides : (label : Label) (word : ℕ) → Decides (is_trusted_by label word) (IsTrustedBy label word)
 unfolding is_trusted_by
 test_decides label word = (
@@ -54,6 +45,6 @@ test_decides label word = (
       set_too (bit_at word principal) (bit_at label.trust principal) (is_bit label.trust principal)
       (at_place label word READERS principal within holds) set),
   (λ trusts. of_places label word READERS (λ principal within.
-      in_order (bit_at word principal) (bit_at label.trust principal) (is_bit word principal)
+      bits_in_order (bit_at word principal) (bit_at label.trust principal) (is_bit word principal)
       (trusts principal within))),
 )

@@ -7,7 +7,7 @@ use Rattle.jif_tree.specs.declared.program.Stmt.{Stmt}
 use Rattle.jif_tree.specs.declared.program.StmtKind.{StmtKind}
 use Rattle.jif_tree.specs.declared.program.StmtKind as kind
 use Rattle.jif_tree.specs.Trees.{Heading, BlockTree, done, branch, loop, statement_tree, block_tree, ExprTree}
-use Rattle.jif_tree.specs.Trees.{tree_before}
+use Rattle.jif_tree.specs.Trees.{tree_before, head_of}
 use Rattle.need_labels.specs.Plan.{statement_host}
 use Rattle.msg_cost.specs.declared.spot.Spot.{Spot}
 use Rattle.msg_cost.specs.Cost.{cost_of}
@@ -76,7 +76,7 @@ pub one_walked : (planned : PlannedShape) (weight : ℕ) (spot next : Spot) (all
     CostsWith planned.hosts all (min (min (total + moved) (2 ^ 64 - 1) + own) (2 ^ 64 - 1))
     (block_terms planned weight next (block_tree others))
 one_walked planned weight spot next all total moved own statement others next_is moved_is own_is so =
-    let head : Heading = record { id = statement.id; line = statement.line } in
+    let head : Heading = head_of statement in
     let one = block_terms planned weight (on (statement_host planned.plan statement.id)) (tree_before statement done) in
     let P : List Term → Type 0 = λ left. CostsWith planned.hosts all total left in
     let Q : Spot → Type 0 = λ spot_behind. P (move_terms weight spot spot_behind

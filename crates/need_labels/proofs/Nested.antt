@@ -4,17 +4,15 @@ use Rattle.std.proofs.Common.{length, get_or, take}
 use Rattle.std.specs.List.{flat_map}
 use Rattle.std.proofs.lemmas.List.{append-nil, take_more}
 use Rattle.std.proofs.lemmas.List.Concat.{flat_map-append}
-use Rattle.std.specs.Global.{Vec}
 use Rattle.js_base.specs.declared.ids.StmtId.{StmtId}
 use Rattle.principals.specs.ActsFor.{Declared}
 use Rattle.label_lattice.specs.declared.label.Label.{Label}
 use Rattle.label_lattice.specs.Lattice.{IsIntegrityMeet}
 use Rattle.jif_tree.specs.declared.program.Stmt.{Stmt}
-use Rattle.jif_tree.specs.declared.program.StmtKind.{StmtKind, If, While}
+use Rattle.jif_tree.specs.declared.program.StmtKind.{StmtKind}
 use Rattle.jif_tree.specs.declared.program.StmtKind as kind
-use Rattle.jif_tree.specs.declared.program.Expr.{Expr}
 use Rattle.jif_tree.specs.Trees.{ExprTree, Heading, BlockTree, done, branch, loop, statement_tree, block_tree, expr_tree}
-use Rattle.jif_tree.specs.Trees.{row_tree, tree_before}
+use Rattle.jif_tree.specs.Trees.{row_tree, tree_before, head_of}
 use Rattle.jif_tree.specs.LabelRules.{MethodSetting}
 use Rattle.need_labels.specs.declared.place.Found.{Found}
 use Rattle.need_labels.specs.Labelled.{Labelled}
@@ -66,7 +64,7 @@ uses_in_turn : (labelled : Labelled) (setting : MethodSetting) (statements : Lis
     block_uses labelled setting (block_tree statements) ≡ flat_map (uses_of labelled setting) statements
 uses_in_turn labelled setting [] = refl
 uses_in_turn labelled setting (statement ∷ statements) =
-    uses_apart labelled setting statement.kind (record { id = statement.id; line = statement.line }) (block_tree statements)
+    uses_apart labelled setting statement.kind (head_of statement) (block_tree statements)
     ∙ ap (λ (more : List StatementUse). uses_of labelled setting statement ++ more)
     (uses_in_turn labelled setting statements)
 
@@ -91,28 +89,6 @@ next_added {principals} labelled setting statements place statement {old} {new =
     (both_added before (uses_of labelled setting statement) meet adds also)
 
 -- ---- branches and loops
-
-abbrev pub head_of : Stmt → Heading
-head_of statement = record { id = statement.id; line = statement.line }
-
-pub if_is : (statement : Stmt) (guard : Expr) (then else : Vec Stmt) (rest : BlockTree) →
-    statement.kind ≡ If guard then else →
-    ((guard : Expr) (first second : Vec Stmt) (heading : Heading) (rest : BlockTree) →
-    statement_tree (If guard first second) heading rest
-    ≡ branch heading (expr_tree guard) (block_tree first.items) (block_tree second.items) rest) →
-    tree_before statement rest
-    ≡ branch (head_of statement) (expr_tree guard) (block_tree then.items) (block_tree else.items) rest
-if_is statement guard then else rest is branches =
-    ap (λ (what : StmtKind). statement_tree what (head_of statement) rest) is
-    ∙ branches guard then else (head_of statement) rest
-
-pub while_is : (statement : Stmt) (guard : Expr) (body : Vec Stmt) (rest : BlockTree) → statement.kind ≡ While guard body →
-    ((guard : Expr) (body : Vec Stmt) (heading : Heading) (rest : BlockTree) →
-    statement_tree (While guard body) heading rest ≡ loop heading (expr_tree guard) (block_tree body.items) rest) →
-    tree_before statement rest ≡ loop (head_of statement) (expr_tree guard) (block_tree body.items) rest
-while_is statement guard body rest is loops =
-    ap (λ (what : StmtKind). statement_tree what (head_of statement) rest) is
-    ∙ loops guard body (head_of statement) rest
 
 -- the guard by itself, and then with what is inside
 guard_use : (labelled : Labelled) (setting : MethodSetting) (id : StmtId) (guard : ExprTree) (inside : List StatementUse) →

@@ -8,7 +8,7 @@ use Rattle.std.proofs.lemmas.List.{get_or-map}
 use Rattle.std.proofs.lemmas.List.Concat.{flat_map-append}
 use Rattle.std.proofs.lemmas.List.FromFn.{fill_by_all}
 use Rattle.js_base.specs.declared.ids.StmtId.{StmtId}
-use Rattle.principals.specs.ActsFor.{Declared}
+use Rattle.principals.specs.ActsFor.{Declared, AreDeclared}
 use Rattle.label_lattice.specs.declared.label.Label.{Label}
 use Rattle.label_lattice.specs.Lattice.{bottom_of}
 use Rattle.jif_tree.specs.declared.program.Method.{Method}
@@ -18,7 +18,7 @@ use Rattle.need_labels.specs.declared.place.Found.{Found}
 use Rattle.need_labels.specs.Labelled.{Labelled}
 use Rattle.need_labels.specs.Needs.{Telling, StatementUse, IsNeed, AreNeedsOf, NeedsShape, method_uses, statement_uses}
 use Rattle.need_labels.specs.Needs.{told_of, readers_of}
-use Rattle.need_labels.specs.Finding.{AreDeclared, AreReads, AreFound, AddsUses, AddsFound}
+use Rattle.need_labels.specs.Finding.{AreReads, AreFound, AddsUses, AddsFound}
 use Rattle.need_labels.proofs.Rows.{rows_agree}
 
 -- ---- at the start

@@ -28,10 +28,6 @@ setting_at place =
 abbrev pub labelled_at : Place → Labelled
 labelled_at place = labelled_of place.checked.now
 
--- each principal of an authority is declared
-abbrev pub AreDeclared : Declared → List PrincipalId → Type 0
-AreDeclared principals authority = All (λ member. member.0 < length principals.names) authority
-
 -- just those trust the label who back
 pub record IsBackedBy (principals : Declared) (backing : List Backing) (label : Label) : Type 0 where
   pub each : (principal : ℕ) → principal < READERS →

@@ -6,8 +6,8 @@ ghost use Rattle.jif_tree.specs.Trees.{ExprTree};
 ghost use Rattle.jif_tree.specs.LabelRules.{method_at, begin_label, params_of};
 ghost use Rattle.need_labels.specs.Labelled.{labelled_of};
 ghost use Rattle.need_labels.specs.Needs.{Backing, for_label, for_releases, releases, label_of, labels_of, IsNeed};
-ghost use Rattle.need_labels.specs.Finding.{AreDeclared, IsBackedBy, setting_at, labelled_at};
-ghost use Rattle.principals.specs.ActsFor.{Declared};
+ghost use Rattle.need_labels.specs.Finding.{IsBackedBy, setting_at, labelled_at};
+ghost use Rattle.principals.specs.ActsFor.{Declared, AreDeclared};
 
 use crate::place::Place;
 use crate::variables::label_of;

@@ -2,11 +2,12 @@
 
 ghost use Rattle.std.specs.Prelude.{◌≡◌, ℕ, ◌∷◌, [], map, replicate, length, IfOk, OnOk};
 ghost use Rattle.js_base.specs.declared.ids.StmtId.{StmtId};
+ghost use Rattle.principals.specs.ActsFor.{AreDeclared};
 ghost use Rattle.label_lattice.specs.Lattice.{bottom_of};
 ghost use Rattle.jif_tree.specs.Trees.{program_tree, method_tree};
 ghost use Rattle.need_labels.specs.Labelled.{Labelled, labelled_of};
 ghost use Rattle.need_labels.specs.Needs.{AreAuthoritiesDeclared, AreNeedsOf, method_uses};
-ghost use Rattle.need_labels.specs.Finding.{AreDeclared, AreReads, AddsFound, labelled_at};
+ghost use Rattle.need_labels.specs.Finding.{AreReads, AddsFound, labelled_at};
 
 use crate::Needs;
 use crate::backing::need_of;

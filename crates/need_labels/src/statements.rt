@@ -1,12 +1,12 @@
 //! Statements and blocks.
 
 ghost use Rattle.std.specs.Prelude.{◌≡◌, ◌∷◌, [], List, IfOk, length};
-ghost use Rattle.principals.specs.ActsFor.{Declared};
+ghost use Rattle.principals.specs.ActsFor.{Declared, AreDeclared};
 ghost use Rattle.jif_tree.specs.Trees.{done, block_tree, tree_before};
 ghost use Rattle.need_labels.specs.declared.place.Found.{Found};
 ghost use Rattle.need_labels.specs.Labelled.{Labelled};
 ghost use Rattle.need_labels.specs.Needs.{StatementUse, block_uses};
-ghost use Rattle.need_labels.specs.Finding.{AreDeclared, AddsUses, enclosing, setting_at, labelled_at};
+ghost use Rattle.need_labels.specs.Finding.{AddsUses, enclosing, setting_at, labelled_at};
 
 use crate::backing::{need_of, variable_backing};
 use crate::place::{Found, Place};

@@ -2,12 +2,13 @@
 
 ghost use Rattle.std.specs.Prelude.{◌≡◌, ◌∷◌, [], ◌++◌, List, map, IfOk, OnOk, length};
 ghost use Rattle.std.specs.List.{fold};
+ghost use Rattle.principals.specs.ActsFor.{AreDeclared};
 ghost use Rattle.label_lattice.specs.declared.label.Label.{Label};
 ghost use Rattle.label_lattice.specs.Lattice.{join_of};
 ghost use Rattle.jif_tree.specs.Trees.{ExprTree, expr_tree};
 ghost use Rattle.jif_tree.specs.LabelRules.{method_at, begin_label, params_of};
 ghost use Rattle.need_labels.specs.Needs.{for_label, statement_use, kept_result, label_of, labels_of};
-ghost use Rattle.need_labels.specs.Finding.{AreDeclared, IsBackedBy, started, IsWalked, AddsUses};
+ghost use Rattle.need_labels.specs.Finding.{IsBackedBy, started, IsWalked, AddsUses};
 ghost use Rattle.need_labels.specs.Finding.{setting_at, labelled_at};
 ghost use Rattle.need_labels.specs.declared.place.Found.{Found};
 

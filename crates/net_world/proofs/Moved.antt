@@ -4,12 +4,13 @@ use Rattle.std.proofs.Common.{◌++◌, Option, Some, None, refl, ap, sym}
 use Rattle.std.specs.Prelude.{slice_get, slice_set, if◌then◌else◌}
 use Rattle.std.proofs.lemmas.Bool.Decides.{eqb_tells}
 use Rattle.js_base.specs.declared.ids.HostId.{HostId}
+use Rattle.js_base.proofs.Options.{some_same}
 use Rattle.host_code.specs.declared.message.Message.{Message}
 use Rattle.host_core.specs.Host.{HostShape, Outcome, Letter, without_message, with_message}
 use Rattle.net_world.specs.Flying.{Flying, with_flights}
 use Rattle.net_world.specs.World.{WorldShape, given, present, state_at, lacks, misbehaves, with_state}
 use Rattle.net_world.specs.World.{after_sending, after_posting, after_telling, letter_of, after_step}
-use Rattle.net_world.proofs.Present.{at_set, get_other, same_id, some_same}
+use Rattle.net_world.proofs.Present.{at_set, get_other, same_id}
 use Rattle.net_world.proofs.StepLaws.{absent_set}
 
 -- ---- hosts

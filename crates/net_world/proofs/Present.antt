@@ -19,9 +19,6 @@ use Rattle.net_world.specs.Steps.{HaveMade, HasMade, HasCounted, ChangesOnly}
 pub same_id : (one other : HostId) → one.0 ≡ other.0 → one ≡ other
 same_id one other same = let make : ℕ → HostId = λ n. record { 0 = n } in ap make same
 
-pub some_same : {X : Type 0} (o : Option X) (x y : X) → o ≡ Some x → o ≡ Some y → x ≡ y
-some_same o x y first second = let both : Some x ≡ Some y = sym first ∙ second in cc
-
 -- ---- one more host
 
 given_push : {X : Type 0} (hosts : List (Option X)) (host : Option X) (i : ℕ) (P : X → Type 0) →
@@ -106,25 +103,11 @@ changes_only hosts host x = record {
   others = λ other ne. get_other hosts host.0 other.0 x ne;
 }
 
--- the host at a place is there
-pub get_at : {X : Type 0} (hosts : List (Option X)) (i : ℕ) (P : X → Type 0) →
-    IsSomeAnd (given (slice_get hosts i)) P → (x : X) × (slice_get hosts i ≡ Some (Some x)) × P x
-get_at [] i P has = absurd has
-get_at (None ∷ hosts) zero P has = absurd has
-get_at (Some x ∷ hosts) zero P has = (x, refl, has)
-get_at (host ∷ hosts) (suc i) P has = get_at hosts i P has
-
 pub get_lt : {X : Type 0} (hosts : List (Option X)) (i : ℕ) (P : X → Type 0) →
     IsSomeAnd (given (slice_get hosts i)) P → i < length hosts
 get_lt [] i P has = absurd has
 get_lt (host ∷ hosts) zero P has = omega arith
 get_lt (host ∷ hosts) (suc i) P has = let lt = get_lt hosts i P has in omega arith
-
-pub get_or_at : {X : Type 0} (hosts : List (Option X)) (i : ℕ) (d : Option X) (x : X) → slice_get hosts i ≡ Some (Some x) →
-    get_or hosts i d ≡ Some x
-get_or_at [] i d x there = absurd (cc)
-get_or_at (host ∷ hosts) zero d x there = cc
-get_or_at (host ∷ hosts) (suc i) d x there = get_or_at hosts i d x there
 
 -- and the other way, where something holds of it
 pub at_get_or : {X : Type 0} (hosts : List (Option X)) (i : ℕ) (d : Option X) (x : X) (P : X → Type 0) →

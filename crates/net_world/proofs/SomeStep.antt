@@ -2,6 +2,7 @@
 use Rattle.std.proofs.Common.{◌≡◌, ◌⊎◌, ℕ, Bool, true, false, Option, Some, None, ap, sym, subst, inl, inr, refl}
 use Rattle.std.specs.Prelude.{slice_get, is_some, if◌then◌else◌, length}
 use Rattle.js_base.specs.declared.ids.HostId.{HostId}
+use Rattle.js_base.proofs.Options.{some_or_none}
 use Rattle.event_text.specs.declared.event.Event.{Event}
 use Rattle.event_text.specs.declared.event.Event.TheVariants.{Take, Turn, Act}
 use Rattle.event_text.specs.declared.event.BadMessage.{BadMessage}
@@ -14,10 +15,6 @@ use Rattle.net_world.specs.Told.{message_made}
 use Rattle.net_world.specs.World.{WorldShape, IsStep, Refusal, refusal_of, refusal_of_take, refusal_of_turn}
 use Rattle.net_world.specs.World.{refusal_of_act, refusal_of_token, state_at, misbehaves, tokens_sent}
 use Rattle.net_world.specs.World.Refusal.{not_bad, not_there, host_busy, no_such_token}
-
-some_or_none : {X : Type 0} (found : Option X) → (found ≡ None) ⊎ ((x : X) × (found ≡ Some x))
-some_or_none None = inl refl
-some_or_none (Some x) = inr (x, refl)
 
 -- the event happens, or this is why it does not
 abbrev HappensOr : CodeShape → WorldShape → Event → Option Refusal → Type 0

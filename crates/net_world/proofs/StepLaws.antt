@@ -3,6 +3,7 @@ use Rattle.std.proofs.Common.{◌≡◌, ◌≢◌, ℕ, zero, suc, Bool, true, 
 use Rattle.std.proofs.Common.{Option, Some, None, append-nil}
 use Rattle.std.specs.Prelude.{slice_get, slice_set, IsSome, IsSomeAnd, IsTrue, ◌↔◌, if◌then◌else◌, length}
 use Rattle.js_base.specs.declared.ids.HostId.{HostId}
+use Rattle.js_base.proofs.Options.{some_same}
 use Rattle.event_text.specs.declared.event.Event.{Event}
 use Rattle.event_text.specs.declared.event.Event.TheVariants.{Take, Turn, Act}
 use Rattle.event_text.specs.declared.event.BadMessage.{BadMessage}
@@ -19,7 +20,7 @@ use Rattle.net_world.specs.World.{WorldShape, IsStep, IsRun, IsTakeStep, IsTurnS
 use Rattle.net_world.specs.World.{refusal_of_turn}
 use Rattle.net_world.specs.World.{misbehaves, is_absent, given, state_at, with_state, without_flight, after_step}
 use Rattle.net_world.specs.World.{after_sending, after_telling, letter_of, tokens_sent}
-use Rattle.net_world.proofs.Present.{get_other, some_same}
+use Rattle.net_world.proofs.Present.{get_other}
 use Rattle.net_world.proofs.StepsOf.{take_not_refused, act_not_refused}
 
 -- ---- one outcome

@@ -1,7 +1,6 @@
 -- Starting plans: where they put each thing, and that there is one for each host.
 use Rattle.std.proofs.Common.{◌≡◌, ◌≢◌, ℕ, ◌+◌, ◌<◌, ◌≤◌, ◌^◌, ◌∙◌, List, [], ◌∷◌, ◌++◌, length, get_or, take, sym, ap, subst, arith}
 use Rattle.std.proofs.Common.{inl, inr, w16}
-use Rattle.std.specs.Prelude.{All}
 use Rattle.std.specs.List.{AllZip}
 use Rattle.std.specs.Int.{bit_at, trailing_zeros}
 use Rattle.std.proofs.lemmas.Bool.{cases_order}
@@ -25,20 +24,11 @@ lowest_host word some fits =
       before = λ earlier less set. let clear = lowest.2 earlier less in absurd (omega arith);
     }
 
-pub lowest_small : (word : ℕ) → word ≢ 0 → word < 2 ^ 16 → trailing_zeros w16 word < 256
-lowest_small word some fits =
-    let lowest = bit_at-trailing_zeros w16 word (omega arith) fits in
-    let below : trailing_zeros w16 word < 16 = lowest.0 in
-    omega arith
-
 pub some_word : (count word : ℕ) → IsWordOfSome count word → word ≢ 0
 some_word count word is none =
     let set : bit_at word is.some.0 ≡ 1 = is.some.1 in
     let clear : bit_at word is.some.0 ≡ 0 = ap (λ one. bit_at one is.some.0) none ∙ bit_at-zero is.some.0 in
     absurd (omega arith)
-
-pub some_words : (count : ℕ) (words : List ℕ) → All (IsWordOfSome count) words → All (λ word. word ≢ 0) words
-some_words count words all k d within = some_word count _ (all k d within)
 
 -- ---- a row of words
 

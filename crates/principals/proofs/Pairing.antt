@@ -12,7 +12,6 @@ use Rattle.js_base.proofs.Lists.{zip_push}
 use Rattle.js_base.specs.declared.ids.PrincipalId.{PrincipalId}
 use Rattle.std.proofs.lemmas.Option.{slice_get_within, get_or_from_slice_get}
 use Rattle.principals.specs.Declaring.{IsNamed, IsPairOf, IsFirstUnknown, mentioned_names, written_pair}
-use Rattle.principals.specs.Declaring.{written_pairs}
 use Rattle.principals.specs.Pairs.{pair_of, pairs_of}
 use Rattle.principals.specs.ActsFor.{IsDeclared}
 use Rattle.std.specs.Str.{bytes_eq}
@@ -83,19 +82,6 @@ unknown_in_front names [] rest name none = absurd none
 unknown_in_front names (next ∷ front) rest name (inl here) = inl here
 unknown_in_front names (next ∷ front) rest name (inr later) =
     inr (later.0, unknown_in_front names front rest name later.1)
-
-first_of_all : (names : List (String Global)) (pairs : List Written) (place : ℕ)
-    (ids : List (PrincipalId × PrincipalId)) (pair : Written) (name : List ℕ) → place < length pairs →
-    pair ≡ get_or pairs place pair → PairedSoFar names pairs place ids →
-    IsFirstUnknown (map string_bytes names) (mentioned_names (written_pair pair ∷ [])) name →
-    IsFirstUnknown (map string_bytes names) (mentioned_names (written_pairs pairs)) name
-first_of_all names pairs place ids pair name within read so_far unknown =
-    let Q : List (List ℕ) → Type 0 = λ rest. IsFirstUnknown (map string_bytes names) rest name in
-    let here : IsFirstUnknown (map string_bytes names)
-    (mentioned_names (written_pair pair ∷ []) ++ mentioned_names (map written_pair (drop (place + 1) pairs))) name =
-    unknown_in_front (map string_bytes names) (mentioned_names (written_pair pair ∷ []))
-    (mentioned_names (map written_pair (drop (place + 1) pairs))) name unknown in
-    so_far.first name (subst Q (sym (rest_mentions pairs place pair within read)) here)
 
 -- ---- pairs are of declared principals
 

@@ -1,5 +1,5 @@
 -- The rows of bits of who acts for whom.
-use Rattle.std.proofs.Common.{ℕ, ◌≡◌, ◌≢◌, ◌<◌, ◌≤◌, ◌+◌, ◌⊎◌, ◌↔◌, ◌∙◌, sym, subst, inl, inr, max, List, [], ◌∷◌, ◌++◌}
+use Rattle.std.proofs.Common.{ℕ, ◌≡◌, ◌≢◌, ◌<◌, ◌≤◌, ◌+◌, ◌⊎◌, ◌↔◌, ◌∙◌, sym, subst, inl, inr, List, [], ◌∷◌, ◌++◌}
 use Rattle.std.proofs.Common.{length, get_or, set, map, take, arith}
 use Rattle.std.specs.Int.{bit_at}
 use Rattle.std.proofs.lemmas.Bool.{cases_lt}
@@ -17,20 +17,6 @@ RowGains old first reached new =
 pub record GainedBelow (old rows : List ℕ) (first reached place : ℕ) : Type 0 where
   pub before : (p : ℕ) → p < place → RowGains (get_or old p 0) first reached (get_or rows p 0)
   pub after : (p : ℕ) → place ≤ p → get_or rows p 0 ≡ get_or old p 0
-
-pub row_gains : (old first reached new : ℕ) → bit_at old first ≡ 1 →
-    ((k : ℕ) → bit_at new k ≡ max (bit_at old k) (bit_at reached k)) → RowGains old first reached new
-row_gains old first reached new has joined q = (gained, back)
-  where
-    gained : bit_at new q ≡ 1 → (bit_at old q ≡ 1) ⊎ ((bit_at old first ≡ 1) × (bit_at reached q ≡ 1))
-    gained set = elim (cases_lt (bit_at old q) 1) [
-      | inl less ↦ inr (has, omega (arith, joined q))
-      | inr more ↦ inl (omega (arith, joined q))
-    ]
-
-    back : (bit_at old q ≡ 1) ⊎ ((bit_at old first ≡ 1) × (bit_at reached q ≡ 1)) → bit_at new q ≡ 1
-    back (inl set) = omega (arith, joined q)
-    back (inr both) = omega (arith, joined q, both.1)
 
 pub row_stays : (old first reached : ℕ) → ¬ (bit_at old first ≡ 1) → RowGains old first reached old
 row_stays old first reached lacks q =

@@ -6,6 +6,7 @@ use Rattle.std.specs.Prelude.{Bool, IsTrue}
 use Rattle.std.specs.List.{IsDistinct}
 use Rattle.std.specs.Str.{bytes_eq}
 use Rattle.js_base.specs.Name.{IsName}
+use Rattle.js_base.specs.declared.ids.PrincipalId.{PrincipalId}
 use Rattle.js_base.specs.declared.limits.TheConstants.{PRINCIPALS}
 
 -- the reader who stands for everyone that is no declared principal
@@ -27,6 +28,10 @@ pub record IsDeclared (principals : Declared) : Type 0 where
   pub spelled : All IsName principals.names
   pub names : AreDeclarable principals.names
   pub pairs : All (λ pair. (pair.0 < length principals.names) × (pair.1 < length principals.names)) principals.pairs
+
+-- each of these principals is declared
+abbrev pub AreDeclared : Declared → List PrincipalId → Type 0
+AreDeclared principals members = All (λ member. member.0 < length principals.names) members
 
 -- the declared pairs lead from the first to the last over those between
 abbrev pub LeadsTo : List (ℕ × ℕ) → ℕ → List ℕ → ℕ → Type 0

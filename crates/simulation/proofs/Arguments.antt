@@ -18,7 +18,7 @@ use Rattle.jif_tree.specs.SourceRun as source
 use Rattle.jif_tree.specs.SourceRun.{Call, Configuration, IsAtEnd, step, value_of, calls_after, passed}
 use Rattle.jif_tree.specs.Trees as trees
 use Rattle.jif_tree.specs.Trees.{ExprTree, Heading, BlockTree, done, MethodTree, ProgramTree, statement_tree, expr_tree}
-use Rattle.jif_tree.specs.Trees.{method_tree, program_tree, block_tree}
+use Rattle.jif_tree.specs.Trees.{method_tree, program_tree, block_tree, head_of}
 use Rattle.host_code.specs.declared.code_expr.Node.{Node}
 use Rattle.host_code.specs.declared.instruction.Op.TheVariants as op
 use Rattle.host_code.specs.Thread.{ThreadShape}
@@ -133,7 +133,7 @@ frame_at split c view host thread at site law =
     let calling = calm_calling split c view host thread at (ap (λ (p : Position). p.calling) law.3) in
     elim (front_of split c view.keeper call here.due (chain_due split view.chain) law.0 law.1 law.2.due at.left) [
       | inl runs ↦
-          let heading : Heading = record { id = runs.statement.id; line = runs.statement.line } in
+          let heading : Heading = head_of runs.statement in
           let block = alone runs.statement in
           let frames = frames_call split here runs.statement.kind heading site _
           (subst (λ first. Frames split.planned here first site (place_of split host (suc thread.at))) runs.is law.4) in

@@ -20,7 +20,7 @@ use Rattle.jif_tree.specs.SourceRun as source
 use Rattle.jif_tree.specs.SourceRun.{Call, Configuration, IsAtEnd, step, value_of, calls_after, passed}
 use Rattle.jif_tree.specs.Trees as trees
 use Rattle.jif_tree.specs.Trees.{ExprTree, Heading, BlockTree, done, MethodTree, ProgramTree, statement_tree, expr_tree}
-use Rattle.jif_tree.specs.Trees.{method_tree, program_tree, block_tree}
+use Rattle.jif_tree.specs.Trees.{method_tree, program_tree, block_tree, head_of}
 use Rattle.jif_tree.specs.Results.{GivesBack}
 use Rattle.jif_tree.specs.WellNumbered.{is_some}
 use Rattle.capability.specs.declared.token.Token.{Token}
@@ -99,11 +99,11 @@ not_done (kind.Return value) heading rest same = cc
 ends_native : (statements : List Stmt) → GivesBack (block_tree statements) → EndsWithReturn statements
 ends_native [] gives = gives
 ends_native (statement ∷ []) gives =
-    last_return statement.kind (record { id = statement.id; line = statement.line }) gives
+    last_return statement.kind (head_of statement) gives
 ends_native (statement ∷ next ∷ others) gives =
-    ends_native (next ∷ others) (behind_first statement.kind (record { id = statement.id; line = statement.line })
+    ends_native (next ∷ others) (behind_first statement.kind (head_of statement)
     (block_tree (next ∷ others))
-    (not_done next.kind (record { id = next.id; line = next.line }) (block_tree others)) gives)
+    (not_done next.kind (head_of next) (block_tree others)) gives)
 
 pub called : (split : Split) (method : MethodId) → IsCalled split method (source.method_at split.program method.0)
 called split method = by (source.method_at split.program method.0) (called_is split method)
@@ -208,7 +208,7 @@ behind_call : (split : Split) (call n : ℕ) (statement : Stmt) (site : SiteId) 
     BeginsPlainly behind → AreReturned behind →
     Behind split call n into result body behind (kept_due split.planned (alone statement))
 behind_call split call n statement site method args into None body behind is fit result ends known plainly returned =
-    let heading : Heading = record { id = statement.id; line = statement.line } in
+    let heading : Heading = head_of statement in
     let block = trees.call heading site method (map expr_tree args.items) into done in
     let none : kept_due split.planned (alone statement) ≡ [] =
     ap (λ k. kept_due split.planned (statement_tree k heading done)) is
@@ -226,13 +226,13 @@ behind_call split call n statement site method args into None body behind is fit
     nothing_kept call None = refl
     nothing_kept call (Some x) = refl
 behind_call split call n statement site method args None (Some x) body behind is fit result ends known plainly returned =
-    let heading : Heading = record { id = statement.id; line = statement.line } in
+    let heading : Heading = head_of statement in
     let own : IsFit split.code split.planned (trees.call heading site method (map expr_tree args.items) None done) =
     subst (λ k. IsFit split.code split.planned (statement_tree k heading done)) is fit in
     absurd (let so : false ≡ true = own.1 ∙ ap is_some (sym result) in cc)
 behind_call split call n statement site method args (Some into) (Some x) body behind is fit result ends known plainly
     returned =
-    let heading : Heading = record { id = statement.id; line = statement.line } in
+    let heading : Heading = head_of statement in
     let block = trees.call heading site method (map expr_tree args.items) (Some into) done in
     let same : alone statement ≡ block = ap (λ k. statement_tree k heading done) is in
     let own : IsFit split.code split.planned block = subst (IsFit split.code split.planned) same fit in
@@ -321,7 +321,7 @@ call_made split c view host thread at entry statement set left is pushes =
     at.left) [
       | inl runs ↦
           let own = runs.statement in
-          let heading : Heading = record { id = own.id; line = own.line } in
+          let heading : Heading = head_of own in
           let same : alone own ≡ block = sym (ap statement_due runs.is) in
           let what = call_kind own.kind heading args.heading args.site args.method args.arguments args.into same in
           let native = what.args.items in

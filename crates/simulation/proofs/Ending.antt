@@ -2,6 +2,7 @@
 use Rattle.std.proofs.Common.{◌≡◌, ℕ, zero, suc, ◌+◌, ◌<◌, ◌≤◌, inl, inr, List, [], ◌∷◌, length, refl, subst}
 use Rattle.std.proofs.Common.{arith, ◌⊎◌, Option, Some, None}
 use Rattle.std.specs.Prelude.{ℤ, ◌*◌, ◌-◌}
+use Rattle.js_base.proofs.Options.{some_or_none}
 use Rattle.host_decl.specs.Hosts.{HostsShape}
 use Rattle.event_text.specs.declared.event.Event.{Event}
 use Rattle.jif_tree.specs.declared.program.Program.{Program}
@@ -26,10 +27,6 @@ use Rattle.simulation.proofs.Starts.{falls_at_start}
 use Rattle.simulation.proofs.Events.{event_kept, idle_halted}
 use Rattle.simulation.proofs.Possible.{event_of, happens, none_comes, one_comes}
 use Rattle.simulation.proofs.Obeyed.{SplitLaws, typed_split, own_tokens}
-
-some_or_none : {X : Type 0} (o : Option X) → (o ≡ None) ⊎ ((x : X) × (o ≡ Some x))
-some_or_none None = inl refl
-some_or_none (Some x) = inr (x, refl)
 
 module _ (split : Split) (paced : Paced split) (store : List (List ℤ)) (most : ℕ)
     (ends : IsAtEnd (prefix split.program store most)) where

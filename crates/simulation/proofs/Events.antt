@@ -4,6 +4,7 @@ use Rattle.std.proofs.Common.{subst}
 use Rattle.std.specs.Prelude.{IsSome, IsSomeAnd, IsTrue}
 use Rattle.std.proofs.lemmas.Bool.Decides.{eqb_tells}
 use Rattle.js_base.specs.declared.ids.HostId.{HostId}
+use Rattle.js_base.proofs.Options.{some_same}
 use Rattle.jif_tree.specs.SourceRun.{Configuration, IsAtEnd}
 use Rattle.event_text.specs.declared.event.Event.{Event}
 use Rattle.event_text.specs.declared.event.Event.TheVariants.{Take, Turn, Act}
@@ -12,7 +13,7 @@ use Rattle.host_core.specs.Turn.{IsTurn, label_of_turn}
 use Rattle.net_world.specs.Choice.{NoneRuns, NothingFlies}
 use Rattle.net_world.specs.Flying.{Flight, Flying}
 use Rattle.net_world.specs.World.{WorldShape, IsStep, IsTurnStep, IsTakeStep, state_at, after_step, has_halted}
-use Rattle.net_world.proofs.Present.{same_id, some_same}
+use Rattle.net_world.proofs.Present.{same_id}
 use Rattle.simulation.proofs.Views.{Split, View}
 use Rattle.simulation.proofs.Simulates.{only, Holder, runs, asked, answered, gives, goes, returns, halted, IsIdle}
 use Rattle.simulation.proofs.Simulates.{Stands, AreIdle, GoesOn, Simulates, Goes, Paced, IsFueled}

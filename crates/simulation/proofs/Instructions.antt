@@ -20,7 +20,7 @@ use Rattle.jif_tree.specs.Store.{element_at, row_of, store_after_write}
 use Rattle.jif_tree.specs.Trees as trees
 use Rattle.jif_tree.specs.Trees.{ExprTree, number, local, scalar, element, inverted, negated, binary, declassified}
 use Rattle.jif_tree.specs.Trees.{endorsed, Heading, BlockTree, done, set_local, set_field, set_element, branch, loop}
-use Rattle.jif_tree.specs.Trees.{give_back, statement_tree, expr_tree}
+use Rattle.jif_tree.specs.Trees.{give_back, statement_tree, expr_tree, head_of}
 use Rattle.ics_stack.specs.Stack.{top_token}
 use Rattle.host_code.specs.declared.code_expr.Node.{Node}
 use Rattle.host_code.specs.declared.code_expr.Node.TheVariants as node
@@ -317,7 +317,7 @@ keeps_local : (split : Split) (here : Position) (x : VarId) (nodes : List Node) 
     (into result : VarId) → IsKeeping split statement into result →
     Sets split.planned here (positions.keep (alone statement)) x nodes → KeepsLocal split here x nodes into result
 keeps_local split here x nodes statement into result keeping sets =
-    let heading : Heading = record { id = statement.id; line = statement.line } in
+    let heading : Heading = head_of statement in
     let own : Sets split.planned here
     (positions.keep (trees.call heading keeping.site keeping.method keeping.arguments (Some into) done)) x nodes =
     subst (λ block. Sets split.planned here (positions.keep block) x nodes) keeping.is sets in
@@ -361,7 +361,7 @@ let_at split c view host thread variables at agrees kept x nodes law =
           let on_host = subst (λ first. is_on split.planned host (statement_due first) ≡ true) runs.is law.2.on_host in
           let sets = subst (λ first. Sets split.planned here first x nodes) runs.is law.4 in
           let assigns = assigns_local split c host call variables agrees here runs.statement.kind
-          (record { id = runs.statement.id; line = runs.statement.line }) x nodes on_host runs.fit sets in
+          (head_of runs.statement) x nodes on_host runs.fit sets in
           let value = only_value c call variables thread.temporaries here assigns.value nodes assigns.same
           at.temporaries assigns.is_value in
           let steps = stepped split c call runs.statement (map item_of runs.behind) (kind.Let x assigns.value)
@@ -513,7 +513,7 @@ put_at split c view host thread variables at agrees field index nodes law =
           let behind = map item_of runs.behind in
           let next = step split.program c in
           let assigns = assigns_field split c host call thread variables agrees here at.temporaries item behind
-          runs.statement.kind (record { id = runs.statement.id; line = runs.statement.line }) field index nodes on_host
+          runs.statement.kind (head_of runs.statement) field index nodes on_host
           runs.fit stores in
           let steps = stepped split c call runs.statement behind runs.statement.kind runs.pending refl ∙ assigns.is in
           let calls : next.calls ≡ c.calls = ap (λ (k : Configuration). k.calls) steps in

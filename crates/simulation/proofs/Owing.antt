@@ -9,7 +9,7 @@ use Rattle.jif_tree.specs.declared.program.StmtKind.{StmtKind}
 use Rattle.jif_tree.specs.declared.program.StmtKind as kind
 use Rattle.jif_tree.specs.SourceRun as source
 use Rattle.jif_tree.specs.SourceRun.{Configuration, IsAtEnd}
-use Rattle.jif_tree.specs.Trees.{Heading, BlockTree, done, block_tree, row_tree, statement_tree}
+use Rattle.jif_tree.specs.Trees.{Heading, BlockTree, done, block_tree, row_tree, statement_tree, head_of}
 use Rattle.host_code.specs.Code.{CodeShape}
 use Rattle.msg_cost.specs.Moves.{PlannedShape}
 use Rattle.split_rules.specs.Positions as positions
@@ -181,10 +181,10 @@ pub record AreStatements (code : CodeShape) (planned : PlannedShape) (block : Bl
 one_more : (code : CodeShape) (planned : PlannedShape) (statement : Stmt) (block : BlockTree) (statements : List Stmt) →
     AreStatements code planned block statements →
     AreStatements code planned
-    (statement_tree statement.kind (record { id = statement.id; line = statement.line }) block)
+    (statement_tree statement.kind (head_of statement) block)
     (statement ∷ statements)
 one_more code planned statement block statements others =
-    let heading : Heading = record { id = statement.id; line = statement.line } in
+    let heading : Heading = head_of statement in
     record {
       due = ap (map positions.run) (one_statement statement.kind heading block)
           ∙ ap (λ list. positions.run (alone statement) ∷ list) others.due;

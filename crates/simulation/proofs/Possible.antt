@@ -4,6 +4,7 @@ use Rattle.std.proofs.Common.{Option, Some, None, refl, ap, sym, subst, arith}
 use Rattle.std.specs.Prelude.{IsSome, IsSomeAnd, slice_get}
 use Rattle.std.proofs.lemmas.Bool.Decides.{eqb_tells}
 use Rattle.js_base.specs.declared.ids.HostId.{HostId}
+use Rattle.js_base.proofs.Options.{some_same}
 use Rattle.jif_tree.specs.SourceRun.{Configuration}
 use Rattle.capability.specs.declared.token.Token.{Token}
 use Rattle.ics_stack.specs.Stack.{top_token}
@@ -28,7 +29,7 @@ use Rattle.net_world.specs.World.{after_step, without_flight}
 use Rattle.split_rules.specs.TypedCode.{IsTypedOp}
 use Rattle.net_world.specs.Fits.{ShapeFits}
 use Rattle.net_world.proofs.Fitting.{flight_fits}
-use Rattle.net_world.proofs.Present.{same_id, some_same}
+use Rattle.net_world.proofs.Present.{same_id}
 use Rattle.simulation.proofs.Simulates as simulates
 use Rattle.simulation.proofs.Views.{Split, View, entries_of}
 use Rattle.simulation.proofs.Chains.{IsChain}

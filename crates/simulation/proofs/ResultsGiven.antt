@@ -15,7 +15,7 @@ use Rattle.jif_tree.specs.LabelRules.{method_at, result_of}
 use Rattle.jif_tree.specs.SourceRun as source
 use Rattle.jif_tree.specs.SourceRun.{Call, Configuration, step, value_of, calls_after, calls_after_return}
 use Rattle.jif_tree.specs.Trees as trees
-use Rattle.jif_tree.specs.Trees.{BlockTree, Heading, done, MethodTree, give_back, statement_tree, expr_tree}
+use Rattle.jif_tree.specs.Trees.{BlockTree, Heading, done, MethodTree, give_back, statement_tree, expr_tree, head_of}
 use Rattle.capability.specs.declared.token.Token.{Token}
 use Rattle.ics_stack.specs.Stack.{top_token}
 use Rattle.host_code.specs.declared.code_expr.Node.{Node}
@@ -147,7 +147,7 @@ return_at split c view host thread variables at agrees is_chain named x nodes la
     elim (front_of split c view.keeper call here.due (chain_due split view.chain) law.0 [] law.2.due at.left) [
       | inl runs ↦
           let own = runs.statement in
-          let heading : Heading = record { id = own.id; line = own.line } in
+          let heading : Heading = head_of own in
           let on_host = subst (λ first. is_on split.planned host (statement_due first) ≡ true) runs.is law.2.on_host in
           let returns = returns_value split here own.kind heading nodes
           (subst (λ first. GivesBack here first nodes) runs.is law.4) in
@@ -181,7 +181,7 @@ return_at split c view host thread variables at agrees is_chain named x nodes la
           let within : top.call < length c.calls = subst (λ n. top.call < n) calling.0 is_top.linked.known in
           let long : length next.calls ≡ length c.calls =
           ap length calls ∙ long_set c.calls top.call x.0 given within in
-          let keeping_is : trees.call (record { id = kept.statement.id; line = kept.statement.line }) kept.keeping.site
+          let keeping_is : trees.call (head_of kept.statement) kept.keeping.site
           kept.keeping.method kept.keeping.arguments (Some kept.into) done ≡ block =
           sym kept.keeping.is ∙ kept.same in
           let one_method : kept.keeping.method ≡ method = cc in

@@ -4,12 +4,12 @@ use Rattle.std.proofs.Common.{sym}
 use Rattle.std.specs.Prelude.{ℤ, slice_get}
 use Rattle.js_base.specs.declared.ids.HostId.{HostId}
 use Rattle.js_base.specs.declared.ids.FieldId.{FieldId}
+use Rattle.js_base.proofs.Options.{some_same}
 use Rattle.jif_tree.specs.Store.{row_of, store_after_write}
 use Rattle.host_code.specs.Code.{CodeShape, CodeFieldShape, field_at}
 use Rattle.host_core.specs.Host.{HostShape}
 use Rattle.net_world.specs.Flying.{Flying}
 use Rattle.net_world.specs.World.{WorldShape, state_at}
-use Rattle.net_world.proofs.Present.{some_same}
 use Rattle.net_world.proofs.Moved.{Moved, either}
 use Rattle.net_world.proofs.Rows.{row_kept, same_written}
 use Rattle.simulation.specs.Obeying.{FieldsAre}

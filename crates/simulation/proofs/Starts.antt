@@ -12,6 +12,7 @@ use Rattle.js_base.specs.declared.ids.HostId.{HostId}
 use Rattle.js_base.specs.declared.ids.FrameId.{FrameId}
 use Rattle.js_base.specs.declared.ids.SiteId.{SiteId}
 use Rattle.js_base.specs.declared.ids.VarId.{VarId}
+use Rattle.js_base.proofs.Options.{some_same}
 use Rattle.host_decl.specs.Hosts as declared_hosts
 use Rattle.jif_tree.specs.LabelRules.{method_at, result_of}
 use Rattle.jif_tree.specs.SourceRun as source
@@ -31,7 +32,7 @@ use Rattle.split_rules.specs.Pace.{PACE}
 use Rattle.split_rules.specs.Positions as positions
 use Rattle.split_rules.specs.Positions.{Position, calm, all_due}
 use Rattle.split_rules.specs.Typing as typing
-use Rattle.net_world.proofs.Present.{same_id, some_same}
+use Rattle.net_world.proofs.Present.{same_id}
 use Rattle.simulation.proofs.Views.{Split, Naming, View, Link, place_of}
 use Rattle.simulation.proofs.Chains.{Duty, under, due_at, chain_due, FitsOver}
 use Rattle.simulation.proofs.Threads.{Owed, item_of, duty_of, IsLeft, NoneKept, IsCalling, IsAt}

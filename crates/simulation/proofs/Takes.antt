@@ -8,6 +8,7 @@ use Rattle.std.proofs.lemmas.Bool.{eq-eqb}
 use Rattle.js_base.specs.declared.ids.HostId.{HostId}
 use Rattle.js_base.specs.declared.ids.EntryId.{EntryId}
 use Rattle.js_base.specs.declared.ids.RequestId.{RequestId}
+use Rattle.js_base.proofs.Options.{some_same}
 use Rattle.jif_tree.specs.SourceRun.{Configuration, step}
 use Rattle.jif_tree.specs.Store.{element_at, row_of}
 use Rattle.ics_stack.specs.declared.stack.StackEntry.{StackEntry}
@@ -30,7 +31,6 @@ use Rattle.split_rules.specs.Pace.{PACE}
 use Rattle.net_world.specs.Flying.{Flight}
 use Rattle.net_world.specs.World.{WorldShape, IsTakeStep, state_at, without_flight, after_step}
 use Rattle.net_world.proofs.Moved.{Moved, mover_state, other_state, moved_silent}
-use Rattle.net_world.proofs.Present.{some_same}
 use Rattle.simulation.proofs.Views.{Split, View, Link, with_chain, with_out, values_set}
 use Rattle.simulation.proofs.Chains.{IsChain, IsLinked, on_stack}
 use Rattle.simulation.proofs.Threads.{IsAt}

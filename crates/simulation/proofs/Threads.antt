@@ -15,7 +15,7 @@ use Rattle.jif_tree.specs.LabelRules.{method_at, params_of, result_of}
 use Rattle.jif_tree.specs.SourceRun as source
 use Rattle.jif_tree.specs.SourceRun.{Call, Configuration, IsAtEnd, step, with_value}
 use Rattle.jif_tree.specs.Trees as trees
-use Rattle.jif_tree.specs.Trees.{BlockTree, ExprTree, Heading, done, MethodTree, statement_tree, program_tree}
+use Rattle.jif_tree.specs.Trees.{BlockTree, ExprTree, Heading, done, MethodTree, statement_tree, program_tree, head_of}
 use Rattle.ics_stack.specs.Stack.{top_token}
 use Rattle.host_code.specs.Code.{variable_at}
 use Rattle.host_code.specs.Thread.{ThreadShape}
@@ -32,7 +32,7 @@ use Rattle.simulation.proofs.Chains.{Duty, under, chain_due, FitsOver}
 
 -- a statement with nothing behind it
 abbrev pub alone : Stmt → BlockTree
-alone statement = statement_tree statement.kind (record { id = statement.id; line = statement.line }) done
+alone statement = statement_tree statement.kind (head_of statement) done
 
 pub data Owed : Type 0 where
   -- a statement of a call
@@ -54,7 +54,7 @@ pub record IsKeeping (split : Split) (statement : Stmt) (into result : VarId) : 
   pub method : MethodId
   pub arguments : List ExprTree
   pub is : alone statement
-      ≡ trees.call (record { id = statement.id; line = statement.line }) site method arguments (Some into) done
+      ≡ trees.call (head_of statement) site method arguments (Some into) done
   pub result_is : result_of (method_at split.planned.program method) ≡ Some result
   pub sees : (host : HostId) → is_on split.planned host (alone statement) ≡ true →
       MayReturn split.code (variable_at split.code result) host

@@ -14,7 +14,7 @@ use Rattle.jif_tree.specs.declared.program.StmtKind as kind
 use Rattle.jif_tree.specs.Operators.{is_true}
 use Rattle.jif_tree.specs.SourceRun as source
 use Rattle.jif_tree.specs.SourceRun.{Configuration, IsAtEnd, step, executed, operands, value_of}
-use Rattle.jif_tree.specs.Trees.{Heading, done, branch, loop, statement_tree, row_tree, expr_tree}
+use Rattle.jif_tree.specs.Trees.{Heading, done, branch, loop, statement_tree, row_tree, expr_tree, head_of}
 use Rattle.capability.specs.declared.token.Token.{Token}
 use Rattle.ics_stack.specs.Stack.{top_token}
 use Rattle.host_code.specs.declared.code.Entry.{Entry}
@@ -469,7 +469,7 @@ branch_at split c view host thread variables at agrees guard target law =
     let calling = calm_calling split c view host thread at law.3 in
     elim (front_of split c view.keeper call here.due (chain_due split view.chain) law.0 law.1 law.2.due at.left) [
       | inl runs ↦
-          let heading : Heading = record { id = runs.statement.id; line = runs.statement.line } in
+          let heading : Heading = head_of runs.statement in
           let on_host = subst (λ first. is_on split.planned host (statement_due first) ≡ true) runs.is law.2.on_host in
           let branches = subst (λ first. Branches here first law.1 guard next aim) runs.is law.4 in
           let plainly = plainly_behind (to_run call runs.statement) runs.behind runs.follows

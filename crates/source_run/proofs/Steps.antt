@@ -529,7 +529,3 @@ pub end_agrees : {program : Program} {m : MachineShape} {c : Configuration} → 
     → m.tasks ≡ []
 end_agrees {program} {m} {c} agrees ends =
     none_left agrees.number agrees.count m.tasks agrees.stacked (sym agrees.pending ∙ ends)
-
-pub is_end : {program : Program} {m : MachineShape} {c : Configuration} → Agrees program m c → m.tasks ≡ []
-    → c.pending ≡ []
-is_end {program} {m} {c} agrees none = agrees.pending ∙ ap (items_of agrees.number) none

@@ -24,7 +24,7 @@ use Rattle.jif_tree.specs.SourceRun.{prefix, IsAtEnd, HasLength}
 use Rattle.jif_tree.specs.Trees.{ExprTree, number, local, scalar, element, inverted, negated, binary, declassified}
 use Rattle.jif_tree.specs.Trees.{endorsed, Heading, BlockTree, done, set_local, set_field, set_element, branch, loop}
 use Rattle.jif_tree.specs.Trees.{call, give_back, MethodTree, ProgramTree, expr_tree, statement_tree, row_tree}
-use Rattle.jif_tree.specs.Trees.{block_tree, method_tree, program_tree}
+use Rattle.jif_tree.specs.Trees.{block_tree, method_tree, program_tree, head_of}
 use Rattle.source_run.specs.Alike.{RunAlike}
 
 -- ---- a run over trees
@@ -140,7 +140,7 @@ after_tree_steps tree (suc n) s = let before = after_tree_steps tree n s in afte
 
 abbrev statement_alone : Stmt → BlockTree
 statement_alone statement =
-    statement_tree statement.kind (record { id = statement.id; line = statement.line }) done
+    statement_tree statement.kind (head_of statement) done
 
 abbrev item_tree : Item → TreeItem
 item_tree (run n statement) = run_tree n (statement_alone statement)
@@ -188,7 +188,7 @@ singles-block : (statements : List Stmt) → map statement_alone statements ≡ 
 singles-block [] = refl
 singles-block (statement ∷ statements) =
     ap (λ (ts : List BlockTree). statement_alone statement ∷ ts) (singles-block statements)
-    ∙ sym (singles-statement statement.kind (record { id = statement.id; line = statement.line })
+    ∙ sym (singles-statement statement.kind (head_of statement)
     (block_tree statements))
 
 singles-row : {n : _} (row : kind.Row_of-Stmt n) → map statement_alone (statements_of row) ≡ singles (row_tree row)

@@ -11,8 +11,8 @@ ghost use Rattle.source_run.specs.Origins.{HaveOrigins};
 ghost use Rattle.source_run.specs.Runs.{RunsTo};
 ghost use Rattle.source_run.specs.declared.plain.RunEnd.{RunEnd};
 
-/// Programs with the same tree run alike, and a run has one length at most. For the program, the starting values and the
-/// steps there is one answer of `run`, with one store that it leaves, but for want of memory.
+/// Programs with the same tree run alike, and a run has one length at most. For the program, the starting values and
+/// the steps there is one answer of `run`, with one store that it leaves, but for want of memory.
 pub fn run_laws()
     ensures same_runs { (program other : Program) → program_tree program ≡ program_tree other →
         RunAlike program other }

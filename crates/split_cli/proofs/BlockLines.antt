@@ -12,6 +12,7 @@ use Rattle.jif_tree.specs.declared.program.StmtKind as kind
 use Rattle.jif_tree.specs.declared.program.Method.{Method}
 use Rattle.jif_tree.specs.declared.program.Expr.{Expr}
 use Rattle.jif_tree.specs.Trees.{Heading, BlockTree, statement_tree, row_tree, block_tree, MethodTree, method_tree}
+use Rattle.jif_tree.specs.Trees.{head_of}
 use Rattle.jif_tree.specs.Numbering.{block_lines}
 use Rattle.split_cli.specs.StatementLines.{kind_lines}
 
@@ -77,7 +78,7 @@ first_lines (kind.Return value) heading rest = refl
 pub lines_are : (body : List Stmt) → block_lines (block_tree body) ≡ flat_map part_of body
 lines_are [] = refl
 lines_are (s ∷ ss) =
-    first_lines s.kind (record { id = s.id; line = s.line }) (block_tree ss)
+    first_lines s.kind (head_of s) (block_tree ss)
     ∙ ap (λ (rest : List ℕ). s.line ∷ (kind_lines s.kind ++ rest)) (lines_are ss)
 
 -- one more item, whose lines were added in two parts

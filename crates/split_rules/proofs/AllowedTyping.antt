@@ -14,6 +14,7 @@ use Rattle.std.proofs.lemmas.List.{length-map}
 use Rattle.js_base.specs.declared.ids.HostId.{HostId}
 use Rattle.js_base.specs.declared.ids.StmtId.{StmtId}
 use Rattle.js_base.specs.declared.ids.MethodId.{MethodId}
+use Rattle.js_base.proofs.BitLemmas.{is_bit, bits_in_order}
 use Rattle.principals.specs.ActsFor.{Declared}
 use Rattle.label_lattice.specs.declared.label.TheConstants.{READERS}
 use Rattle.label_lattice.specs.Label.{IsTrustedBy}
@@ -347,16 +348,6 @@ called_due planned principals labelled same bodies host statement called others 
 
 -- ---- trust in what statements start
 
-is_bit : (word p : ℕ) → bit_at word p < 2
-is_bit word p = omega arith
-
-in_order : (first second : ℕ) → first < 2 → (first ≡ 1 → second ≡ 1) → first ≤ second
-in_order zero second bit implied = omega arith
-in_order (suc first) second bit implied =
-    let one : suc first ≡ 1 = omega arith in
-    let other : second ≡ 1 = implied one in
-    omega arith
-
 block_trusted : (planned : PlannedShape) (principals : Declared) (labelled : Labelled) (setting : MethodSetting) →
     labelled.program ≡ planned.program → AreBodiesBacked planned principals labelled → (block : BlockTree) →
     AllByRecursion (IsOf planned.program) (all_statements block) →
@@ -502,7 +493,7 @@ head_covers planned principals method (tree ∷ trees) need backed = (
       let word = slice_index planned.needs.need method.head.0 in
       let own = slice_index planned.needs.need (number_of tree).0 in
       let both = bit_at_or word 0 p in
-      let less = in_order (bit_at own p) (bit_at word p) (is_bit own p)
+      let less = bits_in_order (bit_at own p) (bit_at word p) (is_bit own p)
       (λ set. (need.members p within).1 (backed.0 p within set)) in
       omega arith,
   head_covers planned principals method trees need backed.1,

@@ -8,6 +8,7 @@ use Rattle.std.proofs.lemmas.Nat.Bits.{bit_at_or, bit_at-zero}
 use Rattle.js_base.specs.declared.ids.HostId.{HostId}
 use Rattle.js_base.specs.declared.ids.FieldId.{FieldId}
 use Rattle.js_base.specs.declared.ids.EntryId.{EntryId}
+use Rattle.js_base.proofs.BitLemmas.{is_bit}
 use Rattle.label_lattice.specs.declared.label.Label.{Label}
 use Rattle.label_lattice.specs.Label.{ConfFlows, IsTrustedBy}
 use Rattle.host_decl.specs.Hosts.{HostShape, HostsShape}
@@ -38,7 +39,7 @@ use Rattle.split_rules.proofs.CodeItems.{code_entry}
 use Rattle.split_rules.proofs.SoundParts.{entry_there}
 use Rattle.split_rules.proofs.TypedSplit.{same_there, split_is_typed}
 use Rattle.split_rules.proofs.ToldEmissions.{Sees, TellsWell, AreTold}
-use Rattle.split_rules.proofs.SeenLabels.{is_bit, trusted_host}
+use Rattle.split_rules.proofs.SeenLabels.{trusted_host}
 use Rattle.split_rules.proofs.SeenPrograms.{program_tells_well}
 use Rattle.split_rules.proofs.ToldCode.{program_told, made_of, sees_in_code, emission_labelled}
 use Rattle.split_rules.proofs.ToldCode.{variable_granted, read_granted, put_granted, field_told, enters_granted}

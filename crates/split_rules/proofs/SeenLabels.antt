@@ -12,6 +12,7 @@ use Rattle.js_base.specs.declared.ids.FieldId.{FieldId}
 use Rattle.js_base.specs.declared.ids.VarId.{VarId}
 use Rattle.js_base.specs.declared.ids.StmtId.{StmtId}
 use Rattle.js_base.specs.declared.ids.MethodId.{MethodId}
+use Rattle.js_base.proofs.BitLemmas.{is_bit}
 use Rattle.principals.specs.ActsFor.{Declared}
 use Rattle.label_lattice.specs.declared.label.Label.{Label}
 use Rattle.label_lattice.specs.declared.label.TheConstants.{READERS}
@@ -59,9 +60,6 @@ flows_second first second owner reader owner_in reader_in forbids =
     let is = common_bit first.rows second.rows owner reader in
     let both = bit_at_and (slice_index first.rows owner) (slice_index second.rows owner) reader in
     omega arith
-
-pub is_bit : (word place : ℕ) → bit_at word place < 2
-is_bit word place = omega arith
 
 one_clear : (first second : ℕ) → first < 2 → second < 2 → (first ≡ 1 → second ≡ 1 → ⊥) → (first ≡ 0) ⊎ (second ≡ 0)
 one_clear zero second one two apart = inl refl

@@ -21,7 +21,6 @@ use Rattle.split_rules.specs.Flow.{Scope, stopped, State, counts_of, Goes}
 use Rattle.split_rules.specs.Splittable.{IsSplittable}
 use Rattle.split_rules.specs.Walk.{lane_on, walked_in, method_entry, methods_emissions, halt_entries}
 use Rattle.split_rules.specs.Walk.{block_emissions}
-use Rattle.split_rules.specs.Walk.{program_emissions}
 use Rattle.split_rules.specs.WalkStart.{scope_of, front_emissions, method_entries, walk_start, IsEnd}
 use Rattle.split_rules.proofs.CodeItems.{statement_known}
 use Rattle.split_rules.proofs.WalkedStates.{state_of, Reaches, reaches_flow, reaches_on, reaches_step}
@@ -129,14 +128,6 @@ front_counted labelled planned main is =
     subst P (sym is) (entries_counted planned labelled.program.methods 1 ∙ ap counts_of_entries (omega arith))
 
 -- ---- the program
-
--- a walk gives its front, and then the bodies of all methods
-pub program_parts : (principals : Declared) (labelled : Labelled) (planned : PlannedShape) →
-    let counts = counts_after (record { entries = 0; branches = 0 }) (front_emissions labelled planned) in
-    program_emissions principals labelled planned
-    ≡ front_emissions labelled planned
-    ++ methods_emissions principals labelled planned counts 0 labelled.program.methods
-program_parts principals labelled planned = refl
 
 -- The bodies of all methods are walked from the start to an end.
 pub program_goes : (labelled : Labelled) (needs : NeedsShape) (hosts : HostsShape) (plan : PlanShape) →

@@ -5,7 +5,7 @@ use Rattle.std.proofs.Common.{length-append, append-nil}
 use Rattle.js_base.specs.declared.ids.HostId.{HostId}
 use Rattle.host_code.specs.declared.instruction.Op.{Op}
 use Rattle.host_code.specs.declared.instruction.Op.TheVariants as op
-use Rattle.split_rules.specs.Emissions.{Emission, instruction, entry, stands, lands, Named, Counts}
+use Rattle.split_rules.specs.Emissions.{Emission, instruction, entry, stands, lands, Counts}
 use Rattle.split_rules.specs.Emissions.{one_more_branch, counts_with, counts_after}
 use Rattle.split_rules.specs.Flow.{Scope, Flow, Pending, State, counts_of, branched, after, Fits, Goes}
 
@@ -104,20 +104,6 @@ reaches_step scope first x xs flow owed opened fits same follows =
     let P : List HostId → Type 0 = λ hosts. Goes scope (after first x) xs
     (state_of flow (hosts ++ follows.more) follows.branches owed opened) in
     record { more = follows.more; branches = follows.branches; goes = (fits, subst P same follows.goes) }
-
--- an entry, and what follows it
-pub reaches_entry : (scope : Scope) (first : State) (named : Named) (xs : List Emission) (flow : Flow)
-    (owed opened : List Pending) → Fits scope first (entry named) →
-    Reaches scope (after first (entry named)) xs flow owed opened →
-    Reaches scope first (entry named ∷ xs) flow owed opened
-reaches_entry scope first named xs flow owed opened fits follows =
-    let P : List HostId → Type 0 = λ hosts. Goes scope (after first (entry named)) xs
-    (state_of flow hosts follows.branches owed opened) in
-    record {
-      more = named.host ∷ follows.more;
-      branches = follows.branches;
-      goes = (fits, subst P (append_assoc first.named (named.host ∷ []) follows.more) follows.goes);
-    }
 
 -- emissions that name nothing, and what follows them
 pub goes_then : (scope : Scope) (first : State) (xs ys : List Emission) (flow behind : Flow) (branches : ℕ)

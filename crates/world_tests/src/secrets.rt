@@ -1,5 +1,5 @@
-//! What no misbehaving host may see of a world. What is expected was worked out by hand from the labels: Q and P may see
-//! the label of the segment and of the return point, and not that of the loop, which is Alice's.
+//! What no misbehaving host may see of a world. What is expected was worked out by hand from the labels: Q and P may
+//! see the label of the segment and of the return point, and not that of the loop, which is Alice's.
 
 use crate::misbehaving::{BAD_Q, BAD_ROOT, FOUR_TURNS, TO_SEGMENT};
 use crate::programs::{COUNTING_HOSTS, OTHER, Q, T, counting_code};

@@ -1,10 +1,10 @@
 use Rattle.std.proofs.Common.{◌≡◌, ◌∙◌, ℕ, ◌<◌, suc, List, ◌∷◌, drop, length, get_or, ap, sym, subst}
 use Rattle.std.proofs.Common.{◌+◌, OnOk, refl, add-one, arith}
-use Rattle.std.proofs.Math.Seq.{drop-cons}
 use Rattle.js_base.specs.declared.ids.HostId.{HostId}
+use Rattle.js_base.proofs.Lists.{next_of}
 use Rattle.jif_tree.specs.declared.program.Stmt.{Stmt}
 use Rattle.jif_tree.specs.declared.program.StmtKind.{StmtKind}
-use Rattle.jif_tree.specs.Trees.{Heading, BlockTree, done, expr_tree, statement_tree, block_tree, tree_before}
+use Rattle.jif_tree.specs.Trees.{BlockTree, done, expr_tree, statement_tree, block_tree, tree_before, head_of}
 use Rattle.jif_tree.proofs.StatementCounts.{part_counts, body_counts, both_counts}
 use Rattle.msg_cost.specs.declared.spot.Spot.{Spot}
 use Rattle.msg_cost.specs.Kept.{AreTrustedTo}
@@ -22,17 +22,6 @@ use Rattle.control_split.proofs.SizedBlocks.{sized_body, sized_args}
 use Rattle.control_split.proofs.Spots.{spot_host}
 use Rattle.control_split.proofs.Stepping.{one_walked}
 use Rattle.control_split.proofs.blocks.+blocks.Goals as goal
-
--- the statements that are left begin with the next
-next_of : (statements : List Stmt) (place : ℕ) (statement : Stmt) → place < length statements →
-    statement ≡ get_or statements place statement →
-    drop place statements ≡ statement ∷ drop (suc place) statements
-next_of statements place statement within is =
-    drop-cons statements place statement within
-    ∙ ap (λ (next : Stmt). next ∷ drop (suc place) statements) (sym is)
-
-abbrev head_of : Stmt → Heading
-head_of statement = record { id = statement.id; line = statement.line }
 
 pub block-loop-place-preserved : goal.block-loop-place-preserved
 block-loop-place-preserved t c =

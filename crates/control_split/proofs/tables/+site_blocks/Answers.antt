@@ -1,25 +1,14 @@
 use Rattle.std.proofs.Common.{◌≡◌, ◌∙◌, ℕ, ◌<◌, suc, List, ◌∷◌, ◌++◌, drop, length, get_or, ap, sym}
 use Rattle.std.proofs.Common.{add-one, arith, append_assoc}
-use Rattle.std.proofs.Math.Seq.{drop-cons}
 use Rattle.js_base.specs.declared.ids.HostId.{HostId}
+use Rattle.js_base.proofs.Lists.{next_of}
 use Rattle.jif_tree.specs.declared.program.Stmt.{Stmt}
 use Rattle.jif_tree.specs.declared.program.StmtKind.{StmtKind}
-use Rattle.jif_tree.specs.Trees.{Heading, done, statement_tree, block_tree, tree_before}
+use Rattle.jif_tree.specs.Trees.{done, statement_tree, block_tree, tree_before, head_of}
 use Rattle.jif_tree.proofs.StatementCounts.{part_counts, first_counts, second_counts, body_counts}
 use Rattle.split_rules.specs.SplitCode.{site_hosts}
 use Rattle.control_split.proofs.Sites.{sites_apart, sites_in_branch, sites_in_loop}
 use Rattle.control_split.proofs.tables.+site_blocks.Goals as goal
-
-abbrev head_of : Stmt → Heading
-head_of statement = record { id = statement.id; line = statement.line }
-
--- the statements that are left begin with the next
-next_of : (statements : List Stmt) (place : ℕ) (statement : Stmt) → place < length statements →
-    statement ≡ get_or statements place statement →
-    drop place statements ≡ statement ∷ drop (suc place) statements
-next_of statements place statement within is =
-    drop-cons statements place statement within
-    ∙ ap (λ (next : Stmt). next ∷ drop (suc place) statements) (sym is)
 
 pub add_sites-loop-statement-preserved : goal.add_sites-loop-statement-preserved
 add_sites-loop-statement-preserved t c =

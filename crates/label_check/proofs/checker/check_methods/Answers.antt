@@ -1,11 +1,10 @@
 use Rattle.std.proofs.Common.{◌≡◌, ◌∙◌, ℕ, ◌<◌, suc, sym, ap, subst, List, ◌∷◌, map, drop, length, get_or, add-one}
-use Rattle.std.proofs.Math.Seq.{drop-cons}
 use Rattle.std.proofs.lemmas.List.{length-map, get_or-map}
 use Rattle.std.specs.Prelude.{All}
-use Rattle.principals.specs.ActsFor.{Declared}
+use Rattle.js_base.proofs.Lists.{next_of}
+use Rattle.principals.specs.ActsFor.{Declared, AreDeclared}
 use Rattle.jif_tree.specs.declared.program.Method.{Method}
 use Rattle.jif_tree.specs.Trees.{MethodTree, program_tree, method_tree}
-use Rattle.label_check.specs.Checking.{IsAuthority}
 use Rattle.label_check.specs.Parts.{Refuses}
 use Rattle.label_check.specs.Places.{PassesMethods, asks_of_methods}
 use Rattle.label_check.proofs.Exits.{handed_on}
@@ -13,18 +12,17 @@ use Rattle.label_check.proofs.Passing.{passes_on, refused_left}
 use Rattle.label_check.proofs.checker.check_methods.Goals as goal
 
 -- the methods that are left begin with the next
-next_of : (methods : List Method) (place : ℕ) (method : Method) → place < length methods →
+next_method : (methods : List Method) (place : ℕ) (method : Method) → place < length methods →
     method ≡ get_or methods place method →
     map method_tree (drop place methods) ≡ method_tree method ∷ map method_tree (drop (suc place) methods)
-next_of methods place method within is =
-    ap (map method_tree) (drop-cons methods place method within
-    ∙ ap (λ (next : Method). next ∷ drop (suc place) methods) (sym is))
+next_method methods place method within is =
+    ap (map method_tree) (next_of methods place method within is)
 
 authority_of : (principals : Declared) (methods : List Method) (place : ℕ) (method : Method) →
-    All (λ tree. IsAuthority principals tree.authority) (map method_tree methods) → place < length methods →
-    method ≡ get_or methods place method → IsAuthority principals method.authority.items
+    All (λ tree. AreDeclared principals tree.authority) (map method_tree methods) → place < length methods →
+    method ≡ get_or methods place method → AreDeclared principals method.authority.items
 authority_of principals methods place method all within is =
-    subst (λ (tree : MethodTree). IsAuthority principals tree.authority)
+    subst (λ (tree : MethodTree). AreDeclared principals tree.authority)
     (get_or-map method_tree methods place method (method_tree method) within ∙ ap method_tree (sym is))
     (all place (method_tree method) (rw length-map within))
 

@@ -1,17 +1,16 @@
 use Rattle.std.proofs.Common.{◌≡◌, ◌∙◌, map, sym, ap, subst, ℕ, ◌<◌, suc, List, ◌∷◌, drop, add-one, arith}
 use Rattle.std.proofs.Common.{length, get_or}
 use Rattle.label_check.specs.Parts.{asked, Refuses}
-use Rattle.std.proofs.Math.Seq.{drop-cons}
 use Rattle.std.proofs.lemmas.List.{drop_all}
 use Rattle.std.proofs.lemmas.Result.{on_ok_weaker}
 use Rattle.jif_tree.specs.declared.program.Stmt.{Stmt}
-use Rattle.std.specs.Global.{Vec}
-use Rattle.jif_tree.specs.declared.program.StmtKind.{StmtKind, If, While}
+use Rattle.js_base.proofs.Lists.{next_of}
 use Rattle.jif_tree.specs.declared.program.Expr.{Expr}
-use Rattle.jif_tree.specs.Trees.{Heading, BlockTree, done, branch, loop, block_tree, expr_tree, statement_tree}
-use Rattle.jif_tree.specs.Trees.{program_tree, tree_before}
+use Rattle.jif_tree.specs.Trees.{BlockTree, done, block_tree, expr_tree}
+use Rattle.jif_tree.specs.Trees.{program_tree, tree_before, head_of}
 use Rattle.jif_tree.specs.LabelRules.{VariableLabels, method_at}
 use Rattle.jif_tree.proofs.StatementCounts.{part_counts, first_counts, second_counts, body_counts}
+use Rattle.jif_tree.proofs.NestingTrees.{if_is, while_is}
 use Rattle.label_check.proofs.Arguments.{call_asks}
 use Rattle.label_check.specs.Places.{asks_of, PassesTo, setting_at}
 use Rattle.label_check.proofs.Asked.{refused_before}
@@ -21,14 +20,6 @@ use Rattle.label_check.proofs.Passing.{branch_passes, first_refused, second_refu
 use Rattle.label_check.proofs.statements.+blocks.Goals as goal
 
 -- ---- blocks
-
--- the statements that are left begin with the next
-next_of : (statements : List Stmt) (place : ℕ) (statement : Stmt) → place < length statements →
-    statement ≡ get_or statements place statement →
-    drop place statements ≡ statement ∷ drop (suc place) statements
-next_of statements place statement within is =
-    drop-cons statements place statement within
-    ∙ ap (λ (next : Stmt). next ∷ drop (suc place) statements) (sym is)
 
 pub check_block-loop-statement-init : goal.check_block-loop-statement-init
 check_block-loop-statement-init t c = passes_none _ _ _ _
@@ -112,27 +103,6 @@ check_statement-returns-in_err-give_back-in-Return-clause-err t c =
     (λ rest. rw c.in-Return.is (refused_before _ (rw c.deref-in-Return.ensures.value at c.in_err-give_back-in-Return.ensures.err)))
 
 -- ---- branches and loops
-
-abbrev head_of : Stmt → Heading
-head_of statement = record { id = statement.id; line = statement.line }
-
-if_is : (statement : Stmt) (guard : Expr) (then else : Vec Stmt) (rest : BlockTree) → statement.kind ≡ If guard then else →
-    ((guard : Expr) (first second : Vec Stmt) (heading : Heading) (rest : BlockTree) →
-    statement_tree (If guard first second) heading rest
-    ≡ branch heading (expr_tree guard) (block_tree first.items) (block_tree second.items) rest) →
-    tree_before statement rest
-    ≡ branch (head_of statement) (expr_tree guard) (block_tree then.items) (block_tree else.items) rest
-if_is statement guard then else rest is branches =
-    ap (λ (what : StmtKind). statement_tree what (head_of statement) rest) is
-    ∙ branches guard then else (head_of statement) rest
-
-while_is : (statement : Stmt) (guard : Expr) (body : Vec Stmt) (rest : BlockTree) → statement.kind ≡ While guard body →
-    ((guard : Expr) (body : Vec Stmt) (heading : Heading) (rest : BlockTree) →
-    statement_tree (While guard body) heading rest ≡ loop heading (expr_tree guard) (block_tree body.items) rest) →
-    tree_before statement rest ≡ loop (head_of statement) (expr_tree guard) (block_tree body.items) rest
-while_is statement guard body rest is loops =
-    ap (λ (what : StmtKind). statement_tree what (head_of statement) rest) is
-    ∙ loops guard body (head_of statement) rest
 
 pub check_statement-returns-in_err-inside-in-If-clause-err :
     goal.check_statement-returns-in_err-inside-in-If-clause-err

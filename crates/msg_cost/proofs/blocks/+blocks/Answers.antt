@@ -1,9 +1,9 @@
 use Rattle.std.proofs.Common.{◌≡◌, ◌∙◌, ℕ, ◌<◌, suc, List, ◌∷◌, drop, length, get_or, ap, sym, subst}
 use Rattle.std.proofs.Common.{add-one, arith}
-use Rattle.std.proofs.Math.Seq.{drop-cons}
+use Rattle.js_base.proofs.Lists.{next_of}
 use Rattle.jif_tree.specs.declared.program.Stmt.{Stmt}
 use Rattle.jif_tree.specs.declared.program.StmtKind.{StmtKind}
-use Rattle.jif_tree.specs.Trees.{Heading, BlockTree, done, expr_tree, statement_tree, block_tree, tree_before}
+use Rattle.jif_tree.specs.Trees.{BlockTree, done, expr_tree, statement_tree, block_tree, tree_before, head_of}
 use Rattle.jif_tree.proofs.StatementCounts.{part_counts, first_counts, second_counts, body_counts}
 use Rattle.need_labels.specs.Plan.{statement_host}
 use Rattle.msg_cost.specs.Cost.{cost_of}
@@ -13,14 +13,6 @@ use Rattle.msg_cost.specs.Views.{shape_of, ids_of, capped}
 use Rattle.msg_cost.proofs.Sums.{CostsWith}
 use Rattle.msg_cost.proofs.Walks.{one_walked, branch_alone, loop_alone}
 use Rattle.msg_cost.proofs.blocks.+blocks.Goals as goal
-
--- the statements that are left begin with the next
-next_of : (statements : List Stmt) (place : ℕ) (statement : Stmt) → place < length statements →
-    statement ≡ get_or statements place statement →
-    drop place statements ≡ statement ∷ drop (suc place) statements
-next_of statements place statement within is =
-    drop-cons statements place statement within
-    ∙ ap (λ (next : Stmt). next ∷ drop (suc place) statements) (sym is)
 
 pub block_cost-loop-place-preserved : goal.block_cost-loop-place-preserved
 block_cost-loop-place-preserved t c =
@@ -39,9 +31,6 @@ block_cost-loop-place-preserved t c =
     )
 
 -- ---- branches and loops
-
-abbrev head_of : Stmt → Heading
-head_of statement = record { id = statement.id; line = statement.line }
 
 -- ---- nested blocks are smaller
 

@@ -1,11 +1,12 @@
 use Rattle.std.proofs.Common.{arith, rules, ◌∷◌, []}
 use Rattle.std.proofs.lemmas.Result.{IfOk-weaker}
-use Rattle.jif_tree.specs.Trees.{block_tree, expr_tree, done, tree_before}
+use Rattle.jif_tree.specs.Trees.{block_tree, expr_tree, done, tree_before, head_of}
 use Rattle.jif_tree.proofs.StatementCounts.{part_counts, first_counts, second_counts, body_counts}
+use Rattle.jif_tree.proofs.NestingTrees.{if_is, while_is}
 use Rattle.need_labels.specs.Finding.{setting_at, labelled_at}
 use Rattle.need_labels.proofs.Backings.{none_back, label_backs}
 use Rattle.need_labels.proofs.FoundRows.{none_added, both_added}
-use Rattle.need_labels.proofs.Nested.{head_of, next_added, if_is, while_is, branch_added, loop_added}
+use Rattle.need_labels.proofs.Nested.{next_added, branch_added, loop_added}
 use Rattle.need_labels.proofs.statements.+blocks.Goals as goal
 
 pub add_block-loop-statement-init : goal.add_block-loop-statement-init

@@ -1,8 +1,9 @@
 use Rattle.std.proofs.Common.{arith}
-use Rattle.jif_tree.specs.Trees.{done, block_tree, expr_tree, tree_before}
+use Rattle.jif_tree.specs.Trees.{done, block_tree, expr_tree, tree_before, head_of}
 use Rattle.jif_tree.proofs.StatementCounts.{part_counts, first_counts, second_counts, body_counts}
+use Rattle.jif_tree.proofs.NestingTrees.{if_is, while_is}
 use Rattle.jif_parse.specs.PrintedNames.{naming_of}
-use Rattle.jif_parse.proofs.PrintedStatements.{head_of, if_is, while_is, branch_prints, loop_prints}
+use Rattle.jif_parse.proofs.PrintedStatements.{branch_prints, loop_prints}
 use Rattle.jif_parse.proofs.printed.statements.+printed_blocks.Goals as goal
 
 pub block_text-statement_text-requires : goal.block_text-statement_text-requires
