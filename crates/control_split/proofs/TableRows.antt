@@ -32,8 +32,6 @@ all_named there (label ∷ others) =
 abbrev pub labels_in : List FieldTree → List Label
 labels_in fields = map (λ field. field.label) fields
 
-}
-
 pub rows_kept : (there more : List Label) (plan : PlanShape) (number : ℕ) (fields : List FieldTree) →
     AreNamed there (labels_in fields) →
     placed_code_fields (with_labels there more) plan number fields ≡ placed_code_fields there plan number fields

@@ -22,8 +22,6 @@ use Rattle.jif_grammar.proofs.StaysWithin.{StaysWithin, tokens_behind, within_pa
 
 -- ---- within the limits
 
-)
-
 -- ---- no more has begun
 
 -- no more has begun of what begins in methods, and not too much of all else

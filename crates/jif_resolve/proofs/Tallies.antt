@@ -207,8 +207,6 @@ nodes_read = record {
 
 -- ---- within the limits
 
-)
-
 at_most : (count limit : ℕ) → ¬ (limit < count) → count ≤ limit
 at_most count limit within = omega (arith, within)
 

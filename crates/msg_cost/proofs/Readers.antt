@@ -67,8 +67,6 @@ one_more plan statements at statement old new within is set others so = record {
       (others host) (eqb_tells _ host) (so.bits host small)));
 }
 
-}
-
 -- the word of one more variable
 pub words_more : (planned : PlannedShape) (words : List ℕ) (count word : ℕ) → count < length words →
     IsReadingWord planned (record { 0 = count }) word → AreReadingWords planned count words →
