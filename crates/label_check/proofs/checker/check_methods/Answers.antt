@@ -44,7 +44,7 @@ returns-in_err-check_method-clause-err c =
     c.in_err-check_method.field-0.0 in
     handed_on c.from_residual.result c.from_residual.ensures
     (refused_left c.loop-method.invariant
-    (subst Q (sym (next_of methods c.loop-method.method-index c.method-item.result within is))
+    (subst Q (sym (next_method methods c.loop-method.method-index c.method-item.result within is))
     (c.in_err-check_method.ensures.err rest)))
 
 pub loop-method-preserved : goal.loop-method-preserved
@@ -57,5 +57,5 @@ loop-method-preserved c =
     PassesMethods c.args.principals.now (program_tree c.args.program.now) c.loop-method.found left
     c.check_method.new.found rest in
     rw add-one (passes_on c.loop-method.invariant
-    (subst Q (sym (next_of methods c.loop-method.method-index c.method-item.result within is))
+    (subst Q (sym (next_method methods c.loop-method.method-index c.method-item.result within is))
     (c.in_ok-check_method.ensures.ok rest)))
