@@ -1,6 +1,6 @@
 -- A program that passes the label check, with its needs and a plan by which each statement's host is trusted for the
 -- statement, has hosts that are trusted for all that statements start.
-use Rattle.std.proofs.Common.{◌≡◌, ◌∙◌, ℕ, zero, suc, ◌<◌, ◌≤◌, true, List, [], ◌∷◌, ◌++◌, map, length, refl, ap, sym}
+use Rattle.std.proofs.Common.{◌≡◌, ◌∙◌, ℕ, zero, suc, ◌<◌, true, List, [], ◌∷◌, ◌++◌, map, length, refl, ap, sym}
 use Rattle.std.proofs.Common.{subst, arith, true≢false}
 use Rattle.std.specs.Prelude.{Option, Some, None, All, Any, slice_get, slice_index}
 use Rattle.std.specs.Int.{bit_at}
@@ -157,7 +157,7 @@ use_needed labelled needs hosts plan allowed place one there =
 -- ---- blocks
 
 -- each statement of a block asks of its host what is asked for the block at most
-abbrev AreBackedBy : PlannedShape → Declared → List Backing → List BlockTree → Type 0
+abbrev pub AreBackedBy : PlannedShape → Declared → List Backing → List BlockTree → Type 0
 AreBackedBy planned principals backing trees = AllByRecursion (λ tree. (p : ℕ) → p < READERS →
     bit_at (slice_index planned.needs.need (number_of tree).0) p ≡ 1 → Any (Backs principals p) backing) trees
 
@@ -195,10 +195,10 @@ past_inside planned principals inside uses trees backed =
     subst P (sym (flat_map-append (λ it. it.backing) inside uses))
     (any_right (Backs principals p) (all_backing inside) (all_backing uses) some))
 
-abbrev AreNeeded : PlannedShape → Declared → List StatementUse → Type 0
+abbrev pub AreNeeded : PlannedShape → Declared → List StatementUse → Type 0
 AreNeeded planned principals uses = AllByRecursion (IsNeeded planned principals) uses
 
-own_backed : (planned : PlannedShape) (principals : Declared) (labelled : Labelled) (setting : MethodSetting)
+pub own_backed : (planned : PlannedShape) (principals : Declared) (labelled : Labelled) (setting : MethodSetting)
     (block : BlockTree) → AreNeeded planned principals (block_uses labelled setting block) →
     AreBackedBy planned principals (all_backing (block_uses labelled setting block)) (statements_of block)
 own_backed planned principals labelled setting done needed = tt
@@ -261,7 +261,7 @@ due_where planned principals host statement backing own need trusted wider (tree
 -- ---- statements of the program
 
 -- the statements of a block are among all that are in it
-of_block : (P : BlockTree → Type 0) (block : BlockTree) → AllByRecursion P (all_statements block) →
+pub of_block : (P : BlockTree → Type 0) (block : BlockTree) → AllByRecursion P (all_statements block) →
     AllByRecursion P (statements_of block)
 of_block P done all = tt
 of_block P (set_local heading x value rest) all = (all.0, of_block P rest all.1)
@@ -319,7 +319,7 @@ body_of_program program number method is =
 -- ---- methods
 
 -- what is asked for the body of a method is asked for by its begin label
-abbrev AreBodiesBacked : PlannedShape → Declared → Labelled → Type 0
+abbrev pub AreBodiesBacked : PlannedShape → Declared → Labelled → Type 0
 AreBodiesBacked planned principals labelled =
     (place : ℕ) (method : MethodTree) → slice_get labelled.program.methods place ≡ Some method →
     AreBackedBy planned principals (for_label method.begin ∷ []) (statements_of method.body)
@@ -533,21 +533,35 @@ methods_typable labelled planned principals same bodies labels (method ∷ metho
 
 -- ---- programs
 
-pub allowed_typable : (labelled : Labelled) (needs : NeedsShape) (hosts : HostsShape) (plan : PlanShape) →
-    IsAllowed labelled needs hosts plan → IsTypable (planned_of labelled needs hosts plan)
-allowed_typable labelled needs hosts plan allowed =
-    let planned = planned_of labelled needs hosts plan in
+pub allowed_needed : (labelled : Labelled) (needs : NeedsShape) (hosts : HostsShape) (plan : PlanShape) →
+    IsAllowed labelled needs hosts plan →
+    AreNeeded (planned_of labelled needs hosts plan) hosts.principals (statement_uses hosts.principals labelled)
+allowed_needed labelled needs hosts plan allowed =
+    each_there (IsNeeded (planned_of labelled needs hosts plan) hosts.principals)
+    (statement_uses hosts.principals labelled) (use_needed labelled needs hosts plan allowed)
+
+pub allowed_bodies : (labelled : Labelled) (needs : NeedsShape) (hosts : HostsShape) (plan : PlanShape) →
+    IsAllowed labelled needs hosts plan →
+    AreBodiesBacked (planned_of labelled needs hosts plan) hosts.principals labelled
+allowed_bodies labelled needs hosts plan allowed =
     let principals = hosts.principals in
     let program = labelled.program in
     let declared = declared_labels program in
     let final = labels_after_methods principals program declared program.methods in
-    let uses = statement_uses principals labelled in
-    let needed = each_there (IsNeeded planned principals) uses (use_needed labelled needs hosts plan allowed) in
     let met = met_from principals (program_labels principals program)
     (by_recursion (Meets principals) (obligations_of (program_labels principals program)) allowed.well_labelled) in
-    let bodies = bodies_backed labelled planned principals final allowed.var_labels 0 program.methods declared
-    (length-map program.vars (λ variable. variable.label)) refl allowed.numbered.methods allowed.methods met needed in
+    bodies_backed labelled (planned_of labelled needs hosts plan) principals final allowed.var_labels 0 program.methods
+    declared (length-map program.vars (λ variable. variable.label)) refl allowed.numbered.methods allowed.methods met
+    (allowed_needed labelled needs hosts plan allowed)
+
+pub allowed_typable : (labelled : Labelled) (needs : NeedsShape) (hosts : HostsShape) (plan : PlanShape) →
+    IsAllowed labelled needs hosts plan → IsTypable (planned_of labelled needs hosts plan)
+allowed_typable labelled needs hosts plan allowed =
+    let planned = planned_of labelled needs hosts plan in
+    let program = labelled.program in
+    let bodies = allowed_bodies labelled needs hosts plan allowed in
     record {
-      methods = methods_typable labelled planned principals refl bodies declared program.methods allowed.methods
-          needed bodies (λ place method is. body_of_program program (record { 0 = place }) method is);
+      methods = methods_typable labelled planned hosts.principals refl bodies (declared_labels program) program.methods
+          allowed.methods (allowed_needed labelled needs hosts plan allowed) bodies
+          (λ place method is. body_of_program program (record { 0 = place }) method is);
     }

@@ -1,14 +1,11 @@
 -- Each request that an instruction of split code makes of another host is granted, and no instruction tells another host
 -- what it may not see.
-use Rattle.std.proofs.Common.{◌≡◌, ℕ, zero, suc, ◌<◌, ◌⊎◌, true, inl, inr, List, [], ◌∷◌, length, refl, ap}
+use Rattle.std.proofs.Common.{◌≡◌, ℕ, zero, suc, ◌<◌, true, inl, List, [], ◌∷◌, length, refl, ap}
 use Rattle.std.proofs.Common.{sym, subst, arith, bit_or}
 use Rattle.std.specs.Prelude.{Option, Some, None, slice_get, slice_index, IsSomeAnd}
-use Rattle.std.specs.Int.{bit_at}
-use Rattle.std.proofs.lemmas.Nat.Bits.{bit_at_or, bit_at-zero}
 use Rattle.js_base.specs.declared.ids.HostId.{HostId}
 use Rattle.js_base.specs.declared.ids.FieldId.{FieldId}
 use Rattle.js_base.specs.declared.ids.EntryId.{EntryId}
-use Rattle.js_base.proofs.BitLemmas.{is_bit}
 use Rattle.label_lattice.specs.declared.label.Label.{Label}
 use Rattle.label_lattice.specs.Label.{ConfFlows, IsTrustedBy}
 use Rattle.host_decl.specs.Hosts.{HostShape, HostsShape}
@@ -43,46 +40,36 @@ use Rattle.split_rules.proofs.SeenLabels.{trusted_host}
 use Rattle.split_rules.proofs.SeenPrograms.{program_tells_well}
 use Rattle.split_rules.proofs.ToldCode.{program_told, made_of, sees_in_code, emission_labelled}
 use Rattle.split_rules.proofs.ToldCode.{variable_granted, read_granted, put_granted, field_told, enters_granted}
+use Rattle.split_rules.proofs.TrustedNeeds.{none_needed, both_needed}
 
 -- ---- needs of what is due
 
-none_needed : (planned : PlannedShape) (host : HostId) (label : Label) → Sees planned host label →
+nothing_held : (planned : PlannedShape) (host : HostId) (label : Label) → Sees planned host label →
     IsTrustedHost planned.hosts 0 host
-none_needed planned host label sees = by (slice_get planned.hosts.hosts host.0) sees
+nothing_held planned host label sees = by (slice_get planned.hosts.hosts host.0) sees
   where
     by : (found : Option HostShape) → IsSomeAnd found (λ row. ConfFlows label row.label) →
         IsSomeAnd found (λ row. IsTrustedBy row.label 0)
     by None never = absurd never
-    by (Some row) flows = λ p p_in set. let none = bit_at-zero p in absurd (omega arith)
+    by (Some row) flows = none_needed row.label
 
-either_set : (first second : ℕ) → first < 2 → second < 2 → (first ≡ 0 → second ≡ 0 → ⊥) → (first ≡ 1) ⊎ (second ≡ 1)
-either_set zero zero one two apart = absurd (apart refl refl)
-either_set zero (suc second) one two apart = inr (omega arith)
-either_set (suc first) second one two apart = inl (omega arith)
-
-both_needed : (planned : PlannedShape) (host : HostId) (first second : ℕ) → IsTrustedHost planned.hosts first host →
+both_held : (planned : PlannedShape) (host : HostId) (first second : ℕ) → IsTrustedHost planned.hosts first host →
     IsTrustedHost planned.hosts second host → IsTrustedHost planned.hosts (bit_or first second) host
-both_needed planned host first second one two = by (slice_get planned.hosts.hosts host.0) one two
+both_held planned host first second one two = by (slice_get planned.hosts.hosts host.0) one two
   where
     by : (found : Option HostShape) → IsSomeAnd found (λ row. IsTrustedBy row.label first) →
         IsSomeAnd found (λ row. IsTrustedBy row.label second) →
         IsSomeAnd found (λ row. IsTrustedBy row.label (bit_or first second))
     by None never also = absurd never
-    by (Some row) trusts also = λ p p_in set.
-        let both = bit_at_or first second p in
-        elim (either_set (bit_at first p) (bit_at second p) (is_bit first p) (is_bit second p)
-        (λ clear none. omega (arith, both, set, clear, none))) [
-          | inl own ↦ trusts p p_in own
-          | inr other ↦ also p p_in other
-        ]
+    by (Some row) trusts also = both_needed row.label first second trusts also
 
 -- a host that is trusted for all that is due is trusted for its need
 need_held : (planned : PlannedShape) (host : HostId) (label : Label) → Sees planned host label → (due : List Due) →
     AreDueOn planned host due → IsTrustedHost planned.hosts (need_due planned due) host
-need_held planned host label sees [] trusted = none_needed planned host label sees
+need_held planned host label sees [] trusted = nothing_held planned host label sees
 need_held planned host label sees (item ∷ due) trusted =
     let one = number_of (statement_due item) in
-    both_needed planned host (slice_index planned.needs.need one.0) (need_due planned due)
+    both_held planned host (slice_index planned.needs.need one.0) (need_due planned due)
     (trusted_host planned host one trusted.0.0) (need_held planned host label sees due trusted.1)
 
 -- ---- entries

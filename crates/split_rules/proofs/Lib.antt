@@ -49,3 +49,9 @@ pub mod PacedSplit
 pub mod PacedRuns
 pub mod FewEmissions
 pub mod FewItems
+pub mod TrustedNeeds
+pub mod OpenStatements
+pub mod OpenPlaces
+pub mod OwnLabels
+pub mod OpenCode
+pub mod CoveredRuns

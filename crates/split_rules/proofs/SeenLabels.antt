@@ -190,7 +190,7 @@ changes_affected planned principals host need trusted changed released nested is
 
 -- ---- fields and variables
 
-abbrev label_in : Option FieldTree → Label
+abbrev pub label_in : Option FieldTree → Label
 label_in found = unwrap_or (option_map (λ tree. tree.label) found) empty_label
 
 pub reads_field : (labelled : Labelled) (planned : PlannedShape) (host : HostId) (pc : Label) (field : FieldId)
@@ -215,7 +215,7 @@ puts_field labelled planned host pc field tree is affects told =
     let own : Affects planned host tree.label = subst Q (ap label_in is) affects in
     subst P (sym is) (own, told)
 
-abbrev label_found : Option Label → Label
+abbrev pub label_found : Option Label → Label
 label_found found = unwrap_or (unwrap_or (option_map Some found) None) empty_label
 
 pub label_of_found : (labelled : Labelled) (x : VarId) →

@@ -2,12 +2,10 @@
 -- may see.
 use Rattle.std.proofs.Common.{◌≡◌, ◌∙◌, ℕ, zero, suc, ◌<◌, Bool, true, false, inl, inr, List, [], ◌∷◌, ◌++◌, map}
 use Rattle.std.proofs.Common.{length, refl, ap, sym, subst, arith, nat_eq, cond, filter, true≢false, eqb-true}
-use Rattle.std.proofs.Common.{eq-eqb, bit_or, get_or}
+use Rattle.std.proofs.Common.{eq-eqb, get_or}
 use Rattle.std.specs.Prelude.{Option, Some, None, slice_get, slice_index, unwrap_or}
-use Rattle.std.specs.Int.{bit_at}
 use Rattle.std.specs.List.{AllByRecursion, flat_map, fold, list_any, range_with_len, zip}
 use Rattle.std.specs.Option.{IsSomeAnd, option_map}
-use Rattle.std.proofs.lemmas.Nat.Bits.{bit_at_or, bit_at-zero}
 use Rattle.std.proofs.lemmas.List.{map-append, length-map, get_or-map}
 use Rattle.std.proofs.lemmas.List.FromFn.{length-range_with_len, get_or-range_with_len}
 use Rattle.std.proofs.lemmas.Option.{slice_get-map, slice_get_within, get_or_from_slice_get}
@@ -31,10 +29,9 @@ use Rattle.jif_tree.specs.WellNumbered.{AreMethodsIn, is_some}
 use Rattle.need_labels.specs.Labelled.{Labelled, pc_of, all_labels}
 use Rattle.need_labels.specs.Needs.{NeedsShape, StatementUse, Telling, statement_use, block_uses, method_uses}
 use Rattle.need_labels.specs.Needs.{statement_uses, told_of, readers_of, variables_in, label_of, labels_of, kept_result}
-use Rattle.need_labels.specs.Needs.{Backing, Backs, for_label, IsNeed, all_backing}
+use Rattle.need_labels.specs.Needs.{Backing, for_label, IsNeed, all_backing}
 use Rattle.need_labels.specs.Plan.{PlanShape, first_host, statement_host, field_host}
 use Rattle.need_labels.proofs.Ordered.{use_numbered}
-use Rattle.need_labels.proofs.Somewhere.{any_first, any_none}
 use Rattle.msg_cost.specs.Moves.{PlannedShape, planned_of}
 use Rattle.jif_tree.specs.Labelling.{AreLabelledMethods}
 use Rattle.jif_tree.specs.ValueLabels.{AreAllValuesLabelled}
@@ -57,6 +54,7 @@ use Rattle.split_rules.proofs.SeenLabels.{flows_first, flows_second, flows_folde
 use Rattle.split_rules.proofs.SeenBlocks.{variables_of_parts, IsToldWell, IsUseWell, AllReadersSee}
 use Rattle.split_rules.proofs.SeenBlocks.{ProgramWell, IsMet, IsKept, AreLabelsKept, AreUsesWell}
 use Rattle.split_rules.proofs.SeenBlocks.{block_well}
+use Rattle.split_rules.proofs.TrustedNeeds.{head_needed}
 
 -- ---- lists
 
@@ -68,7 +66,7 @@ all_there P (first ∷ xs) all zero x is = let same : first ≡ x = cc in subst 
 all_there P (first ∷ xs) all (suc place) x is = all_there P xs all.1 place x is
 
 -- what is made of an item is among what is made of all
-part_of_all : {X Y : Type 0} (P : Y → Type 0) (make : X → List Y) (xs : List X) →
+pub part_of_all : {X Y : Type 0} (P : Y → Type 0) (make : X → List Y) (xs : List X) →
     AllByRecursion P (flat_map make xs) → (place : ℕ) (x : X) → slice_get xs place ≡ Some x →
     AllByRecursion P (make x)
 part_of_all P make [] all place x is = absurd (nothing_there place x is)
@@ -410,24 +408,10 @@ head_trusted : (planned : PlannedShape) (principals : Declared) (host : HostId) 
     IsTrustedHost planned.hosts (need_of planned (head ∷ [])) host
 head_trusted planned principals host head begin need affects = by (slice_get planned.hosts.hosts host.0) affects
   where
-    word : ℕ
-    word = slice_index planned.needs.need head.0
-
-    is_set : (own both : ℕ) → both ≡ own → both ≡ 1 → own ≡ 1
-    is_set own both same set = omega arith
-
     by : (found : Option HostShape) → IsSomeAnd found (λ row. IntegFlows row.label begin) →
         IsSomeAnd found (λ row. IsTrustedBy row.label (need_of planned (head ∷ [])))
     by None never = absurd never
-    by (Some row) flows = λ p p_in set.
-        let both = bit_at_or word 0 p in
-        let none = bit_at-zero p in
-        let same : bit_at (bit_or word 0) p ≡ bit_at word p = omega arith in
-        let some = (need.members p p_in).0 (is_set (bit_at word p) (bit_at (bit_or word 0) p) same set) in
-        elim (any_first (Backs principals p) (for_label begin) [] some) [
-          | inl trusts ↦ flows p p_in trusts
-          | inr none ↦ absurd (any_none (Backs principals p) none)
-        ]
+    by (Some row) flows = head_needed planned principals row.label head begin need flows
 
 pub readers_there : (labelled : Labelled) (needs : NeedsShape) (hosts : HostsShape) (plan : PlanShape) →
     Premises labelled needs hosts plan → AllReadersSee labelled (planned_of labelled needs hosts plan)

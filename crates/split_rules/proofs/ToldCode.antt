@@ -226,7 +226,7 @@ made_of labelled hosts planned emissions told me place there is = by (slice_get 
 abbrev code_host : HostShape → CodeHostShape
 code_host host = record { name = host.name; label = host.label }
 
-host_label : (labelled : Labelled) (hosts : HostsShape) (planned : PlannedShape) (emissions : List Emission)
+pub host_label : (labelled : Labelled) (hosts : HostsShape) (planned : PlannedShape) (emissions : List Emission)
     (host : HostId) → label_of_host (code_of_emissions labelled hosts planned emissions) host
     ≡ option_map (λ row. row.label) (slice_get hosts.hosts host.0)
 host_label labelled hosts planned emissions host =
@@ -309,6 +309,29 @@ field_labelled labelled hosts planned emissions field tree is =
     (labels.label_at fields field.0 tree.label
     (slice_get-map own labelled.program.fields field.0 ∙ ap (option_map own) is))))
 
+-- the label of a variable
+pub variable_labelled : (labelled : Labelled) (hosts : HostsShape) (planned : PlannedShape) (emissions : List Emission)
+    (x : VarId) (label : Label) → slice_get labelled.var_labels x.0 ≡ Some label →
+    label_at (code_of_emissions labelled hosts planned emissions)
+    (label_place 0 label (code_labels labelled emissions)) ≡ Some label
+variable_labelled labelled hosts planned emissions x label is =
+    let fields = map (λ (field : FieldTree). field.label) labelled.program.fields in
+    let given = flat_map label_of_emission emissions in
+    label_placed label (fields ++ labelled.var_labels ++ given)
+    (label_left label (fields ++ labelled.var_labels) given
+    (label_right label fields labelled.var_labels (labels.label_at labelled.var_labels x.0 label is)))
+
+-- a variable and what it is made of
+pub variable_in_code : (labelled : Labelled) (hosts : HostsShape) (planned : PlannedShape) (emissions : List Emission)
+    (x : VarId) (variable : VarTree) (label : Label) → slice_get labelled.program.vars x.0 ≡ Some variable →
+    slice_get labelled.var_labels x.0 ≡ Some label →
+    variable_at (code_of_emissions labelled hosts planned emissions) x
+    ≡ Some (code_variable labelled.program (code_labels labelled emissions) (variable, label))
+variable_in_code labelled hosts planned emissions x variable label there is =
+    let make = code_variable labelled.program (code_labels labelled emissions) in
+    slice_get-map make (zip labelled.program.vars labelled.var_labels) x.0
+    ∙ ap (option_map make) (zip_at labelled.program.vars labelled.var_labels x.0 variable label there is)
+
 pub emission_labelled : (labelled : Labelled) (hosts : HostsShape) (planned : PlannedShape)
     (emissions before : List Emission) (one : Emission) (behind : List Emission) →
     emissions ≡ before ++ one ∷ behind → (label : Label) → IsLabelIn label (label_of_emission one) →
@@ -339,24 +362,11 @@ variable_granted labelled needs hosts plan emissions me owner x many affects =
     code : CodeShape
     code = code_of_emissions labelled hosts (planned_of labelled needs hosts plan) emissions
 
-    needed : List Label
-    needed = code_labels labelled emissions
-
-    fields : List Label
-    fields = map (λ field. field.label) labelled.program.fields
-
     with_variable : (label : Label) → slice_get labelled.var_labels x.0 ≡ Some label → Affects planned me label →
         (variable : VarTree) → slice_get labelled.program.vars x.0 ≡ Some variable → May code owner (ask.Forward x) me
     with_variable label is own variable there =
-        let make = code_variable labelled.program needed in
-        let in_code : variable_at code x ≡ Some (make (variable, label)) =
-        slice_get-map make (zip labelled.program.vars labelled.var_labels) x.0
-        ∙ ap (option_map make) (zip_at labelled.program.vars labelled.var_labels x.0 variable label there is) in
-        let given = flat_map label_of_emission emissions in
-        let label_is : label_at code (label_place 0 label needed) ≡ Some label =
-        label_placed label (fields ++ labelled.var_labels ++ given)
-        (label_left label (fields ++ labelled.var_labels) given
-        (label_right label fields labelled.var_labels (labels.label_at labelled.var_labels x.0 label is))) in
+        let in_code = variable_in_code labelled hosts planned emissions x variable label there is in
+        let label_is = variable_labelled labelled hosts planned emissions x label is in
         let P : Option Label → Type 0 = λ it. MayAffect (label_of_host code me) it in
         let Q : Option CodeVariableShape → Type 0 = λ it. IsSomeAnd it
         (λ one. MayAffect (label_of_host code me) (label_at code one.label)) in

@@ -16,3 +16,4 @@ pub mod Worked
 pub mod Asking
 pub mod Pace
 pub mod ThreadRun
+pub mod Opening

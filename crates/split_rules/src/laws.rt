@@ -18,6 +18,7 @@ ghost use Rattle.split_rules.specs.TypedCode.{Table, IsTypedCode};
 ghost use Rattle.split_rules.specs.Typing.{Follows, Divides};
 ghost use Rattle.split_rules.specs.Positions.{Position, Entrance, IsIn, IsOf};
 ghost use Rattle.split_rules.specs.Emissions.{counts_after};
+ghost use Rattle.split_rules.specs.Opening.{IsOpenCode, HasOwnLabels, CoversRuns};
 ghost use Rattle.split_rules.specs.Settled.{AreSettled};
 ghost use Rattle.split_rules.specs.Walk.{program_emissions};
 ghost use Rattle.std.specs.Prelude.{◌≡◌, ℕ, ◌+◌, ◌*◌, ◌≤◌, List, ◌∷◌, [], length, pos};
@@ -68,6 +69,29 @@ pub fn asking_laws()
     ensures tells { (labelled : Labelled) (needs : NeedsShape) (hosts : HostsShape) (plan : PlanShape) →
         IsSplittable labelled hosts plan → IsAllowed labelled needs hosts plan → IsHeld labelled needs hosts plan →
         TellsNoMore (split_code labelled needs hosts plan) }
+{}
+
+/// Where a program is split that passes the label check, a host that is trusted for all that is due at a place of its
+/// code, whatever host the place is on, may change what the instruction there changes, is trusted for the entries that
+/// the instruction pushes, asks for or goes to, and is trusted for all that is due behind it. The labels are those of
+/// the host file and the program. And wherever a thread comes to that enters at an entry, until it gives back the token
+/// with which it entered, the need of the entry has the needs of all that is due there, and of the entry that the
+/// instruction there names.
+pub fn opening_laws()
+    ensures opens { (labelled : Labelled) (needs : NeedsShape) (hosts : HostsShape) (plan : PlanShape) (table : Table) →
+        let planned = planned_of labelled needs hosts plan in
+        let code = split_code labelled needs hosts plan in
+        IsSplittable labelled hosts plan → IsAllowed labelled needs hosts plan → IsTypedCode planned code table →
+        IsOpenCode planned code table }
+    ensures labels { (labelled : Labelled) (needs : NeedsShape) (hosts : HostsShape) (plan : PlanShape) →
+        IsSplittable labelled hosts plan →
+        HasOwnLabels labelled (planned_of labelled needs hosts plan) (split_code labelled needs hosts plan) }
+    ensures covers { (labelled : Labelled) (needs : NeedsShape) (hosts : HostsShape) (plan : PlanShape)
+        (table : Table) →
+        let planned = planned_of labelled needs hosts plan in
+        let code = split_code labelled needs hosts plan in
+        IsSplittable labelled hosts plan → IsAllowed labelled needs hosts plan → IsTypedCode planned code table →
+        CoversRuns planned code table }
 {}
 
 /// The hosts of a split program run few instructions for each step: there are numbers at the places of the code by

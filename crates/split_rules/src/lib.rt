@@ -3,4 +3,6 @@
 
 mod laws;
 
-pub use laws::{asking_laws, pace_laws, split_laws, trust_laws, typing_laws, worked_laws};
+pub use laws::{
+    asking_laws, opening_laws, pace_laws, split_laws, trust_laws, typing_laws, worked_laws,
+};
