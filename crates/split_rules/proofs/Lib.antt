@@ -55,3 +55,4 @@ pub mod OpenPlaces
 pub mod OwnLabels
 pub mod OpenCode
 pub mod CoveredRuns
+pub mod OpenExamples

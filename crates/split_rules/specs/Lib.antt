@@ -17,3 +17,4 @@ pub mod Asking
 pub mod Pace
 pub mod ThreadRun
 pub mod Opening
+pub mod OpenExamples

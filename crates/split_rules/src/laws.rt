@@ -18,11 +18,15 @@ ghost use Rattle.split_rules.specs.TypedCode.{Table, IsTypedCode};
 ghost use Rattle.split_rules.specs.Typing.{Follows, Divides};
 ghost use Rattle.split_rules.specs.Positions.{Position, Entrance, IsIn, IsOf};
 ghost use Rattle.split_rules.specs.Emissions.{counts_after};
-ghost use Rattle.split_rules.specs.Opening.{IsOpenCode, HasOwnLabels, CoversRuns};
+ghost use Rattle.split_rules.specs.Opening.{IsOpenCode, HasOwnLabels, CoversRuns, MayRun, IsOpenTo, HasNeed};
+ghost use Rattle.split_rules.specs.Opening.{NamesWithin, IsCoveredBy};
+ghost use Rattle.split_rules.specs.OpenExamples.{code_of, untrusted, trusted_by_first, thread_on_first, lent_table};
+ghost use Rattle.split_rules.specs.OpenExamples.{sent_table, branched_table, looped_table, FirstOpens};
 ghost use Rattle.split_rules.specs.Settled.{AreSettled};
 ghost use Rattle.split_rules.specs.Walk.{program_emissions};
 ghost use Rattle.std.specs.Prelude.{◌≡◌, ℕ, ◌+◌, ◌*◌, ◌≤◌, List, ◌∷◌, [], length, pos};
 ghost use Rattle.js_base.specs.declared.ids.HostId.{HostId};
+ghost use Rattle.label_lattice.specs.declared.label.Label.{Label};
 ghost use Rattle.js_base.specs.declared.binary_operator.BinOp.TheVariants as operator;
 ghost use Rattle.host_code.specs.declared.instruction.Op.{Op};
 ghost use Rattle.host_code.specs.declared.instruction.Op.TheVariants as op;
@@ -32,7 +36,7 @@ ghost use Rattle.split_rules.specs.Expressions.{first_element};
 ghost use Rattle.split_rules.specs.Walk.{entry_id};
 ghost use Rattle.split_rules.specs.Worked.{sent_local, lent_past, lent_back, looped, branched, called, indexed};
 ghost use Rattle.split_rules.specs.Worked.{labelled_apart, operations_on, entry_hosts, label_words};
-ghost use Rattle.split_rules.specs.Worked.{returning, loop_end};
+ghost use Rattle.split_rules.specs.Worked.{calling, returning, loop_end};
 ghost use Rattle.split_rules.specs.Worked.{field_id, var_id, site_id, host_id, trusted_by};
 
 /// Whatever the plan, the code of a split program is sound, and its entries stand and its branches lead where they
@@ -181,4 +185,43 @@ pub fn worked_laws()
         ∷ op.Back ∷ [] }
     // Labels stand as they are first needed, each once: those of fields, of variables, and of entries.
     ensures labels { label_words labelled_apart (trusted_by 2 ∷ trusted_by 3 ∷ []) ≡ 1 ∷ 2 ∷ 3 ∷ 4 ∷ [] }
+{}
+
+/// What hosts may bring about in some small programs, and what needs have.
+pub fn opening_examples()
+    // A host that nobody trusts may run the first of two statements, before which an entry is pushed where the second
+    // is due. It has not the need of that entry, so the push is not open to it, though the host that pushes has.
+    ensures before_pushed { IsOpenTo lent_back untrusted (lent_table.at 0 1) }
+    ensures pushed_denied { ¬ FirstOpens lent_back lent_table untrusted 0 (op.Push (entry_id 2)) }
+    ensures pushed_own { HasNeed (code_of lent_back) (trusted_by 3) (entry_id 2) }
+    // It is open to each host that is trusted by those whom the second statement needs, whichever host pushes.
+    ensures pushed { FirstOpens lent_back lent_table trusted_by_first 0 (op.Push (entry_id 2)) }
+    // The same where the host of what follows is asked for the entry.
+    ensures asked_denied { ¬ FirstOpens lent_past lent_table untrusted 0 (op.Ask (entry_id 2) (host_id 2)) }
+    ensures asked { FirstOpens lent_past lent_table trusted_by_first 0 (op.Ask (entry_id 2) (host_id 2)) }
+    // A variable that the first principal trusts is sent. To send it is open to a host that the first principal trusts,
+    // and not to one that nobody trusts, though it is to the host that sends, and what follows is open to all.
+    ensures behind_sent { IsOpenTo sent_local untrusted (sent_table.at 0 2) }
+    ensures sent_denied { ¬ FirstOpens sent_local sent_table untrusted 1 (op.Send (var_id 0) (host_id 1)) }
+    ensures sent { FirstOpens sent_local sent_table trusted_by_first 1 (op.Send (var_id 0) (host_id 1)) }
+    // Both places behind a branch have to be open: here the one where the guard holds is, and the target is not.
+    ensures branch_next { IsOpenTo branched untrusted (branched_table.at 0 3) }
+    ensures branch_denied { (guard : List Node) →
+        ¬ FirstOpens branched branched_table untrusted 2 (op.Branch guard 4) }
+    // Behind a loop nothing is due, so its target is open to all, and the place where the guard holds is not.
+    ensures loop_target { IsOpenTo looped untrusted (looped_table.at 0 8) }
+    ensures loop_denied { (guard : List Node) →
+        ¬ FirstOpens looped looped_table untrusted 1 (op.Branch guard 8) }
+    // A statement of another method than `main` is run by a host that has its own need, and one of no method by nobody.
+    ensures of_method { MayRun called untrusted returning }
+    ensures calling_denied { ¬ MayRun called untrusted calling }
+    ensures of_none { (label : Label) → ¬ MayRun looped label returning }
+    // The need of an entry has that of each entry that is pushed, asked for or gone to on the way, and of all that is
+    // due.
+    ensures pushed_without { ¬ NamesWithin (code_of lent_back) 0 (op.Push (entry_id 2)) }
+    ensures pushed_within { NamesWithin (code_of lent_back) 1 (op.Push (entry_id 2)) }
+    ensures asked_without { ¬ NamesWithin (code_of lent_back) 0 (op.Ask (entry_id 2) (host_id 0)) }
+    ensures gone_without { ¬ NamesWithin (code_of lent_back) 0 (op.Go (entry_id 2) (host_id 0)) }
+    ensures called_without { ¬ NamesWithin (code_of lent_back) 0 (op.Call (entry_id 2) (host_id 0)) }
+    ensures due_without { ¬ IsCoveredBy lent_back (code_of lent_back) lent_table 0 (thread_on_first 0) }
 {}
