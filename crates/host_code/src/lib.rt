@@ -13,4 +13,7 @@ pub use code_expr::{CodeExpr, MOST_NODES, Node, depth_of};
 pub use instruction::{Instr, Op};
 pub use instruction_texts::instruction_text;
 pub use message::Message;
-pub use message_texts::{host_name, message_text, token_text};
+pub use message_texts::{
+    ack_text, answer_text, field_name, forward_text, get_text, host_name, lgoto_text, message_text,
+    rgoto_text, set_text, sync_text, token_text, value_text, var_name,
+};

@@ -77,7 +77,8 @@ pub fn token_text(alloc: Global, code: &Code, token: &Token) -> Result<String, O
     )?)
 }
 
-fn get_text(
+/// A get of a field of this name.
+pub fn get_text(
     alloc: Global,
     request: RequestId,
     field: &str,
@@ -88,7 +89,8 @@ fn get_text(
     Ok(format!(in alloc; "get {}.{} {field} {index}", request.at, request.count)?)
 }
 
-fn set_text(
+/// A set of a field of this name.
+pub fn set_text(
     alloc: Global,
     request: RequestId,
     field: &str,
@@ -103,7 +105,8 @@ fn set_text(
     )?)
 }
 
-fn forward_text(
+/// A forward of a variable of this name.
+pub fn forward_text(
     alloc: Global,
     request: RequestId,
     frame: FrameId,
@@ -118,7 +121,8 @@ fn forward_text(
     )?)
 }
 
-fn sync_text(
+/// A sync whose token is printed so.
+pub fn sync_text(
     alloc: Global,
     request: RequestId,
     frame: FrameId,
@@ -134,7 +138,8 @@ fn sync_text(
     )?)
 }
 
-fn rgoto_text(
+/// An rgoto whose token is printed so.
+pub fn rgoto_text(
     alloc: Global,
     frame: FrameId,
     entry: EntryId,
@@ -149,25 +154,29 @@ fn rgoto_text(
     )?)
 }
 
-fn lgoto_text(alloc: Global, token: &str) -> Result<String, OutOfMemory>
+/// An lgoto whose token is printed so.
+pub fn lgoto_text(alloc: Global, token: &str) -> Result<String, OutOfMemory>
     ensures { IfOk result (λ printed. string_bytes printed ≡ text.lgoto_text token.now) }
 {
     Ok(format!(in alloc; "lgoto {token}")?)
 }
 
-fn value_text(alloc: Global, request: RequestId, value: i64) -> Result<String, OutOfMemory>
+/// The answer to a get.
+pub fn value_text(alloc: Global, request: RequestId, value: i64) -> Result<String, OutOfMemory>
     ensures { IfOk result (λ printed. string_bytes printed ≡ text.value_text request value) }
 {
     Ok(format!(in alloc; "value {}.{} {value}", request.at, request.count)?)
 }
 
-fn ack_text(alloc: Global, request: RequestId) -> Result<String, OutOfMemory>
+/// The answer to a set or a forward.
+pub fn ack_text(alloc: Global, request: RequestId) -> Result<String, OutOfMemory>
     ensures { IfOk result (λ printed. string_bytes printed ≡ text.ack_text request) }
 {
     Ok(format!(in alloc; "ack {}.{}", request.at, request.count)?)
 }
 
-fn answer_text(alloc: Global, request: RequestId, token: &str) -> Result<String, OutOfMemory>
+/// The answer to a sync whose token is printed so.
+pub fn answer_text(alloc: Global, request: RequestId, token: &str) -> Result<String, OutOfMemory>
     ensures { IfOk result (λ printed.
         string_bytes printed ≡ text.answer_text request token.now) }
 {
@@ -185,7 +194,7 @@ pub fn host_name(code: &Code, host: HostId) -> &str
 }
 
 /// The name of a field, empty where there is no such field.
-pub(crate) fn field_name(code: &Code, field: FieldId) -> &str
+pub fn field_name(code: &Code, field: FieldId) -> &str
     ensures { result.now ≡ text.field_text code.now field }
 {
     match code.field(field) {
@@ -195,7 +204,7 @@ pub(crate) fn field_name(code: &Code, field: FieldId) -> &str
 }
 
 /// The name of a variable, empty where there is no such variable.
-pub(crate) fn var_name(code: &Code, var: VarId) -> &str
+pub fn var_name(code: &Code, var: VarId) -> &str
     ensures { result.now ≡ text.variable_text code.now var }
 {
     match code.var(var) {
