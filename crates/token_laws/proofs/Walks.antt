@@ -1,0 +1,71 @@
+-- What each event keeps holds in every world that events lead to.
+use Rattle.std.proofs.Common.{◌≡◌, ℕ, suc, ℤ, List, [], ◌∷◌, get_or, sym, subst, arith}
+use Rattle.std.specs.Prelude.{All, IsTrue}
+use Rattle.js_base.specs.declared.ids.HostId.{HostId}
+use Rattle.host_decl.specs.Hosts as declared_hosts
+use Rattle.event_text.specs.declared.event.BadToken.{BadToken}
+use Rattle.event_text.specs.declared.event.BadToken.TheVariants.{Sent, Own}
+use Rattle.event_text.specs.declared.event.BadMessage.{BadMessage}
+use Rattle.event_text.specs.declared.event.BadMessage.TheVariants as bad
+use Rattle.event_text.specs.declared.event.Event.{Event}
+use Rattle.event_text.specs.declared.event.Event.TheVariants.{Take, Turn, Act}
+use Rattle.host_code.specs.Code.{CodeShape}
+use Rattle.host_code.specs.Sound.{IsSoundCode}
+use Rattle.net_world.specs.Fits.{ShapeFits, HasOwnToken, OwnToken, OwnTokenIn}
+use Rattle.net_world.specs.World.{WorldShape, IsStep, IsRun, misbehaves, world_at_start}
+use Rattle.net_world.proofs.Shapes.{shape_at_start, shape_step}
+use Rattle.net_world.proofs.StepLaws.{same_misbehave}
+use Rattle.token_laws.specs.Reached.{IsReached}
+
+-- ---- a misbehaving host's own tokens stay its own
+
+token_kept : (world after : WorldShape) (token : BadToken) →
+    ((host : HostId) → misbehaves after host ≡ misbehaves world host) → OwnToken world token → OwnToken after token
+token_kept world after (Sent number) same own = own
+token_kept world after (Own token) same own = subst IsTrue (sym (same token.host)) own
+
+message_kept : (world after : WorldShape) (made : BadMessage) →
+    ((host : HostId) → misbehaves after host ≡ misbehaves world host) → OwnTokenIn world made → OwnTokenIn after made
+message_kept world after (bad.Sync request frame entry token) same own = token_kept world after token same own
+message_kept world after (bad.Rgoto frame entry token) same own = token_kept world after token same own
+message_kept world after (bad.Lgoto token) same own = token_kept world after token same own
+message_kept world after (bad.Token request token) same own = token_kept world after token same own
+message_kept world after (bad.Get request field index) same own = tt
+message_kept world after (bad.Set request field index value) same own = tt
+message_kept world after (bad.Forward request frame variable value) same own = tt
+message_kept world after (bad.Value request value) same own = tt
+message_kept world after (bad.Ack request) same own = tt
+
+event_kept : (world after : WorldShape) (event : Event) →
+    ((host : HostId) → misbehaves after host ≡ misbehaves world host) → HasOwnToken world event →
+    HasOwnToken after event
+event_kept world after (Take from to place) same own = tt
+event_kept world after (Turn host) same own = tt
+event_kept world after (Act from to made) same own = message_kept world after made same own
+
+-- ---- along events
+
+-- each event for which something holds keeps the property, in worlds that fit the code
+abbrev pub IsKept : CodeShape → (Event → Type 0) → (WorldShape → Type 0) → Type 0
+IsKept code Q P = (world after : WorldShape) (event : Event) → ShapeFits code world → HasOwnToken world event →
+    Q event → IsStep code world event after → P world → P after
+
+pub walk : (code : CodeShape) (Q : Event → Type 0) (P : WorldShape → Type 0) → IsSoundCode code → IsKept code Q P →
+    (events : List Event) (world after : WorldShape) → ShapeFits code world → All (HasOwnToken world) events →
+    All Q events → P world → IsRun code world events after → ShapeFits code after × P after
+walk code Q P sound kept [] world after fits own each holds ran = subst (λ w. ShapeFits code w × P w) ran (fits, holds)
+walk code Q P sound kept (event ∷ events) world after fits own each holds ran =
+    let first = own 0 event (omega arith) in
+    walk code Q P sound kept events ran.0 after (shape_step code world ran.0 event sound fits first ran.1)
+    (λ k d lt. event_kept world ran.0 (get_or events k d)
+    (λ host. same_misbehave code world ran.0 event host ran.1) (own (suc k) d (omega arith)))
+    (λ k d lt. each (suc k) d (omega arith))
+    (kept world ran.0 event fits first (each 0 event (omega arith)) ran.1 holds) ran.2
+
+pub reached : (code : CodeShape) (rows : List declared_hosts.HostShape) (bad : ℕ) (store : List (List ℤ))
+    (events : List Event) (world : WorldShape) (Q : Event → Type 0) (P : WorldShape → Type 0) →
+    IsReached code rows bad store events world → All Q events → IsKept code Q P →
+    P (world_at_start code rows bad store) → ShapeFits code world × P world
+reached code rows bad store events world Q P reach each kept start =
+    walk code Q P reach.sound kept events (world_at_start code rows bad store) world
+    (shape_at_start code rows bad store reach.sound reach.hosts) reach.own each start reach.ran
