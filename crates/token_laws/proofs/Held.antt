@@ -1,13 +1,12 @@
--- A token that misbehaving hosts were not sent is held once at most, since each token is made once: it has a serial that
--- its host has not given before.
-use Rattle.std.proofs.Common.{◌≡◌, ◌≢◌, ◌∙◌, ◌⊎◌, ℕ, zero, suc, ◌+◌, ◌<◌, ◌≤◌, inl, inr, ℤ, Bool, true, false, List, [], ◌∷◌}
-use Rattle.std.proofs.Common.{length, Option, Some, None, refl, ap, sym, subst, arith}
-use Rattle.std.specs.Prelude.{slice_index, slice_set, sum_by, IfSome, if◌then◌else◌, ◌==◌, replicate}
+-- A token that misbehaving hosts were not sent is held once at most, since each token is made once: it has a serial
+-- that its host has not given before.
+use Rattle.std.proofs.Common.{◌≡◌, ◌≢◌, ◌∙◌, ◌⊎◌, ℕ, zero, suc, ◌+◌, ◌<◌, ◌≤◌, inl, inr, ℤ, Bool, true, false}
+use Rattle.std.proofs.Common.{List, [], ◌∷◌, length, Option, Some, None, refl, ap, sym, subst, arith}
+use Rattle.std.specs.Prelude.{slice_index, sum_by, IfSome, if◌then◌else◌, ◌==◌, replicate}
 use Rattle.std.specs.Int.{bit_at}
 use Rattle.std.proofs.lemmas.Bool.{cases_lt}
-use Rattle.std.proofs.lemmas.Bool.Decides.{eqb_tells, nat_tests}
-use Rattle.std.proofs.lemmas.Grind.{get_or-set_at}
-use Rattle.std.proofs.lemmas.List.{get_or-set_same, get_or-set_other}
+use Rattle.std.proofs.lemmas.Bool.Decides.{eqb_tells}
+use Rattle.std.proofs.lemmas.List.{get_or-set_same}
 use Rattle.std.proofs.lemmas.List.Sums.{sum_by-cons}
 use Rattle.js_base.specs.declared.ids.HostId.{HostId}
 use Rattle.js_base.specs.declared.ids.EntryId.{EntryId}
@@ -23,9 +22,11 @@ use Rattle.net_world.specs.Fits.{ShapeFits, HasOwnToken}
 use Rattle.net_world.specs.World.{WorldShape, IsStep, state_at, hosts_before, host_before, world_at_start}
 use Rattle.net_world.proofs.Fitting.{bad_differs}
 use Rattle.net_world.proofs.Moved.{either, Mover, Other}
-use Rattle.token_laws.specs.Holders.{worth_held, worth_state, worth_host, worth_world, worth_flying, worth_between, sum_below}
+use Rattle.token_laws.specs.Holders.{worth_held, worth_state, worth_host, worth_world, worth_flying, worth_between}
+use Rattle.token_laws.specs.Holders.{sum_below}
 use Rattle.token_laws.proofs.HostTokens.{Counts, entering_worth}
-use Rattle.token_laws.proofs.Sums.{below_none}
+use Rattle.token_laws.proofs.Sums.{below_none, grows}
+use Rattle.token_laws.proofs.Tests.{different}
 use Rattle.token_laws.proofs.WorldTokens.{Accounts, IsPresented, account, sent_more, worth_sent}
 
 -- one token alone is worth something
@@ -57,11 +58,6 @@ pub record IsFresh (old : HostShape) (serials : List ℕ) (token : Token) : Type
   pub entry : token.entry ≢ halt
   pub serial : token.serial ≡ slice_index old.serials token.entry.0
   pub passed : token.serial < slice_index serials token.entry.0
-
--- one place's count goes up
-grows : (serials : List ℕ) (place other : ℕ) → place < length serials →
-    slice_index serials other ≤ slice_index (slice_set serials place (slice_index serials place + 1)) other
-grows serials place other within = grind (arith, get_or-set_at, get_or-set_other)
 
 pub fresh_is : (old : HostShape) (serials : List ℕ) (token : Token) → Counts old serials (Some token) →
     IsFresh old serials token
@@ -251,9 +247,6 @@ other_worth : (code : CodeShape) (worth : Token → ℕ) (store : List (List ℤ
 other_worth code worth store key me true root is = refl
 other_worth code worth store key me false true is = absurd (cc)
 other_worth code worth store key me false false is = omega arith
-
-different : (one other : ℕ) → one ≢ other → (one == other) ≡ false
-different one other apart = grind (arith, nat_tests)
 
 past_root : (code : CodeShape) (worth : Token → ℕ) (store : List (List ℤ)) (bad number : ℕ)
     (rows : List declared_hosts.HostShape) → code.root.0 < number →

@@ -1,11 +1,12 @@
 -- What is known of one token in a world that events lead to.
-use Rattle.std.proofs.Common.{◌≡◌, ◌≢◌, ◌∙◌, ℕ, zero, suc, ◌+◌, ◌<◌, ◌≤◌, inl, inr, ℤ, Bool, true, false, List, [], ◌∷◌}
-use Rattle.std.proofs.Common.{length, get_or, Option, Some, None, refl, ap, sym, subst, arith}
-use Rattle.std.specs.Prelude.{slice_get, slice_index, sum_by, IfSome, IsSome, IsSomeAnd, ◌==◌, ◌&&◌, All}
-use Rattle.std.specs.Prelude.{if◌then◌else◌, AllPairs, ⊤}
+use Rattle.std.proofs.Common.{◌≡◌, ◌≢◌, ◌∙◌, ℕ, ◌+◌, ◌<◌, ◌≤◌, inl, inr, ℤ, Bool, true, false, List}
+use Rattle.std.proofs.Common.{get_or, Option, Some, None, refl, ap, sym, subst, arith}
+use Rattle.std.specs.Prelude.{slice_get, slice_index, IsSome, IsSomeAnd, All}
+use Rattle.std.specs.Prelude.{AllPairs, ⊤}
 use Rattle.std.proofs.lemmas.Bool.{cases_lt}
-use Rattle.std.proofs.lemmas.Bool.Decides.{nat_tests, eqb_tells}
-use Rattle.std.proofs.lemmas.List.Sums.{sum_by-cons, get_or-le-sum_by}
+use Rattle.std.proofs.lemmas.Bool.Decides.{eqb_tells}
+use Rattle.std.proofs.lemmas.List.{get_or_default}
+use Rattle.std.proofs.lemmas.List.Sums.{sum_by-le, get_or-le-sum_by}
 use Rattle.std.proofs.lemmas.Option.{slice_get_within, get_or_from_slice_get}
 use Rattle.std.proofs.lemmas.Slice.Eq.{bytes_eq-Decides}
 use Rattle.js_base.specs.declared.ids.HostId.{HostId}
@@ -17,13 +18,14 @@ use Rattle.host_decl.specs.Hosts as declared_hosts
 use Rattle.host_code.specs.Code.{CodeShape, halt}
 use Rattle.host_core.specs.Host as host_state
 use Rattle.event_text.specs.declared.event.Event.{Event}
-use Rattle.net_world.specs.Fits.{ShapeFits, IsStateOf}
+use Rattle.net_world.specs.Fits.{ShapeFits}
 use Rattle.net_world.specs.World.{WorldShape, state_at, tokens_sent}
-use Rattle.token_laws.specs.Holders.{is_token, holders, worth_held, IsSent, IsOld}
+use Rattle.token_laws.specs.Holders.{one_if, one_of, is_token, holders, worth_held, IsSent, IsOld}
 use Rattle.token_laws.specs.Reached.{IsReached}
 use Rattle.token_laws.proofs.HostTokens.{Counts}
-use Rattle.token_laws.proofs.WorldTokens.{Accounts, worth_sent}
+use Rattle.token_laws.proofs.WorldTokens.{the_state, Accounts, worth_sent}
 use Rattle.token_laws.proofs.Held.{IsOf, IsOnly, AreHeld, held_step, held_start, fresh_is, none_worth, presented_none}
+use Rattle.token_laws.proofs.Tests.{one_at_most, parts_same, both, number_same, itself}
 use Rattle.token_laws.proofs.Walks.{reached}
 
 -- ---- the same token
@@ -37,14 +39,6 @@ made host site count entry serial tag =
       serial = serial;
       tag = tag;
     }
-
-parts_same : (a b : Bool) → (a && b) ≡ true → (a ≡ true) × (b ≡ true)
-parts_same true true is = (refl, refl)
-parts_same true false is = absurd (cc)
-parts_same false b is = absurd (cc)
-
-number_same : (one other : ℕ) → (one == other) ≡ true → one ≡ other
-number_same one other is = grind (arith, nat_tests)
 
 pub token_same : (one other : Token) → is_token one other ≡ true → one ≡ other
 token_same one other is =
@@ -63,34 +57,15 @@ token_same one other is =
     ≡ made other.host.0 other.frame.site.0 other.frame.count other.entry.0 other.serial other.tag = cc in
     all
 
-itself : (n : ℕ) → (n == n) ≡ true
-itself n = grind (arith, nat_tests)
-
-both : (a b : Bool) → a ≡ true → b ≡ true → (a && b) ≡ true
-both true b first second = second
-both false b first second = absurd (cc)
-
 pub token_itself : (token : Token) → is_token token token ≡ true
 token_itself token =
     both _ _
     (both _ _ (itself token.host.0) (both _ _ (itself token.frame.site.0) (itself token.frame.count)))
     (both _ _ (both _ _ (itself token.entry.0) (itself token.serial)) ((bytes_eq-Decides token.tag token.tag).1 refl))
 
--- each is worth one where it is this token
-abbrev pub one_of : Token → Token → ℕ
-one_of token other = if is_token token other then 1 else 0
-
-one_at_most : (b : Bool) → (if b then 1 else 0) ≤ 1
-one_at_most true = omega arith
-one_at_most false = omega arith
-
-some_true : (b : Bool) → 0 < (if b then 1 else 0) → b ≡ true
+some_true : (b : Bool) → 0 < one_if b → b ≡ true
 some_true true more = refl
 some_true false more = absurd (omega arith)
-
-true_one : (b : Bool) (n : ℕ) → b ≡ true → n ≡ (if b then 1 else 0) → n ≡ 1
-true_one true n is same = same
-true_one false n is same = absurd (cc)
 
 pub only_one : (token : Token) → IsOf (one_of token) token
 only_one token other = (
@@ -108,41 +83,31 @@ only_serial token other more =
 
 -- ---- what was sent
 
-none_sum : {X : Type 0} (f : X → ℕ) (xs : List X) → ((k : ℕ) (d : X) → k < length xs → f (get_or xs k d) ≡ 0) →
-    sum_by f xs ≡ 0
-none_sum f [] none = refl
-none_sum f (x ∷ xs) none =
-    let all = sum_by-cons f x xs in
-    let here : f x ≡ 0 = none 0 x (omega arith) in
-    let rest = none_sum f xs (λ k d lt. none (suc k) d (omega arith)) in
-    omega arith
-
-got_same : {X : Type 0} (xs : List X) (k : ℕ) (d e : X) → k < length xs → get_or xs k d ≡ get_or xs k e
-got_same [] k d e lt = absurd (omega arith)
-got_same (x ∷ xs) zero d e lt = refl
-got_same (x ∷ xs) (suc k) d e lt = got_same xs k d e (omega arith)
-
 pub unsent_none : (world : WorldShape) (token : Token) → ¬ IsSent world token → worth_sent (one_of token) world ≡ 0
 unsent_none world token unsent =
-    none_sum (one_of token) (tokens_sent world) (λ k d lt.
+    let le =
+    sum_by-le (one_of token) 0 (tokens_sent world) (λ k d lt.
+    let none =
     none_worth (one_of token (get_or (tokens_sent world) k d)) (λ more.
     unsent (
       k,
       lt,
-      got_same (tokens_sent world) k token d lt
+      get_or_default (tokens_sent world) k token d lt
           ∙ (only_one token (get_or (tokens_sent world) k d)).1 more,
-    )))
+    )) in
+    omega arith) in
+    omega arith
 
 sent_some : (world : WorldShape) (token : Token) → IsSent world token → 0 < worth_sent (one_of token) world
 sent_some world token sent =
     let le = get_or-le-sum_by (one_of token) (tokens_sent world) sent.0 token sent.1 in
     let is : one_of token (get_or (tokens_sent world) sent.0 token) ≡ 1 =
-    ap (one_of token) sent.2 ∙ true_one (is_token token token) (one_of token token) (token_itself token) refl in
+    ap (one_of token) sent.2 ∙ ap one_if (token_itself token) in
     omega arith
 
 -- ---- the laws
 
-has_state : (o : Option host_state.HostShape) → IsSome o → (state : host_state.HostShape) × (o ≡ Some state)
+pub has_state : (o : Option host_state.HostShape) → IsSome o → (state : host_state.HostShape) × (o ≡ Some state)
 has_state None is = absurd (cc)
 has_state (Some state) is = (state, refl)
 
@@ -190,11 +155,6 @@ pub sent_before : (world : WorldShape) (token : Token) → AreHeld world → IsS
 sent_before world token held obeys named sent =
     let some = sent_some world token sent in made_before world token held obeys named (omega arith)
 
-state_fits : (code : CodeShape) (world : WorldShape) (host : HostId) (state : host_state.HostShape) →
-    ShapeFits code world → state_at world host ≡ Some state → IsStateOf code host state
-state_fits code world host state fits obeys =
-    subst (λ (o : Option host_state.HostShape). IfSome o (IsStateOf code host)) obeys (fits.states host)
-
 all_at : {X : Type 0} (P : X → Type 0) (xs : List X) (i : ℕ) (x : X) → All P xs → slice_get xs i ≡ Some x → P x
 all_at P xs i x all there =
     subst P (get_or_from_slice_get xs i x x there) (all i x (slice_get_within xs i x there))
@@ -203,7 +163,7 @@ pub own_before : (code : CodeShape) (world : WorldShape) (host : HostId) (state 
     (on_stack : StackEntry) → ShapeFits code world → state_at world host ≡ Some state →
     slice_get state.entries place ≡ Some on_stack → IsOld world on_stack.token
 own_before code world host state place on_stack fits obeys there =
-    let is = state_fits code world host state fits obeys in
+    let is = the_state code world host state fits obeys in
     let stack = is.fits.stack in
     let own = all_at (IsOwnEntry state.me) state.entries place on_stack stack.own there in
     let passed : on_stack.token.serial < slice_index state.serials on_stack.entry.0 =
@@ -227,7 +187,7 @@ pub same_place : (code : CodeShape) (world : WorldShape) (host : HostId) (state 
     slice_get state.entries first ≡ Some one → slice_get state.entries second ≡ Some other →
     one.token ≡ other.token → first ≡ second
 same_place code world host state first second one other fits obeys there also same =
-    let distinct = (state_fits code world host state fits obeys).fits.stack.distinct in
+    let distinct = (the_state code world host state fits obeys).fits.stack.distinct in
     elim (eqb_tells first second) [
       | inl is ↦ is.1
       | inr apart ↦ elim (cases_lt first second) [

@@ -178,7 +178,8 @@ pops code host taken =
 
 -- ---- the instructions
 
-reads : (host : HostShape) (thread : ThreadShape) (field : FieldId) (index : List Node) (there : Option CodeFieldShape) →
+reads : (host : HostShape) (thread : ThreadShape) (field : FieldId) (index : List Node)
+    (there : Option CodeFieldShape) →
     Handles host thread.held (after_read host thread field index there)
 reads host thread field index None = goes_on host thread thread.held refl
 reads host thread field index (Some there) =

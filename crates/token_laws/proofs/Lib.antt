@@ -1,6 +1,11 @@
 pub mod Sums
+pub mod Tests
 pub mod HostTokens
 pub mod WorldTokens
 pub mod Walks
 pub mod Held
 pub mod HeldLaws
+pub mod HostRequests
+pub mod Cells
+pub mod Asked
+pub mod AskedLaws

@@ -1,9 +1,12 @@
 -- Sums over lists, and over pairs of numbers below a count.
-use Rattle.std.proofs.Common.{◌≡◌, ◌≢◌, ◌∙◌, ℕ, zero, suc, ◌+◌, ◌<◌, ◌≤◌, inl, inr, Bool, true, false, List, [], ◌∷◌}
-use Rattle.std.proofs.Common.{Some, arith, refl, ap, sym}
-use Rattle.std.specs.Prelude.{slice_get, slice_set, remove, sum_by, ◌==◌, ◌&&◌, if◌then◌else◌}
+use Rattle.std.proofs.Common.{◌≡◌, ◌≢◌, ◌∙◌, ℕ, zero, suc, ◌+◌, ◌<◌, ◌≤◌, inl, inr, Bool, true, false}
+use Rattle.std.proofs.Common.{List, [], ◌∷◌, length, Some, None, arith, refl, ap, sym}
+use Rattle.std.specs.Prelude.{slice_get, slice_index, slice_set, remove, sum_by, ◌==◌, ◌&&◌, if◌then◌else◌}
 use Rattle.std.proofs.lemmas.Bool.Decides.{eqb_tells, nat_tests}
-use Rattle.std.proofs.lemmas.List.Sums.{sum_by-cons}
+use Rattle.std.proofs.lemmas.Grind.{get_or-set_at}
+use Rattle.std.proofs.lemmas.List.{get_or-set_other}
+use Rattle.std.proofs.lemmas.List.Sums.{sum_by-cons, sum_by-remove, sum_by-set}
+use Rattle.std.proofs.lemmas.Option.{slice_get_within, get_or_from_slice_get}
 use Rattle.js_base.specs.declared.ids.HostId.{HostId}
 use Rattle.capability.specs.declared.token.Token.{Token}
 use Rattle.net_world.specs.Flying.{Flight, Flying, with_flights}
@@ -24,34 +27,36 @@ removed_le f (x ∷ xs) (suc i) =
 
 pub removed_at : {X : Type 0} (f : X → ℕ) (xs : List X) (i : ℕ) (x : X) → slice_get xs i ≡ Some x →
     sum_by f (remove xs i) + f x ≡ sum_by f xs
-removed_at f [] i x there = absurd (cc)
-removed_at {X} f (y ∷ xs) zero x there =
-    let same : y ≡ x = cc in
-    let worth : f y ≡ f x = ap f same in
-    let all = sum_by-cons f y xs in
+removed_at f xs i x there =
+    let all = sum_by-remove f xs i x (slice_get_within xs i x there) in
+    let is = ap f (get_or_from_slice_get xs i x x there) in
     omega arith
-removed_at f (y ∷ xs) (suc i) x there =
-    let all = sum_by-cons f y xs in
-    let left = sum_by-cons f y (remove xs i) in
-    let rest = removed_at f xs i x there in
+
+-- nothing goes from a place past the end
+pub removed_none : {X : Type 0} (f : X → ℕ) (xs : List X) (i : ℕ) → slice_get xs i ≡ None →
+    sum_by f (remove xs i) ≡ sum_by f xs
+removed_none f [] zero none = refl
+removed_none f [] (suc i) none = refl
+removed_none f (x ∷ xs) zero none = absurd (cc)
+removed_none f (x ∷ xs) (suc i) none =
+    let all = sum_by-cons f x xs in
+    let left = sum_by-cons f x (remove xs i) in
+    let rest = removed_none f xs i none in
     omega arith
 
 -- ---- one item changed
 
 pub changed_at : {X : Type 0} (f : X → ℕ) (xs : List X) (i : ℕ) (x y : X) → slice_get xs i ≡ Some x →
     sum_by f (slice_set xs i y) + f x ≡ sum_by f xs + f y
-changed_at f [] i x y there = absurd (cc)
-changed_at f (z ∷ xs) zero x y there =
-    let same : z ≡ x = cc in
-    let worth : f z ≡ f x = ap f same in
-    let all = sum_by-cons f z xs in
-    let new = sum_by-cons f y xs in
+changed_at f xs i x y there =
+    let all = sum_by-set f xs i y x (slice_get_within xs i x there) in
+    let is = ap f (get_or_from_slice_get xs i x x there) in
     omega arith
-changed_at f (z ∷ xs) (suc i) x y there =
-    let all = sum_by-cons f z xs in
-    let new = sum_by-cons f z (slice_set xs i y) in
-    let rest = changed_at f xs i x y there in
-    omega arith
+
+-- one place's count goes up
+pub grows : (counts : List ℕ) (place other : ℕ) → place < length counts →
+    slice_index counts other ≤ slice_index (slice_set counts place (slice_index counts place + 1)) other
+grows counts place other within = grind (arith, get_or-set_at, get_or-set_other)
 
 -- ---- sums below a count
 

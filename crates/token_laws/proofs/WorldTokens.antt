@@ -150,7 +150,7 @@ pub record Accounts (world after : WorldShape) : Type 0 where
   pub worth : (worth : Token → ℕ) → worth_world worth after + worth_sent worth after
       ≤ worth_world worth world + worth_sent worth world + worth_held worth presented + worth_held worth fresh
 
-the_state : (code : CodeShape) (world : WorldShape) (host : HostId) (state : HostShape) → ShapeFits code world →
+pub the_state : (code : CodeShape) (world : WorldShape) (host : HostId) (state : HostShape) → ShapeFits code world →
     state_at world host ≡ Some state → IsStateOf code host state
 the_state code world host state fits obeys =
     subst (λ (o : Option HostShape). IfSome o (IsStateOf code host)) obeys (fits.states host)

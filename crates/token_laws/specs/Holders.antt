@@ -60,10 +60,17 @@ is_token one other =
     (one.host.0 == other.host.0 && (one.frame.site.0 == other.frame.site.0 && one.frame.count == other.frame.count))
     && ((one.entry.0 == other.entry.0 && one.serial == other.serial) && bytes_eq one.tag other.tag)
 
+abbrev pub one_if : Bool → ℕ
+one_if holds = if holds then 1 else 0
+
+-- one for this token, and nothing for all others
+abbrev pub one_of : Token → Token → ℕ
+one_of token other = one_if (is_token token other)
+
 -- How often a token is held in a world: by the running thread or by a waiting thread of a host, kept with an entry of a
 -- stack, or in a message in flight.
 abbrev pub holders : WorldShape → Token → ℕ
-holders world token = worth_world (λ other. if is_token token other then 1 else 0) world
+holders world token = worth_world (one_of token) world
 
 -- misbehaving hosts were sent the token
 abbrev pub IsSent : WorldShape → Token → Type 0

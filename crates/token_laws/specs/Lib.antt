@@ -1,2 +1,3 @@
 pub mod Holders
 pub mod Reached
+pub mod Requests

@@ -7,8 +7,8 @@ use Rattle.event_text.specs.declared.event.Event.{Event}
 use Rattle.net_world.specs.Fits.{HasOwnToken}
 use Rattle.net_world.specs.World.{WorldShape, AreHostsOf, IsRun, world_at_start}
 
--- Events lead from the start of a sound code, on the hosts that it names, to a world. Bit h of the word says that host h
--- misbehaves, and a token that such a host makes up names one that misbehaves.
+-- Events lead from the start of a sound code, on the hosts that it names, to a world. Bit h of the word says that host
+-- h misbehaves, and a token that such a host makes up names one that misbehaves.
 pub record IsReached (code : CodeShape) (rows : List declared_hosts.HostShape) (bad : ℕ) (store : List (List ℤ))
     (events : List Event) (world : WorldShape) : Type 0 where
   pub sound : IsSoundCode code

@@ -1,11 +1,13 @@
 //! What holds of every world that events lead to, whichever hosts misbehave. The calls do nothing: their contracts are
 //! the laws.
 
-ghost use Rattle.std.specs.Prelude.{◌≡◌, ◌≢◌, ℕ, ℤ, ◌<◌, ◌≤◌, Some, IsSome, List, slice_get};
+ghost use Rattle.std.specs.Prelude.{◌≡◌, ◌≢◌, ℕ, ℤ, ◌+◌, ◌<◌, ◌≤◌, Some, IsSome, List, All, slice_get, slice_index};
 ghost use Rattle.js_base.specs.declared.ids.HostId.{HostId};
+ghost use Rattle.js_base.specs.declared.ids.RequestId.{RequestId};
 ghost use Rattle.capability.specs.declared.token.Token.{Token};
 ghost use Rattle.ics_stack.specs.declared.stack.StackEntry.{StackEntry};
 ghost use Rattle.host_code.specs.Code.{CodeShape, halt};
+ghost use Rattle.host_code.specs.Thread.{WaitingShape};
 ghost use Rattle.host_core.specs.Host as host_state;
 ghost use Rattle.host_decl.specs.Hosts.{HostShape};
 ghost use Rattle.event_text.specs.declared.event.Event.{Event};
@@ -13,6 +15,7 @@ ghost use Rattle.net_world.specs.Fits.{HasOwnToken};
 ghost use Rattle.net_world.specs.World.{WorldShape, IsStep, state_at};
 ghost use Rattle.token_laws.specs.Holders.{holders, IsSent, IsOld};
 ghost use Rattle.token_laws.specs.Reached.{IsReached};
+ghost use Rattle.token_laws.specs.Requests.{asking, answering, waiting_for, waiting_for_from, under_way};
 
 /// A token works once: what misbehaving hosts were not sent is held at one place at most, and what nobody holds is not
 /// made again.
@@ -51,4 +54,38 @@ pub fn holder_laws()
         IsReached code rows bad store events world → HasOwnToken world event → IsStep code world event after →
         IsOld world token → holders world token ≡ 0 → ¬ IsSent world token →
         (holders after token ≡ 0) × ¬ IsSent after token }
+{}
+
+/// A request has one answer at most, from the host that was asked.
+pub fn request_laws()
+    // The requests of a number in flight from an obeying host, and the answers to it in flight to that host, are
+    // together one at most.
+    ensures one { (code : CodeShape) (rows : List HostShape) (bad : ℕ) (store : List (List ℤ))
+        (events : List Event) (world : WorldShape) (host : HostId) (request : RequestId) →
+        IsReached code rows bad store events world → IsSome (state_at world host) →
+        under_way world request host ≤ 1 }
+    // They are no more than the threads of the host that wait for the number.
+    ensures awaited { (code : CodeShape) (rows : List HostShape) (bad : ℕ) (store : List (List ℤ))
+        (events : List Event) (world : WorldShape) (host : HostId) (state : host_state.HostShape)
+        (request : RequestId) →
+        IsReached code rows bad store events world → state_at world host ≡ Some state →
+        under_way world request host ≤ waiting_for request state.waiting }
+    // Those to and from one host are no more than the threads that wait for the number from that host.
+    ensures from_asked { (code : CodeShape) (rows : List HostShape) (bad : ℕ) (store : List (List ℤ))
+        (events : List Event) (world : WorldShape) (host other : HostId) (state : host_state.HostShape)
+        (request : RequestId) →
+        IsReached code rows bad store events world → state_at world host ≡ Some state →
+        asking world request host other + answering world request other host
+        ≤ waiting_for_from request other state.waiting }
+    // No two threads of a host wait for the same number.
+    ensures apart { (code : CodeShape) (rows : List HostShape) (bad : ℕ) (store : List (List ℤ))
+        (events : List Event) (world : WorldShape) (host : HostId) (state : host_state.HostShape)
+        (request : RequestId) →
+        IsReached code rows bad store events world → state_at world host ≡ Some state →
+        waiting_for request state.waiting ≤ 1 }
+    // The number was given before.
+    ensures counted { (code : CodeShape) (rows : List HostShape) (bad : ℕ) (store : List (List ℤ))
+        (events : List Event) (world : WorldShape) (host : HostId) (state : host_state.HostShape) →
+        IsReached code rows bad store events world → state_at world host ≡ Some state →
+        All (λ waiting. waiting.request.count < slice_index state.requests waiting.request.at) state.waiting }
 {}
