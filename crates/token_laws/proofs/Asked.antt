@@ -21,13 +21,13 @@ use Rattle.net_world.specs.Flying.{Flying}
 use Rattle.net_world.specs.World.{WorldShape, IsStep, IsTakeStep, IsTurnStep, IsActStep, state_at, misbehaves}
 use Rattle.net_world.specs.World.{with_state, without_flight, after_sending, letter_of}
 use Rattle.net_world.proofs.Fitting.{bad_differs}
-use Rattle.net_world.proofs.Moved.{either}
+use Rattle.net_world.proofs.Moved.{moved_acted, either}
 use Rattle.net_world.proofs.Present.{same_id}
 use Rattle.net_world.proofs.Same.{to_sender}
 use Rattle.net_world.proofs.StepLaws.{take_puts, turn_puts, act_puts, same_misbehave, absent_set}
 use Rattle.token_laws.specs.Requests.{between, is_request, asks, answers, waiting_for, waiting_for_from}
 use Rattle.token_laws.specs.Holders.{one_if}
-use Rattle.token_laws.proofs.Cells.{is_pair, posted, fewer, sent, not_sent, sent_to_bad, any, of_all}
+use Rattle.token_laws.proofs.Cells.{is_pair, posted, fewer, sent, sent_to_bad, any, of_all}
 use Rattle.token_laws.proofs.HostRequests.{letters, IsQuiet, Requests, Replies, turn_requests, taking_requests}
 use Rattle.token_laws.proofs.Sums.{grows}
 use Rattle.token_laws.proofs.WorldTokens.{the_state}
@@ -464,8 +464,7 @@ asked_act : (code : CodeShape) (world after : WorldShape) (from to : HostId) (ma
 asked_act code world after from to made step asked =
     let replies = taking_requests code step.state from step.message step.outcome step.takes in
     let same : after.flying ≡ world.flying =
-    ap (λ (w : WorldShape). w.flying) (sym step.leaves)
-    ∙ not_sent (with_state world to step.outcome.state) to step.outcome.sent in
+    (moved_acted world to step.outcome after step.leaves).flying in
     record {
       hosts = all_hosts world after to step.state step.outcome.state step.obeys
           (act_puts code world after from to made step)

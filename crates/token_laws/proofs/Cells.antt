@@ -113,12 +113,6 @@ sent kind world one other from (Some label) (Some letter) =
     told_if kind world one other from (record { to = letter.0; message = letter.1; label = label })
     (misbehaves world letter.0)
 
--- what is told is in flight nowhere
-pub not_sent : (world : WorldShape) (from : HostId) (letter : Option (HostId × Message)) →
-    (after_telling world from letter).flying ≡ world.flying
-not_sent world from None = refl
-not_sent world from (Some letter) = refl
-
 -- nothing is put in flight to a misbehaving host
 apart_from : (world : WorldShape) (one other from to : HostId) (pair : Bool) → misbehaves world other ≡ true →
     misbehaves world to ≡ false → is_pair one other from to ≡ pair → pair ≡ false

@@ -155,7 +155,7 @@ pub sent_before : (world : WorldShape) (token : Token) → AreHeld world → IsS
 sent_before world token held obeys named sent =
     let some = sent_some world token sent in made_before world token held obeys named (omega arith)
 
-all_at : {X : Type 0} (P : X → Type 0) (xs : List X) (i : ℕ) (x : X) → All P xs → slice_get xs i ≡ Some x → P x
+pub all_at : {X : Type 0} (P : X → Type 0) (xs : List X) (i : ℕ) (x : X) → All P xs → slice_get xs i ≡ Some x → P x
 all_at P xs i x all there =
     subst P (get_or_from_slice_get xs i x x there) (all i x (slice_get_within xs i x there))
 

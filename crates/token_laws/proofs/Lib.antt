@@ -9,3 +9,6 @@ pub mod HostRequests
 pub mod Cells
 pub mod Asked
 pub mod AskedLaws
+pub mod ValueNumbers
+pub mod HostNumbers
+pub mod WorldNumbers

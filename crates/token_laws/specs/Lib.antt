@@ -1,3 +1,4 @@
 pub mod Holders
+pub mod Numbers
 pub mod Reached
 pub mod Requests

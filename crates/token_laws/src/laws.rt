@@ -14,6 +14,7 @@ ghost use Rattle.event_text.specs.declared.event.Event.{Event};
 ghost use Rattle.net_world.specs.Fits.{HasOwnToken};
 ghost use Rattle.net_world.specs.World.{WorldShape, IsStep, state_at};
 ghost use Rattle.token_laws.specs.Holders.{holders, IsSent, IsOld};
+ghost use Rattle.token_laws.specs.Numbers.{CodeHasNumbers, RowsHaveNumbers, EventHasNumbers, WorldHasNumbers};
 ghost use Rattle.token_laws.specs.Reached.{IsReached};
 ghost use Rattle.token_laws.specs.Requests.{asking, answering, waiting_for, waiting_for_from, under_way};
 
@@ -88,4 +89,13 @@ pub fn request_laws()
         (events : List Event) (world : WorldShape) (host : HostId) (state : host_state.HostShape) →
         IsReached code rows bad store events world → state_at world host ≡ Some state →
         All (λ waiting. waiting.request.count < slice_index state.requests waiting.request.at) state.waiting }
+{}
+
+/// Numbers have 64 bits everywhere, where those of the code, of the fields at the start and of what misbehaving hosts
+/// send do.
+pub fn number_laws()
+    ensures numbers { (code : CodeShape) (rows : List HostShape) (bad : ℕ) (store : List (List ℤ))
+        (events : List Event) (world : WorldShape) →
+        IsReached code rows bad store events world → CodeHasNumbers code → RowsHaveNumbers store →
+        All EventHasNumbers events → WorldHasNumbers world }
 {}

@@ -1,7 +1,7 @@
-//! What holds of tokens and requests in every world of hosts, some of which may misbehave: definitions and
+//! What holds of tokens, requests and numbers in every world of hosts, some of which may misbehave: definitions and
 //! their laws.
 #![tactic(auto)]
 
 mod laws;
 
-pub use laws::{holder_laws, request_laws};
+pub use laws::{holder_laws, number_laws, request_laws};
