@@ -17,7 +17,7 @@ use Rattle.host_core.specs.Start.{idle_host, root_host, main_frame, last_token}
 use Rattle.event_text.specs.declared.event.Event.{Event}
 use Rattle.net_world.specs.Flying.{Flying}
 use Rattle.net_world.specs.World.{WorldShape, given, hosts_before, world_at_start}
-use Rattle.token_laws.specs.Holders.{one_if, sum_below, host_of}
+use Rattle.token_laws.specs.Requests.{one_if, sum_below, host_of}
 use Rattle.token_laws.specs.Reached.{IsReached}
 use Rattle.token_laws.specs.Requests.{is_request, asking, answering, waiting_for, waiting_for_from, under_way}
 use Rattle.token_laws.proofs.Asked.{AreAsked, IsAsked, asked_step}

@@ -10,7 +10,7 @@ use Rattle.net_world.specs.Flying.{Flight, Flying, with_flights}
 use Rattle.net_world.specs.World.{WorldShape, misbehaves, without_flight, after_sending, after_telling, after_posting}
 use Rattle.net_world.specs.World.{letter_of}
 use Rattle.net_world.proofs.Present.{same_id}
-use Rattle.token_laws.specs.Holders.{one_if}
+use Rattle.token_laws.specs.Requests.{one_if}
 use Rattle.token_laws.specs.Requests.{between}
 use Rattle.token_laws.proofs.Sums.{removed_at, other_cell, same_cell}
 use Rattle.token_laws.proofs.Tests.{one_at_most, parts_same, number_same}

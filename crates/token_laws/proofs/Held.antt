@@ -22,12 +22,13 @@ use Rattle.net_world.specs.Fits.{ShapeFits, HasOwnToken}
 use Rattle.net_world.specs.World.{WorldShape, IsStep, state_at, hosts_before, host_before, world_at_start}
 use Rattle.net_world.proofs.Fitting.{bad_differs}
 use Rattle.net_world.proofs.Moved.{either, Mover, Other}
-use Rattle.token_laws.specs.Holders.{worth_held, worth_state, worth_host, worth_world, worth_flying, worth_between}
-use Rattle.token_laws.specs.Holders.{sum_below}
+use Rattle.token_laws.proofs.Worth.{worth_sent, worth_held, worth_state, worth_host, worth_world, worth_flying}
+use Rattle.token_laws.proofs.Worth.{worth_between}
+use Rattle.token_laws.specs.Requests.{sum_below}
 use Rattle.token_laws.proofs.HostTokens.{Counts, entering_worth}
 use Rattle.token_laws.proofs.Sums.{below_none, grows}
 use Rattle.token_laws.proofs.Tests.{different}
-use Rattle.token_laws.proofs.WorldTokens.{Accounts, IsPresented, account, sent_more, worth_sent}
+use Rattle.token_laws.proofs.WorldTokens.{Accounts, IsPresented, account, sent_more}
 
 -- one token alone is worth something
 abbrev pub IsOf : (Token → ℕ) → Token → Type 0

@@ -1,5 +1,5 @@
 -- What is known of one token in a world that events lead to.
-use Rattle.std.proofs.Common.{◌≡◌, ◌≢◌, ◌∙◌, ℕ, ◌+◌, ◌<◌, ◌≤◌, inl, inr, ℤ, Bool, true, false, List}
+use Rattle.std.proofs.Common.{◌≡◌, ◌≢◌, ◌∙◌, ℕ, ◌+◌, ◌<◌, inl, inr, ℤ, List}
 use Rattle.std.proofs.Common.{get_or, Option, Some, None, refl, ap, sym, subst, arith}
 use Rattle.std.specs.Prelude.{slice_get, slice_index, IsSome, IsSomeAnd, All}
 use Rattle.std.specs.Prelude.{AllPairs, ⊤}
@@ -8,7 +8,6 @@ use Rattle.std.proofs.lemmas.Bool.Decides.{eqb_tells}
 use Rattle.std.proofs.lemmas.List.{get_or_default}
 use Rattle.std.proofs.lemmas.List.Sums.{sum_by-le, get_or-le-sum_by}
 use Rattle.std.proofs.lemmas.Option.{slice_get_within, get_or_from_slice_get}
-use Rattle.std.proofs.lemmas.Slice.Eq.{bytes_eq-Decides}
 use Rattle.js_base.specs.declared.ids.HostId.{HostId}
 use Rattle.js_base.specs.declared.ids.EntryId.{EntryId}
 use Rattle.capability.specs.declared.token.Token.{Token}
@@ -20,66 +19,16 @@ use Rattle.host_core.specs.Host as host_state
 use Rattle.event_text.specs.declared.event.Event.{Event}
 use Rattle.net_world.specs.Fits.{ShapeFits}
 use Rattle.net_world.specs.World.{WorldShape, state_at, tokens_sent}
-use Rattle.token_laws.specs.Holders.{one_if, one_of, is_token, holders, worth_held, IsSent, IsOld}
+use Rattle.token_laws.proofs.Worth.{worth_sent, one_of, worth_held, worth_world}
+use Rattle.token_laws.specs.Requests.{one_if}
+use Rattle.token_laws.specs.Holders.{Place, HoldsAt, IsHeld, IsSent, IsOld}
 use Rattle.token_laws.specs.Reached.{IsReached}
 use Rattle.token_laws.proofs.HostTokens.{Counts}
-use Rattle.token_laws.proofs.WorldTokens.{the_state, Accounts, worth_sent}
-use Rattle.token_laws.proofs.Held.{IsOf, IsOnly, AreHeld, held_step, held_start, fresh_is, none_worth, presented_none}
-use Rattle.token_laws.proofs.Tests.{one_at_most, parts_same, both, number_same, itself}
+use Rattle.token_laws.proofs.WorldTokens.{the_state, Accounts}
+use Rattle.token_laws.proofs.Held.{AreHeld, held_step, held_start, fresh_is, none_worth, presented_none}
+use Rattle.token_laws.proofs.OneToken.{only_one, only_serial, token_itself}
+use Rattle.token_laws.proofs.Places.{one_place, held_once_or_more, some_place}
 use Rattle.token_laws.proofs.Walks.{reached}
-
--- ---- the same token
-
-abbrev made : ℕ → ℕ → ℕ → ℕ → ℕ → List ℕ → Token
-made host site count entry serial tag =
-    record {
-      host = record { 0 = host };
-      frame = record { site = record { 0 = site }; count = count };
-      entry = record { 0 = entry };
-      serial = serial;
-      tag = tag;
-    }
-
-pub token_same : (one other : Token) → is_token one other ≡ true → one ≡ other
-token_same one other is =
-    let halves = parts_same _ _ is in
-    let first = parts_same _ _ halves.0 in
-    let frame = parts_same _ _ first.1 in
-    let second = parts_same _ _ halves.1 in
-    let third = parts_same _ _ second.0 in
-    let host = number_same one.host.0 other.host.0 first.0 in
-    let site = number_same one.frame.site.0 other.frame.site.0 frame.0 in
-    let count = number_same one.frame.count other.frame.count frame.1 in
-    let entry = number_same one.entry.0 other.entry.0 third.0 in
-    let serial = number_same one.serial other.serial third.1 in
-    let tag : one.tag ≡ other.tag = (bytes_eq-Decides one.tag other.tag).0 second.1 in
-    let all : made one.host.0 one.frame.site.0 one.frame.count one.entry.0 one.serial one.tag
-    ≡ made other.host.0 other.frame.site.0 other.frame.count other.entry.0 other.serial other.tag = cc in
-    all
-
-pub token_itself : (token : Token) → is_token token token ≡ true
-token_itself token =
-    both _ _
-    (both _ _ (itself token.host.0) (both _ _ (itself token.frame.site.0) (itself token.frame.count)))
-    (both _ _ (both _ _ (itself token.entry.0) (itself token.serial)) ((bytes_eq-Decides token.tag token.tag).1 refl))
-
-some_true : (b : Bool) → 0 < one_if b → b ≡ true
-some_true true more = refl
-some_true false more = absurd (omega arith)
-
-pub only_one : (token : Token) → IsOf (one_of token) token
-only_one token other = (
-  one_at_most (is_token token other),
-  λ more. sym (token_same token other (some_true (is_token token other) more)),
-)
-
-only_serial : (token : Token) → IsOnly (one_of token) token.host token.entry token.serial
-only_serial token other more =
-    let same : other ≡ token = (only_one token other).1 more in (
-      ap (λ (t : Token). t.host) same,
-      ap (λ (t : Token). t.entry) same,
-      ap (λ (t : Token). t.serial) same,
-    )
 
 -- ---- what was sent
 
@@ -131,15 +80,18 @@ known code rows bad store events world reach =
     (held_start code rows bad store) in
     record { fits = is.0; held = is.1 }
 
-pub held_once : (world : WorldShape) (token : Token) → AreHeld world → IsSome (state_at world token.host) →
-    ¬ IsSent world token → holders world token ≤ 1
-held_once world token held obeys unsent =
+pub held_once : (code : CodeShape) (world : WorldShape) (token : Token) (first second : Place) → IsKnown code world →
+    IsSome (state_at world token.host) → ¬ IsSent world token → HoldsAt world token first →
+    HoldsAt world token second → first ≡ second
+held_once code world token first second is obeys unsent holds also =
     let state = has_state (state_at world token.host) obeys in
-    held.one (one_of token) token state.0 (only_one token) state.1 (unsent_none world token unsent)
+    let most =
+    is.held.one (one_of token) token state.0 (only_one token) state.1 (unsent_none world token unsent) in
+    one_place code world token first second is.fits most holds also
 
 -- held or sent, so made before
-pub made_before : (world : WorldShape) (token : Token) → AreHeld world → IsSome (state_at world token.host) →
-    token.entry ≢ halt → 0 < holders world token + worth_sent (one_of token) world → IsOld world token
+made_before : (world : WorldShape) (token : Token) → AreHeld world → IsSome (state_at world token.host) →
+    token.entry ≢ halt → 0 < worth_world (one_of token) world + worth_sent (one_of token) world → IsOld world token
 made_before world token held obeys named some =
     let state = has_state (state_at world token.host) obeys in
     elim (cases_lt token.serial (slice_index state.0.serials token.entry.0)) [
@@ -149,6 +101,12 @@ made_before world token held obeys named some =
           held.old (one_of token) token.host token.entry token.serial state.0 (only_serial token) named state.1 past in
           absurd (omega arith)
     ]
+
+pub held_before : (code : CodeShape) (world : WorldShape) (token : Token) → IsKnown code world →
+    IsSome (state_at world token.host) → token.entry ≢ halt → IsHeld world token → IsOld world token
+held_before code world token is obeys named held =
+    let some = held_once_or_more code world token is.fits held in
+    made_before world token is.held obeys named (omega arith)
 
 pub sent_before : (world : WorldShape) (token : Token) → AreHeld world → IsSome (state_at world token.host) →
     token.entry ≢ halt → IsSent world token → IsOld world token
@@ -225,11 +183,12 @@ old_state : (world : WorldShape) (token : Token) → IsOld world token →
     (state : host_state.HostShape) × (state_at world token.host ≡ Some state)
 old_state world token before = some_state (state_at world token.host) _ before
 
-pub stays_gone : (code : CodeShape) (world after : WorldShape) (event : Event) (token : Token) →
-    IsKnown code world → Accounts world after → IsOld world token → holders world token ≡ 0 →
-    ¬ IsSent world token → (holders after token ≡ 0) × ¬ IsSent after token
-stays_gone code world after event token is step before none unsent =
+pub stays_gone : (code : CodeShape) (world after : WorldShape) (token : Token) → ShapeFits code after →
+    Accounts world after → IsOld world token → ¬ IsHeld world token → ¬ IsSent world token →
+    (¬ IsHeld after token) × ¬ IsSent after token
+stays_gone code world after token fits step before nobody unsent =
     let state = old_state world token before in
+    let none = none_worth (worth_world (one_of token) world) (λ more. nobody (some_place world token more)) in
     let sent = unsent_none world token unsent in
     let presented =
     presented_none world (one_of token) token.host state.0 step.presented step.is_presented
@@ -237,8 +196,12 @@ stays_gone code world after event token is step before none unsent =
     let fresh =
     fresh_none world token step.old step.host step.state.serials step.fresh step.me step.obeys step.counts before in
     let all = step.worth (one_of token) in (
-      let is : holders after token ≡ 0 = omega arith in is,
-      λ later. let some = sent_some after token later in
+      λ held.
+          let some = held_once_or_more code after token fits held in
+          let never : ⊥ = omega arith in
+          never,
+      λ later.
+          let some = sent_some after token later in
           let never : ⊥ = omega arith in
           never,
     )

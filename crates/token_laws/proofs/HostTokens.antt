@@ -33,7 +33,7 @@ use Rattle.host_core.specs.Turn.{after_ask, after_go, after_own_call, after_retu
 use Rattle.host_core.proofs.CodeFacts.{some_within}
 use Rattle.host_core.proofs.Kept.{kept_at_rest}
 use Rattle.net_world.specs.Told.{token_in}
-use Rattle.token_laws.specs.Holders.{worth_held, worth_running, worth_state}
+use Rattle.token_laws.proofs.Worth.{worth_held, worth_running, worth_state}
 use Rattle.token_laws.proofs.Sums.{removed_le, removed_at}
 
 -- what a message that is sent is worth

@@ -1,9 +1,12 @@
+pub mod Worth
 pub mod Sums
 pub mod Tests
 pub mod HostTokens
 pub mod WorldTokens
 pub mod Walks
 pub mod Held
+pub mod OneToken
+pub mod Places
 pub mod HeldLaws
 pub mod HostRequests
 pub mod Cells

@@ -11,7 +11,8 @@ use Rattle.js_base.specs.declared.ids.HostId.{HostId}
 use Rattle.capability.specs.declared.token.Token.{Token}
 use Rattle.net_world.specs.Flying.{Flight, Flying, with_flights}
 use Rattle.net_world.specs.Told.{token_in}
-use Rattle.token_laws.specs.Holders.{sum_below, host_of, worth_held, worth_between, worth_flying}
+use Rattle.token_laws.proofs.Worth.{worth_held, worth_between, worth_flying}
+use Rattle.token_laws.specs.Requests.{sum_below, host_of}
 
 -- ---- one item fewer
 

@@ -2,7 +2,7 @@
 use Rattle.std.proofs.Common.{◌≡◌, ◌≢◌, ◌≤◌, ℕ, Bool, true, false, refl, arith}
 use Rattle.std.specs.Prelude.{◌==◌, ◌&&◌}
 use Rattle.std.proofs.lemmas.Bool.Decides.{nat_tests}
-use Rattle.token_laws.specs.Holders.{one_if}
+use Rattle.token_laws.specs.Requests.{one_if}
 
 pub parts_same : (a b : Bool) → (a && b) ≡ true → (a ≡ true) × (b ≡ true)
 parts_same true true is = (refl, refl)

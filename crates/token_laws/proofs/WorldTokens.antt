@@ -32,12 +32,9 @@ use Rattle.net_world.proofs.Fitting.{flight_fits}
 use Rattle.net_world.proofs.Same.{to_sender}
 use Rattle.net_world.proofs.StepLaws.{take_puts, turn_puts, act_puts, told_more}
 use Rattle.net_world.proofs.ToldTokens.{tokens_more}
-use Rattle.token_laws.specs.Holders.{worth_held, worth_state, worth_host, worth_flying, worth_world}
+use Rattle.token_laws.proofs.Worth.{worth_sent, worth_held, worth_state, worth_host, worth_flying, worth_world}
 use Rattle.token_laws.proofs.HostTokens.{worth_letter, Counts, turn_handles, taking_handles}
 use Rattle.token_laws.proofs.Sums.{changed_at, removed_at, flying_changed}
-
-abbrev pub worth_sent : (Token → ℕ) → WorldShape → ℕ
-worth_sent worth world = sum_by worth (tokens_sent world)
 
 -- ---- one host changed
 

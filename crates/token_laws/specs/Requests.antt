@@ -1,5 +1,5 @@
 -- Requests and their answers, by their numbers.
-use Rattle.std.specs.Prelude.{ℕ, ◌+◌, ◌==◌, ◌&&◌, Bool, false, List, length, sum_by}
+use Rattle.std.specs.Prelude.{ℕ, ◌+◌, ◌==◌, ◌&&◌, Bool, false, if◌then◌else◌, zero, suc, List, length, sum_by}
 use Rattle.js_base.specs.declared.ids.HostId.{HostId}
 use Rattle.js_base.specs.declared.ids.RequestId.{RequestId}
 use Rattle.host_code.specs.declared.message.Message.{Message}
@@ -7,7 +7,21 @@ use Rattle.host_code.specs.declared.message.Message.TheVariants as message
 use Rattle.host_code.specs.Thread.{WaitingShape}
 use Rattle.net_world.specs.Flying.{Flying}
 use Rattle.net_world.specs.World.{WorldShape}
-use Rattle.token_laws.specs.Holders.{sum_below, host_of, one_if}
+
+-- ---- counts
+
+abbrev pub one_if : Bool → ℕ
+one_if holds = if holds then 1 else 0
+
+-- what numbers below a count come to
+abbrev pub sum_below : ℕ → (ℕ → ℕ) → ℕ
+sum_below zero worth = 0
+sum_below (suc count) worth = worth count + sum_below count worth
+
+abbrev pub host_of : ℕ → HostId
+host_of number = record { 0 = number }
+
+-- ---- requests
 
 abbrev pub is_request : RequestId → RequestId → Bool
 is_request one other = one.at == other.at && one.count == other.count

@@ -13,7 +13,7 @@ ghost use Rattle.host_decl.specs.Hosts.{HostShape};
 ghost use Rattle.event_text.specs.declared.event.Event.{Event};
 ghost use Rattle.net_world.specs.Fits.{HasOwnToken};
 ghost use Rattle.net_world.specs.World.{WorldShape, IsStep, state_at};
-ghost use Rattle.token_laws.specs.Holders.{holders, IsSent, IsOld};
+ghost use Rattle.token_laws.specs.Holders.{Place, HoldsAt, IsHeld, IsSent, IsOld};
 ghost use Rattle.token_laws.specs.Numbers.{CodeHasNumbers, RowsHaveNumbers, EventHasNumbers, WorldHasNumbers};
 ghost use Rattle.token_laws.specs.Reached.{IsReached};
 ghost use Rattle.token_laws.specs.Requests.{asking, answering, waiting_for, waiting_for_from, under_way};
@@ -21,16 +21,16 @@ ghost use Rattle.token_laws.specs.Requests.{asking, answering, waiting_for, wait
 /// A token works once: what misbehaving hosts were not sent is held at one place at most, and what nobody holds is not
 /// made again.
 pub fn holder_laws()
-    // A token of an obeying host that misbehaving hosts were not sent is held once at most.
+    // A token of an obeying host that misbehaving hosts were not sent is held at one place at most.
     ensures one_holder { (code : CodeShape) (rows : List HostShape) (bad : ℕ) (store : List (List ℤ))
-        (events : List Event) (world : WorldShape) (token : Token) →
+        (events : List Event) (world : WorldShape) (token : Token) (first second : Place) →
         IsReached code rows bad store events world → IsSome (state_at world token.host) → ¬ IsSent world token →
-        holders world token ≤ 1 }
+        HoldsAt world token first → HoldsAt world token second → first ≡ second }
     // A token of an obeying host that is held was made before, entry 0 aside, whose kept token nobody was given.
     ensures held_old { (code : CodeShape) (rows : List HostShape) (bad : ℕ) (store : List (List ℤ))
         (events : List Event) (world : WorldShape) (token : Token) →
         IsReached code rows bad store events world → IsSome (state_at world token.host) → token.entry ≢ halt →
-        0 < holders world token → IsOld world token }
+        IsHeld world token → IsOld world token }
     // So was one that misbehaving hosts were sent.
     ensures sent_old { (code : CodeShape) (rows : List HostShape) (bad : ℕ) (store : List (List ℤ))
         (events : List Event) (world : WorldShape) (token : Token) →
@@ -53,8 +53,8 @@ pub fn holder_laws()
     ensures gone { (code : CodeShape) (rows : List HostShape) (bad : ℕ) (store : List (List ℤ))
         (events : List Event) (world after : WorldShape) (event : Event) (token : Token) →
         IsReached code rows bad store events world → HasOwnToken world event → IsStep code world event after →
-        IsOld world token → holders world token ≡ 0 → ¬ IsSent world token →
-        (holders after token ≡ 0) × ¬ IsSent after token }
+        IsOld world token → ¬ IsHeld world token → ¬ IsSent world token →
+        (¬ IsHeld after token) × ¬ IsSent after token }
 {}
 
 /// A request has one answer at most, from the host that was asked.
