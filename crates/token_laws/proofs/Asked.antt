@@ -25,9 +25,9 @@ use Rattle.net_world.proofs.Moved.{moved_acted, either}
 use Rattle.net_world.proofs.Present.{same_id}
 use Rattle.net_world.proofs.Same.{to_sender}
 use Rattle.net_world.proofs.StepLaws.{take_puts, turn_puts, act_puts, same_misbehave, absent_set}
-use Rattle.token_laws.specs.Requests.{one_if}
-use Rattle.token_laws.specs.Requests.{between, is_request, asks, answers, waiting_for, waiting_for_from}
-use Rattle.token_laws.proofs.Cells.{is_pair, posted, fewer, sent, sent_to_bad, any, of_all}
+use Rattle.token_laws.proofs.Counting.{any, one_if}
+use Rattle.token_laws.proofs.Counting.{between, is_request, asks, answers, waiting_for, waiting_for_from}
+use Rattle.token_laws.proofs.Cells.{is_pair, posted, fewer, sent, sent_to_bad, of_all}
 use Rattle.token_laws.proofs.HostRequests.{letters, IsQuiet, Requests, Replies, turn_requests, taking_requests}
 use Rattle.token_laws.proofs.Sums.{grows}
 use Rattle.token_laws.proofs.WorldTokens.{the_state}

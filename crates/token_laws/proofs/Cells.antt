@@ -10,8 +10,8 @@ use Rattle.net_world.specs.Flying.{Flight, Flying, with_flights}
 use Rattle.net_world.specs.World.{WorldShape, misbehaves, without_flight, after_sending, after_telling, after_posting}
 use Rattle.net_world.specs.World.{letter_of}
 use Rattle.net_world.proofs.Present.{same_id}
-use Rattle.token_laws.specs.Requests.{one_if}
-use Rattle.token_laws.specs.Requests.{between}
+use Rattle.token_laws.proofs.Counting.{any, one_if}
+use Rattle.token_laws.proofs.Counting.{between}
 use Rattle.token_laws.proofs.Sums.{removed_at, other_cell, same_cell}
 use Rattle.token_laws.proofs.Tests.{one_at_most, parts_same, number_same}
 
@@ -143,9 +143,6 @@ sent_to_bad kind world one other from (Some label) (Some letter) bad =
     (misbehaves world letter.0) bad refl
 
 -- a kind is part of all
-abbrev pub any : Message → Bool
-any m = true
-
 pub of_all : (kind : Message → Bool) (flying : Flying) (one other : HostId) →
     between kind flying one other ≤ between any flying one other
 of_all kind flying one other =

@@ -24,7 +24,7 @@ use Rattle.net_world.proofs.Fitting.{bad_differs}
 use Rattle.net_world.proofs.Moved.{either, Mover, Other}
 use Rattle.token_laws.proofs.Worth.{worth_sent, worth_held, worth_state, worth_host, worth_world, worth_flying}
 use Rattle.token_laws.proofs.Worth.{worth_between}
-use Rattle.token_laws.specs.Requests.{sum_below}
+use Rattle.token_laws.proofs.Counting.{sum_below}
 use Rattle.token_laws.proofs.HostTokens.{Counts, entering_worth}
 use Rattle.token_laws.proofs.Sums.{below_none, grows}
 use Rattle.token_laws.proofs.Tests.{different}
@@ -75,7 +75,7 @@ fresh_is old serials token counts =
       passed = subst (λ (e : EntryId). token.serial < slice_index serials e.0) (sym entry) (omega arith);
     }
 
-pub counts_grow : (old : HostShape) (serials : List ℕ) (fresh : Option Token) (place : ℕ) → Counts old serials fresh →
+counts_grow : (old : HostShape) (serials : List ℕ) (fresh : Option Token) (place : ℕ) → Counts old serials fresh →
     slice_index old.serials place ≤ slice_index serials place
 counts_grow old serials None place counts =
     let same : slice_index serials place ≡ slice_index old.serials place =

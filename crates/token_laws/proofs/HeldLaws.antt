@@ -20,7 +20,7 @@ use Rattle.event_text.specs.declared.event.Event.{Event}
 use Rattle.net_world.specs.Fits.{ShapeFits}
 use Rattle.net_world.specs.World.{WorldShape, state_at, tokens_sent}
 use Rattle.token_laws.proofs.Worth.{worth_sent, one_of, worth_held, worth_world}
-use Rattle.token_laws.specs.Requests.{one_if}
+use Rattle.token_laws.proofs.Counting.{one_if}
 use Rattle.token_laws.specs.Holders.{Place, HoldsAt, IsHeld, IsSent, IsOld}
 use Rattle.token_laws.specs.Reached.{IsReached}
 use Rattle.token_laws.proofs.HostTokens.{Counts}
@@ -32,7 +32,7 @@ use Rattle.token_laws.proofs.Walks.{reached}
 
 -- ---- what was sent
 
-pub unsent_none : (world : WorldShape) (token : Token) → ¬ IsSent world token → worth_sent (one_of token) world ≡ 0
+unsent_none : (world : WorldShape) (token : Token) → ¬ IsSent world token → worth_sent (one_of token) world ≡ 0
 unsent_none world token unsent =
     let le =
     sum_by-le (one_of token) 0 (tokens_sent world) (λ k d lt.

@@ -32,8 +32,8 @@ use Rattle.host_core.specs.Host.{after_pop, after_entering, after_asking, next_r
 use Rattle.host_core.specs.Taking.{IsTaking, after_taking, after_answer, place_of_awaiting}
 use Rattle.host_core.specs.Turn.{IsTurn, IsTurnOf, IsRunning, after_operation, after_read, after_put, after_own_push}
 use Rattle.host_core.specs.Turn.{after_ask, after_go, after_own_call, after_return, after_back, with_thread}
-use Rattle.token_laws.specs.Requests.{one_if}
-use Rattle.token_laws.specs.Requests.{is_request, asks, answers, waiting_for_from}
+use Rattle.token_laws.proofs.Counting.{one_if}
+use Rattle.token_laws.proofs.Counting.{is_request, asks, answers, waiting_for_from}
 use Rattle.token_laws.proofs.Sums.{removed_le, removed_at, removed_none}
 use Rattle.token_laws.proofs.Tests.{parts_same, number_same, either_way}
 
@@ -296,6 +296,14 @@ keeps old from m outcome counts waiting no_request answered = record {
   answered = answered;
 }
 
+-- equal numbers
+pub request_is : (one other : RequestId) → is_request one other ≡ true → one ≡ other
+request_is one other is =
+    let parts = parts_same _ _ is in
+    let make : ℕ → ℕ → RequestId = λ at count. record { at = at; count = count } in
+    ap (λ (n : ℕ). make n one.count) (number_same one.at other.at parts.0)
+    ∙ ap (make other.at) (number_same one.count other.count parts.1)
+
 -- a thread that was found waits for this number from this host
 found_is : (threads : List WaitingShape) (awaited : Awaited) (request : RequestId) (from : HostId) (place : ℕ)
     (found : WaitingShape) → position (awaits awaited request from) threads ≡ Some place →
@@ -305,12 +313,8 @@ found_is threads awaited request from place found is there =
     subst (λ (w : WaitingShape). awaits awaited request from w ≡ true)
     (get_or_from_slice_get threads place found found there)
     (position-Some (awaits awaited request from) threads place found is).1 in
-    let halves = parts_same _ _ passes in
-    let number = parts_same _ _ (parts_same _ _ halves.0).1 in
-    let make : ℕ → ℕ → RequestId = λ at count. record { at = at; count = count } in
-    let first = number_same found.request.at request.at number.0 in
-    let second = number_same found.request.count request.count number.1 in (
-      ap (λ (n : ℕ). make n found.request.count) first ∙ ap (make request.at) second,
+    let halves = parts_same _ _ passes in (
+      request_is found.request request (parts_same _ _ halves.0).1,
       number_same found.asked.0 from.0 halves.1,
     )
 

@@ -1,3 +1,4 @@
+pub mod Counting
 pub mod Worth
 pub mod Sums
 pub mod Tests

@@ -1,10 +1,9 @@
 -- When two tokens are the same one.
-use Rattle.std.proofs.Common.{◌≡◌, ℕ, ◌<◌, Bool, true, false, List, refl, ap, sym, arith}
+use Rattle.std.proofs.Common.{◌≡◌, ℕ, true, List, refl, ap, sym}
 use Rattle.std.proofs.lemmas.Slice.Eq.{bytes_eq-Decides}
 use Rattle.capability.specs.declared.token.Token.{Token}
-use Rattle.token_laws.specs.Requests.{one_if}
 use Rattle.token_laws.proofs.Held.{IsOf, IsOnly}
-use Rattle.token_laws.proofs.Tests.{parts_same, both, number_same, itself, one_at_most}
+use Rattle.token_laws.proofs.Tests.{some_true, parts_same, both, number_same, itself, one_at_most}
 use Rattle.token_laws.proofs.Worth.{is_token, one_of}
 
 abbrev made : ℕ → ℕ → ℕ → ℕ → ℕ → List ℕ → Token
@@ -17,7 +16,7 @@ made host site count entry serial tag =
       tag = tag;
     }
 
-pub token_same : (one other : Token) → is_token one other ≡ true → one ≡ other
+token_same : (one other : Token) → is_token one other ≡ true → one ≡ other
 token_same one other is =
     let halves = parts_same _ _ is in
     let first = parts_same _ _ halves.0 in
@@ -39,10 +38,6 @@ token_itself token =
     both _ _
     (both _ _ (itself token.host.0) (both _ _ (itself token.frame.site.0) (itself token.frame.count)))
     (both _ _ (both _ _ (itself token.entry.0) (itself token.serial)) ((bytes_eq-Decides token.tag token.tag).1 refl))
-
-some_true : (b : Bool) → 0 < one_if b → b ≡ true
-some_true true more = refl
-some_true false more = absurd (omega arith)
 
 pub only_one : (token : Token) → IsOf (one_of token) token
 only_one token other = (

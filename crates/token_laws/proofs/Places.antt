@@ -1,10 +1,9 @@
 -- A token that is held at two places is held twice, and one that is held is held at some place.
-use Rattle.std.proofs.Common.{◌≡◌, ◌≢◌, ◌∙◌, ◌⊎◌, ℕ, zero, suc, ◌+◌, ◌<◌, ◌≤◌, inl, inr, List, [], ◌∷◌, length}
+use Rattle.std.proofs.Common.{◌≡◌, ◌≢◌, ◌∙◌, ◌⊎◌, ℕ, zero, suc, ◌+◌, ◌<◌, ◌≤◌, inl, inr, List, length}
 use Rattle.std.proofs.Common.{Option, Some, None, refl, ap, sym, subst, arith}
 use Rattle.std.specs.Prelude.{slice_get, sum_by, IsSomeAnd}
 use Rattle.std.proofs.lemmas.Bool.{cases_lt}
 use Rattle.std.proofs.lemmas.Bool.Decides.{eqb_tells}
-use Rattle.std.proofs.lemmas.List.Sums.{sum_by-cons}
 use Rattle.js_base.specs.declared.ids.HostId.{HostId}
 use Rattle.js_base.proofs.Options.{some_same}
 use Rattle.capability.specs.declared.token.Token.{Token}
@@ -20,38 +19,14 @@ use Rattle.net_world.proofs.Fitting.{flight_fits}
 use Rattle.net_world.proofs.Present.{same_id}
 use Rattle.net_world.proofs.StepsOf.{has_some}
 use Rattle.token_laws.specs.Holders.{Place, running_on, waiting_on, kept_on, in_flight, HoldsAt, IsHeld}
-use Rattle.token_laws.specs.Requests.{sum_below, host_of, one_if}
+use Rattle.token_laws.proofs.Counting.{sum_below, host_of, one_if}
 use Rattle.token_laws.proofs.OneToken.{only_one, token_itself}
-use Rattle.token_laws.proofs.Sums.{removed_at}
+use Rattle.token_laws.proofs.Sums.{one_in, two_in, SomeIn, some_in}
 use Rattle.token_laws.proofs.WorldTokens.{there}
 use Rattle.token_laws.proofs.Worth.{worth_held, worth_running, worth_state, worth_host, worth_between, worth_flying}
 use Rattle.token_laws.proofs.Worth.{worth_world, one_of}
 
 -- ---- sums of which two terms are known
-
-one_in : {X : Type 0} (f : X → ℕ) (xs : List X) (i : ℕ) (x : X) → slice_get xs i ≡ Some x → f x ≤ sum_by f xs
-one_in f xs i x is = let all = removed_at f xs i x is in omega arith
-
-two_in : {X : Type 0} (f : X → ℕ) (xs : List X) (i j : ℕ) (x y : X) → slice_get xs i ≡ Some x →
-    slice_get xs j ≡ Some y → i ≢ j → f x + f y ≤ sum_by f xs
-two_in f [] i j x y is also apart = absurd (cc)
-two_in f (z ∷ xs) zero zero x y is also apart = absurd (apart refl)
-two_in f (z ∷ xs) zero (suc j) x y is also apart =
-    let all = sum_by-cons f z xs in
-    let rest = one_in f xs j y also in
-    let same : z ≡ x = cc in
-    let worth = ap f same in
-    omega arith
-two_in f (z ∷ xs) (suc i) zero x y is also apart =
-    let all = sum_by-cons f z xs in
-    let rest = one_in f xs i x is in
-    let same : z ≡ y = cc in
-    let worth = ap f same in
-    omega arith
-two_in f (z ∷ xs) (suc i) (suc j) x y is also apart =
-    let all = sum_by-cons f z xs in
-    let rest = two_in f xs i j x y is also (λ same. apart (ap suc same)) in
-    omega arith
 
 one_below : (count i : ℕ) (f : ℕ → ℕ) → i < count → f i ≤ sum_below count f
 one_below zero i f within = absurd (omega arith)
@@ -86,23 +61,6 @@ two_below (suc count) i j f within also apart = elim (eqb_tells i count) [
 ]
 
 -- ---- a sum that is not zero has such a term
-
-record SomeIn {X : Type 0} (f : X → ℕ) (xs : List X) : Type 0 where
-  place : ℕ
-  item : X
-  is_there : slice_get xs place ≡ Some item
-  more : 0 < f item
-
-some_in : {X : Type 0} (f : X → ℕ) (xs : List X) → 0 < sum_by f xs → SomeIn f xs
-some_in f [] more = absurd (omega arith)
-some_in f (x ∷ xs) more =
-    let all = sum_by-cons f x xs in
-    elim (cases_lt 0 (f x)) [
-      | inl here ↦ record { place = 0; item = x; is_there = refl; more = here }
-      | inr none ↦
-          let rest = some_in f xs (omega arith) in
-          record { place = suc rest.place; item = rest.item; is_there = rest.is_there; more = rest.more }
-    ]
 
 some_below : (count : ℕ) (f : ℕ → ℕ) → 0 < sum_below count f → (i : ℕ) × (0 < f i)
 some_below zero f more = absurd (omega arith)

@@ -2,6 +2,7 @@
 use Rattle.std.proofs.Common.{◌≡◌, ◌≢◌, ◌∙◌, ℕ, zero, suc, ◌+◌, ◌<◌, ◌≤◌, inl, inr, Bool, true, false}
 use Rattle.std.proofs.Common.{List, [], ◌∷◌, length, Some, None, arith, refl, ap, sym}
 use Rattle.std.specs.Prelude.{slice_get, slice_index, slice_set, remove, sum_by, ◌==◌, ◌&&◌, if◌then◌else◌}
+use Rattle.std.proofs.lemmas.Bool.{cases_lt}
 use Rattle.std.proofs.lemmas.Bool.Decides.{eqb_tells, nat_tests}
 use Rattle.std.proofs.lemmas.Grind.{get_or-set_at}
 use Rattle.std.proofs.lemmas.List.{get_or-set_other}
@@ -12,7 +13,7 @@ use Rattle.capability.specs.declared.token.Token.{Token}
 use Rattle.net_world.specs.Flying.{Flight, Flying, with_flights}
 use Rattle.net_world.specs.Told.{token_in}
 use Rattle.token_laws.proofs.Worth.{worth_held, worth_between, worth_flying}
-use Rattle.token_laws.specs.Requests.{sum_below, host_of}
+use Rattle.token_laws.proofs.Counting.{sum_below, host_of}
 
 -- ---- one item fewer
 
@@ -45,6 +46,50 @@ removed_none f (x ∷ xs) (suc i) none =
     let rest = removed_none f xs i none in
     omega arith
 
+-- ---- one item, and two
+
+pub one_in : {X : Type 0} (f : X → ℕ) (xs : List X) (i : ℕ) (x : X) → slice_get xs i ≡ Some x → f x ≤ sum_by f xs
+one_in f xs i x is = let all = removed_at f xs i x is in omega arith
+
+pub two_in : {X : Type 0} (f : X → ℕ) (xs : List X) (i j : ℕ) (x y : X) → slice_get xs i ≡ Some x →
+    slice_get xs j ≡ Some y → i ≢ j → f x + f y ≤ sum_by f xs
+two_in f [] i j x y is also apart = absurd (cc)
+two_in f (z ∷ xs) zero zero x y is also apart = absurd (apart refl)
+two_in f (z ∷ xs) zero (suc j) x y is also apart =
+    let all = sum_by-cons f z xs in
+    let rest = one_in f xs j y also in
+    let same : z ≡ x = cc in
+    let worth = ap f same in
+    omega arith
+two_in f (z ∷ xs) (suc i) zero x y is also apart =
+    let all = sum_by-cons f z xs in
+    let rest = one_in f xs i x is in
+    let same : z ≡ y = cc in
+    let worth = ap f same in
+    omega arith
+two_in f (z ∷ xs) (suc i) (suc j) x y is also apart =
+    let all = sum_by-cons f z xs in
+    let rest = two_in f xs i j x y is also (λ same. apart (ap suc same)) in
+    omega arith
+
+-- a sum that is not zero has such an item
+pub record SomeIn {X : Type 0} (f : X → ℕ) (xs : List X) : Type 0 where
+  pub place : ℕ
+  pub item : X
+  pub is_there : slice_get xs place ≡ Some item
+  pub more : 0 < f item
+
+pub some_in : {X : Type 0} (f : X → ℕ) (xs : List X) → 0 < sum_by f xs → SomeIn f xs
+some_in f [] more = absurd (omega arith)
+some_in f (x ∷ xs) more =
+    let all = sum_by-cons f x xs in
+    elim (cases_lt 0 (f x)) [
+      | inl here ↦ record { place = 0; item = x; is_there = refl; more = here }
+      | inr none ↦
+          let rest = some_in f xs (omega arith) in
+          record { place = suc rest.place; item = rest.item; is_there = rest.is_there; more = rest.more }
+    ]
+
 -- ---- one item changed
 
 pub changed_at : {X : Type 0} (f : X → ℕ) (xs : List X) (i : ℕ) (x y : X) → slice_get xs i ≡ Some x →
@@ -61,18 +106,11 @@ grows counts place other within = grind (arith, get_or-set_at, get_or-set_other)
 
 -- ---- sums below a count
 
-pub below_same : (count : ℕ) (f g : ℕ → ℕ) → ((i : ℕ) → g i ≡ f i) → sum_below count g ≡ sum_below count f
+below_same : (count : ℕ) (f g : ℕ → ℕ) → ((i : ℕ) → g i ≡ f i) → sum_below count g ≡ sum_below count f
 below_same zero f g same = refl
 below_same (suc count) f g same =
     let here = same count in
     let rest = below_same count f g same in
-    omega arith
-
-pub below_le : (count : ℕ) (f g : ℕ → ℕ) → ((i : ℕ) → i < count → g i ≤ f i) → sum_below count g ≤ sum_below count f
-below_le zero f g le = omega arith
-below_le (suc count) f g le =
-    let here = le count (omega arith) in
-    let rest = below_le count f g (λ i lt. le i (omega arith)) in
     omega arith
 
 pub below_none : (count : ℕ) (f : ℕ → ℕ) → ((i : ℕ) → f i ≡ 0) → sum_below count f ≡ 0
@@ -90,7 +128,7 @@ below_kept (suc count) k f g past same =
     let rest = below_kept count k f g (omega arith) same in
     omega arith
 
-pub below_changed : (count k : ℕ) (f g : ℕ → ℕ) → k < count → ((i : ℕ) → i ≢ k → g i ≡ f i) →
+below_changed : (count k : ℕ) (f g : ℕ → ℕ) → k < count → ((i : ℕ) → i ≢ k → g i ≡ f i) →
     sum_below count g + f k ≡ sum_below count f + g k
 below_changed zero k f g within same = absurd (omega arith)
 below_changed (suc count) k f g within same = elim (eqb_tells k count) [

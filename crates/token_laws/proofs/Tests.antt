@@ -1,8 +1,8 @@
 -- What tests of numbers and parts of tests tell.
-use Rattle.std.proofs.Common.{◌≡◌, ◌≢◌, ◌≤◌, ℕ, Bool, true, false, refl, arith}
+use Rattle.std.proofs.Common.{◌≡◌, ◌≢◌, ◌<◌, ◌≤◌, ℕ, Bool, true, false, refl, arith}
 use Rattle.std.specs.Prelude.{◌==◌, ◌&&◌}
 use Rattle.std.proofs.lemmas.Bool.Decides.{nat_tests}
-use Rattle.token_laws.specs.Requests.{one_if}
+use Rattle.token_laws.proofs.Counting.{one_if}
 
 pub parts_same : (a b : Bool) → (a && b) ≡ true → (a ≡ true) × (b ≡ true)
 parts_same true true is = (refl, refl)
@@ -28,3 +28,7 @@ either_way one other = grind (arith, nat_tests)
 pub one_at_most : (b : Bool) → one_if b ≤ 1
 one_at_most true = omega arith
 one_at_most false = omega arith
+
+pub some_true : (b : Bool) → 0 < one_if b → b ≡ true
+some_true true more = refl
+some_true false more = absurd (omega arith)

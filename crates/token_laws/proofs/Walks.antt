@@ -50,7 +50,7 @@ abbrev pub IsKept : CodeShape → (Event → Type 0) → (WorldShape → Type 0)
 IsKept code Q P = (world after : WorldShape) (event : Event) → ShapeFits code world → HasOwnToken world event →
     Q event → IsStep code world event after → P world → P after
 
-pub walk : (code : CodeShape) (Q : Event → Type 0) (P : WorldShape → Type 0) → IsSoundCode code → IsKept code Q P →
+walk : (code : CodeShape) (Q : Event → Type 0) (P : WorldShape → Type 0) → IsSoundCode code → IsKept code Q P →
     (events : List Event) (world after : WorldShape) → ShapeFits code world → All (HasOwnToken world) events →
     All Q events → P world → IsRun code world events after → ShapeFits code after × P after
 walk code Q P sound kept [] world after fits own each holds ran = subst (λ w. ShapeFits code w × P w) ran (fits, holds)

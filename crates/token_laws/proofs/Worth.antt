@@ -8,7 +8,7 @@ use Rattle.host_core.specs.Host.{HostShape}
 use Rattle.net_world.specs.Flying.{Flying}
 use Rattle.net_world.specs.Told.{token_in}
 use Rattle.net_world.specs.World.{WorldShape, tokens_sent}
-use Rattle.token_laws.specs.Requests.{sum_below, host_of, one_if}
+use Rattle.token_laws.proofs.Counting.{sum_below, host_of, one_if}
 
 abbrev pub worth_held : (Token → ℕ) → Option Token → ℕ
 worth_held worth None = 0

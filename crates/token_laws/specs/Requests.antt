@@ -1,68 +1,47 @@
 -- Requests and their answers, by their numbers.
-use Rattle.std.specs.Prelude.{ℕ, ◌+◌, ◌==◌, ◌&&◌, Bool, false, if◌then◌else◌, zero, suc, List, length, sum_by}
+use Rattle.std.specs.Prelude.{◌≡◌, ◌⊎◌, ℕ, Option, Some, None, IsSomeAnd, slice_get}
 use Rattle.js_base.specs.declared.ids.HostId.{HostId}
 use Rattle.js_base.specs.declared.ids.RequestId.{RequestId}
 use Rattle.host_code.specs.declared.message.Message.{Message}
 use Rattle.host_code.specs.declared.message.Message.TheVariants as message
-use Rattle.host_code.specs.Thread.{WaitingShape}
-use Rattle.net_world.specs.Flying.{Flying}
+use Rattle.host_core.specs.Host.{HostShape}
 use Rattle.net_world.specs.World.{WorldShape}
 
--- ---- counts
+-- the number of a request
+abbrev pub number_asked : Message → Option RequestId
+number_asked (message.Get request field index) = Some request
+number_asked (message.Set request field index value) = Some request
+number_asked (message.Forward request frame variable value) = Some request
+number_asked (message.Sync request frame entry token) = Some request
+number_asked _ = None
 
-abbrev pub one_if : Bool → ℕ
-one_if holds = if holds then 1 else 0
+-- the number of the request that a message answers
+abbrev pub number_answered : Message → Option RequestId
+number_answered (message.Value request value) = Some request
+number_answered (message.Ack request) = Some request
+number_answered (message.Token request token) = Some request
+number_answered _ = None
 
--- what numbers below a count come to
-abbrev pub sum_below : ℕ → (ℕ → ℕ) → ℕ
-sum_below zero worth = 0
-sum_below (suc count) worth = worth count + sum_below count worth
+-- the place of a message in flight from one host to another
+pub record Spot : Type 0 where
+  pub from : HostId
+  pub to : HostId
+  pub place : ℕ
 
-abbrev pub host_of : ℕ → HostId
-host_of number = record { 0 = number }
+-- there is a message in flight at the spot whose number is this one
+abbrev pub HasNumber : WorldShape → Spot → (Message → Option RequestId) → RequestId → Type 0
+HasNumber world spot number_of request =
+    IsSomeAnd (slice_get (world.flying spot.from spot.to) spot.place) (λ flight.
+    number_of flight.message ≡ Some request)
 
--- ---- requests
+-- by a message at the spot a host asks another by this number, or that one answers it
+abbrev pub IsUnderWay : WorldShape → HostId → HostId → RequestId → Spot → Type 0
+IsUnderWay world host other request spot =
+    ((spot.from ≡ host) × (spot.to ≡ other) × HasNumber world spot number_asked request)
+    ⊎ ((spot.from ≡ other) × (spot.to ≡ host) × HasNumber world spot number_answered request)
 
-abbrev pub is_request : RequestId → RequestId → Bool
-is_request one other = one.at == other.at && one.count == other.count
-
--- whether a message is the request of this number
-abbrev pub asks : RequestId → Message → Bool
-asks request (message.Get number field index) = is_request number request
-asks request (message.Set number field index value) = is_request number request
-asks request (message.Forward number frame variable value) = is_request number request
-asks request (message.Sync number frame entry token) = is_request number request
-asks request _ = false
-
--- whether a message is an answer to the request of this number
-abbrev pub answers : RequestId → Message → Bool
-answers request (message.Value number value) = is_request number request
-answers request (message.Ack number) = is_request number request
-answers request (message.Token number token) = is_request number request
-answers request _ = false
-
--- how many messages of a kind are in flight from a host to another
-abbrev pub between : (Message → Bool) → Flying → HostId → HostId → ℕ
-between kind flying from to = sum_by (λ flight. one_if (kind flight.message)) (flying from to)
-
--- how many requests of a number
-abbrev pub asking : WorldShape → RequestId → HostId → HostId → ℕ
-asking world request from to = between (asks request) world.flying from to
-
--- how many answers to the number
-abbrev pub answering : WorldShape → RequestId → HostId → HostId → ℕ
-answering world request from to = between (answers request) world.flying from to
-
--- how many threads wait for the number, of any host or of one
-abbrev pub waiting_for : RequestId → List WaitingShape → ℕ
-waiting_for request threads = sum_by (λ waiting. one_if (is_request waiting.request request)) threads
-
-abbrev pub waiting_for_from : RequestId → HostId → List WaitingShape → ℕ
-waiting_for_from request asked threads =
-    sum_by (λ waiting. one_if (is_request waiting.request request && waiting.asked.0 == asked.0)) threads
-
--- how many requests of the number are in flight from a host, and answers to it to that host
-abbrev pub under_way : WorldShape → RequestId → HostId → ℕ
-under_way world request host =
-    sum_below (length world.hosts) (λ other. asking world request host (host_of other)
-    + answering world request (host_of other) host)
+-- a thread of the host waits for the answer to this number from another host
+abbrev pub WaitsFor : HostShape → RequestId → HostId → Type 0
+WaitsFor state request other =
+    (place : ℕ) × IsSomeAnd (slice_get state.waiting place) (λ waiting.
+    (waiting.request ≡ request) × (waiting.asked ≡ other))

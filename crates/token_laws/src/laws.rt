@@ -16,7 +16,7 @@ ghost use Rattle.net_world.specs.World.{WorldShape, IsStep, state_at};
 ghost use Rattle.token_laws.specs.Holders.{Place, HoldsAt, IsHeld, IsSent, IsOld};
 ghost use Rattle.token_laws.specs.Numbers.{CodeHasNumbers, RowsHaveNumbers, EventHasNumbers, WorldHasNumbers};
 ghost use Rattle.token_laws.specs.Reached.{IsReached};
-ghost use Rattle.token_laws.specs.Requests.{asking, answering, waiting_for, waiting_for_from, under_way};
+ghost use Rattle.token_laws.specs.Requests.{Spot, IsUnderWay, WaitsFor};
 
 /// A token works once: what misbehaving hosts were not sent is held at one place at most, and what nobody holds is not
 /// made again.
@@ -57,33 +57,29 @@ pub fn holder_laws()
         (¬ IsHeld after token) × ¬ IsSent after token }
 {}
 
-/// A request has one answer at most, from the host that was asked.
+/// A request is under way once, or its answer is, and a thread waits for it. The answer comes from the host that was
+/// asked.
 pub fn request_laws()
-    // The requests of a number in flight from an obeying host, and the answers to it in flight to that host, are
-    // together one at most.
+    // Of the requests in flight from an obeying host with a number, and the answers to it in flight to that host, there
+    // is one at most.
     ensures one { (code : CodeShape) (rows : List HostShape) (bad : ℕ) (store : List (List ℤ))
-        (events : List Event) (world : WorldShape) (host : HostId) (request : RequestId) →
+        (events : List Event) (world : WorldShape) (host one other : HostId) (request : RequestId)
+        (first second : Spot) →
         IsReached code rows bad store events world → IsSome (state_at world host) →
-        under_way world request host ≤ 1 }
-    // They are no more than the threads of the host that wait for the number.
+        IsUnderWay world host one request first → IsUnderWay world host other request second → first ≡ second }
+    // Where there is one, a thread of the host waits for the number, from the host that is asked or answers.
     ensures awaited { (code : CodeShape) (rows : List HostShape) (bad : ℕ) (store : List (List ℤ))
-        (events : List Event) (world : WorldShape) (host : HostId) (state : host_state.HostShape)
-        (request : RequestId) →
-        IsReached code rows bad store events world → state_at world host ≡ Some state →
-        under_way world request host ≤ waiting_for request state.waiting }
-    // Those to and from one host are no more than the threads that wait for the number from that host.
-    ensures from_asked { (code : CodeShape) (rows : List HostShape) (bad : ℕ) (store : List (List ℤ))
         (events : List Event) (world : WorldShape) (host other : HostId) (state : host_state.HostShape)
-        (request : RequestId) →
+        (request : RequestId) (spot : Spot) →
         IsReached code rows bad store events world → state_at world host ≡ Some state →
-        asking world request host other + answering world request other host
-        ≤ waiting_for_from request other state.waiting }
+        IsUnderWay world host other request spot → WaitsFor state request other }
     // No two threads of a host wait for the same number.
     ensures apart { (code : CodeShape) (rows : List HostShape) (bad : ℕ) (store : List (List ℤ))
         (events : List Event) (world : WorldShape) (host : HostId) (state : host_state.HostShape)
-        (request : RequestId) →
+        (first second : ℕ) (one other : WaitingShape) →
         IsReached code rows bad store events world → state_at world host ≡ Some state →
-        waiting_for request state.waiting ≤ 1 }
+        slice_get state.waiting first ≡ Some one → slice_get state.waiting second ≡ Some other →
+        one.request ≡ other.request → first ≡ second }
     // The number was given before.
     ensures counted { (code : CodeShape) (rows : List HostShape) (bad : ℕ) (store : List (List ℤ))
         (events : List Event) (world : WorldShape) (host : HostId) (state : host_state.HostShape) →
