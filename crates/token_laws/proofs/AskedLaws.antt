@@ -1,7 +1,8 @@
 -- What is known of the requests of one host in a world that events lead to.
 use Rattle.std.proofs.Common.{◌≡◌, ◌∙◌, ℕ, zero, suc, ◌+◌, ◌<◌, ◌≤◌, inl, inr, ℤ, Bool, true, false, List, [], ◌∷◌}
 use Rattle.std.proofs.Common.{get_or, Some, None, refl, ap, sym, subst, arith}
-use Rattle.std.specs.Prelude.{IsSomeAnd, Option, ◌≢◌, slice_get, slice_index, All, ⊤, ◌==◌, ◌&&◌, if◌then◌else◌}
+use Rattle.std.specs.Prelude.{◌≢◌, Option, IsSome, IsSomeAnd, length, slice_get, slice_index, All, ⊤, ◌==◌, ◌&&◌}
+use Rattle.std.specs.Prelude.{if◌then◌else◌}
 use Rattle.std.specs.Int.{bit_at}
 use Rattle.std.proofs.lemmas.Bool.{cases_lt}
 use Rattle.std.proofs.lemmas.Bool.Decides.{eqb_tells}
@@ -17,12 +18,14 @@ use Rattle.host_core.specs.Host.{after_push, new_token}
 use Rattle.host_core.specs.Start.{idle_host, root_host, main_frame, last_token}
 use Rattle.event_text.specs.declared.event.Event.{Event}
 use Rattle.net_world.specs.Flying.{Flight, Flying}
-use Rattle.net_world.specs.World.{WorldShape, given, hosts_before, world_at_start}
+use Rattle.net_world.specs.World.{is_absent, state_at, WorldShape, given, hosts_before, world_at_start}
+use Rattle.net_world.specs.Fits.{ShapeFits}
+use Rattle.net_world.proofs.Fitting.{flight_fits}
 use Rattle.net_world.proofs.Present.{same_id}
 use Rattle.net_world.proofs.StepsOf.{has_some}
 use Rattle.token_laws.specs.Reached.{IsReached}
 use Rattle.token_laws.specs.Requests.{Spot, HasNumber, IsUnderWay, WaitsFor, number_asked, number_answered}
-use Rattle.token_laws.proofs.Counting.{one_if, is_request, is_number, asks, answers, between, waiting_for}
+use Rattle.token_laws.proofs.Counting.{any, one_if, is_request, is_number, asks, answers, between, waiting_for}
 use Rattle.token_laws.proofs.Counting.{waiting_for_from}
 use Rattle.token_laws.proofs.Asked.{AreAsked, IsAsked, asked_step}
 use Rattle.token_laws.proofs.HostRequests.{entering_same, request_is}
@@ -302,3 +305,29 @@ all_counted flying host state asked k d lt =
           ap one_if (itself_is waiting.request) in
           absurd (omega arith)
     ]
+
+-- ---- both ends of a message
+
+-- a host of the code obeys where it does not misbehave
+obeys_if : (hosts : List (Option host_state.HostShape)) (place : ℕ) → place < length hosts →
+    (is_absent (slice_get hosts place) ≡ true → ⊥) → IsSome (given (slice_get hosts place))
+obeys_if [] place within obeys = absurd (omega arith)
+obeys_if (None ∷ hosts) zero within obeys = absurd (obeys refl)
+obeys_if (Some state ∷ hosts) zero within obeys = refl
+obeys_if (host ∷ hosts) (suc place) within obeys = obeys_if hosts place (omega arith) obeys
+
+pub ends_obey : (code : CodeShape) (world : WorldShape) (from to : HostId) (place : ℕ) (flight : Flight) →
+    ShapeFits code world → AreAsked world → slice_get (world.flying from to) place ≡ Some flight →
+    IsSome (state_at world from) × IsSome (state_at world to)
+ends_obey code world from to place flight fits asked there =
+    let ends = flight_fits code world from to place flight fits.mail there in
+    let some = one_in (λ (f : Flight). one_if (any f.message)) (world.flying from to) place flight there in (
+      obeys_if world.hosts from.0 (subst (λ (n : ℕ). from.0 < n) (sym fits.count) ends.sender)
+          (λ bad. let none = (asked.cut_off from bad to).0 in
+          let never : ⊥ = omega arith in
+          never),
+      obeys_if world.hosts to.0 (subst (λ (n : ℕ). to.0 < n) (sym fits.count) ends.target.0)
+          (λ bad. let none = (asked.cut_off to bad from).1 in
+          let never : ⊥ = omega arith in
+          never),
+    )

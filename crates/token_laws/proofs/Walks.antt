@@ -1,6 +1,7 @@
 -- What each event keeps holds in every world that events lead to.
-use Rattle.std.proofs.Common.{◌≡◌, ℕ, suc, ℤ, List, [], ◌∷◌, get_or, sym, subst, arith}
-use Rattle.std.specs.Prelude.{All, IsTrue}
+use Rattle.std.proofs.Common.{◌∙◌, refl, ◌≡◌, ℕ, suc, ℤ, List, [], ◌∷◌, get_or, sym, subst, arith}
+use Rattle.std.specs.Prelude.{⊤, ◌++◌, All, IsTrue}
+use Rattle.std.proofs.lemmas.List.Elements.{All-push}
 use Rattle.js_base.specs.declared.ids.HostId.{HostId}
 use Rattle.host_decl.specs.Hosts as declared_hosts
 use Rattle.event_text.specs.declared.event.BadToken.{BadToken}
@@ -14,7 +15,7 @@ use Rattle.host_code.specs.Sound.{IsSoundCode}
 use Rattle.net_world.specs.Fits.{ShapeFits, HasOwnToken, OwnToken, OwnTokenIn}
 use Rattle.net_world.specs.World.{WorldShape, IsStep, IsRun, misbehaves, world_at_start}
 use Rattle.net_world.proofs.Shapes.{shape_at_start, shape_step}
-use Rattle.net_world.proofs.StepLaws.{same_misbehave}
+use Rattle.net_world.proofs.StepLaws.{same_misbehave, joined}
 use Rattle.token_laws.specs.Reached.{IsReached}
 
 -- ---- a misbehaving host's own tokens stay its own
@@ -69,3 +70,40 @@ pub reached : (code : CodeShape) (rows : List declared_hosts.HostShape) (bad : �
 reached code rows bad store events world Q P reach each kept start =
     walk code Q P reach.sound kept events (world_at_start code rows bad store) world
     (shape_at_start code rows bad store reach.sound reach.hosts) reach.own each start reach.ran
+
+-- ---- reached worlds
+
+pub same_bad : (code : CodeShape) (rows : List declared_hosts.HostShape) (bad : ℕ) (store : List (List ℤ))
+    (events : List Event) (world : WorldShape) → IsReached code rows bad store events world → (host : HostId) →
+    misbehaves world host ≡ misbehaves (world_at_start code rows bad store) host
+same_bad code rows bad store events world reach =
+    let start = world_at_start code rows bad store in
+    (reached code rows bad store events world (λ event. ⊤)
+    (λ w. (host : HostId) → misbehaves w host ≡ misbehaves start host) reach (λ k d lt. tt)
+    (λ w after event fits own q step same host. same_misbehave code w after event host step ∙ same host)
+    (λ host. refl)).1
+
+pub own_there : (code : CodeShape) (rows : List declared_hosts.HostShape) (bad : ℕ) (store : List (List ℤ))
+    (events : List Event) (world : WorldShape) (event : Event) → IsReached code rows bad store events world →
+    HasOwnToken (world_at_start code rows bad store) event → HasOwnToken world event
+own_there code rows bad store events world event reach own =
+    event_kept (world_at_start code rows bad store) world event (same_bad code rows bad store events world reach) own
+
+pub one_more : (code : CodeShape) (rows : List declared_hosts.HostShape) (bad : ℕ) (store : List (List ℤ))
+    (events : List Event) (world after : WorldShape) (event : Event) → IsReached code rows bad store events world →
+    HasOwnToken (world_at_start code rows bad store) event → IsStep code world event after →
+    IsReached code rows bad store (events ++ event ∷ []) after
+one_more code rows bad store events world after event reach own step =
+    let start = world_at_start code rows bad store in
+    record {
+      sound = reach.sound;
+      hosts = reach.hosts;
+      own = All-push (HasOwnToken start) events event reach.own own;
+      ran = joined code start world after events (event ∷ []) reach.ran (after, step, refl);
+    }
+
+pub fits_there : (code : CodeShape) (rows : List declared_hosts.HostShape) (bad : ℕ) (store : List (List ℤ))
+    (events : List Event) (world : WorldShape) → IsReached code rows bad store events world → ShapeFits code world
+fits_there code rows bad store events world reach =
+    (reached code rows bad store events world (λ event. ⊤) (λ w. ⊤) reach (λ k d lt. tt)
+    (λ w after event fits own q step p. tt) tt).0

@@ -1,22 +1,61 @@
 //! What holds of every world that events lead to, whichever hosts misbehave. The calls do nothing: their contracts are
 //! the laws.
 
-ghost use Rattle.std.specs.Prelude.{◌≡◌, ◌≢◌, ℕ, ℤ, ◌+◌, ◌<◌, ◌≤◌, Some, IsSome, List, All, slice_get, slice_index};
+ghost use Rattle.std.specs.Prelude.{◌≡◌, ◌≢◌, ℕ, ℤ, ◌<◌, ◌-◌, ◌^◌, pos, [], ◌∷◌, ◌++◌, Some, IsSome, List, All};
+ghost use Rattle.std.specs.Prelude.{slice_get, slice_index};
 ghost use Rattle.js_base.specs.declared.ids.HostId.{HostId};
 ghost use Rattle.js_base.specs.declared.ids.RequestId.{RequestId};
 ghost use Rattle.capability.specs.declared.token.Token.{Token};
 ghost use Rattle.ics_stack.specs.declared.stack.StackEntry.{StackEntry};
+ghost use Rattle.host_code.specs.declared.message.Message.TheVariants as message;
 ghost use Rattle.host_code.specs.Code.{CodeShape, halt};
+ghost use Rattle.host_code.specs.Sound.{IsSoundCode};
 ghost use Rattle.host_code.specs.Thread.{WaitingShape};
 ghost use Rattle.host_core.specs.Host as host_state;
 ghost use Rattle.host_decl.specs.Hosts.{HostShape};
 ghost use Rattle.event_text.specs.declared.event.Event.{Event};
-ghost use Rattle.net_world.specs.Fits.{HasOwnToken};
-ghost use Rattle.net_world.specs.World.{WorldShape, IsStep, state_at};
-ghost use Rattle.token_laws.specs.Holders.{Place, HoldsAt, IsHeld, IsSent, IsOld};
+ghost use Rattle.event_text.specs.declared.event.Event.TheVariants.{Take, Turn, Act};
+ghost use Rattle.net_world.specs.Fits.{ShapeFits, HasOwnToken};
+ghost use Rattle.net_world.specs.Flying.{Flight};
+ghost use Rattle.net_world.specs.World.{WorldShape, IsStep, IsRun, AreHostsOf, world_at_start, state_at, misbehaves};
+ghost use Rattle.token_laws.specs.Holders.{Place, running_on, kept_on, HoldsAt, IsHeld, IsSent, IsOld};
 ghost use Rattle.token_laws.specs.Numbers.{CodeHasNumbers, RowsHaveNumbers, EventHasNumbers, WorldHasNumbers};
+ghost use Rattle.token_laws.specs.Numbers.{MessageHasNumbers};
 ghost use Rattle.token_laws.specs.Reached.{IsReached};
 ghost use Rattle.token_laws.specs.Requests.{Spot, IsUnderWay, WaitsFor};
+ghost use Rattle.token_laws.specs.TokenExamples.{host_id, small, start, first_token, second_token, pushed, asked};
+ghost use Rattle.token_laws.specs.TokenExamples.{asking, first_request, spot_of, answered, handing, bad_start, given};
+ghost use Rattle.token_laws.specs.TokenExamples.{presents, twice};
+
+/// Which worlds are reached, for whoever goes from event to event: the laws below hold before and after each.
+pub fn reached_laws()
+    ensures start { (code : CodeShape) (rows : List HostShape) (bad : ℕ) (store : List (List ℤ)) →
+        IsSoundCode code → AreHostsOf code rows →
+        IsReached code rows bad store [] (world_at_start code rows bad store) }
+    ensures more { (code : CodeShape) (rows : List HostShape) (bad : ℕ) (store : List (List ℤ))
+        (events : List Event) (world after : WorldShape) (event : Event) →
+        IsReached code rows bad store events world → HasOwnToken (world_at_start code rows bad store) event →
+        IsStep code world event after → IsReached code rows bad store (events ++ event ∷ []) after }
+    // The same hosts misbehave as at the start.
+    ensures misbehaving { (code : CodeShape) (rows : List HostShape) (bad : ℕ) (store : List (List ℤ))
+        (events : List Event) (world : WorldShape) (host : HostId) →
+        IsReached code rows bad store events world →
+        misbehaves world host ≡ misbehaves (world_at_start code rows bad store) host }
+    // So a token that a host makes up is its own then too.
+    ensures own { (code : CodeShape) (rows : List HostShape) (bad : ℕ) (store : List (List ℤ))
+        (events : List Event) (world : WorldShape) (event : Event) →
+        IsReached code rows bad store events world → HasOwnToken (world_at_start code rows bad store) event →
+        HasOwnToken world event }
+    // The states and messages fit the code.
+    ensures fits { (code : CodeShape) (rows : List HostShape) (bad : ℕ) (store : List (List ℤ))
+        (events : List Event) (world : WorldShape) →
+        IsReached code rows bad store events world → ShapeFits code world }
+    // Both ends of a message in flight obey.
+    ensures ends { (code : CodeShape) (rows : List HostShape) (bad : ℕ) (store : List (List ℤ))
+        (events : List Event) (world : WorldShape) (from to : HostId) (place : ℕ) (flight : Flight) →
+        IsReached code rows bad store events world → slice_get (world.flying from to) place ≡ Some flight →
+        IsSome (state_at world from) × IsSome (state_at world to) }
+{}
 
 /// A token works once: what misbehaving hosts were not sent is held at one place at most, and what nobody holds is not
 /// made again.
@@ -94,4 +133,38 @@ pub fn number_laws()
         (events : List Event) (world : WorldShape) →
         IsReached code rows bad store events world → CodeHasNumbers code → RowsHaveNumbers store →
         All EventHasNumbers events → WorldHasNumbers world }
+{}
+
+/// Who holds which tokens in small worlds, and what is under way there.
+pub fn token_examples()
+    // At the start the thread at `main` holds the token of the entry that ends the program.
+    ensures held_at_start { HoldsAt start first_token (running_on (host_id 0)) }
+    // Where it pushes an entry, that entry keeps the token, and the thread holds a new one.
+    ensures pushes { IsRun small start (Turn (host_id 0) ∷ []) pushed }
+    ensures keeps { HoldsAt pushed first_token (kept_on (host_id 0) 0) }
+    ensures holds_new { HoldsAt pushed second_token (running_on (host_id 0)) }
+    ensures holds_old_no_more { ¬ HoldsAt pushed first_token (running_on (host_id 0)) }
+    // A token was made before where the count has passed its serial, and not where it has come to it.
+    ensures made { IsOld pushed second_token }
+    ensures not_yet_made { ¬ IsOld start second_token }
+    ensures next_not_made { ¬ IsOld pushed (record second_token { serial = 1 }) }
+    // A read of another host's field puts a request in flight, and its thread waits.
+    ensures asks { IsRun small pushed (Turn (host_id 0) ∷ []) asked }
+    ensures request_under_way { IsUnderWay asked (host_id 0) (host_id 1) first_request (spot_of 0 1 0) }
+    ensures waits { WaitsFor asking.state first_request (host_id 1) }
+    // Once it is taken the answer is under way in its place, and no second one.
+    ensures answers { IsRun small asked (Take (host_id 0) (host_id 1) 0 ∷ []) answered }
+    ensures answer_under_way { IsUnderWay answered (host_id 0) (host_id 1) first_request (spot_of 1 0 0) }
+    ensures asked_no_more { ¬ IsUnderWay answered (host_id 0) (host_id 1) first_request (spot_of 0 1 0) }
+    ensures no_second_answer { ¬ IsUnderWay answered (host_id 0) (host_id 1) first_request (spot_of 1 0 1) }
+    // A misbehaving host that was sent a token may have it kept twice.
+    ensures hands_over { IsRun handing bad_start (Turn (host_id 0) ∷ []) given }
+    ensures sent { IsSent given first_token }
+    ensures presents_twice { IsRun handing given
+        (Act (host_id 1) (host_id 0) presents ∷ Act (host_id 1) (host_id 0) presents ∷ []) twice }
+    ensures kept_first { HoldsAt twice first_token (kept_on (host_id 0) 0) }
+    ensures kept_second { HoldsAt twice first_token (kept_on (host_id 0) 1) }
+    // The greatest number of 64 bits, and the next one.
+    ensures narrow { MessageHasNumbers (message.Value first_request (pos (2 ^ 63 - 1))) }
+    ensures wide { ¬ MessageHasNumbers (message.Value first_request (pos (2 ^ 63))) }
 {}

@@ -4,4 +4,4 @@
 
 mod laws;
 
-pub use laws::{holder_laws, number_laws, request_laws};
+pub use laws::{holder_laws, number_laws, reached_laws, request_laws, token_examples};
