@@ -125,21 +125,27 @@ answering = after_taking small other_state (host_id 0) (message.Get first_reques
 abbrev pub answered : WorldShape
 answered = after_step (without_flight asked (host_id 0) (host_id 1) 0) (host_id 1) answering (Some 0)
 
--- ---- a token that is handed over to a host that misbehaves
+-- ---- a token that is handed over to a host that obeys, and to one that misbehaves
 
 abbrev pub handing : CodeShape
 handing = record small { main = entry_id 4 }
 
-abbrev pub bad_start : WorldShape
-bad_start = world_at_start handing two_hosts 2 store
-
-abbrev bad_state : HostShape
-bad_state = host_at_start handing store [] (host_id 0)
+abbrev handing_state : HostShape
+handing_state = host_at_start handing store [] (host_id 0)
 
 abbrev pub handed : Outcome
 handed =
-    after_operation handing (with_running bad_state None) (thread_at (entry_on 0 2) main_frame first_token)
+    after_operation handing (with_running handing_state None) (thread_at (entry_on 0 2) main_frame first_token)
     (op.Go (entry_id 3) (host_id 1)) true
+
+abbrev pub good_start : WorldShape
+good_start = world_at_start handing two_hosts 0 store
+
+abbrev pub passed_on : WorldShape
+passed_on = after_step good_start (host_id 0) handed (Some 0)
+
+abbrev pub bad_start : WorldShape
+bad_start = world_at_start handing two_hosts 2 store
 
 abbrev pub given : WorldShape
 given = after_step bad_start (host_id 0) handed (Some 0)

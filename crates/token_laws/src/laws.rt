@@ -18,14 +18,15 @@ ghost use Rattle.event_text.specs.declared.event.Event.TheVariants.{Take, Turn, 
 ghost use Rattle.net_world.specs.Fits.{ShapeFits, HasOwnToken};
 ghost use Rattle.net_world.specs.Flying.{Flight};
 ghost use Rattle.net_world.specs.World.{WorldShape, IsStep, IsRun, AreHostsOf, world_at_start, state_at, misbehaves};
-ghost use Rattle.token_laws.specs.Holders.{Place, running_on, kept_on, HoldsAt, IsHeld, IsSent, IsOld};
+ghost use Rattle.token_laws.specs.Holders.{Place, running_on, waiting_on, kept_on, in_flight, HoldsAt, IsHeld};
+ghost use Rattle.token_laws.specs.Holders.{IsSent, IsOld};
 ghost use Rattle.token_laws.specs.Numbers.{CodeHasNumbers, RowsHaveNumbers, EventHasNumbers, WorldHasNumbers};
 ghost use Rattle.token_laws.specs.Numbers.{MessageHasNumbers};
 ghost use Rattle.token_laws.specs.Reached.{IsReached};
 ghost use Rattle.token_laws.specs.Requests.{Spot, IsUnderWay, WaitsFor};
 ghost use Rattle.token_laws.specs.TokenExamples.{host_id, small, start, first_token, second_token, pushed, asked};
 ghost use Rattle.token_laws.specs.TokenExamples.{asking, first_request, spot_of, answered, handing, bad_start, given};
-ghost use Rattle.token_laws.specs.TokenExamples.{presents, twice};
+ghost use Rattle.token_laws.specs.TokenExamples.{good_start, passed_on, presents, twice};
 
 /// Which worlds are reached, for whoever goes from event to event: the laws below hold before and after each.
 pub fn reached_laws()
@@ -152,11 +153,16 @@ pub fn token_examples()
     ensures asks { IsRun small pushed (Turn (host_id 0) ∷ []) asked }
     ensures request_under_way { IsUnderWay asked (host_id 0) (host_id 1) first_request (spot_of 0 1 0) }
     ensures waits { WaitsFor asking.state first_request (host_id 1) }
+    // The thread that waits holds its token still.
+    ensures waits_with { HoldsAt asked second_token (waiting_on (host_id 0) 0) }
     // Once it is taken the answer is under way in its place, and no second one.
     ensures answers { IsRun small asked (Take (host_id 0) (host_id 1) 0 ∷ []) answered }
     ensures answer_under_way { IsUnderWay answered (host_id 0) (host_id 1) first_request (spot_of 1 0 0) }
     ensures asked_no_more { ¬ IsUnderWay answered (host_id 0) (host_id 1) first_request (spot_of 0 1 0) }
     ensures no_second_answer { ¬ IsUnderWay answered (host_id 0) (host_id 1) first_request (spot_of 1 0 1) }
+    // A token that is handed over is in flight to a host that obeys.
+    ensures passes_on { IsRun handing good_start (Turn (host_id 0) ∷ []) passed_on }
+    ensures flies { HoldsAt passed_on first_token (in_flight (host_id 0) (host_id 1) 0) }
     // A misbehaving host that was sent a token may have it kept twice.
     ensures hands_over { IsRun handing bad_start (Turn (host_id 0) ∷ []) given }
     ensures sent { IsSent given first_token }
