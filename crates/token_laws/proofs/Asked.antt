@@ -365,10 +365,10 @@ all_hosts world after me old state obeys puts own others asked host there is =
     ]
 
 -- a message that an obeying host sends leaves misbehaving hosts cut off
-cut_off_sending : (world after : WorldShape) (me bad : HostId) (state : HostShape) (label : Option ℕ)
+cut_off_sending : (world after : WorldShape) (me bad : HostId) (label : Option ℕ)
     (letter : Option (HostId × Message)) → IsTrue (misbehaves world bad) → bad.0 ≢ me.0 →
     after_sending world me (letter_of label letter) ≡ after → IsCutOff world bad → IsCutOff after bad
-cut_off_sending world after me bad state label letter is apart leaves cut = λ other.
+cut_off_sending world after me bad label letter is apart leaves cut = λ other.
     let first = sent any world bad other me label letter in
     let none = no_post_from any bad other me letter apart in
     let second = sent_to_bad any world other bad me label letter is in
@@ -408,7 +408,7 @@ asked_take code world after from to place step asked =
       cut_off = λ bad is.
           let was : IsTrue (misbehaves world bad) =
           sym (same_misbehave code world after (Take from to place) bad step) ∙ is in
-          cut_off_sending (with_state left to step.outcome.state) after to bad step.outcome.state
+          cut_off_sending (with_state left to step.outcome.state) after to bad
           (Some step.flight.label) step.outcome.sent
           (absent_set world.hosts to.0 bad.0 step.state step.outcome.state step.obeys ∙ was)
           (obeys_apart world bad to step.state was step.obeys) step.leaves
@@ -453,7 +453,7 @@ asked_turn code world after me fits step asked =
       cut_off = λ bad is.
           let bad_was : IsTrue (misbehaves world bad) =
           sym (same_misbehave code world after (Turn me) bad step) ∙ is in
-          cut_off_sending (with_state world me step.outcome.state) after me bad step.outcome.state
+          cut_off_sending (with_state world me step.outcome.state) after me bad
           (label_of_turn code step.state) step.outcome.sent
           (absent_set world.hosts me.0 bad.0 step.state step.outcome.state step.obeys ∙ bad_was)
           (obeys_apart world bad me step.state bad_was step.obeys) step.leaves (asked.cut_off bad bad_was);

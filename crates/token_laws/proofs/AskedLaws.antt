@@ -24,7 +24,7 @@ use Rattle.net_world.proofs.Fitting.{flight_fits}
 use Rattle.net_world.proofs.Present.{same_id}
 use Rattle.net_world.proofs.StepsOf.{has_some}
 use Rattle.token_laws.specs.Reached.{IsReached}
-use Rattle.token_laws.specs.Requests.{Spot, HasNumber, IsUnderWay, WaitsFor, number_asked, number_answered}
+use Rattle.token_laws.specs.Requests.{Spot, IsNumberedAt, IsUnderWay, WaitsFor, number_asked, number_answered}
 use Rattle.token_laws.proofs.Counting.{any, one_if, is_request, is_number, asks, answers, between, waiting_for}
 use Rattle.token_laws.proofs.Counting.{waiting_for_from}
 use Rattle.token_laws.proofs.Asked.{AreAsked, IsAsked, asked_step}
@@ -105,12 +105,12 @@ spot_is spot from to first second =
     ap (λ (h : HostId). spot_at h spot.to spot.place) first ∙ ap (λ (h : HostId). spot_at from h spot.place) second
 
 found : (world : WorldShape) (spot : Spot) (from to : HostId) (number_of : Message → Option RequestId)
-    (request : RequestId) → spot.from ≡ from → spot.to ≡ to → HasNumber world spot number_of request →
+    (request : RequestId) → spot.from ≡ from → spot.to ≡ to → IsNumberedAt world spot number_of request →
     Found world.flying (λ m. is_number request (number_of m)) from to spot.place
 found world spot from to number_of request first second has =
     let at =
     has_some (slice_get (world.flying from to) spot.place) (λ flight. number_of flight.message ≡ Some request)
-    (subst (λ (s : Spot). HasNumber world s number_of request) (spot_is spot from to first second) has) in
+    (subst (λ (s : Spot). IsNumberedAt world s number_of request) (spot_is spot from to first second) has) in
     record {
       flight = at.0;
       is_there = at.1;

@@ -1,6 +1,10 @@
 -- What each event keeps holds in every world that events lead to.
-use Rattle.std.proofs.Common.{◌∙◌, refl, ◌≡◌, ℕ, suc, ℤ, List, [], ◌∷◌, get_or, sym, subst, arith}
-use Rattle.std.specs.Prelude.{⊤, ◌++◌, All, IsTrue}
+use Rattle.std.proofs.Common.{ap, ◌∙◌, refl, ◌≡◌, ℕ, suc, ℤ, List, [], ◌∷◌, get_or, sym, subst, arith}
+use Rattle.std.specs.Prelude.{⊤, ◌++◌, ◌+◌, ◌<◌, ◌==◌, zero, Bool, true, false, Some, None, if◌then◌else◌, length}
+use Rattle.std.specs.Prelude.{slice_get}
+use Rattle.std.specs.Prelude.{All, IsTrue}
+use Rattle.std.specs.Int.{bit_at}
+use Rattle.std.proofs.lemmas.List.{length-map}
 use Rattle.std.proofs.lemmas.List.Elements.{All-push}
 use Rattle.js_base.specs.declared.ids.HostId.{HostId}
 use Rattle.host_decl.specs.Hosts as declared_hosts
@@ -11,9 +15,11 @@ use Rattle.event_text.specs.declared.event.BadMessage.TheVariants as bad
 use Rattle.event_text.specs.declared.event.Event.{Event}
 use Rattle.event_text.specs.declared.event.Event.TheVariants.{Take, Turn, Act}
 use Rattle.host_code.specs.Code.{CodeShape}
-use Rattle.host_code.specs.Sound.{IsSoundCode}
+use Rattle.host_code.specs.Sound.{IsHost, IsSoundCode}
+use Rattle.host_core.specs.Start.{host_at_start}
 use Rattle.net_world.specs.Fits.{ShapeFits, HasOwnToken, OwnToken, OwnTokenIn}
-use Rattle.net_world.specs.World.{WorldShape, IsStep, IsRun, misbehaves, world_at_start}
+use Rattle.net_world.specs.World.{WorldShape, IsStep, IsRun, is_absent, misbehaves, named_host, hosts_before}
+use Rattle.net_world.specs.World.{world_at_start}
 use Rattle.net_world.proofs.Shapes.{shape_at_start, shape_step}
 use Rattle.net_world.proofs.StepLaws.{same_misbehave, joined}
 use Rattle.token_laws.specs.Reached.{IsReached}
@@ -82,6 +88,30 @@ same_bad code rows bad store events world reach =
     (λ w. (host : HostId) → misbehaves w host ≡ misbehaves start host) reach (λ k d lt. tt)
     (λ w after event fits own q step same host. same_misbehave code w after event host step ∙ same host)
     (λ host. refl)).1
+
+absent_if : (code : CodeShape) (store : List (List ℤ)) (me : HostId) (row : declared_hosts.HostShape) (b : Bool) →
+    is_absent (Some (if b then None else Some (host_at_start code store row.key me))) ≡ b
+absent_if code store me row true = refl
+absent_if code store me row false = refl
+
+bad_before : (code : CodeShape) (store : List (List ℤ)) (bad number : ℕ) (rows : List declared_hosts.HostShape)
+    (place at : ℕ) → place < length rows → at ≡ number + place →
+    is_absent (slice_get (hosts_before code store bad number rows) place) ≡ (bit_at bad at == 1)
+bad_before code store bad number [] place at within is = absurd (omega arith)
+bad_before code store bad number (row ∷ rows) zero at within is =
+    let same : number ≡ at = omega arith in
+    absent_if code store (record { 0 = number }) row (bit_at bad number == 1)
+    ∙ ap (λ (n : ℕ). bit_at bad n == 1) same
+bad_before code store bad number (row ∷ rows) (suc place) at within is =
+    bad_before code store bad (number + 1) rows place at (omega arith) (omega arith)
+
+pub bad_by_word : (code : CodeShape) (rows : List declared_hosts.HostShape) (bad : ℕ) (store : List (List ℤ))
+    (events : List Event) (world : WorldShape) (host : HostId) → IsReached code rows bad store events world →
+    IsHost code host → misbehaves world host ≡ (bit_at bad host.0 == 1)
+bad_by_word code rows bad store events world host reach is_host =
+    same_bad code rows bad store events world reach host
+    ∙ bad_before code store bad 0 rows host.0 host.0
+    (subst (λ (n : ℕ). host.0 < n) (sym (ap length reach.hosts) ∙ length-map rows named_host) is_host) (omega arith)
 
 pub own_there : (code : CodeShape) (rows : List declared_hosts.HostShape) (bad : ℕ) (store : List (List ℤ))
     (events : List Event) (world : WorldShape) (event : Event) → IsReached code rows bad store events world →

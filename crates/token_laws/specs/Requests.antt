@@ -29,16 +29,16 @@ pub record Spot : Type 0 where
   pub place : ℕ
 
 -- there is a message in flight at the spot whose number is this one
-abbrev pub HasNumber : WorldShape → Spot → (Message → Option RequestId) → RequestId → Type 0
-HasNumber world spot number_of request =
+abbrev pub IsNumberedAt : WorldShape → Spot → (Message → Option RequestId) → RequestId → Type 0
+IsNumberedAt world spot number_of request =
     IsSomeAnd (slice_get (world.flying spot.from spot.to) spot.place) (λ flight.
     number_of flight.message ≡ Some request)
 
 -- by a message at the spot a host asks another by this number, or that one answers it
 abbrev pub IsUnderWay : WorldShape → HostId → HostId → RequestId → Spot → Type 0
 IsUnderWay world host other request spot =
-    ((spot.from ≡ host) × (spot.to ≡ other) × HasNumber world spot number_asked request)
-    ⊎ ((spot.from ≡ other) × (spot.to ≡ host) × HasNumber world spot number_answered request)
+    ((spot.from ≡ host) × (spot.to ≡ other) × IsNumberedAt world spot number_asked request)
+    ⊎ ((spot.from ≡ other) × (spot.to ≡ host) × IsNumberedAt world spot number_answered request)
 
 -- a thread of the host waits for the answer to this number from another host
 abbrev pub WaitsFor : HostShape → RequestId → HostId → Type 0

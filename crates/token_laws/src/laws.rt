@@ -2,14 +2,15 @@
 //! the laws.
 
 ghost use Rattle.std.specs.Prelude.{◌≡◌, ◌≢◌, ℕ, ℤ, ◌<◌, ◌-◌, ◌^◌, pos, [], ◌∷◌, ◌++◌, Some, IsSome, List, All};
-ghost use Rattle.std.specs.Prelude.{slice_get, slice_index};
+ghost use Rattle.std.specs.Prelude.{◌==◌, slice_get, slice_index};
+ghost use Rattle.std.specs.Int.{bit_at};
 ghost use Rattle.js_base.specs.declared.ids.HostId.{HostId};
 ghost use Rattle.js_base.specs.declared.ids.RequestId.{RequestId};
 ghost use Rattle.capability.specs.declared.token.Token.{Token};
 ghost use Rattle.ics_stack.specs.declared.stack.StackEntry.{StackEntry};
 ghost use Rattle.host_code.specs.declared.message.Message.TheVariants as message;
 ghost use Rattle.host_code.specs.Code.{CodeShape, halt};
-ghost use Rattle.host_code.specs.Sound.{IsSoundCode};
+ghost use Rattle.host_code.specs.Sound.{IsHost, IsSoundCode};
 ghost use Rattle.host_code.specs.Thread.{WaitingShape};
 ghost use Rattle.host_core.specs.Host as host_state;
 ghost use Rattle.host_decl.specs.Hosts.{HostShape};
@@ -42,6 +43,11 @@ pub fn reached_laws()
         (events : List Event) (world : WorldShape) (host : HostId) →
         IsReached code rows bad store events world →
         misbehaves world host ≡ misbehaves (world_at_start code rows bad store) host }
+    // Those are the hosts of the word's bits.
+    ensures by_word { (code : CodeShape) (rows : List HostShape) (bad : ℕ) (store : List (List ℤ))
+        (events : List Event) (world : WorldShape) (host : HostId) →
+        IsReached code rows bad store events world → IsHost code host →
+        misbehaves world host ≡ (bit_at bad host.0 == 1) }
     // So a token that a host makes up is its own then too.
     ensures own { (code : CodeShape) (rows : List HostShape) (bad : ℕ) (store : List (List ℤ))
         (events : List Event) (world : WorldShape) (event : Event) →

@@ -1,6 +1,6 @@
 use Rattle.std.proofs.Common.{refl, arith}
 use Rattle.token_laws.proofs.AskedLaws.{known_asked, ends_obey}
-use Rattle.token_laws.proofs.Walks.{one_more, same_bad, own_there, fits_there}
+use Rattle.token_laws.proofs.Walks.{one_more, same_bad, bad_by_word, own_there, fits_there}
 use Rattle.token_laws.proofs.laws.reached_laws.Goals as goal
 
 pub returns-clause-start : goal.returns-clause-start
@@ -13,6 +13,10 @@ returns-clause-more c = one_more
 pub returns-clause-misbehaving : goal.returns-clause-misbehaving
 returns-clause-misbehaving c = λ code rows bad store events world host reach.
     same_bad code rows bad store events world reach host
+
+pub returns-clause-by_word : goal.returns-clause-by_word
+returns-clause-by_word c = λ code rows bad store events world host reach is_host.
+    bad_by_word code rows bad store events world host reach is_host
 
 pub returns-clause-own : goal.returns-clause-own
 returns-clause-own c = own_there
