@@ -63,7 +63,7 @@ begins_with_word p (x ∷ xs) =
       | inr e ↦ rw (len-ends p x xs e) (λ some. rw (place-more p x xs e) (omega arith))
     ]
 
-split-first : (p : ℕ → Bool) (xs : List ℕ) → slice_split p xs ≡ take (position_or_len p xs) xs ∷ others p xs
+pub split-first : (p : ℕ → Bool) (xs : List ℕ) → slice_split p xs ≡ take (position_or_len p xs) xs ∷ others p xs
 split-first p [] = refl
 split-first p (x ∷ xs) =
     elim (cases_Bool (p x)) [

@@ -1,5 +1,9 @@
+pub mod BadBits
 pub mod Fronts
+pub mod MarkedParts
+pub mod MadeParts
 pub mod Naming
 pub mod Outcomes
+pub mod OwnTokens
 pub mod Rows
 pub mod Told

@@ -22,8 +22,3 @@ position-map p f xs = rw (length-map, prefix_len-map (λ y. not (p y)) f xs) ref
 pub field_named-at : {X : Type 0} (form : X → FieldForm) (xs : List X) (word : List ℕ) (place : Option ℕ) →
     place ≡ position (λ x. bytes_eq word (form x).name) xs → place ≡ field_named (map form xs) word
 field_named-at form xs word place at = at ∙ sym (position-map (λ field. bytes_eq word field.name) form xs)
-
--- the form of the item at a place
-form_at : {X : Type 0} (form : X → FieldForm) (xs : List X) (place : ℕ) (found : Option X) →
-    found ≡ slice_get xs place → slice_get (map form xs) place ≡ option_map form found
-form_at form xs place found is = slice_get-map form xs place ∙ ap (option_map form) (sym is)

@@ -14,6 +14,7 @@ use Rattle.event_text.specs.declared.script.EventsError.{EventsError}
 use Rattle.event_text.specs.declared.script.EventsError.TheVariants.{OutOfMemory, BadLine, TooLong}
 use Rattle.event_text.specs.Lines.{LineShape, line_of, words, is_skipped, said_from, said_lines}
 use Rattle.event_text.specs.Events.{event_of, with_event, events_of}
+use Rattle.event_text.specs.Misbehaving.{bad_of, bad_in_front, past_bad, with_hosts}
 use Rattle.event_text.specs.Settings.{FieldForm, form_of, setting_of, settings_in_front, past_settings, starting_rows}
 use Rattle.event_text.specs.Settings.{after_settings}
 use Rattle.event_text.specs.Script.{ScriptShape, with_start, script_of, EventsFail}
@@ -128,27 +129,36 @@ with_event_bad number line low high None others above below rest is =
 with_event_bad number line low high (Some event) (Ok events) above below rest is = absurd cc
 with_event_bad number line low high (Some event) (Err other) above below rest is = rest is
 
-bad_event : (low high line : ℕ) (hosts : List CodeHostShape) (said : List LineShape) → AreWithin low high said →
-    events_of hosts said ≡ Err line → (low ≤ line) × (line ≤ high)
-bad_event low high line hosts [] all is = absurd cc
-bad_event low high line hosts (next ∷ others) all is =
-    with_event_bad next.number line low high (event_of hosts next.words) (events_of hosts others) all.0 all.1
-    (bad_event low high line hosts others all.2) is
+bad_event : (low high line : ℕ) (code : CodeShape) (bad : ℕ) (said : List LineShape) → AreWithin low high said →
+    events_of code bad said ≡ Err line → (low ≤ line) × (line ≤ high)
+bad_event low high line code bad [] all is = absurd cc
+bad_event low high line code bad (next ∷ others) all is =
+    with_event_bad next.number line low high (event_of code bad next.words) (events_of code bad others) all.0 all.1
+    (bad_event low high line code bad others all.2) is
 
-no_events : (start : List (List ℤ)) (events : Result (List (ℕ × Event)) ℕ) (line : ℕ) →
-    with_start start events ≡ Err line → events ≡ Err line
-no_events start (Ok events) line is = absurd cc
-no_events start (Err other) line is = cc
+no_events : (bad : ℕ) (start : List (List ℤ)) (events : Result (List (ℕ × Event)) ℕ) (line : ℕ) →
+    with_start bad start events ≡ Err line → events ≡ Err line
+no_events bad start (Ok events) line is = absurd cc
+no_events bad start (Err other) line is = cc
+
+bad_within : (low high : ℕ) (hosts : List CodeHostShape) (said : List LineShape) → AreWithin low high said →
+    AreWithin low high (past_bad hosts said)
+bad_within low high hosts [] all = tt
+bad_within low high hosts (line ∷ others) all =
+    past_or (is_some (bad_of hosts line.words)) low high (past_bad hosts others) line others all
+    (bad_within low high hosts others all.2)
 
 pub script_line : (code : CodeShape) (bytes : List ℕ) (line : ℕ) → script_of code bytes ≡ Err line →
     (1 ≤ line) × (line ≤ length bytes)
 script_line code bytes line is =
     let fields = map form_of code.fields in
-    let said = said_lines bytes in
+    let bad = with_hosts 0 (bad_in_front code.hosts (said_lines bytes)) in
+    let said = past_bad code.hosts (said_lines bytes) in
     let left = past_settings fields said in
-    bad_event 1 (length bytes) line code.hosts left (past_within 1 (length bytes) fields said (all_within bytes))
-    (no_events (after_settings (starting_rows fields) (settings_in_front fields said)) (events_of code.hosts left) line
-    is)
+    let behind = bad_within 1 (length bytes) code.hosts (said_lines bytes) (all_within bytes) in
+    bad_event 1 (length bytes) line code bad left (past_within 1 (length bytes) fields said behind)
+    (no_events bad (after_settings (starting_rows fields) (settings_in_front fields said)) (events_of code bad left)
+    line is)
 
 left_over : (low high line : ℕ) (start : List (List ℤ)) (left : List LineShape) → AreWithin low high left →
     start_where_left start left ≡ Err line → (low ≤ line) × (line ≤ high)

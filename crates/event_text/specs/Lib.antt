@@ -1,6 +1,11 @@
+pub mod Acts
 pub mod Events
 pub mod Lines
+pub mod Misbehaving
 pub mod Numbers
+pub mod OwnTokens
+pub mod Parts
 pub mod Script
 pub mod Settings
 pub mod Start
+pub mod Words

@@ -1,12 +1,13 @@
--- What the bytes of a script say: starting values of fields, and then events.
+-- What the bytes of a script say: hosts that misbehave, starting values of fields, and then events.
 use Rattle.std.specs.Prelude.{◌≡◌, ℕ, ◌<◌, ◌≤◌, ℤ, List, map, length, Result, Ok, Err, ⊤}
 use Rattle.js_base.specs.declared.limits.TheConstants.{SCRIPT_BYTES}
-use Rattle.host_code.specs.Code.{CodeShape, CodeHostShape}
+use Rattle.host_code.specs.Code.{CodeShape}
 use Rattle.event_text.specs.declared.event.Event.{Event}
 use Rattle.event_text.specs.declared.script.EventsError.{EventsError}
 use Rattle.event_text.specs.declared.script.EventsError.TheVariants as error
 use Rattle.event_text.specs.Events.{events_of}
 use Rattle.event_text.specs.Lines.{LineShape, said_lines}
+use Rattle.event_text.specs.Misbehaving.{bad_in_front, past_bad, with_hosts}
 use Rattle.event_text.specs.Settings.{FieldForm, form_of, settings_in_front, past_settings, starting_rows}
 use Rattle.event_text.specs.Settings.{after_settings}
 
@@ -17,25 +18,30 @@ pub record ScriptShape : Type 0 where
   pub start : List (List ℤ)
   pub events : List (ℕ × Event)
 
-abbrev pub with_start : List (List ℤ) → Result (List (ℕ × Event)) ℕ → Result ScriptShape ℕ
-with_start start (Ok events) = Ok (record { bad = 0; start = start; events = events })
-with_start start (Err line) = Err line
+abbrev pub with_start : ℕ → List (List ℤ) → Result (List (ℕ × Event)) ℕ → Result ScriptShape ℕ
+with_start bad start (Ok events) = Ok (record { bad = bad; start = start; events = events })
+with_start bad start (Err line) = Err line
 
--- The settings that the lines begin with, and then events; or the first line that has no form or stands in another
--- place. No host misbehaves.
+-- what settings and then events say behind the lines that name misbehaving hosts
+abbrev pub script_behind_bad : CodeShape → List FieldForm → ℕ → List LineShape → Result ScriptShape ℕ
+script_behind_bad code fields bad said =
+    with_start bad (after_settings (starting_rows fields) (settings_in_front fields said))
+    (events_of code bad (past_settings fields said))
+
+-- The hosts that misbehave, which the lines begin with, then settings, and then events; or the first line that has no
+-- form or stands in another place.
 abbrev pub script_of_lines : CodeShape → List FieldForm → List LineShape → Result ScriptShape ℕ
 script_of_lines code fields said =
-    with_start (after_settings (starting_rows fields) (settings_in_front fields said))
-    (events_of code.hosts (past_settings fields said))
+    script_behind_bad code fields (with_hosts 0 (bad_in_front code.hosts said)) (past_bad code.hosts said)
 
 abbrev pub script_of : CodeShape → List ℕ → Result ScriptShape ℕ
 script_of code bytes = script_of_lines code (map form_of code.fields) (said_lines bytes)
 
 -- how reading the lines of events may fail
-abbrev pub EventLinesFail : List CodeHostShape → List LineShape → EventsError → Type 0
-EventLinesFail hosts said error.OutOfMemory = ⊤
-EventLinesFail hosts said error.TooLong = ⊥
-EventLinesFail hosts said (error.BadLine n) = events_of hosts said ≡ Err n
+abbrev pub EventLinesFail : CodeShape → ℕ → List LineShape → EventsError → Type 0
+EventLinesFail code bad said error.OutOfMemory = ⊤
+EventLinesFail code bad said error.TooLong = ⊥
+EventLinesFail code bad said (error.BadLine n) = events_of code bad said ≡ Err n
 
 -- how reading a script may fail
 abbrev pub EventsFail : CodeShape → List ℕ → EventsError → Type 0

@@ -1,10 +1,14 @@
 //! The laws of scripts: what bytes say, or why they say nothing.
 
-ghost use Rattle.std.specs.Prelude.{◌≡◌, ◌≢◌, ◌≤◌, ◌⊎◌, ℕ, ℤ, List, length, Ok, Err};
+ghost use Rattle.std.specs.Prelude.{◌≡◌, ◌≢◌, ◌≤◌, ◌⊎◌, ◌↔◌, ◌==◌, ℕ, ℤ, true, List, length, Some, Ok, Err};
+ghost use Rattle.std.specs.Int.{bit_at};
+ghost use Rattle.std.specs.List.{list_any};
+ghost use Rattle.js_base.specs.declared.ids.HostId.{HostId};
 ghost use Rattle.jif_tree.specs.declared.program.Field.{Field};
 ghost use Rattle.host_code.specs.Code.{CodeShape};
 ghost use Rattle.event_text.specs.declared.script.EventsError.{EventsError};
 ghost use Rattle.event_text.specs.declared.script.EventsError.TheVariants.{OutOfMemory};
+ghost use Rattle.event_text.specs.Misbehaving.{with_hosts};
 ghost use Rattle.event_text.specs.Script.{ScriptShape, script_of, EventsFail};
 ghost use Rattle.event_text.specs.Start.{start_of, StartFails};
 
@@ -21,6 +25,10 @@ pub fn script_laws()
     ensures some_start { (fields : List Field) (bytes : List ℕ) →
         ((start : List (List ℤ)) × (length bytes ≤ SCRIPT_BYTES) × (start_of fields bytes ≡ Ok start))
         ⊎ ((why : EventsError) × (why ≢ OutOfMemory) × StartFails fields bytes why) }
+
+    // The bits that are set are those of the hosts that the lines name.
+    ensures bad_bits { (hosts : List HostId) (number : ℕ) →
+        (bit_at (with_hosts 0 hosts) number ≡ 1) ↔ (list_any (λ host. host.0 == number) hosts ≡ true) }
 
     // A bad line is one of those of the text.
     ensures script_line { (code : CodeShape) (bytes : List ℕ) (line : ℕ) → script_of code bytes ≡ Err line →

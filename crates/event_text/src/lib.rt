@@ -1,11 +1,14 @@
 //! Events of a run, and the scripts that say them.
 #![tactic(auto)]
 
+mod acts;
 mod event;
 mod event_lines;
 mod laws;
 mod lines;
+mod misbehaving;
 mod numbers;
+mod parts;
 mod script;
 mod settings;
 mod start;

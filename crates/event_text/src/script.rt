@@ -1,20 +1,22 @@
-//! Scripts: starting values of fields, and then events.
+//! Scripts: hosts that misbehave, starting values of fields, and then events.
 
-ghost use Rattle.std.specs.Prelude.{◌≡◌, ◌≤◌, ◌+◌, length, map, Ok, Err, MatchResult, IfOk};
+ghost use Rattle.std.specs.Prelude.{◌≡◌, ◌≤◌, ◌+◌, All, length, map, Ok, Err, MatchResult, IfOk};
 ghost use Rattle.std.specs.Str.Lines.{lines};
 ghost use Rattle.event_text.specs.Lines.{said_from};
 ghost use Rattle.event_text.specs.Events.{events_of};
+ghost use Rattle.event_text.specs.OwnTokens.{IsOwnEvent};
 ghost use Rattle.event_text.specs.Settings.{form_of, HasRows};
 ghost use Rattle.event_text.specs.Script.{script_of, EventsFail, EventLinesFail};
 
 use crate::event::Event;
 use crate::event_lines::event_of;
 use crate::lines::{Lines, next_line};
+use crate::misbehaving::take_bad;
 use crate::settings::{starting_store, take_settings};
-use host_code::{Code, CodeHost};
+use host_code::Code;
 use jif_tree::Store;
 use js_base::OutOfMemory;
-use js_base::limits::{HOSTS, SCRIPT_BYTES};
+use js_base::limits::SCRIPT_BYTES;
 use std::alloc::Global;
 use std::marker::Model;
 use thiserror::Error;
@@ -93,6 +95,7 @@ pub fn read_events(alloc: Global, code: &Code, bytes: &[u8]) -> Result<Script, E
         (λ script. (length bytes.now ≤ SCRIPT_BYTES) × (script_of code.now bytes.now ≡ Ok script))
         (EventsFail code.now bytes.now) }
     ensures rows { IfOk result (λ script. HasRows (map form_of code.now.fields) script.start) }
+    ensures own { IfOk result (λ script. All (λ one. IsOwnEvent code.now.hosts script.bad one.1) script.events) }
 {
     if bytes.len() > SCRIPT_BYTES {
         return Err(EventsError::TooLong);
@@ -108,34 +111,33 @@ fn read_lines(alloc: Global, code: &Code, bytes: &[u8]) -> Result<Script, Events
         (λ script. script_of code.now bytes.now ≡ Ok script)
         (EventsFail code.now bytes.now) }
     ensures rows { IfOk result (λ script. HasRows (map form_of code.now.fields) script.start) }
+    ensures own { IfOk result (λ script. All (λ one. IsOwnEvent code.now.hosts script.bad one.1) script.events) }
 {
+    let (bad, left) = take_bad(code.hosts(), Lines { bytes, number: 1 });
     let fields = code.fields();
     let mut start = starting_store(alloc, fields)?;
-    let left = take_settings(fields, Lines { bytes, number: 1 }, &mut start);
-    let events = read_event_lines(alloc, code.hosts(), left)?;
-    Ok(Script {
-        bad: 0,
-        start,
-        events,
-    })
+    let left = take_settings(fields, left, &mut start);
+    let events = read_event_lines(alloc, code, bad, left)?;
+    Ok(Script { bad, start, events })
 }
 
 /// The events of the lines.
 fn read_event_lines(
     alloc: Global,
-    hosts: &[CodeHost],
+    code: &Code,
+    bad: u16,
     from: Lines<'_>,
 ) -> Result<Vec<(u32, Event)>, EventsError>
-    requires hosts { length hosts.now ≤ HOSTS }
     requires few { from.number + length from.bytes.now ≤ SCRIPT_BYTES + 1 }
     ensures { MatchResult result
-        (λ events. events_of hosts.now (said_from from.entry.number (lines from.entry.bytes.now)) ≡ Ok events.items)
-        (EventLinesFail hosts.now (said_from from.entry.number (lines from.entry.bytes.now))) }
+        (λ events.
+        events_of code.now bad (said_from from.entry.number (lines from.entry.bytes.now)) ≡ Ok events.items)
+        (EventLinesFail code.now bad (said_from from.entry.number (lines from.entry.bytes.now))) }
 {
     let mut events = Vec::new(alloc);
     let mut left = from;
     while let Some((line, after)) = next_line(left) {
-        let Some(event) = event_of(hosts, line.bytes) else {
+        let Some(event) = event_of(code, bad, line.bytes) else {
             return Err(EventsError::BadLine(line.number));
         };
         if events.push((line.number, event)).is_err() {

@@ -1,8 +1,9 @@
 //! The words of a line.
 
-ghost use Rattle.std.specs.Prelude.{◌≡◌, ◌≤◌, [], ◌∷◌, length, IfSome, IfNone};
+ghost use Rattle.std.specs.Prelude.{◌≡◌, ◌≤◌, [], ◌∷◌, length, Some, None, IfSome, IfNone};
 ghost use Rattle.std.specs.List.{prefix_len, position_or_len};
 ghost use Rattle.event_text.specs.Lines.{is_blank, words};
+ghost use Rattle.event_text.specs.Words.{one_word, two_words, three_words, four_words};
 
 /// Whether a byte parts words.
 fn is_blank(byte: u8) -> bool
@@ -37,4 +38,47 @@ fn word_len(line: &[u8]) -> usize
     ensures within { result ≤ length line.now }
 {
     line.iter().take_while(|byte| !is_blank(**byte)).count()
+}
+
+/// The only word of a line.
+pub fn one_word(line: &[u8]) -> Option<&[u8]>
+    ensures none { IfNone result (one_word (words line.now) ≡ None) }
+    ensures some { IfSome result (λ word. one_word (words line.now) ≡ Some word.now) }
+{
+    let (word, rest) = first_word(line)?;
+    if first_word(rest).is_some() {
+        return None;
+    }
+    Some(word)
+}
+
+/// The words of a line of two.
+pub fn two_words(line: &[u8]) -> Option<(&[u8], &[u8])>
+    ensures none { IfNone result (two_words (words line.now) ≡ None) }
+    ensures some { IfSome result (λ it. two_words (words line.now) ≡ Some (it.0.now, it.1.now)) }
+{
+    let (first, rest) = first_word(line)?;
+    let second = one_word(rest)?;
+    Some((first, second))
+}
+
+/// The words of a line of three.
+pub fn three_words(line: &[u8]) -> Option<(&[u8], &[u8], &[u8])>
+    ensures none { IfNone result (three_words (words line.now) ≡ None) }
+    ensures some { IfSome result (λ it. three_words (words line.now) ≡ Some (it.0.now, it.1.now, it.2.now)) }
+{
+    let (first, rest) = first_word(line)?;
+    let (second, third) = two_words(rest)?;
+    Some((first, second, third))
+}
+
+/// The words of a line of four.
+pub fn four_words(line: &[u8]) -> Option<(&[u8], &[u8], &[u8], &[u8])>
+    ensures none { IfNone result (four_words (words line.now) ≡ None) }
+    ensures some { IfSome result (λ it.
+        four_words (words line.now) ≡ Some (it.0.now, it.1.now, it.2.now, it.3.now)) }
+{
+    let (first, rest) = first_word(line)?;
+    let (second, third, fourth) = three_words(rest)?;
+    Some((first, second, third, fourth))
 }

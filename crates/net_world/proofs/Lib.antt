@@ -5,6 +5,7 @@ pub mod Flights
 pub mod Letters
 pub mod Moved
 pub mod Named
+pub mod OwnTokens
 pub mod Present
 pub mod Queues
 pub mod Rows

@@ -254,7 +254,7 @@ own_in_kept world after (bad.Value request value) same own = tt
 own_in_kept world after (bad.Ack request) same own = tt
 own_in_kept world after (bad.Token request token) same own = own_token_kept world after token same own
 
-own_kept : (world after : WorldShape) (event : Event) →
+pub own_kept : (world after : WorldShape) (event : Event) →
     ((host : HostId) → misbehaves after host ≡ misbehaves world host) → HasOwnToken world event →
     HasOwnToken after event
 own_kept world after (Take from to place) same own = tt

@@ -3,6 +3,7 @@
 ghost use Rattle.std.specs.Prelude.{◌≡◌, ◌≢◌, ◌⊎◌, ◌++◌, ℕ, ℤ, Some, None, List, All, slice_get};
 ghost use Rattle.js_base.specs.declared.ids.HostId.{HostId};
 ghost use Rattle.event_text.specs.declared.event.Event.{Event};
+ghost use Rattle.event_text.specs.OwnTokens.{IsOwnEvent};
 ghost use Rattle.host_code.specs.Code.{CodeShape};
 ghost use Rattle.host_code.specs.Sound.{IsSoundCode};
 ghost use Rattle.host_decl.specs.Hosts.{HostShape};
@@ -45,6 +46,12 @@ pub fn fits_laws()
     ensures run { (code : CodeShape) (world after : WorldShape) (events : List Event) →
         IsSoundCode code → ShapeFits code world → All (HasOwnToken world) events →
         IsRun code world events after → ShapeFits code after }
+    // What is said to be of misbehaving hosts is so in the first world, and stays so.
+    ensures own_at_start { (code : CodeShape) (rows : List HostShape) (bad : ℕ) (store : List (List ℤ))
+        (event : Event) → AreHostsOf code rows → IsOwnEvent code.hosts bad event →
+        HasOwnToken (world_at_start code rows bad store) event }
+    ensures own { (code : CodeShape) (world after : WorldShape) (made event : Event) →
+        IsStep code world made after → HasOwnToken world event → HasOwnToken after event }
     // What a world of the program keeps is no less.
     ensures world { (code : CodeShape) (world : WorldModel) → WorldFits code world →
         ShapeFits code (world_of world) }

@@ -18,6 +18,7 @@ use Rattle.jif_tree.specs.Store.{starting_values}
 use Rattle.jif_tree.specs.Trees.{FieldTree, ProgramTree, field_tree, program_tree}
 use Rattle.event_text.specs.declared.event.Event.{Event}
 use Rattle.event_text.specs.Lines.{said_lines}
+use Rattle.event_text.specs.Misbehaving.{past_bad}
 use Rattle.event_text.specs.Script.{ScriptShape, script_of}
 use Rattle.event_text.specs.Start.{start_of}
 use Rattle.event_text.specs.Settings.{form_of, settings_in_front, starting_rows, after_settings}
@@ -29,6 +30,7 @@ use Rattle.need_labels.specs.Needs.{NeedsShape}
 use Rattle.need_labels.specs.Plan.{PlanShape}
 use Rattle.net_world.specs.Choice.{NoneRuns, NothingFlies, IsNextEvent}
 use Rattle.net_world.specs.World.{WorldShape, IsStep, IsRun, world_at_start, state_at, has_halted}
+use Rattle.net_world.specs.World.{not_bad, not_there, host_busy, no_such_token}
 use Rattle.split_rules.specs.SplitCode.{split_code, placed_code_fields}
 use Rattle.simulation.specs.Ending.{EVENTS}
 use Rattle.simulation.specs.Obeying.{IsSet, Follows}
@@ -52,7 +54,7 @@ use Rattle.split_cli.specs.Faithful.{IsPlacedAs, IsFaithfulRun, IsReplayed, IsFa
 use Rattle.split_cli.specs.Faithful.{PutsText, Only, PutsFaithfully, PutsDriven}
 use Rattle.split_cli.proofs.OneDrive.{driven_run}
 use Rattle.split_cli.proofs.OneVerdict.{one_command}
-use Rattle.split_cli.proofs.ReplayedEvents.{plain_script}
+use Rattle.split_cli.proofs.ReplayedEvents.{script_starts}
 use Rattle.split_cli.proofs.SetSources.{ReadingLaws, PlanLaws, GrantedLaw, set_there}
 use Rattle.split_cli.proofs.Stages.{stop_with}
 
@@ -146,17 +148,17 @@ is_faithful : AllLaws → (program hosts script text : List ℕ) (replayed : IsR
     IsFaithful program hosts script text
 is_faithful laws program hosts script text replayed =
     let code = code_of replayed.placed in
-    let plain = plain_script code script replayed.said replayed.read in
-    let runs = subst (λ bad. IsRun code (first_world replayed.placed bad replayed.said.start)
-    (events_in replayed.said.events) replayed.last) plain.nobody replayed.runs in
-    let settings = settings_in_front (map form_of code.fields) (said_lines script) in
+    let behind = past_bad code.hosts (said_lines script) in
+    let settings = settings_in_front (map form_of code.fields) behind in
     record {
       replayed = replayed;
-      starts = plain.starts
+      starts = script_starts code script replayed.said replayed.read
           ∙ ap (λ (rows : List (List ℤ)). after_settings rows settings)
           (values_of_text replayed.placed replayed.tree replayed.is_placed.tree_is);
-      faithful = faithful_run laws program hosts replayed.placed replayed.tree replayed.said.start
-          (events_in replayed.said.events) replayed.last replayed.is_placed runs;
+      faithful = λ nobody. faithful_run laws program hosts replayed.placed replayed.tree replayed.said.start
+          (events_in replayed.said.events) replayed.last replayed.is_placed
+          (subst (λ bad. IsRun code (first_world replayed.placed bad replayed.said.start)
+          (events_in replayed.said.events) replayed.last) nobody replayed.runs);
     }
 
 ends_rested : (code : CodeShape) (world : WorldShape) (most : ℕ) (events : List Event) (last : WorldShape)
@@ -320,8 +322,10 @@ events_say : (Text : Status → List ℕ → Type 0) (file : List ℕ) (code : C
     EventsSay Text code world said end
 unfolding Says
 events_say Text file code world said _ (replay.happened last ran) = ran
-events_say Text file code world said _ (replay.absent line refused) = input_fails
-events_say Text file code world said _ (replay.busy line refused) = input_fails
+events_say Text file code world said _ (replay.refused at not_bad stops) = input_fails
+events_say Text file code world said _ (replay.refused at not_there stops) = input_fails
+events_say Text file code world said _ (replay.refused at host_busy stops) = input_fails
+events_say Text file code world said _ (replay.refused at (no_such_token count) stops) = input_fails
 
 report_says : AllLaws → (program hosts script : List ℕ) (placed : PlacedSource) (tree : Program) (said : ScriptShape)
     (last : WorldShape) (verdict : VerdictShape) → IsPlacedAs program hosts placed tree → IsRead script placed said →

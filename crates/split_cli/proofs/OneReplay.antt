@@ -5,12 +5,12 @@ use Rattle.js_base.specs.declared.status.Status.TheVariants.{Done}
 use Rattle.event_text.specs.declared.event.Event.{Event}
 use Rattle.event_text.specs.Script.{ScriptShape}
 use Rattle.host_code.specs.Code.{CodeShape}
-use Rattle.net_world.specs.World.{WorldShape, IsStep, IsRun, Refusal, not_there, host_busy, refusal_of}
+use Rattle.net_world.specs.World.{WorldShape, IsStep, IsRun, Refusal, refusal_of}
 use Rattle.split_cli.specs.Drive.{code_of, first_world}
 use Rattle.split_cli.specs.PlacedSources.{PlacedSource}
-use Rattle.split_cli.specs.Replay.{events_in, IsRefusedAt, replay_text, EventsHappen, happened, absent, busy}
+use Rattle.split_cli.specs.Replay.{events_in, IsRefusedAt, event_refused, replay_text, EventsHappen, happened, refused}
 use Rattle.split_cli.specs.Replay.{ScriptRead, long, bad_line, read, DueForEvents, DueForReplay}
-use Rattle.split_cli.specs.Verdicts.{VerdictShape, Print, no_form, event_not_there, event_host_busy}
+use Rattle.split_cli.specs.Verdicts.{VerdictShape, Print, no_form}
 use Rattle.split_cli.proofs.OneDrive.{OneStep}
 use Rattle.split_cli.proofs.Stages.{IsOne, give, stop_with, one_due}
 
@@ -22,45 +22,45 @@ pub record StepLaws : Type 0 where
 
 -- ---- what refuses a script
 
-pub record AreOne (line other : ℕ) (why also : Refusal) : Type 0 where
-  pub lines : line ≡ other
+pub record AreOne (at other : ℕ × Event) (why also : Refusal) : Type 0 where
+  pub places : at ≡ other
   pub causes : why ≡ also
 
 never_both : (code : CodeShape) (world after : WorldShape) (event : Event) (why : Refusal) → StepLaws →
     IsStep code world event after → ¬ (refusal_of world event ≡ Some why)
-never_both code world after event why laws step refused =
+never_both code world after event why laws step stops =
     let goes = laws.not_refused code world after event step in
-    let no : ⊥ = cc (goes, refused) in no
+    let no : ⊥ = cc (goes, stops) in no
 
-refused_once : StepLaws → (code : CodeShape) (world : WorldShape) (said : List (ℕ × Event)) (line other : ℕ)
-    (why also : Refusal) → IsRefusedAt code world said line why → IsRefusedAt code world said other also →
-    AreOne line other why also
-refused_once laws code world [] line other why also one two = absurd one
-refused_once laws code world (event ∷ said) line other why also one two =
+refused_once : StepLaws → (code : CodeShape) (world : WorldShape) (said : List (ℕ × Event)) (at other : ℕ × Event)
+    (why also : Refusal) → IsRefusedAt code world said at why → IsRefusedAt code world said other also →
+    AreOne at other why also
+refused_once laws code world [] at other why also one two = absurd one
+refused_once laws code world (event ∷ said) at other why also one two =
     ⊎_elim
     (λ here. ⊎_elim
     (λ there. record {
-      lines = sym here.0 ∙ there.0;
+      places = sym here.0 ∙ there.0;
       causes = let both = sym here.1 ∙ there.1 in let same : why ≡ also = cc in same;
     })
     (λ later. absurd (never_both code world later.0 event.1 why laws later.1 here.1)) two)
     (λ past. ⊎_elim
     (λ there. absurd (never_both code world past.0 event.1 also laws past.1 there.1))
-    (λ later. refused_once laws code past.0 said line other why also past.2
+    (λ later. refused_once laws code past.0 said at other why also past.2
     (subst (λ (w : WorldShape). IsRefusedAt code w said other also)
     (sym (laws.one code world past.0 later.0 event.1 past.1 later.1)) later.2)) two)
     one
 
-ran_or_refused : StepLaws → (code : CodeShape) (world last : WorldShape) (said : List (ℕ × Event)) (line : ℕ)
-    (why : Refusal) → IsRun code world (events_in said) last → ¬ IsRefusedAt code world said line why
-ran_or_refused laws code world last [] line why ran refused = refused
-ran_or_refused laws code world last (event ∷ said) line why ran refused =
+ran_or_refused : StepLaws → (code : CodeShape) (world last : WorldShape) (said : List (ℕ × Event)) (at : ℕ × Event)
+    (why : Refusal) → IsRun code world (events_in said) last → ¬ IsRefusedAt code world said at why
+ran_or_refused laws code world last [] at why ran stops = stops
+ran_or_refused laws code world last (event ∷ said) at why ran stops =
     ⊎_elim
     (λ here. never_both code world ran.0 event.1 why laws ran.1 here.1)
-    (λ later. ran_or_refused laws code ran.0 last said line why ran.2
-    (subst (λ (w : WorldShape). IsRefusedAt code w said line why)
+    (λ later. ran_or_refused laws code ran.0 last said at why ran.2
+    (subst (λ (w : WorldShape). IsRefusedAt code w said at why)
     (sym (laws.one code world ran.0 later.0 event.1 ran.1 later.1)) later.2))
-    refused
+    stops
 
 ran_once : OneStep → (code : CodeShape) (world one two : WorldShape) (events : List Event) →
     IsRun code world events one → IsRun code world events two → one ≡ two
@@ -75,26 +75,14 @@ events_once : StepLaws → (file : List ℕ) (code : CodeShape) (world : WorldSh
     IsOne (EventsHappen file code world said)
 events_once laws file code world said _ _ (happened last ran) (happened other also) =
     ap give (ran_once laws.one code world last other (events_in said) ran also)
-events_once laws file code world said _ _ (happened last ran) (absent line refused) =
-    absurd (ran_or_refused laws code world last said line not_there ran refused)
-events_once laws file code world said _ _ (happened last ran) (busy line refused) =
-    absurd (ran_or_refused laws code world last said line host_busy ran refused)
-events_once laws file code world said _ _ (absent line refused) (happened last ran) =
-    absurd (ran_or_refused laws code world last said line not_there ran refused)
-events_once laws file code world said _ _ (absent line refused) (absent other also) =
-    ap (λ (n : ℕ). stop_with {X = WorldShape} (event_not_there file n))
-    (refused_once laws code world said line other not_there not_there refused also).lines
-events_once laws file code world said _ _ (absent line refused) (busy other also) =
-    let causes = (refused_once laws code world said line other not_there host_busy refused also).causes in
-    absurd (let no : ⊥ = cc in no)
-events_once laws file code world said _ _ (busy line refused) (happened last ran) =
-    absurd (ran_or_refused laws code world last said line host_busy ran refused)
-events_once laws file code world said _ _ (busy line refused) (absent other also) =
-    let causes = (refused_once laws code world said line other host_busy not_there refused also).causes in
-    absurd (let no : ⊥ = cc in no)
-events_once laws file code world said _ _ (busy line refused) (busy other also) =
-    ap (λ (n : ℕ). stop_with {X = WorldShape} (event_host_busy file n))
-    (refused_once laws code world said line other host_busy host_busy refused also).lines
+events_once laws file code world said _ _ (happened last ran) (refused at why stops) =
+    absurd (ran_or_refused laws code world last said at why ran stops)
+events_once laws file code world said _ _ (refused at why stops) (happened last ran) =
+    absurd (ran_or_refused laws code world last said at why ran stops)
+events_once laws file code world said _ _ (refused at why stops) (refused other also too) =
+    let one = refused_once laws code world said at other why also stops too in
+    ap (λ (it : ℕ × Event). stop_with {X = WorldShape} (event_refused file it why)) one.places
+    ∙ ap (λ (cause : Refusal). stop_with {X = WorldShape} (event_refused file other cause)) one.causes
 
 script_once : (file script : List ℕ) (code : CodeShape) → IsOne (ScriptRead file script code)
 script_once file script code _ _ (long more) (long also) = refl

@@ -1,14 +1,17 @@
 -- What a script says, by what was loaded and read of it, and what its events leave in the world of a program.
-use Rattle.std.proofs.Common.{◌≡◌, ℕ, List, Ok, Err, sym, ap, ◌∙◌, subst, inl, inr}
-use Rattle.std.specs.Prelude.{ℤ}
+use Rattle.std.proofs.Common.{◌≡◌, ℕ, List, Ok, Err, sym, ap, ◌∙◌, subst, inl, inr, get_or}
+use Rattle.std.specs.Prelude.{ℤ, All}
 use Rattle.js_base.specs.declared.limits.TheConstants.{SCRIPT_BYTES}
 use Rattle.js_base.specs.declared.status.Status.TheVariants.{Done}
 use Rattle.event_text.specs.declared.event.Event.{Event}
+use Rattle.event_text.specs.OwnTokens.{IsOwnEvent}
 use Rattle.event_text.specs.Script.{ScriptShape, script_of}
 use Rattle.host_code.specs.Code.{CodeShape}
+use Rattle.host_decl.specs.Hosts.{HostShape}
 use Rattle.jif_tree.specs.declared.program.Program.{Program}
 use Rattle.jif_tree.specs.Trees.{program_tree}
-use Rattle.net_world.specs.World.{WorldShape, world_at_start}
+use Rattle.net_world.specs.Fits.{HasOwnToken}
+use Rattle.net_world.specs.World.{WorldShape, AreHostsOf, world_at_start}
 use Rattle.split_cli.specs.declared.load.Loaded.{Loaded}
 use Rattle.split_cli.specs.declared.load.Loaded.TheVariants.{TooLong}
 use Rattle.split_cli.specs.Drive.{code_of, first_world}
@@ -33,6 +36,24 @@ script_has_bad_line file script bytes code line are fails =
 pub script_says : (file script bytes : List ℕ) (code : CodeShape) (said : ScriptShape) → AreBytes script bytes →
     script_of code bytes ≡ Ok said → ScriptRead file script code (given said)
 script_says file script bytes code said are says = read said are.few (ap (script_of code) (sym are.same) ∙ says)
+
+-- ---- what misbehaving hosts may present
+
+abbrev pub OwnAtStart : Type 0
+OwnAtStart = (code : CodeShape) (rows : List HostShape) (bad : ℕ) (store : List (List ℤ)) (event : Event) →
+    AreHostsOf code rows → IsOwnEvent code.hosts bad event → HasOwnToken (world_at_start code rows bad store) event
+
+-- what a script says is of misbehaving hosts is so in its first world
+pub own_in_first : OwnAtStart → (code : CodeShape) (rows : List HostShape) (bad : ℕ) (store : List (List ℤ))
+    (said : ScriptShape) (first : WorldShape) (events : List (ℕ × Event)) → AreHostsOf code rows →
+    first ≡ world_at_start code rows bad store → bad ≡ said.bad → events ≡ said.events →
+    All (λ one. IsOwnEvent code.hosts said.bad one.1) said.events → All (λ one. HasOwnToken first one.1) events
+own_in_first law code rows bad store said first events are starts bad_is events_are own =
+    let Q : List (ℕ × Event) → Type 0 = λ es. All (λ one. HasOwnToken first one.1) es in
+    subst Q (sym events_are) (λ k d less.
+    let event = (get_or said.events k d).1 in
+    subst (λ (w : WorldShape). HasOwnToken w event) (sym starts)
+    (law code rows bad store event are (subst (λ word. IsOwnEvent code.hosts word event) (sym bad_is) (own k d less))))
 
 -- ---- of a program in its places
 

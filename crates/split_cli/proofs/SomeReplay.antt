@@ -1,7 +1,5 @@
 -- For a replay of a program in its places something is due, whatever the script holds.
 use Rattle.std.proofs.Common.{◌≡◌, ◌≢◌, ◌⊎◌, ℕ, ◌≤◌, List, [], ◌∷◌, length, Ok, Some, refl, inl, inr, ⊎_elim}
-use Rattle.std.specs.List.{AllByRecursion}
-use Rattle.std.proofs.lemmas.List.Elements.{recursion_from_All}
 use Rattle.js_base.specs.declared.limits.TheConstants.{SCRIPT_BYTES}
 use Rattle.js_base.specs.declared.status.Status.TheVariants.{Done}
 use Rattle.jif_tree.specs.Trees.{program_tree}
@@ -10,15 +8,14 @@ use Rattle.event_text.specs.declared.script.EventsError.{EventsError}
 use Rattle.event_text.specs.declared.script.EventsError.TheVariants as error
 use Rattle.event_text.specs.Script.{ScriptShape, script_of, EventsFail}
 use Rattle.host_code.specs.Code.{CodeShape}
-use Rattle.net_world.specs.World.{WorldShape, IsStep, Refusal, not_bad, not_there, host_busy, no_such_token, refusal_of}
+use Rattle.net_world.specs.World.{WorldShape, IsStep}
 use Rattle.split_cli.specs.Drive.{code_of, first_world}
 use Rattle.split_cli.specs.PlacedSources.{PlacedSource}
-use Rattle.split_cli.specs.Replay.{IsObeying, ScriptRead, long, bad_line, read, EventsHappen, happened, absent, busy}
+use Rattle.split_cli.specs.Replay.{ScriptRead, long, bad_line, read, EventsHappen, happened, refused, event_refused}
 use Rattle.split_cli.specs.Replay.{replay_text, DueForEvents, DueForScript, DueForReplay}
 use Rattle.split_cli.specs.Stages.{given, stopped}
-use Rattle.split_cli.specs.Verdicts.{Print, too_long, no_form, event_not_there, event_host_busy}
+use Rattle.split_cli.specs.Verdicts.{Print, too_long, no_form}
 use Rattle.split_cli.proofs.NativeParts.{IsSeen}
-use Rattle.split_cli.proofs.ReplayedEvents.{never_bad, never_token, plain_script}
 use Rattle.split_cli.proofs.DriveEnds.{SomeStep}
 use Rattle.split_cli.proofs.SomeStages.{HasOutcome, HasVerdict, some_due}
 
@@ -50,45 +47,25 @@ happens_first : (file : List ℕ) (code : CodeShape) (world next : WorldShape) (
     HasOutcome (EventsHappen file code world (one ∷ said))
 happens_first file code world next one said step (_, happened last ran) =
     (given last, happened last (next, step, ran))
-happens_first file code world next one said step (_, absent line refused) =
-    (stopped (event_not_there file line), absent line (inr (next, step, refused)))
-happens_first file code world next one said step (_, busy line refused) =
-    (stopped (event_host_busy file line), busy line (inr (next, step, refused)))
-
--- the first event is refused
-first_refused : (file : List ℕ) (code : CodeShape) (world : WorldShape) (one : ℕ × Event) (said : List (ℕ × Event))
-    (why : Refusal) → IsObeying one.1 → refusal_of world one.1 ≡ Some why →
-    HasOutcome (EventsHappen file code world (one ∷ said))
-first_refused file code world one said not_bad obeys refused = absurd (never_bad world one.1 obeys refused)
-first_refused file code world one said not_there obeys refused =
-    (stopped (event_not_there file one.0), absent one.0 (inl (refl, refused)))
-first_refused file code world one said host_busy obeys refused =
-    (stopped (event_host_busy file one.0), busy one.0 (inl (refl, refused)))
-first_refused file code world one said (no_such_token count) obeys refused =
-    absurd (never_token world one.1 count obeys refused)
+happens_first file code world next one said step (_, refused at why stops) =
+    (stopped (event_refused file at why), refused at why (inr (next, step, stops)))
 
 events_some : SomeStep → (file : List ℕ) (code : CodeShape) (world : WorldShape) (said : List (ℕ × Event)) →
-    AllByRecursion (λ one. IsObeying one.1) said → HasOutcome (EventsHappen file code world said)
-events_some law file code world [] obey = (given world, happened world refl)
-events_some law file code world (one ∷ said) obey =
+    HasOutcome (EventsHappen file code world said)
+events_some law file code world [] = (given world, happened world refl)
+events_some law file code world (one ∷ said) =
     ⊎_elim
-    (λ step. happens_first file code world step.0 one said step.1 (events_some law file code step.0 said obey.1))
-    (λ refused. first_refused file code world one said refused.0 obey.0 refused.1)
+    (λ step. happens_first file code world step.0 one said step.1 (events_some law file code step.0 said))
+    (λ why. (stopped (event_refused file one why.0), refused one why.0 (inl (refl, why.1))))
     (law code world one.1)
 
 due_for_events : SomeStep → (file : List ℕ) (code : CodeShape) (world : WorldShape) (said : List (ℕ × Event)) →
-    AllByRecursion (λ one. IsObeying one.1) said → HasVerdict (DueForEvents file code world said)
-due_for_events law file code world said obey =
+    HasVerdict (DueForEvents file code world said)
+due_for_events law file code world said =
     some_due (EventsHappen file code world said) (λ last verdict. verdict ≡ Print Done (replay_text code last))
-    (events_some law file code world said obey) (λ last was. (Print Done (replay_text code last), refl))
+    (events_some law file code world said) (λ last was. (Print Done (replay_text code last), refl))
 
 -- ---- replays
-
--- the events of a script that was read name no misbehaving host
-script_obeys : (file script : List ℕ) (code : CodeShape) (said : ScriptShape) →
-    ScriptRead file script code (given said) → AllByRecursion (λ one. IsObeying one.1) said.events
-script_obeys file script code _ (read said short is) =
-    recursion_from_All (λ one. IsObeying one.1) said.events (plain_script code script said is).obeying
 
 script_due : SomeScript → SomeStep → (file script : List ℕ) (placed : PlacedSource) →
     HasVerdict (DueForScript file script placed)
@@ -96,8 +73,7 @@ script_due scripts steps file script placed =
     some_due (ScriptRead file script (code_of placed))
     (λ said. DueForEvents file (code_of placed) (first_world placed said.bad said.start) said.events)
     (script_some scripts file script (code_of placed))
-    (λ said was. due_for_events steps file (code_of placed) (first_world placed said.bad said.start) said.events
-    (script_obeys file script (code_of placed) said was))
+    (λ said was. due_for_events steps file (code_of placed) (first_world placed said.bad said.start) said.events)
 
 pub replay_some : SomeScript → SomeStep → (file script : List ℕ) (placed : PlacedSource) →
     IsSeen program_tree placed.source.tree → HasVerdict (DueForReplay file script placed)

@@ -16,13 +16,14 @@ use Rattle.host_code.specs.Code.{CodeShape, CodeFieldShape}
 use Rattle.host_core.specs.Host.{HostModel, HostShape, state_of}
 use Rattle.net_world.specs.Fits.{FlightFits, WorldModel, host_at, world_of}
 use Rattle.net_world.specs.Flying.{Flight}
+use Rattle.net_world.specs.Told.{SentMessage}
 use Rattle.net_world.specs.World.{WorldShape, state_at}
 use Rattle.net_world.proofs.Present.{present_states}
 use Rattle.split_cli.specs.Drive.{events_line, drive_text}
 use Rattle.split_cli.specs.Replay.{replay_text}
 use Rattle.split_cli.specs.Text.{line_text, lines_text}
 use Rattle.split_cli.specs.WorldReport.{halted_line, field_line, field_lines, host_lines, flying_line, queue_lines}
-use Rattle.split_cli.specs.WorldReport.{flying_lines, host_line, state_line, elements_of}
+use Rattle.split_cli.specs.WorldReport.{flying_lines, sent_line, sent_lines, host_line, state_line, elements_of}
 use Rattle.split_cli.specs.Report.{row_line}
 use Rattle.split_cli.proofs.ReportLines.{numbered_more}
 
@@ -57,12 +58,11 @@ field_lines_more w fields i field lt is =
     fields i field lt
     ∙ ap (λ f. lines_text (field_lines w 0 (take i fields)) ++ lines_text (field_line (state_at w f.host) i f)) (sym is)
 
--- the message at a place, whatever stands past the end
-pub message_at : (queue : List Message) (i : ℕ) → i < length queue →
-    (message : Message) × ((d : Message) → get_or queue i d ≡ message)
-message_at [] i lt = absurd (omega arith)
-message_at (message ∷ queue) zero lt = (message, λ d. refl)
-message_at (message ∷ queue) (suc i) lt = message_at queue i (omega arith)
+-- the item at a place, whatever stands past the end
+pub item_at : {X : Type 0} (items : List X) (i : ℕ) → i < length items → (item : X) × ((d : X) → get_or items i d ≡ item)
+item_at [] i lt = absurd (omega arith)
+item_at (item ∷ items) zero lt = (item, λ d. refl)
+item_at (item ∷ items) (suc i) lt = item_at items i (omega arith)
 
 pub queue_lines_more : (code : CodeShape) (from to : ℕ) (queue : List Message) (i : ℕ) (message : Message) →
     i < length queue → get_or queue i message ≡ message →
@@ -71,6 +71,14 @@ pub queue_lines_more : (code : CodeShape) (from to : ℕ) (queue : List Message)
 queue_lines_more code from to queue i message lt is =
     numbered_more (queue_lines code from to) (flying_line code from to) (λ n. refl) (λ n x xs. refl) queue i message lt
     ∙ ap (λ m. lines_text (queue_lines code from to 0 (take i queue)) ++ (flying_line code from to i m ++ 10 ∷ [])) is
+
+pub sent_lines_more : (code : CodeShape) (sent : List SentMessage) (i : ℕ) (one : SentMessage) → i < length sent →
+    get_or sent i one ≡ one →
+    lines_text (sent_lines code 0 (take (i + 1) sent))
+    ≡ lines_text (sent_lines code 0 (take i sent)) ++ (sent_line code i one ++ 10 ∷ [])
+sent_lines_more code sent i one lt is =
+    numbered_more (sent_lines code) (sent_line code) (λ n. refl) (λ n x xs. refl) sent i one lt
+    ∙ ap (λ m. lines_text (sent_lines code 0 (take i sent)) ++ (sent_line code i m ++ 10 ∷ [])) is
 
 range_push : (a n j : ℕ) → a + n ≡ j → range_with_len a (suc n) ≡ range_with_len a n ++ j ∷ []
 range_push a zero j is =
@@ -89,13 +97,14 @@ range_more g n =
 
 -- the parts of a report
 pub drive_parts : (code : CodeShape) (made : ℕ) (w : WorldShape) →
-    drive_text code made w ≡ ((((events_line made ++ 10 ∷ []) ++ (halted_line code w ++ 10 ∷ []))
-    ++ lines_text (field_lines w 0 code.fields)) ++ lines_text (host_lines code w)) ++ lines_text (flying_lines code w)
+    drive_text code made w ≡ (((((events_line made ++ 10 ∷ []) ++ (halted_line code w ++ 10 ∷ []))
+    ++ lines_text (field_lines w 0 code.fields)) ++ lines_text (host_lines code w)) ++ lines_text (flying_lines code w))
+    ++ lines_text (sent_lines code 0 w.sent)
 drive_parts code made w = simp (flat_map-append, append_assoc)
 
 pub replay_parts : (code : CodeShape) (w : WorldShape) →
-    replay_text code w ≡ (((halted_line code w ++ 10 ∷ []) ++ lines_text (field_lines w 0 code.fields))
-    ++ lines_text (host_lines code w)) ++ lines_text (flying_lines code w)
+    replay_text code w ≡ ((((halted_line code w ++ 10 ∷ []) ++ lines_text (field_lines w 0 code.fields))
+    ++ lines_text (host_lines code w)) ++ lines_text (flying_lines code w)) ++ lines_text (sent_lines code 0 w.sent)
 replay_parts code w = simp (flat_map-append, append_assoc)
 
 -- ---- hosts that obey, and those that do not

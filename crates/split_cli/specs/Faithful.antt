@@ -13,6 +13,7 @@ use Rattle.jif_tree.specs.SourceRun.{prefix, HasLength}
 use Rattle.jif_tree.specs.Trees.{program_tree}
 use Rattle.event_text.specs.declared.event.Event.{Event}
 use Rattle.event_text.specs.Lines.{said_lines}
+use Rattle.event_text.specs.Misbehaving.{past_bad}
 use Rattle.event_text.specs.Script.{ScriptShape, script_of}
 use Rattle.event_text.specs.Settings.{form_of, settings_in_front, after_settings}
 use Rattle.event_text.specs.Start.{start_of}
@@ -60,14 +61,15 @@ pub record IsReplayed (program hosts script : List ℕ) (text : List ℕ) : Type
   pub runs : IsRun (code_of placed) (first_world placed said.bad said.start) (events_in said.events) last
   pub text_is : text ≡ replay_text (code_of placed) last
 
--- The replay follows the plain run of its program.
+-- The replay follows the plain run of its program, where the script names no host that misbehaves.
 pub record IsFaithful (program hosts script : List ℕ) (text : List ℕ) : Type 0 where
   pub replayed : IsReplayed program hosts script text
   -- the fields start with the values of the program's text, but for what the script sets
   pub starts : replayed.said.start ≡ after_settings (starting_values replayed.tree)
-      (settings_in_front (map form_of (code_of replayed.placed).fields) (said_lines script))
-  pub faithful : IsFaithfulRun replayed.placed replayed.tree replayed.said.start (events_in replayed.said.events)
-      replayed.last
+      (settings_in_front (map form_of (code_of replayed.placed).fields)
+      (past_bad (code_of replayed.placed).hosts (said_lines script)))
+  pub faithful : replayed.said.bad ≡ 0 →
+      IsFaithfulRun replayed.placed replayed.tree replayed.said.start (events_in replayed.said.events) replayed.last
 
 -- ---- drives
 

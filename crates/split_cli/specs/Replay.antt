@@ -1,32 +1,64 @@
 -- What is due for an accepted program in its places, whose hosts make the events of a script happen.
-use Rattle.std.specs.Prelude.{◌≡◌, ℕ, ◌<◌, ◌≤◌, ◌⊎◌, List, [], ◌∷◌, map, length, Some, Ok, Err}
+use Rattle.std.specs.Prelude.{◌≡◌, ℕ, ◌<◌, ◌≤◌, ◌⊎◌, List, [], ◌∷◌, map, length, Some, Ok, Err, ⊤}
 use Rattle.js_base.specs.declared.limits.TheConstants.{SCRIPT_BYTES}
 use Rattle.js_base.specs.declared.status.Status.TheVariants.{Done}
 use Rattle.jif_tree.specs.declared.program.Program.{Program}
 use Rattle.jif_tree.specs.Trees.{program_tree}
 use Rattle.event_text.specs.declared.event.Event.{Event}
 use Rattle.event_text.specs.declared.event.Event.TheVariants.{Act}
+use Rattle.event_text.specs.declared.event.BadMessage.{BadMessage}
+use Rattle.event_text.specs.declared.event.BadMessage.TheVariants as bad
+use Rattle.event_text.specs.declared.event.BadToken.{BadToken}
+use Rattle.event_text.specs.declared.event.BadToken.TheVariants.{Sent, Own}
 use Rattle.event_text.specs.Script.{ScriptShape, script_of}
 use Rattle.host_code.specs.Code.{CodeShape}
-use Rattle.net_world.specs.World.{WorldShape, Refusal, not_there, host_busy, refusal_of, IsStep, IsRun}
+use Rattle.net_world.specs.World.{WorldShape, Refusal, not_bad, not_there, host_busy, no_such_token, refusal_of}
+use Rattle.net_world.specs.World.{IsStep, IsRun}
+use Rattle.net_world.specs.declared.world.EventError.{EventError}
+use Rattle.net_world.specs.declared.world.EventError.TheVariants as answer
+use Rattle.split_cli.specs.declared.replaying.ReplayError.{ReplayError}
+use Rattle.split_cli.specs.declared.replaying.ReplayError.TheVariants as error
 use Rattle.split_cli.specs.Drive.{code_of, first_world}
 use Rattle.split_cli.specs.PlacedSources.{PlacedSource}
 use Rattle.split_cli.specs.Stages.{Outcome, given, stopped, DueThen}
 use Rattle.split_cli.specs.Text.{lines_text}
 use Rattle.split_cli.specs.Verdicts.{VerdictShape, Print, too_long, no_form, event_not_there}
-use Rattle.split_cli.specs.Verdicts.{event_host_busy}
+use Rattle.split_cli.specs.Verdicts.{event_host_busy, event_not_misbehaving, event_no_token}
 use Rattle.split_cli.specs.WorldReport.{world_lines}
 
 -- events that stand on the lines of a script, each with the number of its line
 abbrev pub events_in : List (ℕ × Event) → List Event
 events_in said = map (λ one. one.1) said
 
--- the first event that is refused stands on this line, and those before it happen
-abbrev pub IsRefusedAt : CodeShape → WorldShape → List (ℕ × Event) → ℕ → Refusal → Type 0
-IsRefusedAt code world [] line why = ⊥
-IsRefusedAt code world (one ∷ said) line why =
-    ((one.0 ≡ line) × (refusal_of world one.1 ≡ Some why))
-    ⊎ ((next : WorldShape) × IsStep code world one.1 next × IsRefusedAt code next said line why)
+-- the first event that is refused is this one with its line, and those before it happen
+abbrev pub IsRefusedAt : CodeShape → WorldShape → List (ℕ × Event) → ℕ × Event → Refusal → Type 0
+IsRefusedAt code world [] at why = ⊥
+IsRefusedAt code world (one ∷ said) at why =
+    ((one ≡ at) × (refusal_of world one.1 ≡ Some why))
+    ⊎ ((next : WorldShape) × IsStep code world one.1 next × IsRefusedAt code next said at why)
+
+-- The number of the sent token that an event presents. Where it presents none, none can be missing, and this is 0.
+abbrev pub number_in_token : BadToken → ℕ
+number_in_token (Sent number) = number
+number_in_token (Own token) = 0
+
+abbrev pub number_in_message : BadMessage → ℕ
+number_in_message (bad.Sync request frame entry token) = number_in_token token
+number_in_message (bad.Rgoto frame entry token) = number_in_token token
+number_in_message (bad.Lgoto token) = number_in_token token
+number_in_message (bad.Token request token) = number_in_token token
+number_in_message _ = 0
+
+abbrev pub number_presented : Event → ℕ
+number_presented (Act from to made) = number_in_message made
+number_presented _ = 0
+
+-- what refuses a script whose event on this line is refused
+abbrev pub event_refused : List ℕ → ℕ × Event → Refusal → VerdictShape
+event_refused file at not_there = event_not_there file at.0
+event_refused file at host_busy = event_host_busy file at.0
+event_refused file at not_bad = event_not_misbehaving file at.0
+event_refused file at (no_such_token count) = event_no_token file at.0 (number_presented at.1) count
 
 -- what is said of a world at the end of a replay
 abbrev pub replay_text : CodeShape → WorldShape → List ℕ
@@ -42,16 +74,13 @@ pub data ScriptRead (file script : List ℕ) (code : CodeShape) : Outcome Script
   read : (said : ScriptShape) → length script ≤ SCRIPT_BYTES → script_of code script ≡ Ok said →
       ScriptRead file script code (given said)
 
--- Events happen one after the other, and leave a world; or the first is refused that is not there, or whose host is
--- busy.
+-- events happen one after the other, and leave a world, or the first that is refused stops them
 pub data EventsHappen (file : List ℕ) (code : CodeShape) (world : WorldShape) (said : List (ℕ × Event)) :
     Outcome WorldShape → Type 0 where
   happened : (last : WorldShape) → IsRun code world (events_in said) last →
       EventsHappen file code world said (given last)
-  absent : (line : ℕ) → IsRefusedAt code world said line not_there →
-      EventsHappen file code world said (stopped (event_not_there file line))
-  busy : (line : ℕ) → IsRefusedAt code world said line host_busy →
-      EventsHappen file code world said (stopped (event_host_busy file line))
+  refused : (at : ℕ × Event) (why : Refusal) → IsRefusedAt code world said at why →
+      EventsHappen file code world said (stopped (event_refused file at why))
 
 -- ---- what is due
 
@@ -72,7 +101,25 @@ DueForReplay file script placed verdict =
 
 -- ---- in the program
 
--- no host misbehaves in the event
-abbrev pub IsObeying : Event → Type 0
-IsObeying (Act from to made) = ⊥
-IsObeying other = Unit {0}
+-- why the events of a script did not all happen
+abbrev pub IsReplayError : CodeShape → WorldShape → List (ℕ × Event) → ReplayError → Type 0
+IsReplayError code world said error.OutOfMemory = ⊤
+IsReplayError code world said (error.NotThere line) =
+    (event : Event) × IsRefusedAt code world said (line, event) not_there
+IsReplayError code world said (error.HostBusy line) =
+    (event : Event) × IsRefusedAt code world said (line, event) host_busy
+IsReplayError code world said (error.NotBad line) =
+    (event : Event) × IsRefusedAt code world said (line, event) not_bad
+IsReplayError code world said (error.NoSuchToken line number count) =
+    (event : Event) × IsRefusedAt code world said (line, event) (no_such_token count)
+    × (number_presented event ≡ number)
+
+-- why the event on a line did not happen, by what the world answers
+abbrev pub IsErrorOf : ℕ → Event → EventError → ReplayError → Type 0
+IsErrorOf line event answer.OutOfMemory result = result ≡ error.OutOfMemory
+IsErrorOf line event answer.NotThere result = result ≡ error.NotThere line
+IsErrorOf line event answer.HostBusy result = result ≡ error.HostBusy line
+IsErrorOf line event answer.NotBad result = result ≡ error.NotBad line
+IsErrorOf line event (answer.NoSuchToken count) result =
+    result ≡ error.NoSuchToken line (number_presented event) count
+IsErrorOf line event answer.Stopped result = ⊥

@@ -190,3 +190,13 @@ event_not_there file line = at_file_line file line (codes "not there")
 -- its host runs a thread, and takes no message meanwhile
 abbrev pub event_host_busy : List ℕ → ℕ → VerdictShape
 event_host_busy file line = at_file_line file line (codes "host busy")
+
+-- the sender of an act obeys
+abbrev pub event_not_misbehaving : List ℕ → ℕ → VerdictShape
+event_not_misbehaving file line = at_file_line file line (codes "not misbehaving")
+
+-- an act presents the token of this number, and misbehaving hosts were sent only so many
+abbrev pub event_no_token : List ℕ → ℕ → ℕ → ℕ → VerdictShape
+event_no_token file line number count =
+    at_file_line file line
+    (codes "no such token " ++ (decimal number ++ (codes ", " ++ (decimal count ++ codes " sent"))))

@@ -8,6 +8,7 @@ use Rattle.host_code.specs.declared.message.Message.{Message}
 use Rattle.host_code.specs.Code.{CodeShape, CodeFieldShape}
 use Rattle.host_code.specs.MessageText.{host_text, message_text}
 use Rattle.host_core.specs.Host.{HostShape}
+use Rattle.net_world.specs.Told.{SentMessage}
 use Rattle.net_world.specs.World.{WorldShape, state_at}
 use Rattle.split_cli.specs.Report.{row_line}
 
@@ -84,8 +85,23 @@ lines_from code w from =
 abbrev pub flying_lines : CodeShape → WorldShape → List (List ℕ)
 flying_lines code w = flat_map (lines_from code w) (range_with_len 0 (length code.hosts))
 
+-- ---- what misbehaving hosts were sent
+
+-- `sent K I J: MESSAGE`, for the message of this number
+abbrev pub sent_line : CodeShape → ℕ → SentMessage → List ℕ
+sent_line code number sent =
+    codes "sent " ++ decimal number ++ codes " " ++ host_text code sent.0 ++ codes " " ++ host_text code sent.1
+    ++ codes ": " ++ message_text code sent.2
+
+-- the lines of the messages from a number on
+abbrev pub sent_lines : CodeShape → ℕ → List SentMessage → List (List ℕ)
+sent_lines code number [] = []
+sent_lines code number (sent ∷ others) = sent_line code number sent ∷ sent_lines code (number + 1) others
+
 -- ---- all
 
--- whether the program has halted, the fields, the hosts, and what is in flight
+-- whether the program has halted, the fields, the hosts, what is in flight, and what misbehaving hosts were sent
 abbrev pub world_lines : CodeShape → WorldShape → List (List ℕ)
-world_lines code w = halted_line code w ∷ (field_lines w 0 code.fields ++ host_lines code w ++ flying_lines code w)
+world_lines code w =
+    halted_line code w
+    ∷ (field_lines w 0 code.fields ++ host_lines code w ++ flying_lines code w ++ sent_lines code 0 w.sent)

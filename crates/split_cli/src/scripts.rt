@@ -2,10 +2,11 @@
 
 ghost use Rattle.std.specs.Prelude.{ℕ, List, All, IfOk};
 ghost use Rattle.js_base.specs.declared.limits.TheConstants.{SCRIPT_BYTES};
-ghost use Rattle.net_world.specs.Fits.{WorldFits, world_of};
+ghost use Rattle.event_text.specs.OwnTokens.{IsOwnEvent};
+ghost use Rattle.net_world.specs.Fits.{WorldFits, HasOwnToken, world_of};
 ghost use Rattle.net_world.specs.Steps.{HaveMade};
 ghost use Rattle.split_cli.specs.Loading.{EndsAs, IsLoaded};
-ghost use Rattle.split_cli.specs.Replay.{ScriptRead, EventsHappen, IsObeying};
+ghost use Rattle.split_cli.specs.Replay.{ScriptRead, EventsHappen};
 
 use crate::load::Loaded;
 use crate::replaying::{ReplayError, replay};
@@ -23,7 +24,7 @@ use std::alloc::Global;
 pub fn read_script(alloc: Global, name: &str, code: &Code, script: &Loaded) -> Result<Script, Stop>
     ensures read { (e : List ℕ) → IsLoaded SCRIPT_BYTES e script.now →
         EndsAs (λ said. said) (ScriptRead name.now e code.now) result }
-    ensures obeying { IfOk result (λ said. All (λ one. IsObeying one.1) said.events) }
+    ensures own { IfOk result (λ said. All (λ one. IsOwnEvent code.now.hosts said.bad one.1) said.events) }
 {
     let Loaded::Bytes(bytes) = script else {
         return Err(stopped(Verdict::too_long(alloc, name)));
@@ -49,7 +50,7 @@ pub fn events_happen(
 ) -> Result<World, Stop>
     requires fits { WorldFits code.now from }
     requires fresh { HaveMade 0 from.hosts }
-    requires obeying { All (λ one. IsObeying one.1) events.now }
+    requires own { All (λ one. HasOwnToken (world_of from) one.1) events.now }
     ensures happen { EndsAs world_of (EventsHappen name.now code.now (world_of from) events.now) result }
     ensures fits { IfOk result (WorldFits code.now) }
 {
@@ -58,6 +59,12 @@ pub fn events_happen(
         Ok(()) => Ok(world),
         Err(ReplayError::NotThere(line)) => Err(stopped(Verdict::not_there(alloc, name, line))),
         Err(ReplayError::HostBusy(line)) => Err(stopped(Verdict::host_busy(alloc, name, line))),
+        Err(ReplayError::NotBad(line)) => {
+            Err(stopped(Verdict::not_misbehaving(alloc, name, line)))
+        }
+        Err(ReplayError::NoSuchToken(line, number, count)) => {
+            Err(stopped(Verdict::no_such_token(alloc, name, line, number, count)))
+        }
         Err(ReplayError::OutOfMemory) => Err(Stop::OutOfMemory),
     }
 }

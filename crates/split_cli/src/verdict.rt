@@ -193,6 +193,28 @@ impl Verdict {
     {
         Verdict::at_line(alloc, file, line, "host busy")
     }
+
+    /// The sender of an act obeys.
+    pub fn not_misbehaving(alloc: Global, file: &str, line: u32) -> Result<Verdict, OutOfMemory>
+        ensures { IfOk result (λ verdict. verdict_shape verdict ≡ verdicts.event_not_misbehaving file.now line) }
+    {
+        Verdict::at_line(alloc, file, line, "not misbehaving")
+    }
+
+    /// An act presents the token of this number, and misbehaving hosts were sent only so many.
+    pub fn no_such_token(
+        alloc: Global,
+        file: &str,
+        line: u32,
+        number: u64,
+        count: u64,
+    ) -> Result<Verdict, OutOfMemory>
+        ensures { IfOk result (λ verdict.
+            verdict_shape verdict ≡ verdicts.event_no_token file.now line number count) }
+    {
+        let text = format!(in alloc; "no such token {number}, {count} sent")?;
+        Verdict::at_line(alloc, file, line, text.as_str())
+    }
 }
 
 /// Why a text has no tokens.

@@ -13,6 +13,7 @@ ghost use Rattle.split_cli.specs.WorldReport.{halted_line};
 mod fields;
 mod flying;
 mod hosts;
+mod sent;
 
 use fields::push_fields;
 use flying::push_flying;
@@ -20,11 +21,12 @@ use host_code::Code;
 use hosts::push_hosts;
 use js_base::OutOfMemory;
 use net_world::World;
+use sent::push_sent;
 use std::alloc::Global;
 use std::fmt::Write;
 
 /// The report of a drive of so many events that left this world: their number, whether the program has halted, the
-/// fields, the hosts, and what is in flight.
+/// fields, the hosts, what is in flight, and what misbehaving hosts were sent.
 #[tactic(auto, using(crate::proofs::WorldLines::drive_parts))]
 pub fn drive_text(
     alloc: Global,
@@ -41,11 +43,12 @@ pub fn drive_text(
     push_fields(alloc, &mut text, code, world)?;
     push_hosts(&mut text, code, world)?;
     push_flying(alloc, &mut text, code, world)?;
+    push_sent(alloc, &mut text, code, world)?;
     Ok(text)
 }
 
-/// The report of a replay that left this world: whether the program has halted, the fields, the hosts, and what is in
-/// flight.
+/// The report of a replay that left this world: whether the program has halted, the fields, the hosts, what is in
+/// flight, and what misbehaving hosts were sent.
 #[tactic(auto, using(crate::proofs::WorldLines::replay_parts))]
 pub fn replay_text(alloc: Global, code: &Code, world: &World) -> Result<String, OutOfMemory>
     requires { WorldFits code.now world.now }
@@ -56,6 +59,7 @@ pub fn replay_text(alloc: Global, code: &Code, world: &World) -> Result<String, 
     push_fields(alloc, &mut text, code, world)?;
     push_hosts(&mut text, code, world)?;
     push_flying(alloc, &mut text, code, world)?;
+    push_sent(alloc, &mut text, code, world)?;
     Ok(text)
 }
 

@@ -16,6 +16,7 @@ use crate::verdict::Verdict;
 use crate::world_report::replay_text;
 use js_base::{Files, Status};
 use net_world::World;
+use net_world::laws::fits_laws;
 use std::alloc::Global;
 
 /// What is due for `replay P H EVENTS`.
@@ -63,6 +64,7 @@ fn due_for_loaded(
         IsLoaded SCRIPT_BYTES e events.now →
         EndsIn (DueForBytes (command.Replay names others name.now) (p ∷ h ∷ e ∷ [])) result }
 {
+    fits_laws();
     let placed = read_places(alloc, program, hosts)?;
     let code = code_of(alloc, &placed)?;
     let script = read_script(alloc, name, &code, events)?;

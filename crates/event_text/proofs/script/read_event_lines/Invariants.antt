@@ -10,8 +10,8 @@ use Rattle.event_text.proofs.script.read_event_lines.Given as goal
 abbrev pub invariant-loop-line : goal.invariant-loop-line
 invariant-loop-line l = record {
   events :
-      told l.events.items (events_of l.hosts (said_from l.left.number (lines l.left.bytes.now)))
-      ≡ events_of l.hosts (said_from l.from.number (lines l.from.bytes.now));
+      told l.events.items (events_of l.code l.bad (said_from l.left.number (lines l.left.bytes.now)))
+      ≡ events_of l.code l.bad (said_from l.from.number (lines l.from.bytes.now));
   few : l.left.number + length l.left.bytes.now ≤ SCRIPT_BYTES + 1;
 }
 

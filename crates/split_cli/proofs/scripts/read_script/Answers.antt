@@ -4,7 +4,6 @@ use Rattle.split_cli.specs.Replay.{ScriptRead}
 use Rattle.split_cli.specs.Stages.{stopped}
 use Rattle.split_cli.specs.Verdicts.{VerdictShape}
 use Rattle.split_cli.proofs.ReplayDue.{script_too_long, script_has_bad_line, script_says}
-use Rattle.split_cli.proofs.ReplayedEvents.{plain_script}
 use Rattle.split_cli.proofs.Stages.{stopped_with}
 use Rattle.split_cli.proofs.StartingDue.{are_bytes}
 use Rattle.split_cli.proofs.scripts.read_script.Goals as goal
@@ -23,10 +22,6 @@ returns-in-Ok-clause-read c = λ e loaded.
     script_says c.args.name.now e c.deref.result.now c.args.code.now c.in-Ok.said
     (are_bytes e c.deref.result.now c.args.script.now c.in-Bytes.bytes c.in-Bytes.is c.deref.ensures.value loaded)
     c.in-Ok.ensures.answer.1
-
-pub returns-in-Ok-clause-obeying : goal.returns-in-Ok-clause-obeying
-returns-in-Ok-clause-obeying c =
-    (plain_script c.args.code.now c.deref.result.now c.in-Ok.said c.in-Ok.ensures.answer.1).obeying
 
 pub returns-in-Err-BadLine-clause-read : goal.returns-in-Err-BadLine-clause-read
 returns-in-Err-BadLine-clause-read c = λ e loaded.

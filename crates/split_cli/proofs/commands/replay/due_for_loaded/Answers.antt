@@ -9,15 +9,20 @@ use Rattle.split_cli.specs.Replay.{ScriptRead, EventsHappen, DueForReplay}
 use Rattle.split_cli.specs.Stages.{given, stopped}
 use Rattle.split_cli.proofs.DriveDue.{code_hosts}
 use Rattle.split_cli.proofs.ReplayDue.{script_of_program, events_of_program, script_stops, events_stop}
-use Rattle.split_cli.proofs.ReplayDue.{events_reported}
+use Rattle.split_cli.proofs.ReplayDue.{events_reported, own_in_first}
 use Rattle.split_cli.proofs.Stages.{due_handed_on, due_stops, memory_ran_out, stops_weaker}
 use Rattle.split_cli.proofs.commands.replay.due_for_loaded.Goals as goal
 
 pub start-requires : goal.start-requires
 start-requires c = code_hosts (placed_shape c.in_ok-placed.placed) c.in_ok-code.code c.in_ok-code.ensures
 
-pub events_happen-requires-clause-obeying : goal.events_happen-requires-clause-obeying
-events_happen-requires-clause-obeying c = rw c.events.ensures c.in_ok-script.ensures.obeying
+pub events_happen-requires-clause-own : goal.events_happen-requires-clause-own
+events_happen-requires-clause-own c =
+    let placed = placed_shape c.in_ok-placed.placed in
+    own_in_first c.fits_laws.ensures.own_at_start c.in_ok-code.code placed.source.file.hosts _ _ c.in_ok-script.script
+    (world_of c.in_ok-first.first) c.events.result.now
+    (code_hosts placed c.in_ok-code.code c.in_ok-code.ensures) c.in_ok-first.ensures.start c.bad-bad.ensures
+    c.events.ensures c.in_ok-script.ensures.own
 
 pub returns-in_err-placed : goal.returns-in_err-placed
 returns-in_err-placed c = λ names others p h e loaded_p loaded_h loaded_e.

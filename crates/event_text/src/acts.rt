@@ -1,0 +1,207 @@
+//! What a misbehaving host sends, as scripts say it.
+
+ghost use Rattle.std.specs.Prelude.{◌≡◌, ◌≤◌, ◌<◌, length, Some};
+ghost use Rattle.event_text.specs.Lines.{words};
+ghost use Rattle.event_text.specs.Parts.{parts, colon};
+ghost use Rattle.event_text.specs.Acts.{among, own_in, token_of, get_of, set_of, forward_of, sync_of, rgoto_of};
+ghost use Rattle.event_text.specs.Acts.{lgoto_of, value_of, ack_of, answer_of, message_of};
+
+use crate::event::{BadMessage, BadToken};
+use crate::numbers::{number, signed};
+use crate::parts::{
+    cut, entry_of, field_of, frame_of, host_named, one_part, request_of, variable_of,
+};
+use crate::words::{first_word, four_words, one_word, three_words, two_words};
+use capability::{TAG_BYTES, Token};
+use host_code::{Code, CodeHost};
+use js_base::HostId;
+use js_base::bits::has_bit;
+use js_base::limits::HOSTS;
+
+/// The message that the words of a line say. Bit h of the word says that host h misbehaves.
+pub fn message_of(code: &Code, bad: u16, line: &[u8]) -> Option<BadMessage>
+    ensures { result ≡ message_of code.now bad (words line.now) }
+{
+    let (kind, operands) = first_word(line)?;
+    if kind == b"get".as_slice() {
+        get_of(code, operands)
+    } else if kind == b"set".as_slice() {
+        set_of(code, operands)
+    } else if kind == b"forward".as_slice() {
+        forward_of(code, operands)
+    } else if kind == b"sync".as_slice() {
+        sync_of(code, bad, operands)
+    } else if kind == b"rgoto".as_slice() {
+        rgoto_of(code, bad, operands)
+    } else if kind == b"lgoto".as_slice() {
+        lgoto_of(code, bad, operands)
+    } else if kind == b"value".as_slice() {
+        value_of(operands)
+    } else if kind == b"ack".as_slice() {
+        ack_of(operands)
+    } else if kind == b"token".as_slice() {
+        answer_of(code, bad, operands)
+    } else {
+        None
+    }
+}
+
+fn get_of(code: &Code, operands: &[u8]) -> Option<BadMessage>
+    ensures { result ≡ get_of code.now (words operands.now) }
+{
+    let (request, field, index) = three_words(operands)?;
+    let request = request_of(request)?;
+    let field = field_of(code.fields(), field)?;
+    let index = signed(index)?;
+    Some(BadMessage::Get {
+        request,
+        field,
+        index,
+    })
+}
+
+fn set_of(code: &Code, operands: &[u8]) -> Option<BadMessage>
+    ensures { result ≡ set_of code.now (words operands.now) }
+{
+    let (request, field, index, value) = four_words(operands)?;
+    let request = request_of(request)?;
+    let field = field_of(code.fields(), field)?;
+    let index = signed(index)?;
+    let value = signed(value)?;
+    Some(BadMessage::Set {
+        request,
+        field,
+        index,
+        value,
+    })
+}
+
+fn forward_of(code: &Code, operands: &[u8]) -> Option<BadMessage>
+    ensures { result ≡ forward_of code.now (words operands.now) }
+{
+    let (request, frame, var, value) = four_words(operands)?;
+    let request = request_of(request)?;
+    let frame = frame_of(frame)?;
+    let var = variable_of(code.vars(), var)?;
+    let value = signed(value)?;
+    Some(BadMessage::Forward {
+        request,
+        frame,
+        var,
+        value,
+    })
+}
+
+fn sync_of(code: &Code, bad: u16, operands: &[u8]) -> Option<BadMessage>
+    ensures { result ≡ sync_of code.now bad (words operands.now) }
+{
+    let (request, frame, entry, token) = four_words(operands)?;
+    let request = request_of(request)?;
+    let frame = frame_of(frame)?;
+    let entry = entry_of(entry)?;
+    let token = token_of(code.hosts(), bad, token)?;
+    Some(BadMessage::Sync {
+        request,
+        frame,
+        entry,
+        token,
+    })
+}
+
+fn rgoto_of(code: &Code, bad: u16, operands: &[u8]) -> Option<BadMessage>
+    ensures { result ≡ rgoto_of code.now bad (words operands.now) }
+{
+    let (frame, entry, token) = three_words(operands)?;
+    let frame = frame_of(frame)?;
+    let entry = entry_of(entry)?;
+    let token = token_of(code.hosts(), bad, token)?;
+    Some(BadMessage::Rgoto {
+        frame,
+        entry,
+        token,
+    })
+}
+
+fn lgoto_of(code: &Code, bad: u16, operands: &[u8]) -> Option<BadMessage>
+    ensures { result ≡ lgoto_of code.now bad (words operands.now) }
+{
+    let token = one_word(operands)?;
+    let token = token_of(code.hosts(), bad, token)?;
+    Some(BadMessage::Lgoto { token })
+}
+
+fn value_of(operands: &[u8]) -> Option<BadMessage>
+    ensures { result ≡ value_of (words operands.now) }
+{
+    let (request, value) = two_words(operands)?;
+    let request = request_of(request)?;
+    let value = signed(value)?;
+    Some(BadMessage::Value { request, value })
+}
+
+fn ack_of(operands: &[u8]) -> Option<BadMessage>
+    ensures { result ≡ ack_of (words operands.now) }
+{
+    let request = one_word(operands)?;
+    let request = request_of(request)?;
+    Some(BadMessage::Ack { request })
+}
+
+fn answer_of(code: &Code, bad: u16, operands: &[u8]) -> Option<BadMessage>
+    ensures { result ≡ answer_of code.now bad (words operands.now) }
+{
+    let (request, token) = two_words(operands)?;
+    let request = request_of(request)?;
+    let token = token_of(code.hosts(), bad, token)?;
+    Some(BadMessage::Token { request, token })
+}
+
+/// The token that a word writes.
+fn token_of(hosts: &[CodeHost], bad: u16, word: &[u8]) -> Option<BadToken>
+    requires { length hosts.now ≤ HOSTS }
+    ensures { result ≡ token_of hosts.now bad word.now }
+{
+    match word {
+        [] => None,
+        [b'#', digits @ ..] => Some(BadToken::Sent(number(digits)?)),
+        _ => own_token(hosts, bad, word),
+    }
+}
+
+/// The token of a misbehaving host that a word writes.
+fn own_token(hosts: &[CodeHost], bad: u16, word: &[u8]) -> Option<BadToken>
+    requires { length hosts.now ≤ HOSTS }
+    ensures { result ≡ own_in hosts.now bad (parts colon word.now) }
+{
+    let (mark, rest) = cut(word, b':')?;
+    if mark != b"own".as_slice() {
+        return None;
+    }
+    let (host, rest) = cut(rest, b':')?;
+    let (frame, rest) = cut(rest, b':')?;
+    let (entry, rest) = cut(rest, b':')?;
+    let serial = one_part(rest, b':')?;
+    let host = among(bad, host_named(hosts, host)?)?;
+    let frame = frame_of(frame)?;
+    let entry = entry_of(entry)?;
+    let serial = number(serial)?;
+    Some(BadToken::Own(Token {
+        host,
+        frame,
+        entry,
+        serial,
+        tag: [0; TAG_BYTES],
+    }))
+}
+
+/// The host where it misbehaves.
+fn among(bad: u16, host: HostId) -> Option<HostId>
+    requires { host.0 < HOSTS }
+    ensures { result ≡ among bad (Some host) }
+{
+    if has_bit(bad as u64, host.0) {
+        Some(host)
+    } else {
+        None
+    }
+}
