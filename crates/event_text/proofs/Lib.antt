@@ -6,4 +6,8 @@ pub mod Naming
 pub mod Outcomes
 pub mod OwnTokens
 pub mod Rows
+pub mod SaidAgain
+pub mod SaidNumbers
+pub mod SaidParts
+pub mod SaidWords
 pub mod Told

@@ -1,4 +1,5 @@
 pub mod Acts
+pub mod EventText
 pub mod Events
 pub mod Lines
 pub mod Misbehaving

@@ -6,8 +6,12 @@ ghost use Rattle.std.specs.List.{list_any};
 ghost use Rattle.js_base.specs.declared.ids.HostId.{HostId};
 ghost use Rattle.jif_tree.specs.declared.program.Field.{Field};
 ghost use Rattle.host_code.specs.Code.{CodeShape};
+ghost use Rattle.event_text.specs.declared.event.Event.{Event};
 ghost use Rattle.event_text.specs.declared.script.EventsError.{EventsError};
 ghost use Rattle.event_text.specs.declared.script.EventsError.TheVariants.{OutOfMemory};
+ghost use Rattle.event_text.specs.Events.{event_of};
+ghost use Rattle.event_text.specs.EventText.{IsSaid, event_text};
+ghost use Rattle.event_text.specs.Lines.{words};
 ghost use Rattle.event_text.specs.Misbehaving.{with_hosts};
 ghost use Rattle.event_text.specs.Script.{ScriptShape, script_of, EventsFail};
 ghost use Rattle.event_text.specs.Start.{start_of, StartFails};
@@ -25,6 +29,10 @@ pub fn script_laws()
     ensures some_start { (fields : List Field) (bytes : List ℕ) →
         ((start : List (List ℤ)) × (length bytes ≤ SCRIPT_BYTES) × (start_of fields bytes ≡ Ok start))
         ⊎ ((why : EventsError) × (why ≢ OutOfMemory) × StartFails fields bytes why) }
+
+    // An event that some line says is said by the line that it is printed as, as long as the same hosts misbehave.
+    ensures said_again { (code : CodeShape) (bad : ℕ) (event : Event) → IsSaid code bad event →
+        event_of code bad (words (event_text code event)) ≡ Some event }
 
     // The bits that are set are those of the hosts that the lines name.
     ensures bad_bits { (hosts : List HostId) (number : ℕ) →

@@ -4,6 +4,7 @@
 mod acts;
 mod event;
 mod event_lines;
+mod event_texts;
 mod laws;
 mod lines;
 mod misbehaving;
@@ -15,6 +16,7 @@ mod start;
 mod words;
 
 pub use event::{BadMessage, BadToken, Event};
+pub use event_texts::event_line;
 pub use laws::script_laws;
 pub use script::{EventsError, Script, read_events};
 pub use start::read_start;

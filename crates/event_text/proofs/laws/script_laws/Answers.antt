@@ -1,11 +1,13 @@
 use Rattle.event_text.proofs.BadBits.{bad_bits}
 use Rattle.event_text.proofs.Outcomes.{some_script, some_start, script_line, start_line}
+use Rattle.event_text.proofs.SaidAgain.{said_again}
 use Rattle.event_text.proofs.laws.script_laws.Goals as goal
 
 pub returns : goal.returns
 returns c = record {
   some_script = some_script;
   some_start = some_start;
+  said_again = λ code bad event said. said_again code bad said.0 event said.1;
   bad_bits = bad_bits;
   script_line = script_line;
   start_line = start_line;
