@@ -2,53 +2,22 @@
 use Rattle.std.proofs.Common.{ap, ◌∙◌, refl, ◌≡◌, ℕ, suc, ℤ, List, [], ◌∷◌, get_or, sym, subst, arith}
 use Rattle.std.specs.Prelude.{⊤, ◌++◌, ◌+◌, ◌<◌, ◌==◌, zero, Bool, true, false, Some, None, if◌then◌else◌, length}
 use Rattle.std.specs.Prelude.{slice_get}
-use Rattle.std.specs.Prelude.{All, IsTrue}
+use Rattle.std.specs.Prelude.{All}
 use Rattle.std.specs.Int.{bit_at}
 use Rattle.std.proofs.lemmas.List.{length-map}
 use Rattle.std.proofs.lemmas.List.Elements.{All-push}
 use Rattle.js_base.specs.declared.ids.HostId.{HostId}
 use Rattle.host_decl.specs.Hosts as declared_hosts
-use Rattle.event_text.specs.declared.event.BadToken.{BadToken}
-use Rattle.event_text.specs.declared.event.BadToken.TheVariants.{Sent, Own}
-use Rattle.event_text.specs.declared.event.BadMessage.{BadMessage}
-use Rattle.event_text.specs.declared.event.BadMessage.TheVariants as bad
 use Rattle.event_text.specs.declared.event.Event.{Event}
-use Rattle.event_text.specs.declared.event.Event.TheVariants.{Take, Turn, Act}
 use Rattle.host_code.specs.Code.{CodeShape}
 use Rattle.host_code.specs.Sound.{IsHost, IsSoundCode}
 use Rattle.host_core.specs.Start.{host_at_start}
-use Rattle.net_world.specs.Fits.{ShapeFits, HasOwnToken, OwnToken, OwnTokenIn}
+use Rattle.net_world.specs.Fits.{ShapeFits, HasOwnToken}
 use Rattle.net_world.specs.World.{WorldShape, IsStep, IsRun, is_absent, misbehaves, named_host, hosts_before}
 use Rattle.net_world.specs.World.{world_at_start}
-use Rattle.net_world.proofs.Shapes.{shape_at_start, shape_step}
+use Rattle.net_world.proofs.Shapes.{shape_at_start, shape_step, own_kept}
 use Rattle.net_world.proofs.StepLaws.{same_misbehave, joined}
 use Rattle.token_laws.specs.Reached.{IsReached}
-
--- ---- a misbehaving host's own tokens stay its own
-
-token_kept : (world after : WorldShape) (token : BadToken) →
-    ((host : HostId) → misbehaves after host ≡ misbehaves world host) → OwnToken world token → OwnToken after token
-token_kept world after (Sent number) same own = own
-token_kept world after (Own token) same own = subst IsTrue (sym (same token.host)) own
-
-message_kept : (world after : WorldShape) (made : BadMessage) →
-    ((host : HostId) → misbehaves after host ≡ misbehaves world host) → OwnTokenIn world made → OwnTokenIn after made
-message_kept world after (bad.Sync request frame entry token) same own = token_kept world after token same own
-message_kept world after (bad.Rgoto frame entry token) same own = token_kept world after token same own
-message_kept world after (bad.Lgoto token) same own = token_kept world after token same own
-message_kept world after (bad.Token request token) same own = token_kept world after token same own
-message_kept world after (bad.Get request field index) same own = tt
-message_kept world after (bad.Set request field index value) same own = tt
-message_kept world after (bad.Forward request frame variable value) same own = tt
-message_kept world after (bad.Value request value) same own = tt
-message_kept world after (bad.Ack request) same own = tt
-
-event_kept : (world after : WorldShape) (event : Event) →
-    ((host : HostId) → misbehaves after host ≡ misbehaves world host) → HasOwnToken world event →
-    HasOwnToken after event
-event_kept world after (Take from to place) same own = tt
-event_kept world after (Turn host) same own = tt
-event_kept world after (Act from to made) same own = message_kept world after made same own
 
 -- ---- along events
 
@@ -64,7 +33,7 @@ walk code Q P sound kept [] world after fits own each holds ran = subst (λ w. S
 walk code Q P sound kept (event ∷ events) world after fits own each holds ran =
     let first = own 0 event (omega arith) in
     walk code Q P sound kept events ran.0 after (shape_step code world ran.0 event sound fits first ran.1)
-    (λ k d lt. event_kept world ran.0 (get_or events k d)
+    (λ k d lt. own_kept world ran.0 (get_or events k d)
     (λ host. same_misbehave code world ran.0 event host ran.1) (own (suc k) d (omega arith)))
     (λ k d lt. each (suc k) d (omega arith))
     (kept world ran.0 event fits first (each 0 event (omega arith)) ran.1 holds) ran.2
@@ -117,7 +86,7 @@ pub own_there : (code : CodeShape) (rows : List declared_hosts.HostShape) (bad :
     (events : List Event) (world : WorldShape) (event : Event) → IsReached code rows bad store events world →
     HasOwnToken (world_at_start code rows bad store) event → HasOwnToken world event
 own_there code rows bad store events world event reach own =
-    event_kept (world_at_start code rows bad store) world event (same_bad code rows bad store events world reach) own
+    own_kept (world_at_start code rows bad store) world event (same_bad code rows bad store events world reach) own
 
 pub one_more : (code : CodeShape) (rows : List declared_hosts.HostShape) (bad : ℕ) (store : List (List ℤ))
     (events : List Event) (world after : WorldShape) (event : Event) → IsReached code rows bad store events world →
