@@ -59,7 +59,7 @@ use Rattle.split_rules.proofs.TrustedNeeds.{head_needed}
 -- ---- lists
 
 -- what all items are, that at a place is
-all_there : {X : Type 0} (P : X → Type 0) (xs : List X) → AllByRecursion P xs → (place : ℕ) (x : X) →
+pub all_there : {X : Type 0} (P : X → Type 0) (xs : List X) → AllByRecursion P xs → (place : ℕ) (x : X) →
     slice_get xs place ≡ Some x → P x
 all_there P [] all place x is = absurd (nothing_there place x is)
 all_there P (first ∷ xs) all zero x is = let same : first ≡ x = cc in subst P same all.0

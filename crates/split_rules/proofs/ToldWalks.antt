@@ -88,7 +88,7 @@ and_second : (b c : Bool) → (b && c) ≡ true → c ≡ true
 and_second true c is = is
 and_second false c is = absurd (cc)
 
-abbrev AreReaders : PlannedShape → Label → List HostId → Type 0
+abbrev pub AreReaders : PlannedShape → Label → List HostId → Type 0
 AreReaders planned pc hosts = AllByRecursion (λ to. Sees planned to pc) hosts
 
 chosen_see : (planned : PlannedShape) (pc : Label) (test : ℕ → Bool) (numbers : List ℕ) →
@@ -105,7 +105,7 @@ chosen_see planned pc test (one ∷ numbers) see =
     by true sees others = (sees refl, others)
     by false sees others = others
 
-readers_see : (planned : PlannedShape) (pc : Label) (host : HostId) (x : VarId) → ReadersSee planned pc x →
+pub readers_see : (planned : PlannedShape) (pc : Label) (host : HostId) (x : VarId) → ReadersSee planned pc x →
     AreReaders planned pc (other_readers planned host x)
 readers_see planned pc host x see =
     chosen_see planned pc (is_other_reader planned host x)
@@ -237,7 +237,7 @@ answers_quiet walked named host pc statement value well = by walked.setting.resu
 -- ---- statements of a block
 
 -- the hosts of the statements of a block may see its program label
-statements_see : (labelled : Labelled) (planned : PlannedShape) (setting : _) (pc : Label) (block : BlockTree) →
+pub statements_see : (labelled : Labelled) (planned : PlannedShape) (setting : _) (pc : Label) (block : BlockTree) →
     BlockTellsWell labelled planned setting pc block → AllSee planned pc (own_statements block)
 statements_see labelled planned setting pc done well = tt
 statements_see labelled planned setting pc (set_local heading x value rest) well =
