@@ -1,0 +1,4 @@
+pub mod BasisLabels
+pub mod KeptValues
+pub mod FlowingBlocks
+pub mod FlowingPrograms
