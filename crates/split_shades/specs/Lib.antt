@@ -1,2 +1,4 @@
 pub mod Basis
 pub mod Flows
+pub mod Shades
+pub mod Shading

@@ -1,0 +1,308 @@
+-- What each instruction asks of the shade of its place, and what is ahead behind it. The laws speak of one instruction
+-- and of the entries that it names.
+use Rattle.std.specs.Prelude.{◌≡◌, ◌⊎◌, ℕ, Bool, true, false, List, [], ◌∷◌, ◌++◌, map, length, Option, Some, None}
+use Rattle.std.specs.Prelude.{IfSome, slice_get}
+use Rattle.js_base.specs.declared.ids.HostId.{HostId}
+use Rattle.js_base.specs.declared.ids.FieldId.{FieldId}
+use Rattle.js_base.specs.declared.ids.VarId.{VarId}
+use Rattle.js_base.specs.declared.ids.MethodId.{MethodId}
+use Rattle.label_lattice.specs.declared.label.Label.{Label}
+use Rattle.label_lattice.specs.Label.{ConfFlows}
+use Rattle.jif_tree.specs.Trees.{ExprTree}
+use Rattle.jif_tree.specs.LabelRules.{field_label}
+use Rattle.host_code.specs.declared.code_expr.Node.{Node}
+use Rattle.host_code.specs.declared.instruction.Op.{Op}
+use Rattle.host_code.specs.declared.instruction.Op.TheVariants as op
+use Rattle.need_labels.specs.Needs.{label_of}
+use Rattle.need_labels.specs.Plan.{field_host}
+use Rattle.msg_cost.specs.Moves.{PlannedShape}
+use Rattle.split_rules.specs.Emissions.{Emission, Emitted, Named, instruction, entry, stands, lands}
+use Rattle.split_rules.specs.Expressions.{reads_in, nodes_of}
+use Rattle.split_rules.specs.Positions.{Level, body, under, FieldRead, field_reads}
+use Rattle.split_shades.specs.Basis.{Basis, value_label, read_label}
+use Rattle.split_shades.specs.Flows.{IsSeenOn, ValueFlows}
+use Rattle.split_shades.specs.Shades.{Shade, EntryShade, Begun, Ahead, calm_ahead, Meets, ahead_of, released_by}
+use Rattle.split_shades.specs.Shades.{level_entry}
+
+-- ---- what is given
+
+-- a program with its labels and its plan, the program labels of its calls by their sites, and whether it may release
+pub record Scene : Type 0 where
+  pub basis : Basis
+  pub planned : PlannedShape
+  pub sites : List Label
+  pub may_release : Bool
+
+-- what the temporaries tell that hold what a value reads
+abbrev pub reads_tell : Scene → Label → ExprTree → List Label
+reads_tell scene pc value = map (read_label scene.basis pc) (field_reads value)
+
+-- ---- levels
+
+-- The token of a level is of an entry with this label.
+abbrev pub IsLevelOf : List EntryShade → Level → Label → Type 0
+IsLevelOf entries level label =
+    (it : EntryShade) × (slice_get entries (level_entry level) ≡ Some it) × (it.label ≡ label)
+
+-- a program label flows to that of the entry whose token is held
+abbrev pub IsBelow : List EntryShade → Level → Label → Type 0
+IsBelow entries level block = (label : Label) × IsLevelOf entries level label × ConfFlows block label
+
+-- ---- values
+
+-- the nodes of a value over all temporaries, which hold what it reads
+pub record IsValue (scene : Scene) (here : Shade) (value : ExprTree) (nodes : List Node) : Type 0 where
+  pub temps : here.temps ≡ reads_tell scene here.pc value
+  pub nodes_are : nodes ≡ nodes_of 0 value
+  pub releases : here.released ≡ released_by 0 value
+
+-- a value is kept under a label
+pub record Keeps (scene : Scene) (here : Shade) (nodes : List Node) (label : Label) : Type 0 where
+  pub value : ExprTree
+  pub is_value : IsValue scene here value nodes
+  pub flows : ValueFlows scene.basis scene.planned here.pc value label
+
+-- an element is read by an index over the last temporaries
+pub record Reads (scene : Scene) (here : Shade) (field : FieldId) (nodes : List Node) (next : Ahead) : Type 0 where
+  pub index : ExprTree
+  pub before : List Label
+  pub temps : here.temps ≡ before ++ reads_tell scene here.pc index
+  pub nodes_are : nodes ≡ nodes_of (length before) index
+  pub releases : here.released ≡ released_by (length before) index
+  pub told : IsSeenOn scene.planned (field_host scene.planned.plan field) here.pc
+  pub index_told : IsSeenOn scene.planned (field_host scene.planned.plan field)
+      (value_label scene.basis here.pc index)
+  pub goes : next ≡ record {
+    level = here.level;
+    block = here.block;
+    temps = here.temps ++ read_label scene.basis here.pc (record { field = field; index = index }) ∷ [];
+    calls = here.calls;
+    begun = Some (record { pc = here.pc; guard = here.guard });
+  }
+
+-- the index is over the first temporaries, and the value over those behind them
+pub record Stores (scene : Scene) (here : Shade) (field : FieldId) (at nodes : List Node) : Type 0 where
+  pub index : ExprTree
+  pub value : ExprTree
+  pub temps : here.temps ≡ reads_tell scene here.pc index ++ reads_tell scene here.pc value
+  pub index_is : at ≡ nodes_of 0 index
+  pub nodes_are : nodes ≡ nodes_of (reads_in index) value
+  pub releases : here.released ≡ released_by 0 index ++ released_by (reads_in index) value
+  pub index_flows : ValueFlows scene.basis scene.planned here.pc index (field_label scene.basis.labelled.program field)
+  pub flows : ValueFlows scene.basis scene.planned here.pc value (field_label scene.basis.labelled.program field)
+  pub told : IsSeenOn scene.planned (field_host scene.planned.plan field) here.pc
+
+-- Nothing was read, and nothing is released.
+abbrev pub IsPlain : Shade → Type 0
+IsPlain here = (here.temps ≡ []) × (here.released ≡ [])
+
+-- a variable to which the program label flows is sent to a host that may see it
+abbrev pub Sends : Scene → Shade → VarId → HostId → Type 0
+Sends scene here x to = IsPlain here × (here.guard ≡ None) × ConfFlows here.pc (label_of scene.basis.labelled x)
+    × IsSeenOn scene.planned to (label_of scene.basis.labelled x)
+
+-- ---- pushes
+
+-- An entry is pushed by instructions of one program label. It stands in the block of the instruction that pushes it, and
+-- under the same token.
+pub record Names (entries : List EntryShade) (here : Shade) (number : ℕ) : Type 0 where
+  pub it : EntryShade
+  pub is : slice_get entries number ≡ Some it
+  pub level : it.level ≡ here.level
+  pub block : it.block ≡ here.block
+  pub pushed : it.pushed ≡ Some here.pc
+
+-- Behind the push of an entry its token is held. Behind a guard a loop pushes the entry that stands there, and its body has the program label of the guard.
+abbrev pub PushesAt : Option ℕ → List EntryShade → Shade → ℕ → Ahead → Type 0
+PushesAt None entries here number next =
+    Names entries here number × (next ≡ calm_ahead (under number) here.block)
+PushesAt (Some guard) entries here number next =
+    (names : Names entries here number)
+    × (names.it.begun ≡ Some (record { pc = here.pc; guard = Some guard }))
+    × (next ≡ calm_ahead (under number) here.pc)
+
+-- The entry behind a call is pushed by a host that may see the begin label of the method, with whose token it then goes
+-- on until the method is entered.
+pub record PushesCall (scene : Scene) (entries : List EntryShade) (me : HostId) (here : Shade) (number : ℕ)
+    (next : Ahead) : Type 0 where
+  pub names : Names entries here number
+  pub method : MethodId
+  pub begin : Label
+  pub is_begin : IsLevelOf entries (body method) begin
+  pub sees : IsSeenOn scene.planned me begin
+  pub no_guard : here.guard ≡ None
+  pub goes : next ≡ record { level = body method; block = here.block; temps = []; calls = true; begun = None }
+
+abbrev pub Pushes : Scene → List EntryShade → HostId → Bool → Shade → ℕ → Ahead → Type 0
+Pushes scene entries me false here number next = PushesAt here.guard entries here number next
+Pushes scene entries me true here number next = PushesCall scene entries me here number next
+
+-- ---- instructions
+
+-- what is ahead behind a statement of the block, or behind a part of a call
+abbrev pub behind : Shade → Bool → Ahead
+behind here calls =
+    record { level = here.level; block = here.block; temps = []; calls = calls; begun = None }
+
+-- An instruction of a host behind which the host goes on.
+abbrev pub Follows : Scene → List EntryShade → HostId → Shade → Op → Ahead → Type 0
+Follows scene entries me here (op.Read field index) next = Reads scene here field index next
+Follows scene entries me here (op.Let x value) next =
+    (here.calls ≡ false) × (here.guard ≡ None) × Keeps scene here value (label_of scene.basis.labelled x)
+    × (next ≡ behind here false)
+Follows scene entries me here (op.Put field index value) next =
+    (here.calls ≡ false) × (here.guard ≡ None) × Stores scene here field index value × (next ≡ behind here false)
+Follows scene entries me here (op.Send x to) next =
+    (here.calls ≡ false) × Sends scene here x to × (next ≡ behind here false)
+Follows scene entries me here (op.Frame site) next =
+    (here.calls ≡ false) × (here.guard ≡ None) × IsPlain here × (slice_get scene.sites site.0 ≡ Some here.pc)
+    × (next ≡ behind here true)
+Follows scene entries me here (op.Arg x value) next =
+    (here.calls ≡ true) × (here.guard ≡ None) × Keeps scene here value (label_of scene.basis.labelled x)
+    × (next ≡ behind here true)
+Follows scene entries me here (op.Pass x to) next =
+    (here.calls ≡ true) × Sends scene here x to × (next ≡ behind here true)
+Follows scene entries me here (op.Push there) next =
+    IsPlain here × Pushes scene entries me here.calls here there.0 next
+Follows scene entries me here (op.Ask there on) next =
+    IsPlain here × (here.calls ≡ false) × (here.guard ≡ None) × PushesAt None entries here there.0 next
+    × IsSeenOn scene.planned on here.pc
+Follows scene entries me here (op.Ret x value) next =
+    (here.calls ≡ false) × (here.guard ≡ None) × Keeps scene here value (label_of scene.basis.labelled x)
+    × (next ≡ behind here false)
+Follows scene entries me here other next = ⊥
+
+-- A branch goes on at the next place where its guard holds, and otherwise at its target. Both blocks of a branch have
+-- the program label to which its guard flows. The guard of a loop flows to its own program label.
+abbrev pub Divides : Scene → Shade → List Node → Option ℕ → Ahead → Ahead → Type 0
+Divides scene here nodes None next target =
+    Keeps scene here nodes next.block × (next ≡ calm_ahead here.level next.block) × (target ≡ next)
+Divides scene here nodes (Some guard) next target =
+    Keeps scene here nodes here.pc × (next ≡ record {
+      level = here.level;
+      block = here.block;
+      temps = [];
+      calls = false;
+      begun = Some (record { pc = here.pc; guard = Some guard });
+    }) × (target ≡ calm_ahead here.level here.block)
+
+-- An entry is gone to that stands in the same block, under the same token.
+pub record HandsOn (entries : List EntryShade) (here : Shade) (number : ℕ) : Type 0 where
+  pub it : EntryShade
+  pub is : slice_get entries number ≡ Some it
+  pub level : it.level ≡ here.level
+  pub block : it.block ≡ here.block
+
+-- A method is entered with whose token it goes on since the push of what is behind the call.
+pub record Enters (entries : List EntryShade) (here : Shade) (number : ℕ) : Type 0 where
+  pub method : MethodId
+  pub is_level : here.level ≡ body method
+  pub is_number : number ≡ level_entry (body method)
+  pub it : EntryShade
+  pub is : slice_get entries number ≡ Some it
+  pub level : it.level ≡ body method
+  pub block : it.block ≡ it.label
+  pub below : ConfFlows here.block it.block
+
+-- An instruction behind which the thread ends.
+abbrev pub Ends : Scene → List EntryShade → Shade → Op → Type 0
+Ends scene entries here (op.Go there on) =
+    IsPlain here × (here.calls ≡ false) × (here.guard ≡ None) × HandsOn entries here there.0
+    × IsSeenOn scene.planned on here.pc
+Ends scene entries here (op.Call there on) =
+    IsPlain here × (here.calls ≡ true) × (here.guard ≡ None) × Enters entries here there.0
+    × IsSeenOn scene.planned on here.pc
+Ends scene entries here op.Back = IsPlain here × (here.calls ≡ false) × (here.guard ≡ None)
+Ends scene entries here other = ⊥
+
+-- ---- each place
+
+-- outside of guards an instruction has the program label of its block, and in one that of the loop
+abbrev pub IsUnderBlock : Option ℕ → Label → Label → Type 0
+IsUnderBlock None block pc = pc ≡ block
+IsUnderBlock (Some guard) block pc = ConfFlows block pc
+
+pub record IsShade (scene : Scene) (entries : List EntryShade) (here : Shade) : Type 0 where
+  pub under_block : IsUnderBlock here.guard here.block here.pc
+  pub below : IsBelow entries here.level here.block
+  pub silent : scene.may_release ≡ false → here.released ≡ []
+
+-- Whose token is held where an entry stands, the block there and who pushes it, all flow to its label, which its host may
+-- see where it is pushed.
+pub record IsEntryShade (scene : Scene) (entries : List EntryShade) (host : HostId) (it : EntryShade) : Type 0 where
+  pub level : (label : Label) × IsLevelOf entries it.level label × ConfFlows it.block label × ConfFlows label it.label
+  pub pushed : IfSome it.pushed (λ pc. ConfFlows pc it.label)
+  pub seen : IsSeenOn scene.planned host it.label
+
+-- ---- emissions
+
+-- Where a walk goes on.
+pub data Place : Type 0 where
+  nowhere : Place
+  here : HostId → Ahead → Place
+
+-- what is known at a place of a walk: the entries so far, by their numbers, and what is ahead where branches lead
+pub record Known : Type 0 where
+  pub place : Place
+  pub entries : List EntryShade
+  pub branches : List Ahead
+
+abbrev pub known_at : Place → List EntryShade → List Ahead → Known
+known_at place entries branches = record { place = place; entries = entries; branches = branches }
+
+abbrev pub with_place : Known → Place → Known
+with_place known place = known_at place known.entries known.branches
+
+abbrev pub ShadedOp : Scene → Known → HostId → Shade → Op → Known → Type 0
+ShadedOp scene known me shade (op.Branch guard number) after =
+    (next : Ahead) × (target : Ahead) × (number ≡ length known.branches) × (shade.calls ≡ false)
+    × IfSome shade.guard (λ own. own ≡ number)
+    × Divides scene shade guard shade.guard next target
+    × (after ≡ known_at (here me next) known.entries (known.branches ++ target ∷ []))
+ShadedOp scene known me shade (op.Go there on) after =
+    Ends scene known.entries shade (op.Go there on) × (after ≡ with_place known nowhere)
+ShadedOp scene known me shade (op.Call there on) after =
+    Ends scene known.entries shade (op.Call there on) × (after ≡ with_place known nowhere)
+ShadedOp scene known me shade op.Back after =
+    Ends scene known.entries shade op.Back × (after ≡ with_place known nowhere)
+ShadedOp scene known me shade other after =
+    (next : Ahead) × Follows scene known.entries me shade other next × (after ≡ with_place known (here me next))
+
+-- the shade of the place of an instruction
+pub record IsShaded (scene : Scene) (known : Known) (one : Emitted) (after : Known) : Type 0 where
+  pub shade : Shade
+  pub ahead : Ahead
+  pub is_here : known.place ≡ here one.host ahead
+  pub meets : Meets ahead shade
+  pub label_is : shade.pc ≡ one.label
+  pub is_shade : IsShade scene known.entries shade
+  pub law : ShadedOp scene known one.host shade one.op after
+
+-- where an entry stands a statement may begin, or the guard of its loop
+abbrev pub no_begun : Ahead → Ahead
+no_begun ahead = record {
+  level = ahead.level;
+  block = ahead.block;
+  temps = ahead.temps;
+  calls = ahead.calls;
+  begun = None;
+}
+
+abbrev pub Shaded : Scene → Known → Emission → Known → Type 0
+Shaded scene known (instruction one) after = IsShaded scene known one after
+Shaded scene known (entry named) after =
+    (own : EntryShade) × (own.label ≡ named.label) × IsEntryShade scene known.entries named.host own
+    × (after ≡ known_at known.place (known.entries ++ own ∷ []) known.branches)
+Shaded scene known (stands host number) after =
+    (own : EntryShade) × (slice_get known.entries number ≡ Some own)
+    × ((known.place ≡ nowhere) ⊎ (known.place ≡ here host (no_begun (ahead_of own))))
+    × (after ≡ with_place known (here host (ahead_of own)))
+Shaded scene known (lands host number) after =
+    (target : Ahead) × (slice_get known.branches number ≡ Some target) × (known.place ≡ nowhere)
+    × (after ≡ with_place known (here host target))
+
+-- emissions from one place of a walk to another
+abbrev pub AreShaded : Scene → Known → List Emission → Known → Type 0
+AreShaded scene first [] last = first ≡ last
+AreShaded scene first (emission ∷ others) last =
+    (middle : Known) × Shaded scene first emission middle × AreShaded scene middle others last
