@@ -16,7 +16,7 @@ use Rattle.jif_tree.specs.LabelRules.{labels_after_assignment, declared_labels, 
 use Rattle.jif_tree.specs.LabelRules.{begin_label}
 use Rattle.jif_tree.specs.Labelling.{IsLabelled, IsLabelledIfAny, AreLabelled}
 use Rattle.jif_tree.specs.ValueLabels.{IsExprLabelled, AreValuesLabelled}
-use Rattle.jif_tree.specs.WellNumbered.{IsExprIn, IsBlockIn}
+use Rattle.jif_tree.specs.WellNumbered.{IsExprIn, IsBlockIn, is_some}
 use Rattle.jif_tree.proofs.LabelsKept.{Stay, stay_then, assignment_stays, block_stays, assigned_labelled}
 use Rattle.need_labels.specs.Labelled.{Labelled, pc_of, all_labels}
 use Rattle.need_labels.specs.Needs.{block_uses, tellings_in, label_of, labels_of, kept_result}
@@ -126,8 +126,8 @@ call_flows principals labelled planned tree results labels final are stay since 
 -- ---- blocks
 
 pub block_flows : (principals : Declared) (labelled : Labelled) (planned : PlannedShape) (tree : MethodTree) →
-    AreResultsLabelled labelled.program → (method : MethodId) (gives : Bool) (final : VariableLabels) →
-    AreFinal labelled final → (pc : Label) (labels : VariableLabels) →
+    AreResultsLabelled labelled.program → (method : MethodId) (gives : Bool) → is_some tree.result ≡ gives →
+    (final : VariableLabels) → AreFinal labelled final → (pc : Label) (labels : VariableLabels) →
     length labels ≡ length labelled.program.vars → Stay (declared_labels labelled.program) labels →
     (block : BlockTree) → let setting = setting_of principals labelled.program tree in
     Stay (labels_after setting pc labels block) final → IsBlockIn labelled.program method gives block →
@@ -136,9 +136,9 @@ pub block_flows : (principals : Declared) (labelled : Labelled) (planned : Plann
     AreLabelsKept labelled (block_labels setting pc labels block) →
     AreUsesWell labelled planned principals (block_uses labelled setting block) →
     BlockFlows (basis_of principals labelled) planned setting pc block
-block_flows principals labelled planned tree results method gives final are pc labels many since done stay there has
+block_flows principals labelled planned tree results method gives same_gives final are pc labels many since done stay there has
     values met kept uses = tt
-block_flows principals labelled planned tree results method gives final are pc labels many since
+block_flows principals labelled planned tree results method gives same_gives final are pc labels many since
     (set_local heading x value rest) stay there has values met kept uses =
     let setting = setting_of principals labelled.program tree in
     let from = expr_label setting pc labels value in
@@ -155,11 +155,11 @@ block_flows principals labelled planned tree results method gives final are pc l
           values.0 (first_indexes principals labelled planned tree method pc value [] there.1 told) from
           (variable_label after x) (label_of labelled x) (flows_self from) flows
           (sym (label_there labelled after final are later x own)),
-      block_flows principals labelled planned tree results method gives final are pc after (assigned.many ∙ many)
+      block_flows principals labelled planned tree results method gives same_gives final are pc after (assigned.many ∙ many)
           (stay_then (declared_labels labelled.program) labels after since assigned) rest stay there.2 has values.1 met.1
           kept.1 uses.1,
     )
-block_flows principals labelled planned tree results method gives final are pc labels many since
+block_flows principals labelled planned tree results method gives same_gives final are pc labels many since
     (set_field heading field value rest) stay there has values met kept uses =
     let setting = setting_of principals labelled.program tree in
     let from = expr_label setting pc labels value in
@@ -172,10 +172,10 @@ block_flows principals labelled planned tree results method gives final are pc l
       value_kept principals labelled planned tree labels final are stays pc value values.0
           (first_indexes principals labelled planned tree method pc value [] there.1 told) from to to (flows_self from)
           flows refl,
-      block_flows principals labelled planned tree results method gives final are pc labels many since rest stay there.2
+      block_flows principals labelled planned tree results method gives same_gives final are pc labels many since rest stay there.2
           has values.1 met.1 kept.1 uses.1,
     )
-block_flows principals labelled planned tree results method gives final are pc labels many since
+block_flows principals labelled planned tree results method gives same_gives final are pc labels many since
     (set_element heading field index value rest) stay there has values met kept uses =
     let setting = setting_of principals labelled.program tree in
     let first = expr_label setting pc labels index in
@@ -196,10 +196,10 @@ block_flows principals labelled planned tree results method gives final are pc l
           (first_indexes principals labelled planned tree method pc value [] there.2
           (other_tellings principals labelled planned tree pc index (value ∷ []) told)) from to to
           (flows_second first second) flows refl,
-      block_flows principals labelled planned tree results method gives final are pc labels many since rest stay there.3
+      block_flows principals labelled planned tree results method gives same_gives final are pc labels many since rest stay there.3
           has values.2 met.1 kept.1 uses.1,
     )
-block_flows principals labelled planned tree results method gives final are pc labels many since
+block_flows principals labelled planned tree results method gives same_gives final are pc labels many since
     (branch heading guard first second rest) stay there has values met kept uses =
     let setting = setting_of principals labelled.program tree in
     let declared = declared_labels labelled.program in
@@ -228,22 +228,22 @@ block_flows principals labelled planned tree results method gives final are pc l
     BlockFlows (basis_of principals labelled) planned setting it block in (
       branch_guard principals labelled planned tree pc guard
           (first_indexes principals labelled planned tree method pc guard [] there.0 told),
-      subst (Q first) same (block_flows principals labelled planned tree results method gives final are inside labels many
+      subst (Q first) same (block_flows principals labelled planned tree results method gives same_gives final are inside labels many
           since first from_second there.1 has.0 values.1 (all_first (IsMet principals) labels_one labels_two both_met)
           (all_first (IsKept labelled) labels_one labels_two both_kept)
           (all_first (IsUseWell labelled planned principals) uses_one uses_two both_uses)),
-      subst (Q second) same (block_flows principals labelled planned tree results method gives final are inside between
+      subst (Q second) same (block_flows principals labelled planned tree results method gives same_gives final are inside between
           (first_stays.many ∙ many) since_second second rest_stays there.2 has.1 values.2
           (all_second (IsMet principals) labels_one labels_two both_met)
           (all_second (IsKept labelled) labels_one labels_two both_kept)
           (all_second (IsUseWell labelled planned principals) uses_one uses_two both_uses)),
-      block_flows principals labelled planned tree results method gives final are pc behind
+      block_flows principals labelled planned tree results method gives same_gives final are pc behind
           (second_stays.many ∙ first_stays.many ∙ many) (stay_then declared between behind since_second second_stays) rest
           stay there.3 has.2 values.3 (all_second (IsMet principals) (labels_one ++ labels_two) _ met.1)
           (all_second (IsKept labelled) (labels_one ++ labels_two) _ kept.1)
           (all_second (IsUseWell labelled planned principals) (uses_one ++ uses_two) _ uses.1),
     )
-block_flows principals labelled planned tree results method gives final are pc labels many since
+block_flows principals labelled planned tree results method gives same_gives final are pc labels many since
     (loop heading guard inner rest) stay there has values met kept uses =
     let setting = setting_of principals labelled.program tree in
     let declared = declared_labels labelled.program in
@@ -264,16 +264,16 @@ block_flows principals labelled planned tree results method gives final are pc l
       flows_first pc (expr_label setting pc (all_labels labelled) guard),
       loop_guard principals labelled planned tree pc guard
           (subst Q same (first_indexes principals labelled planned tree method inside guard [] there.0 told)),
-      subst R same (block_flows principals labelled planned tree results method gives final are inside labels many since
+      subst R same (block_flows principals labelled planned tree results method gives same_gives final are inside labels many since
           inner rest_stays there.1 has.0 values.1 (all_first (IsMet principals) labels_one _ met.1)
           (all_first (IsKept labelled) labels_one _ kept.1)
           (all_first (IsUseWell labelled planned principals) uses_one _ uses.1)),
-      block_flows principals labelled planned tree results method gives final are pc behind (inner_stays.many ∙ many)
+      block_flows principals labelled planned tree results method gives same_gives final are pc behind (inner_stays.many ∙ many)
           (stay_then declared labels behind since inner_stays) rest stay there.2 has.1 values.2
           (all_second (IsMet principals) labels_one _ met.1) (all_second (IsKept labelled) labels_one _ kept.1)
           (all_second (IsUseWell labelled planned principals) uses_one _ uses.1),
     )
-block_flows principals labelled planned tree results method gives final are pc labels many since
+block_flows principals labelled planned tree results method gives same_gives final are pc labels many since
     (call heading site called arguments into rest) stay there has values met kept uses =
     let setting = setting_of principals labelled.program tree in
     let end = labels_after setting pc labels rest in
@@ -286,10 +286,10 @@ block_flows principals labelled planned tree results method gives final are pc l
       flows.begins,
       flows.arguments_flow,
       flows.result_flows,
-      block_flows principals labelled planned tree results method gives final are pc labels many since rest stay there.3
+      block_flows principals labelled planned tree results method gives same_gives final are pc labels many since rest stay there.3
           has.2 values.1 met.1 kept.1 uses.1,
     )
-block_flows principals labelled planned tree results method gives final are pc labels many since
+block_flows principals labelled planned tree results method gives same_gives final are pc labels many since
     (give_back heading value rest) stay there has values met kept uses =
     let setting = setting_of principals labelled.program tree in
     let end = labels_after setting pc labels rest in
@@ -298,7 +298,8 @@ block_flows principals labelled planned tree results method gives final are pc l
     let told = subst P kept.0 uses.0.tellings in
     let holds = all_second (Holds principals) (expr_constraints setting pc labels value) _ met.0 in (
       answer_flows principals labelled planned tree labels final are stays pc value values.0
-          (first_indexes principals labelled planned tree method pc value [] there.1 told) tree.result has.0 holds,
-      block_flows principals labelled planned tree results method gives final are pc labels many since rest stay there.2
+          (first_indexes principals labelled planned tree method pc value [] there.1 told) tree.result
+          (same_gives ∙ there.0) has.0 holds,
+      block_flows principals labelled planned tree results method gives same_gives final are pc labels many since rest stay there.2
           has.1 values.1 met.1 kept.1 uses.1,
     )

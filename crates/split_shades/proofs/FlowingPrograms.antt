@@ -49,7 +49,7 @@ methods_flow principals labelled planned results final are place (method ∷ met
     let own_uses = block_uses labelled setting method.body in
     let stays = block_stays setting method.begin labels method.body in
     let stay = subst (Stay after) end (methods_stay principals labelled.program after methods) in (
-      block_flows principals labelled planned method results (record { 0 = place }) (is_some method.result) final are
+      block_flows principals labelled planned method results (record { 0 = place }) (is_some method.result) refl final are
           method.begin labels many since method.body stay there.0.body has.0.labelled values.0
           (all_first (IsMet principals) own _ met.1) (all_first (IsKept labelled) own _ kept.1)
           (all_first (IsUseWell labelled planned principals) own_uses _ uses.1),

@@ -1,5 +1,5 @@
 -- A value of a statement flows to where the statement keeps it, with labels as they are behind the whole program.
-use Rattle.std.proofs.Common.{◌≡◌, ◌∙◌, List, [], ◌∷◌, ◌++◌, ap, sym, subst}
+use Rattle.std.proofs.Common.{◌≡◌, ◌∙◌, true, true≢false, List, [], ◌∷◌, ◌++◌, ap, sym, subst}
 use Rattle.std.specs.Prelude.{Option, Some, None, slice_get}
 use Rattle.std.specs.List.{AllByRecursion, flat_map}
 use Rattle.js_base.specs.declared.ids.VarId.{VarId}
@@ -14,7 +14,7 @@ use Rattle.jif_tree.specs.LabelRules.{MethodSetting, VariableLabels, setting_of,
 use Rattle.jif_tree.specs.LabelRules.{argument_flows, result_flows, return_flows, declared_labels}
 use Rattle.jif_tree.specs.Labelling.{IsLabelled, IsLabelledIfAny}
 use Rattle.jif_tree.specs.ValueLabels.{IsExprLabelled}
-use Rattle.jif_tree.specs.WellNumbered.{IsExprIn}
+use Rattle.jif_tree.specs.WellNumbered.{IsExprIn, is_some}
 use Rattle.jif_tree.proofs.LabelsKept.{Stay}
 use Rattle.need_labels.specs.Labelled.{Labelled, all_labels}
 use Rattle.need_labels.specs.Needs.{tellings_in, label_of}
@@ -157,12 +157,13 @@ result_flows_on principals labelled planned tree labels final are stay since pc 
 pub answer_flows : (principals : Declared) (labelled : Labelled) (planned : PlannedShape) (tree : MethodTree)
     (labels final : VariableLabels) → AreFinal labelled final → Stay labels final → (pc : Label) (value : ExprTree) →
     IsExprLabelled labels value → AreIndexesSeen (basis_of principals labelled) planned pc value →
-    (result : Option VarId) → IsLabelledIfAny labels result →
+    (result : Option VarId) → is_some result ≡ true → IsLabelledIfAny labels result →
     let from = expr_label (setting_of principals labelled.program tree) pc labels value in
     AllByRecursion (Holds principals) (return_flows pc labels result from) →
     AnswerFlows (basis_of principals labelled) planned pc result value
-answer_flows principals labelled planned tree labels final are stay pc value values indexes None has holds = indexes
-answer_flows principals labelled planned tree labels final are stay pc value values indexes (Some result) has holds =
+answer_flows principals labelled planned tree labels final are stay pc value values indexes None some has holds =
+    absurd (true≢false (sym some))
+answer_flows principals labelled planned tree labels final are stay pc value values indexes (Some result) some has holds =
     let from = expr_label (setting_of principals labelled.program tree) pc labels value in
     value_kept principals labelled planned tree labels final are stay pc value values indexes from
     (variable_label labels result) (label_of labelled result) (flows_self from) holds.0

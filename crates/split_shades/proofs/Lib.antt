@@ -4,3 +4,10 @@ pub mod FlowingBlocks
 pub mod FlowingPrograms
 pub mod ShadedStates
 pub mod ShadedMoves
+pub mod ShadedValues
+pub mod ShadedStatements
+pub mod ShadedCalls
+pub mod ShadedBranches
+pub mod ShadedBlocks
+pub mod LabelledSites
+pub mod ShadedPrograms

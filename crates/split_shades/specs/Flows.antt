@@ -66,9 +66,9 @@ ResultFlows basis planned pc (Some result) (Some into) =
     ValueFlows basis planned pc (local result) (label_of basis.labelled into)
 ResultFlows basis planned pc result into = ⊤
 
--- a value is kept in the result of its method; where the method has none, only its reads tell something
+-- a value is kept in the result of its method, which has one
 abbrev pub AnswerFlows : Basis → PlannedShape → Label → Option VarId → ExprTree → Type 0
-AnswerFlows basis planned pc None value = AreIndexesSeen basis planned pc value
+AnswerFlows basis planned pc None value = ⊥
 AnswerFlows basis planned pc (Some result) value =
     ValueFlows basis planned pc value (label_of basis.labelled result)
 

@@ -1,6 +1,6 @@
 -- What each instruction asks of the shade of its place, and what is ahead behind it. The laws speak of one instruction
 -- and of the entries that it names.
-use Rattle.std.specs.Prelude.{◌≡◌, ◌⊎◌, ℕ, Bool, true, false, List, [], ◌∷◌, ◌++◌, map, length, Option, Some, None}
+use Rattle.std.specs.Prelude.{◌≡◌, ◌⊎◌, ℕ, suc, Bool, true, false, List, [], ◌∷◌, ◌++◌, map, length, Option, Some, None}
 use Rattle.std.specs.Prelude.{IfSome, slice_get}
 use Rattle.js_base.specs.declared.ids.HostId.{HostId}
 use Rattle.js_base.specs.declared.ids.FieldId.{FieldId}
@@ -8,8 +8,8 @@ use Rattle.js_base.specs.declared.ids.VarId.{VarId}
 use Rattle.js_base.specs.declared.ids.MethodId.{MethodId}
 use Rattle.label_lattice.specs.declared.label.Label.{Label}
 use Rattle.label_lattice.specs.Label.{ConfFlows}
-use Rattle.jif_tree.specs.Trees.{ExprTree}
-use Rattle.jif_tree.specs.LabelRules.{field_label}
+use Rattle.jif_tree.specs.Trees.{ExprTree, MethodTree, ProgramTree}
+use Rattle.jif_tree.specs.LabelRules.{field_label, begin_label, method_at}
 use Rattle.host_code.specs.declared.code_expr.Node.{Node}
 use Rattle.host_code.specs.declared.instruction.Op.{Op}
 use Rattle.host_code.specs.declared.instruction.Op.TheVariants as op
@@ -306,3 +306,34 @@ abbrev pub AreShaded : Scene → Known → List Emission → Known → Type 0
 AreShaded scene first [] last = first ≡ last
 AreShaded scene first (emission ∷ others) last =
     (middle : Known) × Shaded scene first emission middle × AreShaded scene middle others last
+
+-- ---- programs
+
+-- the entry of a method, where its body begins with the token with which it was entered
+abbrev pub method_shade : ℕ → MethodTree → EntryShade
+method_shade number method = record {
+  level = body (record { 0 = number });
+  block = method.begin;
+  label = method.begin;
+  pushed = None;
+  begun = None;
+}
+
+-- those of methods of which the first has this number
+abbrev pub method_shades : ℕ → List MethodTree → List EntryShade
+method_shades number [] = []
+method_shades number (method ∷ methods) = method_shade number method ∷ method_shades (suc number) methods
+
+-- the entry that ends the program has the begin label of `main`
+abbrev pub halt_shade : ProgramTree → EntryShade
+halt_shade program =
+    let begin = begin_label (method_at program program.main) in
+    record { level = body program.main; block = begin; label = begin; pushed = None; begun = None }
+
+-- what is known of all entries before the bodies of the methods
+abbrev pub shades_start : ProgramTree → Known
+shades_start program = record {
+  place = nowhere;
+  entries = halt_shade program ∷ method_shades 0 program.methods;
+  branches = [];
+}

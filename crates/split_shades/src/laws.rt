@@ -8,7 +8,13 @@ ghost use Rattle.msg_cost.specs.Moves.{planned_of};
 ghost use Rattle.split_rules.specs.Splittable.{IsSplittable};
 ghost use Rattle.split_rules.specs.Allowed.{IsAllowed};
 ghost use Rattle.split_rules.specs.Held.{IsHeld};
+ghost use Rattle.split_rules.specs.Emissions.{counts_after};
+ghost use Rattle.split_rules.specs.Walk.{methods_emissions};
+ghost use Rattle.split_rules.specs.WalkStart.{front_emissions};
 ghost use Rattle.split_shades.specs.Flows.{AreResultsLabelled, AllFlow};
+ghost use Rattle.split_shades.specs.Shading.{Known, nowhere, AreShaded, shades_start};
+ghost use Rattle.split_shades.specs.Sites.{ReleasesNothing, scene_of};
+ghost use Rattle.std.specs.Prelude.{◌≡◌, Bool, false};
 
 /// In a program that was checked and placed, each value flows to where its statement keeps it, and so does the program
 /// label under which it is evaluated. Whoever answers a read may see which element is asked for.
@@ -17,4 +23,19 @@ pub fn flow_laws()
         IsSplittable labelled hosts plan → IsAllowed labelled needs hosts plan → IsHeld labelled needs hosts plan →
         AreResultsLabelled labelled.program →
         AllFlow (record { principals = hosts.principals; labelled = labelled }) (planned_of labelled needs hosts plan) }
+{}
+
+/// What the walk over such a program gives is shaded: each instruction runs under the program label of its block, or of the
+/// loop whose guard it evaluates, what the temporaries tell is what was read, and each entry stands in a block and under
+/// a token whose labels flow to its own. Where the program releases nothing, no instruction does.
+pub fn walk_laws()
+    ensures shaded { (labelled : Labelled) (needs : NeedsShape) (hosts : HostsShape) (plan : PlanShape)
+        (may_release : Bool) →
+        IsSplittable labelled hosts plan → IsAllowed labelled needs hosts plan → IsHeld labelled needs hosts plan →
+        AreResultsLabelled labelled.program → (may_release ≡ false → ReleasesNothing labelled.program) →
+        let planned = planned_of labelled needs hosts plan in
+        let counts = counts_after (record { entries = 0; branches = 0 }) (front_emissions labelled planned) in
+        (last : Known) × (last.place ≡ nowhere) × AreShaded (scene_of labelled needs hosts plan may_release)
+        (shades_start labelled.program)
+        (methods_emissions hosts.principals labelled planned counts 0 labelled.program.methods) last }
 {}
