@@ -11,3 +11,6 @@ pub mod ShadedBranches
 pub mod ShadedBlocks
 pub mod LabelledSites
 pub mod ShadedPrograms
+pub mod ReadOff
+pub mod ShadedPlaces
+pub mod ShadedSplit

@@ -23,6 +23,7 @@ use Rattle.split_shades.specs.Basis.{Basis, value_label, read_label}
 use Rattle.split_shades.specs.Flows.{IsSeenOn, ValueFlows}
 use Rattle.split_shades.specs.Shades.{Shade, EntryShade, Begun, Ahead, calm_ahead, Meets, ahead_of, released_by}
 use Rattle.split_shades.specs.Shades.{level_entry}
+use Rattle.split_shades.specs.Steps.{AreSteps}
 
 -- ---- what is given
 
@@ -303,9 +304,7 @@ Shaded scene known (lands host number) after =
 
 -- emissions from one place of a walk to another
 abbrev pub AreShaded : Scene → Known → List Emission → Known → Type 0
-AreShaded scene first [] last = first ≡ last
-AreShaded scene first (emission ∷ others) last =
-    (middle : Known) × Shaded scene first emission middle × AreShaded scene middle others last
+AreShaded scene first emissions last = AreSteps (Shaded scene) first emissions last
 
 -- ---- programs
 

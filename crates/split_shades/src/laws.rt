@@ -14,6 +14,8 @@ ghost use Rattle.split_rules.specs.WalkStart.{front_emissions};
 ghost use Rattle.split_shades.specs.Flows.{AreResultsLabelled, AllFlow};
 ghost use Rattle.split_shades.specs.Shading.{Known, nowhere, AreShaded, shades_start};
 ghost use Rattle.split_shades.specs.Sites.{ReleasesNothing, scene_of};
+ghost use Rattle.split_shades.specs.ShadedCode.{Shades, IsShadedCode, ReleaseNothing};
+ghost use Rattle.split_rules.specs.SplitCode.{split_code};
 ghost use Rattle.std.specs.Prelude.{◌≡◌, Bool, false};
 
 /// In a program that was checked and placed, each value flows to where its statement keeps it, and so does the program
@@ -38,4 +40,21 @@ pub fn walk_laws()
         (last : Known) × (last.place ≡ nowhere) × AreShaded (scene_of labelled needs hosts plan may_release)
         (shades_start labelled.program)
         (methods_emissions hosts.principals labelled planned counts 0 labelled.program.methods) last }
+{}
+
+/// The code of such a program has a table of shades: for each instruction the program label under which it runs, that of
+/// its block, what its temporaries tell and what it releases, and for each entry the labels that flow to its own. Each
+/// instruction keeps the law of its kind, and where the program releases nothing, no instruction does.
+pub fn shade_laws()
+    ensures shaded { (labelled : Labelled) (needs : NeedsShape) (hosts : HostsShape) (plan : PlanShape)
+        (may_release : Bool) →
+        IsSplittable labelled hosts plan → IsAllowed labelled needs hosts plan → IsHeld labelled needs hosts plan →
+        AreResultsLabelled labelled.program → (may_release ≡ false → ReleasesNothing labelled.program) →
+        (shades : Shades) × IsShadedCode (scene_of labelled needs hosts plan may_release)
+        (split_code labelled needs hosts plan) shades }
+    ensures silent { (labelled : Labelled) (needs : NeedsShape) (hosts : HostsShape) (plan : PlanShape) →
+        IsSplittable labelled hosts plan → IsAllowed labelled needs hosts plan → IsHeld labelled needs hosts plan →
+        AreResultsLabelled labelled.program → ReleasesNothing labelled.program →
+        (shades : Shades) × IsShadedCode (scene_of labelled needs hosts plan false)
+        (split_code labelled needs hosts plan) shades × ReleaseNothing (split_code labelled needs hosts plan) shades }
 {}

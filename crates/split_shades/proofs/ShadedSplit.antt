@@ -1,0 +1,568 @@
+-- The code of a split program has a table of shades, which is read off the shaded walk.
+use Rattle.std.proofs.Common.{◌≡◌, ◌∙◌, ℕ, zero, suc, inl, inr, ◌+◌, ◌<◌, Bool, true, false, List, [], ◌∷◌, ◌++◌, map}
+use Rattle.std.proofs.Common.{length, refl, ap, sym, subst, arith, length-append, append_assoc}
+use Rattle.std.specs.Prelude.{Option, Some, None, IfSome, slice_get, unwrap_or}
+use Rattle.std.proofs.lemmas.List.{length-map}
+use Rattle.std.proofs.lemmas.List.FromFn.{length-range_with_len}
+use Rattle.std.specs.List.{range_with_len, AllByRecursion}
+use Rattle.std.proofs.lemmas.Option.{slice_get_within}
+use Rattle.js_base.specs.declared.ids.HostId.{HostId}
+use Rattle.label_lattice.specs.declared.label.Label.{Label}
+use Rattle.label_lattice.specs.Lattice.{empty_label}
+use Rattle.host_decl.specs.Hosts.{HostsShape}
+use Rattle.jif_tree.specs.Trees.{MethodTree, ProgramTree}
+use Rattle.jif_tree.specs.LabelRules.{method_at, begin_label}
+use Rattle.host_code.specs.declared.code.Entry.{Entry}
+use Rattle.host_code.specs.declared.instruction.Instr.{Instr}
+use Rattle.host_code.specs.declared.instruction.Op.{Op}
+use Rattle.host_code.specs.declared.instruction.Op.TheVariants as op
+use Rattle.host_code.specs.Code.{CodeShape, instruction_at}
+use Rattle.entry_check.specs.Checks.{label_at}
+use Rattle.need_labels.specs.Labelled.{Labelled}
+use Rattle.need_labels.specs.Needs.{NeedsShape}
+use Rattle.need_labels.specs.Plan.{PlanShape}
+use Rattle.msg_cost.specs.Moves.{PlannedShape, planned_of, home_of}
+use Rattle.split_rules.specs.Allowed.{IsAllowed}
+use Rattle.split_rules.specs.Emissions.{Emission, instruction, stands, lands, Emitted, counts_after, Named, entry}
+use Rattle.split_rules.specs.Flow.{State}
+use Rattle.split_rules.specs.Held.{IsHeld}
+use Rattle.split_rules.specs.Positions.{body}
+use Rattle.split_rules.specs.SplitCode.{emitted_on, entries_in, before_entry, before_landing, landed, code_labels}
+use Rattle.split_rules.specs.SplitCode.{label_place, placed_instruction, part_on, code_of_emissions, split_code}
+use Rattle.split_rules.specs.Splittable.{IsSplittable}
+use Rattle.split_rules.specs.Walk.{methods_emissions, method_entry}
+use Rattle.split_rules.specs.WalkStart.{front_emissions}
+use Rattle.split_rules.proofs.CodeItems.{code_entry, entries_numbered}
+use Rattle.split_rules.proofs.Fronts.{front_of, IsWalk, front_is, walk_there, others_stand, get_append}
+use Rattle.split_rules.proofs.NumberedLists.{length-numbered}
+use Rattle.split_rules.proofs.Places.{found, found_entry, entries_append}
+use Rattle.split_rules.proofs.SeenPrograms.{program_tells_well, all_there}
+use Rattle.split_rules.proofs.SoundParts.{given, code_given, given_emitted, part_is, entry_made}
+use Rattle.split_rules.proofs.SoundInstructions.{mapped, branch_leads}
+use Rattle.split_rules.proofs.ToldCode.{emission_labelled}
+use Rattle.split_rules.proofs.ToldEmissions.{entry_of}
+use Rattle.split_rules.proofs.ToldWalks.{MethodTellsWell}
+use Rattle.split_rules.proofs.TypedSplit.{landing_place, entry_place, same_there}
+use Rattle.split_rules.proofs.WalkedCalls.{nothing_there}
+use Rattle.split_rules.proofs.WalkedMoves.{at_last}
+use Rattle.split_rules.proofs.WalkedPrograms.{program_goes}
+use Rattle.split_shades.specs.Flows.{IsSeenOn, AreResultsLabelled}
+use Rattle.split_shades.specs.ShadedCode.{Shades, IsShadedOp, IsShadedAt, IsShadedEntry, IsShadedCode}
+use Rattle.split_shades.specs.ShadedCode.{ReleaseNothing}
+use Rattle.split_shades.specs.Shades.{Shade, EntryShade, Ahead, Meets, ahead_of}
+use Rattle.split_shades.specs.Shading.{Scene, IsShade, IsEntryShade, IsLevelOf, Follows, Divides, Ends, nowhere, here}
+use Rattle.split_shades.specs.Shading.{Known, known_at, ShadedOp, Shaded, AreShaded, method_shade, method_shades}
+use Rattle.split_shades.specs.Shading.{halt_shade, shades_start}
+use Rattle.split_shades.specs.Sites.{ReleasesNothing, scene_of}
+use Rattle.split_shades.proofs.BasisLabels.{flows_self}
+use Rattle.split_shades.proofs.ReadOff.{items_on, half, InstructionRead, instruction_read, MarkRead, stands_read, lands_read}
+use Rattle.split_shades.proofs.ShadedPlaces.{Kept, kept_then, step_keeps, steps_keep, entries_many, shade_more, entry_more}
+use Rattle.split_shades.proofs.ShadedPlaces.{follows_more, ends_more, shade_of, Goes, Meet, not_nowhere, shades_go_on}
+use Rattle.split_shades.proofs.ShadedPrograms.{start_named, program_shaded}
+
+-- ---- the table
+
+-- a shade for places at which no instruction stands
+abbrev no_shade : Shade
+no_shade = record {
+  level = body (record { 0 = 0 });
+  pc = empty_label;
+  block = empty_label;
+  guard = None;
+  temps = [];
+  calls = false;
+  released = [];
+}
+
+abbrev shades_on : (scene : Scene) (host : HostId) (first : Known) (emissions : List Emission) (last : Known) →
+    AreShaded scene first emissions last → List Shade
+shades_on scene host first emissions last so = items_on (Shaded scene) (shade_of scene) host first emissions last so
+
+-- The table of a shaded walk.
+table_of : (scene : Scene) (first : Known) (emissions : List Emission) (last : Known) →
+    AreShaded scene first emissions last → Shades
+table_of scene first emissions last so = record {
+  entries = last.entries;
+  at = λ host place. unwrap_or (slice_get (shades_on scene host first emissions last so) place) no_shade;
+  exits = λ host number. length (emitted_on host (before_landing number emissions));
+}
+
+read_off : (scene : Scene) (first : Known) (emissions : List Emission) (last : Known) →
+    (so : AreShaded scene first emissions last) (host : HostId) (place : ℕ) (shade : Shade) →
+    slice_get (shades_on scene host first emissions last so) place ≡ Some shade →
+    (table_of scene first emissions last so).at host place ≡ shade
+unfolding table_of
+read_off scene first emissions last so host place shade is = ap (λ found. unwrap_or found no_shade) is
+
+-- what a walk and its shaded walk give together
+record Walk (scene : Scene) (hosts : HostsShape) (main : MethodTree) (emissions : List Emission) : Type 0 where
+  end : State
+  walk : IsWalk scene.basis.labelled hosts scene.planned main emissions end
+  last : Known
+  shaded : AreShaded scene (shades_start scene.basis.labelled.program) emissions last
+  ends : last.place ≡ nowhere
+
+abbrev table_in : {scene : Scene} {hosts : HostsShape} {main : MethodTree} {emissions : List Emission} →
+    Walk scene hosts main emissions → Shades
+table_in {scene} {hosts} {main} {emissions} walk =
+    table_of scene (shades_start scene.basis.labelled.program) emissions walk.last walk.shaded
+
+-- nothing goes on behind a walk
+nobody_goes : (host : HostId) (last : Known) → last.place ≡ nowhere → Goes last host → ⊥
+nobody_goes host last ends goes = not_nowhere host goes.0 (sym goes.1 ∙ ends)
+
+-- ---- instructions
+
+exits_there : (guard : Option ℕ) (number target : ℕ) (exits : ℕ → ℕ) → target ≡ exits number →
+    IfSome guard (λ own. own ≡ number) → IfSome guard (λ own. target ≡ exits own)
+exits_there None number target exits is own = tt
+exits_there (Some it) number target exits is own = is ∙ ap exits (sym own)
+
+-- an instruction that the walk has keeps the law of its kind
+op_shaded : (scene : Scene) (hosts : HostsShape) (main : MethodTree) (emissions : List Emission)
+    (walk : Walk scene hosts main emissions) (before : List Emission) (one : Emitted) (behind : List Emission) →
+    emissions ≡ before ++ instruction one ∷ behind → (me : HostId) → one.host ≡ me → (what : Op) → one.op ≡ what →
+    let place = length (emitted_on me before) in
+    let shade = (table_in walk).at me place in
+    (shade.pc ≡ one.label) × IsShade scene walk.last.entries shade
+    × IsShadedOp scene (table_in walk) me place (landed me (given scene.basis.labelled scene.planned main emissions) what)
+unfolding table_of
+op_shaded scene hosts main emissions walk before one behind is me own what what_is =
+    (ap (λ it. it.pc) here_is ∙ so.step.label_is, is_shade, by what what_is law)
+  where
+    first : Known
+    first = shades_start scene.basis.labelled.program
+
+    last : Known
+    last = walk.last
+
+    place : ℕ
+    place = length (emitted_on me before)
+
+    table : Shades
+    table = table_in walk
+
+    so : InstructionRead (Shaded scene) (shade_of scene) Goes Meet me first before one behind walk.last
+        (shades_on scene me first emissions walk.last walk.shaded)
+    so = instruction_read (Shaded scene) (shade_of scene) Goes Meet (shades_go_on scene) me first emissions before one
+        behind walk.last is own (nobody_goes me walk.last walk.ends) walk.shaded
+
+    shade : Shade
+    shade = so.step.shade
+
+    here_is : table.at me place ≡ shade
+    here_is = read_off scene first emissions walk.last walk.shaded me place shade so.stands_at
+
+    kept : Kept so.known.entries walk.last.entries
+    kept = kept_then so.known.entries so.after.entries walk.last.entries
+        (step_keeps scene so.known (instruction one) so.after so.step).entries
+        (steps_keep scene so.after behind walk.last so.from).entries
+
+    next_meets : (next : Ahead) → so.after.place ≡ here me next → Meets next (table.at me (suc place))
+    next_meets next goes_on =
+        let there = so.next (next, goes_on) in
+        let P : Shade → Type 0 = λ it. Meets next it in
+        subst P (sym (read_off scene first emissions walk.last walk.shaded me (suc place) there.0 there.1))
+        (there.2 next goes_on)
+
+    is_shade : IsShade scene walk.last.entries (table.at me place)
+    is_shade =
+        let P : Shade → Type 0 = λ it. IsShade scene walk.last.entries it in
+        subst P (sym here_is) (shade_more scene so.known.entries walk.last.entries kept shade so.step.is_shade)
+
+    law : ShadedOp scene so.known me shade what so.after
+    law =
+        let P : HostId → Type 0 = λ host. ShadedOp scene so.known host shade what so.after in
+        let Q : Op → Type 0 = λ it. ShadedOp scene so.known one.host shade it so.after in
+        subst P own (subst Q what_is so.step.law)
+
+    by : (it : Op) → one.op ≡ it → ShadedOp scene so.known me shade it so.after →
+        IsShadedOp scene table me place (landed me (given scene.basis.labelled scene.planned main emissions) it)
+    by (op.Branch guard number) it_is so_law =
+        let labelled = scene.basis.labelled in
+        let lands_there = branch_leads labelled hosts scene.planned main emissions walk.end walk.walk before one behind
+        is me own guard number it_is in
+        let marked = lands_read (Shaded scene) (shade_of scene) Goes Meet (shades_go_on scene) me me number first emissions
+        (before_landing number emissions) lands_there.behind walk.last lands_there.is (nobody_goes me walk.last walk.ends)
+        walk.shaded in
+        let later = steps_keep scene so.after behind walk.last so.from in
+        let marked_later = kept_then marked.known.branches marked.after.branches walk.last.branches
+        (step_keeps scene marked.known (lands me number) marked.after marked.step).branches
+        (steps_keep scene marked.after lands_there.behind walk.last marked.from).branches in
+        let opened : slice_get so.after.branches number ≡ Some so_law.1 =
+        (let P : List Ahead → Type 0 = λ list. slice_get list number ≡ Some so_law.1 in
+        let Q : ℕ → Type 0 = λ at. slice_get (so.known.branches ++ so_law.1 ∷ []) at ≡ Some so_law.1 in
+        subst P (sym (ap (λ known. known.branches) so_law.6)) (subst Q (sym so_law.2)
+        (at_last so.known.branches so_law.1 []))) in
+        let same = same_there walk.last.branches number marked.step.0 so_law.1
+        (marked_later number marked.step.0 marked.step.1) (later.branches number so_law.1 opened) in
+        let comes : marked.after.place ≡ here me marked.step.0 = ap (λ known. known.place) marked.step.3 in
+        let there = marked.next (marked.step.0, comes) in
+        let target = length (emitted_on me (before_landing number (given labelled scene.planned main emissions))) in
+        let exit = length (emitted_on me (before_landing number emissions)) in
+        let target_is : target ≡ exit = landing_place me labelled scene.planned main number emissions in
+        let P : Ahead → Type 0 = λ it. Meets it there.0 in
+        let Q : Shade → Type 0 = λ it. Meets so_law.1 it in
+        let meets_exit = subst Q (sym (read_off scene first emissions walk.last walk.shaded me exit there.0 there.1))
+        (subst P same (there.2 marked.step.0 comes)) in
+        let R : ℕ → Type 0 = λ at. Meets so_law.1 (table.at me at) in
+        let S : Shade → Type 0 = λ it. (next : Ahead) × (other : Ahead) × Divides scene it guard it.guard next other
+        × Meets next (table.at me (suc place)) × Meets other (table.at me target)
+        × IfSome it.guard (λ own. target ≡ table.exits me own) in
+        subst S (sym here_is) (
+          so_law.0,
+          so_law.1,
+          so_law.5,
+          next_meets so_law.0 (ap (λ known. known.place) so_law.6),
+          subst R (sym target_is) meets_exit,
+          exits_there shade.guard number target (table.exits me) target_is so_law.4,
+        )
+    by (op.Go there on) it_is so_law =
+        let P : Shade → Type 0 = λ it. Ends scene walk.last.entries it (op.Go there on) in
+        subst P (sym here_is) (ends_more scene so.known.entries walk.last.entries kept shade (op.Go there on) so_law.0)
+    by (op.Call there on) it_is so_law =
+        let P : Shade → Type 0 = λ it. Ends scene walk.last.entries it (op.Call there on) in
+        subst P (sym here_is) (ends_more scene so.known.entries walk.last.entries kept shade (op.Call there on) so_law.0)
+    by op.Back it_is so_law =
+        let P : Shade → Type 0 = λ it. Ends scene walk.last.entries it op.Back in
+        subst P (sym here_is) (ends_more scene so.known.entries walk.last.entries kept shade op.Back so_law.0)
+    by other it_is so_law =
+        let P : Shade → Type 0 = λ it. Follows scene walk.last.entries me it other so_law.0 in (
+          so_law.0,
+          subst P (sym here_is)
+              (follows_more scene so.known.entries walk.last.entries kept me shade other so_law.0 so_law.1),
+          next_meets so_law.0 (ap (λ known. known.place) so_law.2),
+        )
+
+instructions_shaded : (scene : Scene) (hosts : HostsShape) (main : MethodTree) (emissions : List Emission)
+    (walk : Walk scene hosts main emissions) (me : HostId) (place : ℕ) (there : Instr) →
+    instruction_at (code_given scene.basis.labelled hosts scene.planned main emissions) me place ≡ Some there →
+    IsShadedAt scene (code_given scene.basis.labelled hosts scene.planned main emissions) (table_in walk) me place there
+unfolding table_of
+instructions_shaded scene hosts main emissions walk me place there is = by (slice_get code.parts me.0) refl is
+  where
+    code : CodeShape
+    code = code_given scene.basis.labelled hosts scene.planned main emissions
+
+    all : List Emission
+    all = given scene.basis.labelled scene.planned main emissions
+
+    labels : List Label
+    labels = code_labels scene.basis.labelled all
+
+    front : List Emission
+    front = front_of scene.planned main scene.basis.labelled.program.methods
+
+    within_hosts : me.0 < length hosts.hosts → IsShadedAt scene code (table_in walk) me place there
+    within_hosts within =
+        let labelled = scene.basis.labelled in
+        let part = part_is labelled hosts scene.planned all me within in
+        let one = mapped (placed_instruction labels all) (emitted_on me all) place there
+        (ap (λ list. slice_get list place) (sym part) ∙ is) in
+        let so = found me emissions place one.0
+        (ap (λ list. slice_get list place) (sym (given_emitted me labelled scene.planned main emissions)) ∙ one.1) in
+        let law = op_shaded scene hosts main emissions walk so.before one.0 so.behind so.is me so.own one.0.op refl in
+        let whole : all ≡ (front ++ so.before) ++ instruction one.0 ∷ so.behind =
+        ap (λ list. front ++ list) so.is ∙ sym (append_assoc front so.before (instruction one.0 ∷ so.behind)) in
+        let label_is = emission_labelled labelled hosts scene.planned all (front ++ so.before) (instruction one.0)
+        so.behind whole one.0.label (inl refl) in
+        let P : ℕ → Type 0 = λ at. IsShadedAt scene code (table_in walk) me at (placed_instruction labels all one.0) in
+        let Q : HostId → Type 0 = λ host. IsShadedOp scene (table_in walk) me (length (emitted_on me so.before))
+        (landed host all one.0.op) in
+        let R : Instr → Type 0 = λ it. IsShadedAt scene code (table_in walk) me place it in
+        subst R one.2 (subst P so.place (record {
+          label_is = label_is ∙ ap Some (sym law.0);
+          is_shade = law.1;
+          law = subst Q (sym so.own) law.2;
+        }))
+
+    by : (part : Option (List Instr)) → slice_get code.parts me.0 ≡ part →
+        slice_get (unwrap_or part []) place ≡ Some there → IsShadedAt scene code (table_in walk) me place there
+    by None part_is at = absurd (cc)
+    by (Some part) is_part at =
+        let within = slice_get_within code.parts me.0 part is_part in
+        let numbers = range_with_len 0 (length hosts.hosts) in
+        let many = length-map numbers (λ number. part_on labels all (record { 0 = number })) in
+        let as_many = length-range_with_len 0 (length hosts.hosts) in
+        within_hosts (omega arith)
+
+-- ---- entries
+
+-- what is known of an entry where it is named
+record NamedShaded (scene : Scene) (entries : List EntryShade) (number : ℕ) (named : Named) : Type 0 where
+  it : EntryShade
+  is : slice_get entries number ≡ Some it
+  label_is : it.label ≡ named.label
+  is_shade : IsEntryShade scene entries named.host it
+
+-- an entry that is named in the bodies
+later_shaded : (scene : Scene) (first last : Known) (emissions before : List Emission) (named : Named)
+    (behind : List Emission) → emissions ≡ before ++ entry named ∷ behind → AreShaded scene first emissions last →
+    NamedShaded scene last.entries (length first.entries + length (entries_in before)) named
+later_shaded scene first last emissions before named behind is so =
+    let P : List Emission → Type 0 = λ list. AreShaded scene first list last in
+    let parts = half (Shaded scene) (shade_of scene) named.host first before (entry named ∷ behind) last (subst P is so) in
+    let step = parts.behind.1 in
+    let rest = steps_keep scene parts.behind.0 behind last parts.behind.2 in
+    let kept = kept_then parts.middle.entries parts.behind.0.entries last.entries
+    (step_keeps scene parts.middle (entry named) parts.behind.0 step).entries rest.entries in
+    let many = entries_many scene first before parts.middle parts.before in
+    let Q : ℕ → Type 0 = λ number. slice_get last.entries number ≡ Some step.0 in
+    let R : List EntryShade → Type 0 = λ list. slice_get list (length parts.middle.entries) ≡ Some step.0 in
+    record {
+      it = step.0;
+      is = subst Q many (rest.entries (length parts.middle.entries) step.0
+          (subst R (sym (ap (λ one. one.entries) step.3)) (at_last parts.middle.entries step.0 [])));
+      label_is = step.1;
+      is_shade = entry_more scene parts.middle.entries last.entries kept named.host step.0 step.2;
+    }
+
+-- the entries of methods, whose homes see their begin labels
+record Homes (scene : Scene) (main : MethodTree) : Type 0 where
+  main_is : method_at scene.basis.labelled.program scene.basis.labelled.program.main ≡ Some main
+  see : (place : ℕ) (tree : MethodTree) → slice_get scene.basis.labelled.program.methods place ≡ Some tree →
+      IsSeenOn scene.planned (home_of scene.planned tree) tree.begin
+
+method_named : (planned : PlannedShape) (methods : List MethodTree) (place : ℕ) (named : Named) →
+    slice_get (entries_in (map (method_entry planned) methods)) place ≡ Some named →
+    (method : MethodTree) × (slice_get methods place ≡ Some method) × (named ≡ entry_of planned method)
+method_named planned [] place named there = absurd (nothing_there place named there)
+method_named planned (method ∷ methods) zero named there = (method, refl, cc)
+method_named planned (method ∷ methods) (suc place) named there = method_named planned methods place named there
+
+-- an entry with the begin label of a method, of whose token is held there
+begin_shaded : (scene : Scene) (entries : List EntryShade) (place : ℕ) (tree : MethodTree) →
+    slice_get entries (suc place) ≡ Some (method_shade place tree) →
+    IsSeenOn scene.planned (home_of scene.planned tree) tree.begin →
+    IsEntryShade scene entries (home_of scene.planned tree) (method_shade place tree)
+begin_shaded scene entries place tree is sees = record {
+  level = (tree.begin, (method_shade place tree, is, refl), flows_self tree.begin, flows_self tree.begin);
+  pushed = tt;
+  seen = sees;
+}
+
+-- what is known at the start is known at the end
+start_kept : (scene : Scene) (hosts : HostsShape) (main : MethodTree) (emissions : List Emission) →
+    (walk : Walk scene hosts main emissions) →
+    Kept (shades_start scene.basis.labelled.program).entries walk.last.entries
+start_kept scene hosts main emissions walk =
+    (steps_keep scene (shades_start scene.basis.labelled.program) emissions walk.last walk.shaded).entries
+
+methods_there : (scene : Scene) (hosts : HostsShape) (main : MethodTree) (emissions : List Emission) →
+    (walk : Walk scene hosts main emissions) → (place : ℕ) (tree : MethodTree) →
+    slice_get scene.basis.labelled.program.methods place ≡ Some tree →
+    slice_get walk.last.entries (suc place) ≡ Some (method_shade place tree)
+methods_there scene hosts main emissions walk place tree is =
+    start_kept scene hosts main emissions walk (suc place) _ (start_named scene place tree is)
+
+halts_there : (scene : Scene) (hosts : HostsShape) (main : MethodTree) (emissions : List Emission) →
+    (walk : Walk scene hosts main emissions) →
+    slice_get walk.last.entries 0 ≡ Some (halt_shade scene.basis.labelled.program)
+halts_there scene hosts main emissions walk = start_kept scene hosts main emissions walk 0 _ refl
+
+method_many : (planned : PlannedShape) (number : ℕ) (methods : List MethodTree) →
+    length (method_shades number methods) ≡ length (entries_in (map (method_entry planned) methods))
+method_many planned number [] = refl
+method_many planned number (method ∷ methods) = ap suc (method_many planned (suc number) methods)
+
+named_shaded : (scene : Scene) (hosts : HostsShape) (main : MethodTree) (emissions : List Emission) →
+    (walk : Walk scene hosts main emissions) → Homes scene main → (number : ℕ) (named : Named) →
+    slice_get (entries_in (given scene.basis.labelled scene.planned main emissions)) number ≡ Some named →
+    NamedShaded scene walk.last.entries number named
+named_shaded scene hosts main emissions walk homes zero named there =
+    let program = scene.basis.labelled.program in
+    let planned = scene.planned in
+    let begin : begin_label (method_at program program.main) ≡ main.begin = ap begin_label homes.main_is in
+    let sees = homes.see program.main.0 main homes.main_is in
+    let main_there = methods_there scene hosts main emissions walk program.main.0 main homes.main_is in
+    let P : Label → Type 0 = λ label. IsEntryShade scene walk.last.entries (home_of planned main)
+    (record { level = body program.main; block = label; label = label; pushed = None; begun = None }) in
+    let Q : Named → Type 0 = λ it. NamedShaded scene walk.last.entries 0 it in
+    let is_named : entry_of planned main ≡ named = cc in
+    subst Q is_named (record {
+      it = halt_shade program;
+      is = halts_there scene hosts main emissions walk;
+      label_is = begin;
+      is_shade = subst P (sym begin) (record {
+        level = (
+          main.begin,
+          (method_shade program.main.0 main, main_there, refl),
+          flows_self main.begin,
+          flows_self main.begin,
+        );
+        pushed = tt;
+        seen = sees;
+      });
+    })
+named_shaded scene hosts main emissions walk homes (suc number) named there =
+    let labelled = scene.basis.labelled in
+    let planned = scene.planned in
+    let first = shades_start labelled.program in
+    let methods = map (method_entry planned) labelled.program.methods in
+    let either = get_append (entries_in methods) (entries_in emissions) number named
+    (ap (λ list. slice_get list number) (sym (entries_append methods emissions)) ∙ there) in
+    elim either [
+      | inl before ↦
+          let so = method_named planned labelled.program.methods number named before in
+          let is = methods_there scene hosts main emissions walk number so.0 so.1 in
+          let P : Named → Type 0 = λ it. NamedShaded scene walk.last.entries (suc number) it in
+          subst P (sym so.2) (record {
+            it = method_shade number so.0;
+            is = is;
+            label_is = refl;
+            is_shade = begin_shaded scene walk.last.entries number so.0 is (homes.see number so.0 so.1);
+          })
+      | inr behind ↦
+          let so = found_entry emissions behind.0 named behind.2 in
+          let later = later_shaded scene first walk.last emissions so.before named so.behind so.is walk.shaded in
+          let many = method_many planned 0 labelled.program.methods in
+          let place = so.place in
+          let sum : length first.entries + length (entries_in so.before) ≡ suc number =
+          let is = behind.1 in omega arith in
+          let P : ℕ → Type 0 = λ at. NamedShaded scene walk.last.entries at named in
+          subst P sum later
+    ]
+
+entries_shaded : (scene : Scene) (hosts : HostsShape) (main : MethodTree) (emissions : List Emission) →
+    (walk : Walk scene hosts main emissions) → Homes scene main → (number : ℕ) (there : Entry) →
+    let code = code_given scene.basis.labelled hosts scene.planned main emissions in
+    slice_get code.entries number ≡ Some there → IsShadedEntry scene code (table_in walk) number there
+unfolding table_of
+entries_shaded scene hosts main emissions walk homes number there is =
+    let labelled = scene.basis.labelled in
+    let all = given labelled scene.planned main emissions in
+    let code = code_given labelled hosts scene.planned main emissions in
+    let made = entry_made (code_labels labelled all) all number there is in
+    let named = made.0 in
+    let own = named_shaded scene hosts main emissions walk homes number named made.1 in
+    let so = found_entry all number named made.1 in
+    let label_is = emission_labelled labelled hosts scene.planned all so.before (entry named) so.behind so.is named.label
+    (inl refl) in
+    let P : Entry → Type 0 = λ it. IsShadedEntry scene code (table_in walk) number it in
+    subst P (sym made.2) (record {
+      it = own.it;
+      is = own.is;
+      label_is = label_is ∙ ap Some (sym own.label_is);
+      is_shade = own.is_shade;
+    })
+
+entries_stand : (scene : Scene) (hosts : HostsShape) (main : MethodTree) (emissions : List Emission) →
+    (walk : Walk scene hosts main emissions) → (number : ℕ) (there : Entry) (it : EntryShade) →
+    slice_get (code_given scene.basis.labelled hosts scene.planned main emissions).entries (suc number) ≡ Some there →
+    slice_get walk.last.entries (suc number) ≡ Some it → Meets (ahead_of it) ((table_in walk).at there.host there.at)
+unfolding table_of
+entries_stand scene hosts main emissions walk number there it is it_is =
+    let labelled = scene.basis.labelled in
+    let planned = scene.planned in
+    let all = given labelled planned main emissions in
+    let first = shades_start labelled.program in
+    let made = entry_made (code_labels labelled all) all (suc number) there is in
+    let named = made.0 in
+    let so = others_stand labelled hosts planned main emissions walk.end walk.walk number named made.1 in
+    let marked = stands_read (Shaded scene) (shade_of scene) Goes Meet (shades_go_on scene) named.host named.host (suc number)
+    first emissions (before_entry (suc number) emissions) so.1.behind walk.last so.1.is
+    (nobody_goes named.host walk.last walk.ends) walk.shaded in
+    let kept = kept_then marked.known.entries marked.after.entries walk.last.entries
+    (step_keeps scene marked.known (stands named.host (suc number)) marked.after marked.step).entries
+    (steps_keep scene marked.after so.1.behind walk.last marked.from).entries in
+    let same = same_there walk.last.entries (suc number) marked.step.0 it (kept (suc number) marked.step.0 marked.step.1)
+    it_is in
+    let comes : marked.after.place ≡ here named.host (ahead_of marked.step.0) = ap (λ known. known.place) marked.step.3 in
+    let next = marked.next (ahead_of marked.step.0, comes) in
+    let at = length (emitted_on named.host (before_entry (suc number) emissions)) in
+    let place = entry_place named.host labelled planned main number emissions in
+    let P : EntryShade → Type 0 = λ one. Meets (ahead_of one) next.0 in
+    let Q : Shade → Type 0 = λ shade. Meets (ahead_of it) shade in
+    let R : Entry → Type 0 = λ one. Meets (ahead_of it) ((table_in walk).at one.host one.at) in
+    let S : ℕ → Type 0 = λ one. Meets (ahead_of it) ((table_in walk).at named.host one) in
+    subst R (sym made.2) (subst S (sym place)
+    (subst Q (sym (read_off scene first emissions walk.last walk.shaded named.host at next.0 next.1))
+    (subst P same (next.2 (ahead_of marked.step.0) comes))))
+
+as_many : (scene : Scene) (hosts : HostsShape) (main : MethodTree) (emissions : List Emission) →
+    (walk : Walk scene hosts main emissions) →
+    length walk.last.entries ≡ length (code_given scene.basis.labelled hosts scene.planned main emissions).entries
+as_many scene hosts main emissions walk =
+    let labelled = scene.basis.labelled in
+    let planned = scene.planned in
+    let all = given labelled planned main emissions in
+    let labels = code_labels labelled all in
+    let methods = map (method_entry planned) labelled.program.methods in
+    let first = entries_many scene (shades_start labelled.program) emissions walk.last walk.shaded in
+    let start = method_many planned 0 labelled.program.methods in
+    let parts = ap length (entries_append methods emissions)
+    ∙ length-append (entries_in methods) (entries_in emissions) in
+    let read = ap length (entries_numbered labels all 0 (entries_in all))
+    ∙ length-numbered (code_entry labels all) 0 (entries_in all) in
+    omega arith
+
+-- ---- the code
+
+code_shaded : (scene : Scene) (hosts : HostsShape) (main : MethodTree) (emissions : List Emission) →
+    (walk : Walk scene hosts main emissions) → Homes scene main →
+    IsShadedCode scene (code_given scene.basis.labelled hosts scene.planned main emissions) (table_in walk)
+unfolding table_of
+code_shaded scene hosts main emissions walk homes = record {
+  many = as_many scene hosts main emissions walk;
+  halts = halts_there scene hosts main emissions walk;
+  methods = methods_there scene hosts main emissions walk;
+  entries = entries_shaded scene hosts main emissions walk homes;
+  stands = entries_stand scene hosts main emissions walk;
+  instructions = instructions_shaded scene hosts main emissions walk;
+}
+
+-- The code of a split program has a table of shades.
+pub split_is_shaded : (labelled : Labelled) (needs : NeedsShape) (hosts : HostsShape) (plan : PlanShape)
+    (may_release : Bool) → IsSplittable labelled hosts plan → IsAllowed labelled needs hosts plan →
+    IsHeld labelled needs hosts plan → AreResultsLabelled labelled.program →
+    (may_release ≡ false → ReleasesNothing labelled.program) →
+    (shades : Shades) × IsShadedCode (scene_of labelled needs hosts plan may_release)
+    (split_code labelled needs hosts plan) shades
+split_is_shaded labelled needs hosts plan may_release splittable allowed held results silent =
+    subst P (sym (front_is labelled planned main splittable.numbered.main.1))
+    (table_in walk, code_shaded scene hosts main emissions walk homes)
+  where
+    planned : PlannedShape
+    planned = planned_of labelled needs hosts plan
+
+    scene : Scene
+    scene = scene_of labelled needs hosts plan may_release
+
+    main : MethodTree
+    main = splittable.numbered.main.0
+
+    emissions : List Emission
+    emissions = methods_emissions hosts.principals labelled planned
+        (counts_after (record { entries = 0; branches = 0 }) (front_emissions labelled planned)) 0 labelled.program.methods
+
+    walk : Walk scene hosts main emissions
+    walk =
+        let goes = program_goes labelled needs hosts plan splittable in
+        let so = program_shaded labelled needs hosts plan may_release splittable allowed held results silent in
+        record {
+          end = goes.0;
+          walk = walk_there labelled hosts planned emissions goes.0 splittable goes.1 goes.2;
+          last = so.0;
+          shaded = so.2;
+          ends = so.1;
+        }
+
+    homes : Homes scene main
+    homes = record {
+      main_is = splittable.numbered.main.1;
+      see = λ place tree is. (all_there (MethodTellsWell hosts.principals labelled planned) labelled.program.methods
+          (program_tells_well labelled needs hosts plan splittable allowed held) place tree is).home;
+    }
+
+    P : List Emission → Type 0
+    P front = (shades : Shades) × IsShadedCode scene (code_of_emissions labelled hosts planned (front ++ emissions)) shades
+
+-- Where the program releases nothing, no instruction does.
+pub split_is_silent : (labelled : Labelled) (needs : NeedsShape) (hosts : HostsShape) (plan : PlanShape) →
+    IsSplittable labelled hosts plan → IsAllowed labelled needs hosts plan → IsHeld labelled needs hosts plan →
+    AreResultsLabelled labelled.program → ReleasesNothing labelled.program →
+    (shades : Shades) × IsShadedCode (scene_of labelled needs hosts plan false)
+    (split_code labelled needs hosts plan) shades × ReleaseNothing (split_code labelled needs hosts plan) shades
+split_is_silent labelled needs hosts plan splittable allowed held results silent =
+    let so = split_is_shaded labelled needs hosts plan false splittable allowed held results (λ none. silent) in
+    (so.0, so.1, λ host place there is. (so.1.instructions host place there is).is_shade.silent refl)

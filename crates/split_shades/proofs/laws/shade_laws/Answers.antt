@@ -1,0 +1,5 @@
+use Rattle.split_shades.proofs.ShadedSplit.{split_is_shaded, split_is_silent}
+use Rattle.split_shades.proofs.laws.shade_laws.Goals as goal
+
+pub returns : goal.returns
+returns c = record { shaded = split_is_shaded; silent = split_is_silent }
