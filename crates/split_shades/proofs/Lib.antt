@@ -14,3 +14,4 @@ pub mod ShadedPrograms
 pub mod ReadOff
 pub mod ShadedPlaces
 pub mod ShadedSplit
+pub mod WorkedShades

@@ -5,3 +5,4 @@ pub mod Steps
 pub mod Shading
 pub mod Sites
 pub mod ShadedCode
+pub mod Worked

@@ -16,7 +16,12 @@ ghost use Rattle.split_shades.specs.Shading.{Known, nowhere, AreShaded, shades_s
 ghost use Rattle.split_shades.specs.Sites.{ReleasesNothing, scene_of};
 ghost use Rattle.split_shades.specs.ShadedCode.{Shades, IsShadedCode, ReleaseNothing};
 ghost use Rattle.split_rules.specs.SplitCode.{split_code};
-ghost use Rattle.std.specs.Prelude.{◌≡◌, Bool, false};
+ghost use Rattle.split_shades.specs.Shades.{EntryShade, released_by};
+ghost use Rattle.split_shades.specs.Worked.{branching, looping, scene_on, code_on, entry_words, instruction_words, outer};
+ghost use Rattle.split_shades.specs.Worked.{indexed_by, released_field};
+ghost use Rattle.split_rules.specs.Worked.{host_id};
+ghost use Rattle.host_code.specs.declared.code_expr.Node.TheVariants as node;
+ghost use Rattle.std.specs.Prelude.{◌≡◌, Bool, false, [], ◌∷◌, Some, slice_get};
 
 /// In a program that was checked and placed, each value flows to where its statement keeps it, and so does the program
 /// label under which it is evaluated. Whoever answers a read may see which element is asked for.
@@ -57,4 +62,34 @@ pub fn shade_laws()
         AreResultsLabelled labelled.program → ReleasesNothing labelled.program →
         (shades : Shades) × IsShadedCode (scene_of labelled needs hosts plan false)
         (split_code labelled needs hosts plan) shades × ReleaseNothing (split_code labelled needs hosts plan) shades }
+{}
+
+/// The shades of some small programs, which deny other rules.
+pub fn worked_laws()
+    // The join of a branch and what is handed on inside have the label to which the guard flows.
+    ensures branch_entries { entry_words branching ≡ 3 ∷ 3 ∷ 1 ∷ 1 ∷ [] }
+    // The join is pushed and the guard evaluated before that.
+    ensures branch_words { instruction_words branching 0 ≡ 3 ∷ 3 ∷ 3 ∷ 1 ∷ 1 ∷ 3 ∷ [] }
+    // A loop has its label from the guard on, again and again.
+    ensures loop_entries { entry_words looping ≡ 3 ∷ 3 ∷ 1 ∷ 1 ∷ [] }
+    ensures loop_words { instruction_words looping 0 ≡ 1 ∷ 1 ∷ 1 ∷ 1 ∷ 3 ∷ [] }
+    // No join is pushed under its own label.
+    ensures join { (shades : Shades) (it : EntryShade) →
+        IsShadedCode (scene_on branching) (code_on branching) shades → slice_get shades.entries 2 ≡ Some it →
+        ¬ (it.pushed ≡ Some it.label) }
+    // No head of a loop is pushed under the label of the block around it.
+    ensures head { (shades : Shades) (it : EntryShade) →
+        IsShadedCode (scene_on looping) (code_on looping) shades → slice_get shades.entries 2 ≡ Some it →
+        ¬ (it.pushed ≡ Some outer) }
+    // No segment in a branch has the label of the block around it.
+    ensures segment { (shades : Shades) (it : EntryShade) →
+        IsShadedCode (scene_on branching) (code_on branching) shades → slice_get shades.entries 3 ≡ Some it →
+        ¬ (it.label ≡ outer) }
+    // The guard of a loop has not the label of the block around it.
+    ensures guard_apart { (shades : Shades) →
+        IsShadedCode (scene_on looping) (code_on looping) shades → ¬ ((shades.at (host_id 0) 0).pc ≡ outer) }
+    // What is released in an index is released by the read of the element, and not where the expression around it is
+    // evaluated.
+    ensures in_index { released_by 0 (indexed_by released_field) ≡ [] }
+    ensures by_read { released_by 0 released_field ≡ (node.Temp 0 ∷ []) ∷ [] }
 {}

@@ -3,4 +3,4 @@
 
 mod laws;
 
-pub use laws::{flow_laws, shade_laws, walk_laws};
+pub use laws::{flow_laws, shade_laws, walk_laws, worked_laws};

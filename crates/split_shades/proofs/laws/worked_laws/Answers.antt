@@ -1,0 +1,67 @@
+use Rattle.std.proofs.Common.{◌≡◌, ◌∙◌, ℕ, refl, ap, sym, arith}
+use Rattle.std.specs.Prelude.{Option, Some, None, slice_get, unwrap_or}
+use Rattle.std.specs.Option.{option_map}
+use Rattle.label_lattice.specs.declared.label.Label.{Label}
+use Rattle.label_lattice.specs.Lattice.{join_of, bottom_of}
+use Rattle.msg_cost.specs.Moves.{is_trusted_by}
+use Rattle.split_rules.specs.Worked.{host_id}
+use Rattle.split_shades.specs.Worked.{branching, looping, scene_on, code_on}
+use Rattle.split_shades.proofs.WorkedShades.{pushed_under, label_there}
+use Rattle.split_shades.proofs.laws.worked_laws.Goals as goal
+
+pub returns-clause-branch_entries : goal.returns-clause-branch_entries
+unfolding is_trusted_by join_of
+returns-clause-branch_entries c = refl
+
+pub returns-clause-branch_words : goal.returns-clause-branch_words
+unfolding is_trusted_by join_of
+returns-clause-branch_words c = refl
+
+pub returns-clause-loop_entries : goal.returns-clause-loop_entries
+unfolding is_trusted_by join_of
+returns-clause-loop_entries c = refl
+
+pub returns-clause-loop_words : goal.returns-clause-loop_words
+unfolding is_trusted_by join_of
+returns-clause-loop_words c = refl
+
+pub returns-clause-in_index : goal.returns-clause-in_index
+returns-clause-in_index c = refl
+
+pub returns-clause-by_read : goal.returns-clause-by_read
+returns-clause-by_read c = refl
+
+-- the word of those who trust a label, where there is one
+abbrev word : Option Label → ℕ
+word found = unwrap_or (option_map (λ label. label.trust) found) 0
+
+-- the words of both labels
+apart_words : (one other : ℕ) → one ≡ 1 → other ≡ 3 → one ≡ other → ⊥
+apart_words one other is_one is_three same = omega (arith, is_one, is_three, same)
+
+pub returns-clause-join : goal.returns-clause-join
+unfolding is_trusted_by join_of
+returns-clause-join c shades it shaded is own =
+    let push = shaded.instructions (host_id 0) 0 _ refl in
+    let pushed = pushed_under (scene_on branching) shades (host_id 0) 0 2 push.law.0 it is push.law.1.1 in
+    let entry = label_there (scene_on branching) (code_on branching) shades shaded 2 _ it refl is in
+    apart_words 1 3 refl refl (ap word entry ∙ sym (ap word (push.label_is ∙ sym pushed ∙ own)))
+
+pub returns-clause-head : goal.returns-clause-head
+unfolding is_trusted_by join_of
+returns-clause-head c shades it shaded is own =
+    let push = shaded.instructions (host_id 0) 2 _ refl in
+    let pushed = pushed_under (scene_on looping) shades (host_id 0) 2 2 push.law.0 it is push.law.1.1 in
+    apart_words 1 3 refl refl (ap word (push.label_is ∙ sym pushed ∙ own))
+
+pub returns-clause-segment : goal.returns-clause-segment
+unfolding is_trusted_by join_of
+returns-clause-segment c shades it shaded is own =
+    let entry = label_there (scene_on branching) (code_on branching) shades shaded 3 _ it refl is in
+    apart_words 1 3 refl refl (ap word entry ∙ ap (λ label. label.trust) own)
+
+pub returns-clause-guard_apart : goal.returns-clause-guard_apart
+unfolding is_trusted_by join_of
+returns-clause-guard_apart c shades shaded own =
+    let read = shaded.instructions (host_id 0) 0 _ refl in
+    apart_words 1 3 refl refl (ap word read.label_is ∙ ap (λ label. label.trust) own)
