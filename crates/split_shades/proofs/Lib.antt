@@ -14,4 +14,6 @@ pub mod ShadedPrograms
 pub mod ReadOff
 pub mod ShadedPlaces
 pub mod ShadedSplit
+pub mod CarriedBlocks
+pub mod CarriedCode
 pub mod WorkedShades

@@ -5,4 +5,5 @@ pub mod Steps
 pub mod Shading
 pub mod Sites
 pub mod ShadedCode
+pub mod Carried
 pub mod Worked

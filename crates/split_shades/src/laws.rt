@@ -14,6 +14,7 @@ ghost use Rattle.split_rules.specs.WalkStart.{front_emissions};
 ghost use Rattle.split_shades.specs.Flows.{AreResultsLabelled, AllFlow};
 ghost use Rattle.split_shades.specs.Shading.{Known, nowhere, AreShaded, shades_start};
 ghost use Rattle.split_shades.specs.Sites.{ReleasesNothing, scene_of};
+ghost use Rattle.split_shades.specs.Carried.{AreCarried};
 ghost use Rattle.split_shades.specs.ShadedCode.{Shades, IsShadedCode, ReleaseNothing};
 ghost use Rattle.split_rules.specs.SplitCode.{split_code};
 ghost use Rattle.split_shades.specs.Shades.{EntryShade, released_by};
@@ -62,6 +63,12 @@ pub fn shade_laws()
         AreResultsLabelled labelled.program → ReleasesNothing labelled.program →
         (shades : Shades) × IsShadedCode (scene_of labelled needs hosts plan false)
         (split_code labelled needs hosts plan) shades × ReleaseNothing (split_code labelled needs hosts plan) shades }
+    // Each instruction carries the program label of the statement that it is for, which stands on its host, or that of a
+    // block where the right to go on moves, and each entry carries that of a block.
+    ensures carried { (labelled : Labelled) (needs : NeedsShape) (hosts : HostsShape) (plan : PlanShape) →
+        IsSplittable labelled hosts plan → IsAllowed labelled needs hosts plan → IsHeld labelled needs hosts plan →
+        AreCarried (record { principals = hosts.principals; labelled = labelled })
+        (planned_of labelled needs hosts plan) (split_code labelled needs hosts plan) }
 {}
 
 /// The shades of some small programs, which deny other rules.
