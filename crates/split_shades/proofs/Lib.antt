@@ -13,6 +13,7 @@ pub mod LabelledSites
 pub mod ShadedPrograms
 pub mod ReadOff
 pub mod ShadedPlaces
+pub mod ForwardExits
 pub mod ShadedSplit
 pub mod CarriedBlocks
 pub mod CarriedCode

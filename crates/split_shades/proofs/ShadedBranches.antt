@@ -32,17 +32,17 @@ use Rattle.split_shades.proofs.ShadedValues.{IsRead}
 
 -- a branch leads on, or an entry stands, where nothing goes on
 one_lands : (scene : Scene) (host : HostId) (target : Ahead) (number : ℕ) (entries : List EntryShade)
-    (branches : List Ahead) → slice_get branches number ≡ Some target →
+    (branches : List Ahead) → slice_get branches number ≡ Some target → target.begun ≡ None →
     Leads scene (known_at nowhere entries branches) (lands host number ∷ []) (here host target)
-one_lands scene host target number entries branches there = leads_still scene nowhere (here host target) entries branches
-    (lands host number ∷ []) (known_at (here host target) entries branches, (target, there, refl, refl), refl)
+one_lands scene host target number entries branches there calm = leads_still scene nowhere (here host target) entries branches
+    (lands host number ∷ []) (known_at (here host target) entries branches, (target, there, (refl, calm), refl), refl)
 
 one_stands : (scene : Scene) (host : HostId) (own : EntryShade) (number : ℕ) (entries : List EntryShade)
-    (branches : List Ahead) → slice_get entries number ≡ Some own →
+    (branches : List Ahead) → slice_get entries number ≡ Some own → own.begun ≡ None →
     Leads scene (known_at nowhere entries branches) (stands host number ∷ []) (here host (ahead_of own))
-one_stands scene host own number entries branches there = leads_still scene nowhere (here host (ahead_of own)) entries
+one_stands scene host own number entries branches there calm = leads_still scene nowhere (here host (ahead_of own)) entries
     branches (stands host number ∷ [])
-    (known_at (here host (ahead_of own)) entries branches, (own, there, inl refl, refl), refl)
+    (known_at (here host (ahead_of own)) entries branches, (own, there, inl (refl, calm), refl), refl)
 
 -- a block inside begins on the host of the branch or the loop
 abbrev pub BeginsShaded : Scene → HostId → Level → Label → (Counts → List Emission) → Type 0
@@ -73,7 +73,7 @@ branch_shaded scene tree around level heading guard next left one two entries br
     (leads_on scene start (one_there ++ between) two_there (here host target) nowhere
     (leads_on scene start one_there between nowhere (here host target) one_leads
     (λ more ahead counted. one_lands scene host target (length branches) (joined ++ more) (opened ++ ahead)
-    (still_there opened ahead (length branches) target (at_last branches target []))))
+    (still_there opened ahead (length branches) target (at_last branches target [])) refl))
     (λ more ahead counted.
     let Q : Counts → Type 0 = λ it. Leads scene
     (known_at (here host target) (joined ++ more) (opened ++ ahead)) (two it) nowhere in
@@ -81,7 +81,7 @@ branch_shaded scene tree around level heading guard next left one two entries br
     (two_goes (joined ++ more) (opened ++ ahead) (methods_still scene joined more inner_methods)
     (level_still joined more (under number) inside inner_level))))
     (λ more ahead counted. one_stands scene host join number (joined ++ more) (opened ++ ahead)
-    (still_there joined more number join (at_last entries join [])))))
+    (still_there joined more number join (at_last entries join [])) refl)))
   where
     host : HostId
     host = next.host
@@ -234,7 +234,7 @@ loop_shaded scene tree around level heading guard next left one entries branches
     target front (one_there ++ between) begins
     (leads_on scene start one_there between nowhere (here host target) one_leads
     (λ more ahead counted. one_lands scene host target (length branches) (headed ++ more) (opened ++ ahead)
-    (still_there opened ahead (length branches) target (at_last branches target [])))))
+    (still_there opened ahead (length branches) target (at_last branches target [])) refl)))
   where
     host : HostId
     host = next.host
@@ -333,7 +333,7 @@ loop_shaded scene tree around level heading guard next left one entries branches
       ),
       (
         site_known site [] (Some own) headed branches,
-        (head, at_last entries head [], inr refl, refl),
+        (head, at_last entries head [], inr (refl, refl), refl),
         reads_then scene site headed branches site_there (Some own) refl guard read
             (emitted host inside heading.id (op.Branch (nodes_of 0 guard) (length branches))
             ∷ emitted host inside heading.id (op.Push (entry_id number)) ∷ []) start (λ last may. (

@@ -212,7 +212,7 @@ call_shaded scene tree all me pc id level site method arguments into left entrie
                       ),
                   (
                     block_known me pc level more branches,
-                    (behind, behind_there, inl refl, refl),
+                    (behind, behind_there, inl (refl, refl), refl),
                     kept,
                   ),
                 ),

@@ -108,6 +108,7 @@ plain_shaded scene host pc statement what level entries branches after is law = 
   meets = plain_meets level pc;
   label_is = refl;
   is_shade = plain_is_shade scene entries level pc is;
+  guarded = tt;
   law = law;
 }
 
@@ -150,7 +151,7 @@ leave_from scene around level host (Some back) number entries branches is known 
           (given, known, refl) (((refl, refl), refl, refl), refl),
       (
         known_at (here back (calm_ahead level pc)) entries branches,
-        (given, known, inl refl, refl),
+        (given, known, inl (refl, refl), refl),
         refl,
       ),
     )
@@ -216,7 +217,7 @@ handed scene walked around level from host statements entries branches is seen a
               ),
           (
             known_at (here host (calm_ahead level pc)) more branches,
-            (own, there, inl refl, refl),
+            (own, there, inl (refl, refl), refl),
             refl,
           ),
         ),
@@ -275,7 +276,7 @@ lent scene walked around level from host back statements entries branches is see
               ),
           (
             known_at (here host (calm_ahead (under number) pc)) both branches,
-            (segment, segment_there, inl refl, refl),
+            (segment, segment_there, inl (refl, refl), refl),
             ap (λ it. known_at (here host (calm_ahead (under number) pc)) it branches)
                 (append_assoc entries (given ∷ []) (segment ∷ [])),
           ),

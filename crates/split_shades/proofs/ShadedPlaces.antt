@@ -234,7 +234,7 @@ Meet known host shade = (ahead : Ahead) → known.place ≡ here host ahead → 
 pub not_nowhere : (host : HostId) (ahead : Ahead) → here host ahead ≡ nowhere → ⊥
 not_nowhere host ahead same = cc
 
-here_host : (host other : HostId) (ahead next : Ahead) → here host ahead ≡ here other next →
+pub here_host : (host other : HostId) (ahead next : Ahead) → here host ahead ≡ here other next →
     (host ≡ other) × (ahead ≡ next)
 here_host host other ahead next same = (cc, cc)
 
@@ -261,8 +261,9 @@ shades_go_on scene = record {
       let same = ap (λ one. one.place) so.3 in
       ((goes.0, same ∙ goes.1), λ shade meet ahead place_is. meet ahead (same ∙ place_is));
   stands_there = λ known on number after host so goes. elim so.2 [
-    | inl none ↦ absurd (not_nowhere host goes.0 (sym goes.1 ∙ none))
-    | inr same ↦
+    | inl none ↦ absurd (not_nowhere host goes.0 (sym goes.1 ∙ none.0))
+    | inr both ↦
+        let same = both.0 in
         let at = here_host on host (no_begun (ahead_of so.0)) goes.0 (sym same ∙ goes.1) in
         let later = ap (λ one. one.place) so.3 ∙ ap (λ it. here it (ahead_of so.0)) at.0 in (
           (ahead_of so.0, later),
@@ -272,5 +273,5 @@ shades_go_on scene = record {
               subst P before (no_less so.0 shade (meet (ahead_of so.0) later)),
         )
   ];
-  lands_there = λ known on number after host so goes. absurd (not_nowhere host goes.0 (sym goes.1 ∙ so.2));
+  lands_there = λ known on number after host so goes. absurd (not_nowhere host goes.0 (sym goes.1 ∙ so.2.0));
 }

@@ -69,7 +69,7 @@ begins scene home number method entries branches emissions is leads = record {
   ahead = leads.ahead;
   shaded = (
     known_at (here home (calm_ahead (body (record { 0 = number })) method.begin)) entries branches,
-    (method_shade number method, is, inl refl, refl),
+    (method_shade number method, is, inl (refl, refl), refl),
     leads.shaded,
   );
 }

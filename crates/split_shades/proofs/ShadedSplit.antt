@@ -55,6 +55,7 @@ use Rattle.split_shades.specs.Shading.{Known, known_at, ShadedOp, Shaded, AreSha
 use Rattle.split_shades.specs.Shading.{halt_shade, shades_start}
 use Rattle.split_shades.specs.Sites.{ReleasesNothing, scene_of}
 use Rattle.split_shades.proofs.BasisLabels.{flows_self}
+use Rattle.split_shades.proofs.ForwardExits.{exit_behind}
 use Rattle.split_shades.proofs.ReadOff.{items_on, half, InstructionRead, instruction_read, MarkRead, stands_read, lands_read}
 use Rattle.split_shades.proofs.ShadedPlaces.{Kept, kept_then, step_keeps, steps_keep, entries_many, shade_more, entry_more}
 use Rattle.split_shades.proofs.ShadedPlaces.{follows_more, ends_more, shade_of, Goes, Meet, not_nowhere, shades_go_on}
@@ -125,10 +126,11 @@ op_shaded : (scene : Scene) (hosts : HostsShape) (main : MethodTree) (emissions 
     let place = length (emitted_on me before) in
     let shade = (table_in walk).at me place in
     (shade.pc ≡ one.label) × IsShade scene walk.last.entries shade
+    × IfSome shade.guard (λ own. place < (table_in walk).exits me own)
     × IsShadedOp scene (table_in walk) me place (landed me (given scene.basis.labelled scene.planned main emissions) what)
 unfolding table_of
 op_shaded scene hosts main emissions walk before one behind is me own what what_is =
-    (ap (λ it. it.pc) here_is ∙ so.step.label_is, is_shade, by what what_is law)
+    (ap (λ it. it.pc) here_is ∙ so.step.label_is, is_shade, exits, by what what_is law)
   where
     first : Known
     first = shades_start scene.basis.labelled.program
@@ -169,6 +171,14 @@ op_shaded scene hosts main emissions walk before one behind is me own what what_
     is_shade =
         let P : Shade → Type 0 = λ it. IsShade scene walk.last.entries it in
         subst P (sym here_is) (shade_more scene so.known.entries walk.last.entries kept shade so.step.is_shade)
+
+    exits : IfSome (table.at me place).guard (λ own. place < table.exits me own)
+    exits =
+        let P : List Emission → Type 0 = λ list. IfSome shade.guard
+        (λ own. place < length (emitted_on me (before_landing own list))) in
+        let Q : Shade → Type 0 = λ it. IfSome it.guard (λ own. place < table.exits me own) in
+        subst Q (sym here_is) (subst P (sym is)
+        (exit_behind scene me first before so.known one behind so.after refl so.to so.step own))
 
     law : ShadedOp scene so.known me shade what so.after
     law =
@@ -273,7 +283,8 @@ instructions_shaded scene hosts main emissions walk me place there is = by (slic
         subst R one.2 (subst P so.place (record {
           label_is = label_is ∙ ap Some (sym law.0);
           is_shade = law.1;
-          law = subst Q (sym so.own) law.2;
+          exits = law.2;
+          law = subst Q (sym so.own) law.3;
         }))
 
     by : (part : Option (List Instr)) → slice_get code.parts me.0 ≡ part →

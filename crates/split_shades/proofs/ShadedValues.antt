@@ -50,9 +50,30 @@ pub record IsSite (scene : Scene) (entries : List EntryShade) (site : Site) : Ty
   pub under_block : IsUnderBlock site.guard site.block site.pc
   pub below : IsBelow entries site.level site.block
 
--- a statement has begun there, or may begin
+-- A statement has begun there, or may begin. The guard of a loop has begun.
+abbrev pub MayBeginAs : Label → Option ℕ → Option Begun → Type 0
+MayBeginAs pc None begun = IfSome begun (λ it. it ≡ record { pc = pc; guard = None })
+MayBeginAs pc (Some own) begun = begun ≡ Some (record { pc = pc; guard = Some own })
+
 abbrev pub MayBegin : Site → Option Begun → Type 0
-MayBegin site begun = IfSome begun (λ it. it ≡ record { pc = site.pc; guard = site.guard })
+MayBegin site begun = MayBeginAs site.pc site.guard begun
+
+-- it has begun as what it is
+begun_so : (pc : Label) (guard : Option ℕ) → MayBeginAs pc guard (Some (record { pc = pc; guard = guard }))
+begun_so pc None = refl
+begun_so pc (Some own) = refl
+
+may_meet : (pc : Label) (guard : Option ℕ) (begun : Option Begun) → MayBeginAs pc guard begun →
+    IfSome begun (λ it. it ≡ record { pc = pc; guard = guard })
+may_meet pc None begun may = may
+may_meet pc (Some own) begun may =
+    let P : Option Begun → Type 0 = λ it. IfSome it (λ one. one ≡ record { pc = pc; guard = Some own }) in
+    subst P (sym may) refl
+
+may_guard : (pc : Label) (guard : Option ℕ) (begun : Option Begun) → MayBeginAs pc guard begun →
+    IfSome guard (λ own. begun ≡ Some (record { pc = pc; guard = Some own }))
+may_guard pc None begun may = tt
+may_guard pc (Some own) begun may = may
 
 abbrev pub ahead_at : Site → List Label → Option Begun → Ahead
 ahead_at site temps begun =
@@ -84,9 +105,10 @@ one_shaded scene site entries branches is temps released silent begun may what a
   shade = shade_at site temps released;
   ahead = ahead_at site temps begun;
   is_here = refl;
-  meets = record { level = refl; block = refl; temps = refl; calls = refl; begun = may };
+  meets = record { level = refl; block = refl; temps = refl; calls = refl; begun = may_meet site.pc site.guard begun may };
   label_is = refl;
   is_shade = record { under_block = is.under_block; below = is.below; silent = silent };
+  guarded = may_guard site.pc site.guard begun may;
   law = law;
 }
 
@@ -162,7 +184,7 @@ one_read scene site entries branches is temps begun may field index nodes before
     let after = site_known site behind (Some own) entries branches in
     record {
       last = Some own;
-      may = refl;
+      may = begun_so site.pc site.guard;
       shaded = (
         after,
         one_shaded scene site entries branches is temps (released_by (length before) index)
@@ -285,6 +307,12 @@ expr_shaded scene site entries branches is temps begun may (endorsed operand lab
 
 -- ---- variables
 
+-- outside of guards a statement may begin
+none_begun : (site : Site) → site.guard ≡ None → MayBegin site None
+none_begun site none =
+    let P : Option ℕ → Type 0 = λ guard. MayBeginAs site.pc guard None in
+    subst P (sym none) tt
+
 -- where nothing is read a variable may be sent
 abbrev plain_known : Site → List EntryShade → List Ahead → Known
 plain_known site entries branches = site_known site [] None entries branches
@@ -299,7 +327,7 @@ pub sends_shaded : (scene : Scene) (site : Site) (entries : List EntryShade) (br
 sends_shaded scene site entries branches is calls guard x flows [] see = refl
 sends_shaded scene site entries branches is calls guard x flows (host ∷ hosts) see = (
   plain_known site entries branches,
-  one_shaded scene site entries branches is [] [] (λ none. refl) None tt (op.Send x host)
+  one_shaded scene site entries branches is [] [] (λ none. refl) None (none_begun site guard) (op.Send x host)
       (plain_known site entries branches) (
         ahead_at site [] None,
         (
@@ -327,7 +355,7 @@ pub passes_shaded : (scene : Scene) (site : Site) (entries : List EntryShade) (b
 passes_shaded scene site entries branches is calls guard x flows [] see = refl
 passes_shaded scene site entries branches is calls guard x flows (host ∷ hosts) see = (
   plain_known site entries branches,
-  one_shaded scene site entries branches is [] [] (λ none. refl) None tt (op.Pass x host)
+  one_shaded scene site entries branches is [] [] (λ none. refl) None (none_begun site guard) (op.Pass x host)
       (plain_known site entries branches) (
         ahead_at site [] None,
         (

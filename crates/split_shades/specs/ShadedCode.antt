@@ -1,5 +1,5 @@
 -- Code with a shade for each of its instructions and entries, so that each instruction keeps the law of its kind.
-use Rattle.std.specs.Prelude.{◌≡◌, ℕ, suc, false, List, [], length, Some, IfSome, slice_get}
+use Rattle.std.specs.Prelude.{◌≡◌, ℕ, ◌<◌, suc, false, List, [], length, Some, IfSome, slice_get}
 use Rattle.js_base.specs.declared.ids.HostId.{HostId}
 use Rattle.jif_tree.specs.Trees.{MethodTree}
 use Rattle.host_code.specs.declared.code.Entry.{Entry}
@@ -34,11 +34,12 @@ IsShadedOp scene shades me place other =
     (next : Ahead) × Follows scene shades.entries me (shades.at me place) other next
     × Meets next (shades.at me (suc place))
 
--- The code has the program label of the instruction.
+-- The code has the program label of the instruction. The branch of a loop leads behind all of its guard.
 pub record IsShadedAt (scene : Scene) (code : CodeShape) (shades : Shades) (me : HostId) (place : ℕ) (there : Instr) :
     Type 0 where
   pub label_is : label_at code there.label ≡ Some (shades.at me place).pc
   pub is_shade : IsShade scene shades.entries (shades.at me place)
+  pub exits : IfSome (shades.at me place).guard (λ own. place < shades.exits me own)
   pub law : IsShadedOp scene shades me place there.op
 
 -- The code has the label of the entry.

@@ -277,9 +277,11 @@ pub record IsShaded (scene : Scene) (known : Known) (one : Emitted) (after : Kno
   pub meets : Meets ahead shade
   pub label_is : shade.pc ≡ one.label
   pub is_shade : IsShade scene known.entries shade
+  -- the guard of a loop is evaluated only where that was known ahead
+  pub guarded : IfSome shade.guard (λ own. ahead.begun ≡ Some (record { pc = shade.pc; guard = Some own }))
   pub law : ShadedOp scene known one.host shade one.op after
 
--- where an entry stands a statement may begin, or the guard of its loop
+-- Where an entry stands a statement may begin, or the guard of its loop, whose branch has then the next number.
 abbrev pub no_begun : Ahead → Ahead
 no_begun ahead = record {
   level = ahead.level;
@@ -296,11 +298,13 @@ Shaded scene known (entry named) after =
     × (after ≡ known_at known.place (known.entries ++ own ∷ []) known.branches)
 Shaded scene known (stands host number) after =
     (own : EntryShade) × (slice_get known.entries number ≡ Some own)
-    × ((known.place ≡ nowhere) ⊎ (known.place ≡ here host (no_begun (ahead_of own))))
+    × (((known.place ≡ nowhere) × (own.begun ≡ None))
+    ⊎ ((known.place ≡ here host (no_begun (ahead_of own)))
+    × IfSome own.begun (λ begun. begun.guard ≡ Some (length known.branches))))
     × (after ≡ with_place known (here host (ahead_of own)))
 Shaded scene known (lands host number) after =
-    (target : Ahead) × (slice_get known.branches number ≡ Some target) × (known.place ≡ nowhere)
-    × (after ≡ with_place known (here host target))
+    (target : Ahead) × (slice_get known.branches number ≡ Some target)
+    × ((known.place ≡ nowhere) × (target.begun ≡ None)) × (after ≡ with_place known (here host target))
 
 -- emissions from one place of a walk to another
 abbrev pub AreShaded : Scene → Known → List Emission → Known → Type 0
