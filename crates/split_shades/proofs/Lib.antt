@@ -15,6 +15,7 @@ pub mod ReadOff
 pub mod ShadedPlaces
 pub mod ForwardExits
 pub mod ShadedSplit
+pub mod KnownCode
 pub mod CarriedBlocks
 pub mod CarriedCode
 pub mod WorkedShades

@@ -216,12 +216,14 @@ op_shaded scene hosts main emissions walk before one behind is me own what what_
         let meets_exit = subst Q (sym (read_off scene first emissions walk.last walk.shaded me exit there.0 there.1))
         (subst P same (there.2 marked.step.0 comes)) in
         let R : ℕ → Type 0 = λ at. Meets so_law.1 (table.at me at) in
-        let S : Shade → Type 0 = λ it. (next : Ahead) × (other : Ahead) × Divides scene it guard it.guard next other
+        let S : Shade → Type 0 = λ it. (next : Ahead) × (other : Ahead) × (it.calls ≡ false)
+        × Divides scene it guard it.guard next other
         × Meets next (table.at me (suc place)) × Meets other (table.at me target)
         × IfSome it.guard (λ own. target ≡ table.exits me own) in
         subst S (sym here_is) (
           so_law.0,
           so_law.1,
+          so_law.3,
           so_law.5,
           next_meets so_law.0 (ap (λ known. known.place) so_law.6),
           subst R (sym target_is) meets_exit,

@@ -1,13 +1,22 @@
 -- Code with a shade for each of its instructions and entries, so that each instruction keeps the law of its kind.
 use Rattle.std.specs.Prelude.{◌≡◌, ℕ, ◌<◌, suc, false, List, [], length, Some, IfSome, slice_get}
 use Rattle.js_base.specs.declared.ids.HostId.{HostId}
+use Rattle.js_base.specs.declared.ids.FieldId.{FieldId}
+use Rattle.js_base.specs.declared.ids.VarId.{VarId}
+use Rattle.label_lattice.specs.declared.label.Label.{Label}
 use Rattle.jif_tree.specs.Trees.{MethodTree}
+use Rattle.jif_tree.specs.LabelRules.{field_label}
 use Rattle.host_code.specs.declared.code.Entry.{Entry}
 use Rattle.host_code.specs.declared.instruction.Instr.{Instr}
 use Rattle.host_code.specs.declared.instruction.Op.{Op}
 use Rattle.host_code.specs.declared.instruction.Op.TheVariants as op
-use Rattle.host_code.specs.Code.{CodeShape, instruction_at}
-use Rattle.entry_check.specs.Checks.{label_at}
+use Rattle.host_code.specs.Code.{CodeShape, CodeFieldShape, CodeVariableShape, instruction_at, field_at, variable_at}
+use Rattle.entry_check.specs.Checks.{MaySee, label_at, label_of_host}
+use Rattle.need_labels.specs.Needs.{label_of}
+use Rattle.need_labels.specs.Plan.{field_host}
+use Rattle.msg_cost.specs.Moves.{PlannedShape}
+use Rattle.split_shades.specs.Basis.{Basis}
+use Rattle.split_shades.specs.Flows.{IsSeenOn}
 use Rattle.split_shades.specs.Shades.{Shade, EntryShade, Ahead, Meets, ahead_of}
 use Rattle.split_shades.specs.Shading.{Scene, IsShade, IsEntryShade, Follows, Divides, Ends, method_shade, halt_shade}
 
@@ -22,7 +31,7 @@ pub record Shades : Type 0 where
 abbrev pub IsShadedOp : Scene → Shades → HostId → ℕ → Op → Type 0
 IsShadedOp scene shades me place (op.Branch guard target) =
     let here = shades.at me place in
-    (next : Ahead) × (other : Ahead) × Divides scene here guard here.guard next other
+    (next : Ahead) × (other : Ahead) × (here.calls ≡ false) × Divides scene here guard here.guard next other
     × Meets next (shades.at me (suc place)) × Meets other (shades.at me target)
     × IfSome here.guard (λ own. target ≡ shades.exits me own)
 IsShadedOp scene shades me place (op.Go there on) =
@@ -68,3 +77,17 @@ pub record IsShadedCode (scene : Scene) (code : CodeShape) (shades : Shades) : T
 abbrev pub ReleaseNothing : CodeShape → Shades → Type 0
 ReleaseNothing code shades = (host : HostId) (place : ℕ) (there : Instr) →
     instruction_at code host place ≡ Some there → (shades.at host place).released ≡ []
+
+-- ---- what else the code has
+
+-- The code has the labels of the fields and the variables, and the hosts of the fields, who may see them. What a host may
+-- see by the plan, it may see by the code.
+pub record AreKnownInCode (basis : Basis) (planned : PlannedShape) (code : CodeShape) : Type 0 where
+  pub fields : (field : FieldId) (there : CodeFieldShape) → field_at code field ≡ Some there →
+      (label_at code there.label ≡ Some (field_label basis.labelled.program field))
+      × (there.host ≡ field_host planned.plan field)
+      × MaySee (label_at code there.label) (label_of_host code there.host)
+  pub variables : (x : VarId) (there : CodeVariableShape) → variable_at code x ≡ Some there →
+      label_at code there.label ≡ Some (label_of basis.labelled x)
+  pub hosts : (host : HostId) (label : Label) → IsSeenOn planned host label →
+      MaySee (Some label) (label_of_host code host)

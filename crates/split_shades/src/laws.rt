@@ -15,7 +15,7 @@ ghost use Rattle.split_shades.specs.Flows.{AreResultsLabelled, AllFlow};
 ghost use Rattle.split_shades.specs.Shading.{Known, nowhere, AreShaded, shades_start};
 ghost use Rattle.split_shades.specs.Sites.{ReleasesNothing, scene_of};
 ghost use Rattle.split_shades.specs.Carried.{AreCarried};
-ghost use Rattle.split_shades.specs.ShadedCode.{Shades, IsShadedCode, ReleaseNothing};
+ghost use Rattle.split_shades.specs.ShadedCode.{Shades, IsShadedCode, ReleaseNothing, AreKnownInCode};
 ghost use Rattle.split_rules.specs.SplitCode.{split_code};
 ghost use Rattle.split_shades.specs.Shades.{EntryShade, released_by};
 ghost use Rattle.split_shades.specs.Worked.{branching, looping, scene_on, code_on, entry_words, instruction_words, outer};
@@ -68,6 +68,12 @@ pub fn shade_laws()
     ensures carried { (labelled : Labelled) (needs : NeedsShape) (hosts : HostsShape) (plan : PlanShape) →
         IsSplittable labelled hosts plan → IsAllowed labelled needs hosts plan → IsHeld labelled needs hosts plan →
         AreCarried (record { principals = hosts.principals; labelled = labelled })
+        (planned_of labelled needs hosts plan) (split_code labelled needs hosts plan) }
+    // The code has the labels of fields and variables that shades speak of, each field stands on a host that may see it,
+    // and a host may see by the code what it may see by the plan.
+    ensures known { (labelled : Labelled) (needs : NeedsShape) (hosts : HostsShape) (plan : PlanShape) →
+        IsSplittable labelled hosts plan → IsAllowed labelled needs hosts plan → IsHeld labelled needs hosts plan →
+        AreKnownInCode (record { principals = hosts.principals; labelled = labelled })
         (planned_of labelled needs hosts plan) (split_code labelled needs hosts plan) }
 {}
 
