@@ -9,10 +9,9 @@ use Rattle.js_base.specs.declared.ids.VarId.{VarId}
 use Rattle.js_base.specs.declared.ids.StmtId.{StmtId}
 use Rattle.js_base.specs.declared.ids.MethodId.{MethodId}
 use Rattle.js_base.specs.declared.ids.SiteId.{SiteId}
-use Rattle.principals.specs.ActsFor.{Declared}
 use Rattle.label_lattice.specs.declared.label.Label.{Label}
 use Rattle.label_lattice.specs.Lattice.{join_of}
-use Rattle.jif_tree.specs.Trees.{ExprTree, Heading, BlockTree, done, set_local, set_field, set_element, branch, loop, call}
+use Rattle.jif_tree.specs.Trees.{ExprTree, BlockTree, done, set_local, set_field, set_element, branch, loop, call}
 use Rattle.jif_tree.specs.Trees.{give_back, MethodTree}
 use Rattle.jif_tree.specs.LabelRules.{MethodSetting, VariableLabels, setting_of, guarded, labels_after, block_labels}
 use Rattle.jif_tree.specs.LabelRules.{labels_after_assignment, expr_label, method_at, params_of, result_of}
@@ -22,13 +21,13 @@ use Rattle.host_code.specs.declared.instruction.Op.TheVariants as op
 use Rattle.need_labels.specs.Labelled.{Labelled, pc_of, all_labels}
 use Rattle.need_labels.specs.Plan.{statement_host}
 use Rattle.msg_cost.specs.declared.spot.Spot.{Spot}
-use Rattle.msg_cost.specs.Moves.{PlannedShape, is_same, on, end_of, entered, next_spot, own_statements, called_home}
+use Rattle.msg_cost.specs.Moves.{PlannedShape, is_same, end_of, entered, next_spot, own_statements}
 use Rattle.split_rules.specs.Emissions.{Emission, stands, lands, Counts, counts_after}
 use Rattle.split_rules.specs.Expressions.{Reading, readings_of, reads_in}
 use Rattle.split_rules.specs.Positions.{IsOf, all_statements}
 use Rattle.split_rules.specs.Walk.{Walked, Around, Lane, walked_in, lane_on, lane_at, entry_id, emitted, read_emissions}
-use Rattle.split_rules.specs.Walk.{under_token, expr_emissions, other_readers, send_emissions, pass_emissions, leave_emissions}
-use Rattle.split_rules.specs.Walk.{enter_emissions, move_emissions, push_or_ask, end_emissions, argument_emissions}
+use Rattle.split_rules.specs.Walk.{under_token, expr_emissions, other_readers, leave_emissions}
+use Rattle.split_rules.specs.Walk.{enter_emissions, move_emissions, argument_emissions}
 use Rattle.split_rules.specs.Walk.{kept_emissions, call_emissions, result_emissions, block_emissions}
 use Rattle.split_rules.proofs.BackedLabels.{all_first, all_second, all_both}
 use Rattle.split_rules.proofs.LabelsKept.{AreFinal}

@@ -1,5 +1,5 @@
 -- The instructions and entries of split code carry the program labels of statements and blocks.
-use Rattle.std.proofs.Common.{◌≡◌, ◌∙◌, ℕ, zero, suc, ◌+◌, ◌<◌, inl, List, [], ◌∷◌, ◌++◌, map, length, refl, ap, sym}
+use Rattle.std.proofs.Common.{◌≡◌, ◌∙◌, ℕ, suc, ◌+◌, ◌<◌, inl, List, [], ◌∷◌, ◌++◌, map, length, refl, ap, sym}
 use Rattle.std.proofs.Common.{subst, arith}
 use Rattle.std.specs.Prelude.{Option, Some, None, slice_get, unwrap_or}
 use Rattle.std.proofs.lemmas.List.{length-map}
@@ -14,7 +14,7 @@ use Rattle.label_lattice.specs.declared.label.Label.{Label}
 use Rattle.host_decl.specs.Hosts.{HostsShape}
 use Rattle.jif_tree.specs.Trees.{BlockTree, MethodTree}
 use Rattle.jif_tree.specs.LabelRules.{VariableLabels, setting_of, labels_after, labels_after_methods, block_labels}
-use Rattle.jif_tree.specs.LabelRules.{methods_labels, declared_labels, method_at}
+use Rattle.jif_tree.specs.LabelRules.{methods_labels, declared_labels}
 use Rattle.jif_tree.specs.ValueLabels.{AreAllValuesLabelled}
 use Rattle.jif_tree.proofs.LabelsKept.{Stay}
 use Rattle.host_code.specs.declared.code.Entry.{Entry}
@@ -28,10 +28,10 @@ use Rattle.need_labels.specs.Needs.{NeedsShape}
 use Rattle.need_labels.specs.Plan.{PlanShape}
 use Rattle.msg_cost.specs.Moves.{PlannedShape, planned_of, home_of}
 use Rattle.split_rules.specs.Allowed.{IsAllowed}
-use Rattle.split_rules.specs.Emissions.{Emission, instruction, entry, Emitted, Counts, counts_after}
+use Rattle.split_rules.specs.Emissions.{Emission, instruction, entry, Counts, counts_after}
 use Rattle.split_rules.specs.Held.{IsHeld}
 use Rattle.split_rules.specs.Positions.{IsIn, IsOf, all_statements}
-use Rattle.split_rules.specs.SplitCode.{emitted_on, entries_in, landed, code_labels, label_place, placed_instruction}
+use Rattle.split_rules.specs.SplitCode.{emitted_on, landed, code_labels, placed_instruction}
 use Rattle.split_rules.specs.SplitCode.{part_on, code_of_emissions, split_code}
 use Rattle.split_rules.specs.Splittable.{IsSplittable}
 use Rattle.split_rules.specs.Walk.{lane_on, method_entry, method_emissions, methods_emissions, program_emissions}

@@ -1,6 +1,6 @@
 -- The values of the statements of a block flow to where these keep them.
-use Rattle.std.proofs.Common.{◌≡◌, ◌∙◌, Bool, List, [], ◌∷◌, ◌++◌, map, length, refl, ap, sym, subst}
-use Rattle.std.specs.Prelude.{Option, Some, None, slice_get}
+use Rattle.std.proofs.Common.{◌≡◌, ◌∙◌, Bool, List, [], ◌∷◌, ◌++◌, length, refl, ap, sym, subst}
+use Rattle.std.specs.Prelude.{Option, Some, None}
 use Rattle.std.specs.List.{AllByRecursion, flat_map}
 use Rattle.js_base.specs.declared.ids.VarId.{VarId}
 use Rattle.js_base.specs.declared.ids.MethodId.{MethodId}
@@ -18,14 +18,13 @@ use Rattle.jif_tree.specs.Labelling.{IsLabelled, IsLabelledIfAny, AreLabelled}
 use Rattle.jif_tree.specs.ValueLabels.{IsExprLabelled, AreValuesLabelled}
 use Rattle.jif_tree.specs.WellNumbered.{IsExprIn, IsBlockIn, is_some}
 use Rattle.jif_tree.proofs.LabelsKept.{Stay, stay_then, assignment_stays, block_stays, assigned_labelled}
-use Rattle.need_labels.specs.Labelled.{Labelled, pc_of, all_labels}
-use Rattle.need_labels.specs.Needs.{block_uses, tellings_in, label_of, labels_of, kept_result}
+use Rattle.need_labels.specs.Labelled.{Labelled, all_labels}
+use Rattle.need_labels.specs.Needs.{block_uses, tellings_in, label_of}
 use Rattle.msg_cost.specs.Moves.{PlannedShape}
 use Rattle.split_rules.proofs.BackedLabels.{all_first, all_second, variable_found}
 use Rattle.split_rules.proofs.LabelsKept.{AreFinal, label_there}
 use Rattle.split_rules.proofs.SeenLabels.{flows_first, flows_second}
 use Rattle.split_rules.proofs.SeenBlocks.{IsToldWell, IsUseWell, guard_same, IsMet, IsKept, AreLabelsKept, AreUsesWell}
-use Rattle.split_shades.specs.Basis.{value_label}
 use Rattle.split_shades.specs.Flows.{AreResultsLabelled, AreIndexesSeen, ValueFlows, ArgumentsFlow, ResultFlows, BlockFlows}
 use Rattle.split_shades.proofs.BasisLabels.{flows_self, value_under, basis_of, same_value}
 use Rattle.split_shades.proofs.KeptValues.{indexes_seen, value_kept, arguments_flow, result_flows_on, answer_flows}

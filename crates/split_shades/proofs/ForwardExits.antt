@@ -3,7 +3,7 @@
 use Rattle.std.proofs.Common.{◌≡◌, ◌≢◌, ◌∙◌, ℕ, suc, ◌+◌, ◌<◌, ◌≤◌, inl, inr, Bool, true, false, List, [], ◌∷◌, ◌++◌}
 use Rattle.std.proofs.Common.{length, refl, ap, sym, subst, arith, ne_eqb, append_assoc, append-nil, length-append}
 use Rattle.std.proofs.Common.{eq-eqb}
-use Rattle.std.specs.Prelude.{Option, Some, None, IfSome, slice_get, ⊤}
+use Rattle.std.specs.Prelude.{Option, Some, None, IfSome, ⊤}
 use Rattle.std.proofs.lemmas.Option.{slice_get_within}
 use Rattle.js_base.specs.declared.ids.HostId.{HostId}
 use Rattle.label_lattice.specs.declared.label.Label.{Label}

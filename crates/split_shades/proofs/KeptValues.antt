@@ -1,32 +1,31 @@
 -- A value of a statement flows to where the statement keeps it, with labels as they are behind the whole program.
-use Rattle.std.proofs.Common.{◌≡◌, ◌∙◌, true, true≢false, List, [], ◌∷◌, ◌++◌, ap, sym, subst}
-use Rattle.std.specs.Prelude.{Option, Some, None, slice_get}
+use Rattle.std.proofs.Common.{◌≡◌, ◌∙◌, true, true≢false, List, [], ◌∷◌, sym, subst}
+use Rattle.std.specs.Prelude.{Option, Some, None}
 use Rattle.std.specs.List.{AllByRecursion, flat_map}
 use Rattle.js_base.specs.declared.ids.VarId.{VarId}
 use Rattle.js_base.specs.declared.ids.MethodId.{MethodId}
 use Rattle.principals.specs.ActsFor.{Declared}
 use Rattle.label_lattice.specs.declared.label.Label.{Label}
 use Rattle.label_lattice.specs.Label.{ConfFlows}
-use Rattle.label_lattice.specs.Lattice.{bottom_of, join_of}
+use Rattle.label_lattice.specs.Lattice.{bottom_of}
 use Rattle.jif_tree.specs.Trees.{ExprTree, number, local, scalar, element, inverted, negated, binary, declassified}
 use Rattle.jif_tree.specs.Trees.{endorsed, MethodTree}
-use Rattle.jif_tree.specs.LabelRules.{MethodSetting, VariableLabels, setting_of, variable_label, expr_label, Holds, flow_of}
+use Rattle.jif_tree.specs.LabelRules.{VariableLabels, setting_of, variable_label, expr_label, Holds, flow_of}
 use Rattle.jif_tree.specs.LabelRules.{argument_flows, result_flows, return_flows, declared_labels}
 use Rattle.jif_tree.specs.Labelling.{IsLabelled, IsLabelledIfAny}
 use Rattle.jif_tree.specs.ValueLabels.{IsExprLabelled}
 use Rattle.jif_tree.specs.WellNumbered.{IsExprIn, is_some}
 use Rattle.jif_tree.proofs.LabelsKept.{Stay}
-use Rattle.need_labels.specs.Labelled.{Labelled, all_labels}
+use Rattle.need_labels.specs.Labelled.{Labelled}
 use Rattle.need_labels.specs.Needs.{tellings_in, label_of}
 use Rattle.need_labels.specs.Plan.{field_host}
 use Rattle.msg_cost.specs.Moves.{PlannedShape}
-use Rattle.split_rules.specs.Positions.{FieldRead, field_reads}
+use Rattle.split_rules.specs.Positions.{field_reads}
 use Rattle.split_rules.proofs.BackedLabels.{all_first, all_second, all_both}
 use Rattle.split_rules.proofs.LabelsKept.{AreFinal, label_there}
 use Rattle.split_rules.proofs.SeenLabels.{flows_first, sees_less}
 use Rattle.split_rules.proofs.SeenBlocks.{IsToldWell, guard_same, flow_seen}
 use Rattle.split_rules.proofs.ToldEmissions.{Sees}
-use Rattle.split_shades.specs.Basis.{Basis, value_label}
 use Rattle.split_shades.specs.Flows.{IsIndexSeen, AreIndexesSeen, ValueFlows, ArgumentsFlow, ResultFlows, AnswerFlows}
 use Rattle.split_shades.proofs.BasisLabels.{flows_then, flows_self, bottom_flows, basis_of, same_value}
 

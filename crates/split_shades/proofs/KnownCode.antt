@@ -1,5 +1,5 @@
 -- The code of a split program has the labels of its fields and variables, and its hosts may see what the plan lets them.
-use Rattle.std.proofs.Common.{◌≡◌, ◌∙◌, ℕ, zero, suc, List, [], ◌∷◌, ◌++◌, map, refl, ap, sym, subst}
+use Rattle.std.proofs.Common.{◌≡◌, ◌∙◌, ℕ, zero, suc, List, [], ◌∷◌, ◌++◌, map, ap, sym, subst}
 use Rattle.std.specs.Prelude.{Option, Some, None, slice_get, unwrap_or}
 use Rattle.std.specs.List.{flat_map, zip}
 use Rattle.std.specs.Option.{option_map}
@@ -11,7 +11,7 @@ use Rattle.label_lattice.specs.Lattice.{empty_label}
 use Rattle.host_decl.specs.Hosts.{HostsShape}
 use Rattle.jif_tree.specs.Trees.{FieldTree}
 use Rattle.jif_tree.specs.LabelRules.{field_label}
-use Rattle.host_code.specs.Code.{CodeShape, CodeFieldShape, CodeVariableShape, field_at, variable_at}
+use Rattle.host_code.specs.Code.{CodeFieldShape, CodeVariableShape, field_at, variable_at}
 use Rattle.entry_check.specs.Checks.{MaySee, label_at, label_of_host}
 use Rattle.need_labels.specs.Labelled.{Labelled}
 use Rattle.need_labels.specs.Needs.{NeedsShape, label_of}
@@ -32,7 +32,6 @@ use Rattle.split_rules.proofs.SeenLabels.{label_of_found}
 use Rattle.split_rules.proofs.SeenPrograms.{Premises, program_well}
 use Rattle.split_rules.proofs.SoundInstructions.{mapped}
 use Rattle.split_rules.proofs.ToldCode.{sees_in_code, field_labelled}
-use Rattle.split_shades.specs.Flows.{IsSeenOn}
 use Rattle.split_shades.specs.ShadedCode.{AreKnownInCode}
 
 -- the second of two lists in step

@@ -1,6 +1,6 @@
 -- What a walk in steps gives of each instruction of a host, one after another, and what is known of the one that comes
 -- next. It is said once, whatever is known at a place and whatever is read off at an instruction.
-use Rattle.std.proofs.Common.{◌≡◌, ◌∙◌, ℕ, zero, suc, ◌+◌, inl, inr, List, [], ◌∷◌, ◌++◌, length, nat_eq, refl, ap, sym}
+use Rattle.std.proofs.Common.{◌≡◌, ◌∙◌, ℕ, suc, ◌+◌, inl, inr, List, [], ◌∷◌, ◌++◌, length, nat_eq, refl, ap, sym}
 use Rattle.std.proofs.Common.{subst, arith, eq-eqb, if◌then◌else◌}
 use Rattle.std.proofs.lemmas.Bool.Decides.{eqb_tells}
 use Rattle.std.specs.Prelude.{Some, slice_get}

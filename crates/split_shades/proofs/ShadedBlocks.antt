@@ -10,18 +10,18 @@ use Rattle.js_base.specs.declared.ids.StmtId.{StmtId}
 use Rattle.label_lattice.specs.declared.label.Label.{Label}
 use Rattle.jif_tree.specs.Trees.{ExprTree, BlockTree, done, set_local, set_field, set_element, branch, loop, call}
 use Rattle.jif_tree.specs.Trees.{give_back, MethodTree}
-use Rattle.jif_tree.specs.LabelRules.{MethodSetting, guarded, method_at, params_of, result_of, field_label}
+use Rattle.jif_tree.specs.LabelRules.{MethodSetting, guarded, method_at, params_of}
 use Rattle.host_code.specs.declared.instruction.Op.TheVariants as op
 use Rattle.need_labels.specs.Labelled.{Labelled, all_labels}
 use Rattle.need_labels.specs.Needs.{label_of}
 use Rattle.need_labels.specs.Plan.{statement_host}
 use Rattle.msg_cost.specs.declared.spot.Spot.{Spot}
-use Rattle.msg_cost.specs.Moves.{PlannedShape, on, next_spot, own_statements}
+use Rattle.msg_cost.specs.Moves.{on, next_spot, own_statements}
 use Rattle.split_rules.specs.Emissions.{Emission, Counts, counts_after}
 use Rattle.split_rules.specs.Expressions.{reads_in, nodes_of, first_element}
 use Rattle.split_rules.specs.Positions.{Level, under}
-use Rattle.split_rules.specs.Walk.{Walked, Around, Lane, lane_on, lane_at, under_token, emitted, expr_emissions}
-use Rattle.split_rules.specs.Walk.{other_readers, send_emissions, move_emissions, result_emissions, call_emissions}
+use Rattle.split_rules.specs.Walk.{Around, Lane, lane_on, lane_at, under_token, emitted, expr_emissions}
+use Rattle.split_rules.specs.Walk.{send_emissions, move_emissions, result_emissions, call_emissions}
 use Rattle.split_rules.specs.Walk.{block_emissions}
 use Rattle.split_rules.proofs.Places.{same_host}
 use Rattle.split_rules.proofs.ToldMoves.{SpotSees, AllSee, MovesWell, next_well, lane_sees}
@@ -32,7 +32,7 @@ use Rattle.split_rules.proofs.WalkedBlocks.{inside_of, branch_front, branch_own,
 use Rattle.split_rules.proofs.WalkedStates.{counts_more}
 use Rattle.split_shades.specs.Flows.{ArgumentsFlow, AnswerFlows, BlockFlows, AllFlow, AreIndexesSeen}
 use Rattle.split_shades.specs.Shades.{EntryShade, Ahead, calm_ahead}
-use Rattle.split_shades.specs.Shading.{Scene, IsLevelOf, IsBelow, Known, nowhere, here, known_at, AreShaded}
+use Rattle.split_shades.specs.Shading.{Scene, IsLevelOf, Known, nowhere, here, known_at}
 use Rattle.split_shades.specs.Sites.{IsKeptBack, IsSilentBlock}
 use Rattle.split_shades.proofs.BasisLabels.{flows_self}
 use Rattle.split_shades.proofs.ShadedBranches.{branch_shaded, loop_shaded}

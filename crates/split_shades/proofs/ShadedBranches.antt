@@ -1,6 +1,6 @@
 -- Branches and loops, whose blocks have the program label to which their guard flows.
 use Rattle.std.proofs.Common.{◌≡◌, ◌∙◌, ℕ, false, inl, inr, List, [], ◌∷◌, ◌++◌, length, refl, ap, sym, subst, append_assoc}
-use Rattle.std.specs.Prelude.{Option, Some, None, slice_get}
+use Rattle.std.specs.Prelude.{Some, None, slice_get}
 use Rattle.js_base.specs.declared.ids.HostId.{HostId}
 use Rattle.js_base.specs.declared.ids.StmtId.{StmtId}
 use Rattle.label_lattice.specs.declared.label.Label.{Label}
@@ -18,7 +18,7 @@ use Rattle.split_rules.proofs.WalkedMoves.{at_last}
 use Rattle.split_rules.proofs.WalkedStates.{counts_more}
 use Rattle.split_shades.specs.Flows.{IsSeenOn, ValueFlows}
 use Rattle.split_shades.specs.Shades.{EntryShade, Begun, Ahead, calm_ahead, released_by, ahead_of}
-use Rattle.split_shades.specs.Shading.{Scene, reads_tell, IsBelow, IsLevelOf, Names, Place, nowhere, here, Known, known_at}
+use Rattle.split_shades.specs.Shading.{Scene, reads_tell, IsLevelOf, Names, Place, nowhere, here, Known, known_at}
 use Rattle.split_shades.specs.Shading.{AreShaded}
 use Rattle.split_shades.proofs.BasisLabels.{flows_self}
 use Rattle.split_shades.proofs.ShadedCalls.{AreMethodsNamed, methods_still}

@@ -1,5 +1,5 @@
 -- Calls: arguments are kept in parameters, and a method is entered whose begin label is above that of the block.
-use Rattle.std.proofs.Common.{◌≡◌, ◌∙◌, ℕ, suc, inl, inr, true, List, [], ◌∷◌, ◌++◌, length, refl, ap, sym, subst, append-nil}
+use Rattle.std.proofs.Common.{◌≡◌, ℕ, suc, inl, inr, true, List, [], ◌∷◌, ◌++◌, length, refl, ap, sym, subst, append-nil}
 use Rattle.std.specs.Prelude.{Option, Some, None, slice_get, ⊤}
 use Rattle.js_base.specs.declared.ids.HostId.{HostId}
 use Rattle.js_base.specs.declared.ids.VarId.{VarId}
@@ -14,16 +14,15 @@ use Rattle.host_code.specs.declared.code_expr.Node.TheVariants as node
 use Rattle.host_code.specs.declared.instruction.Op.TheVariants as op
 use Rattle.need_labels.specs.Needs.{label_of}
 use Rattle.msg_cost.specs.Moves.{called_home}
-use Rattle.split_rules.specs.Emissions.{Emission}
 use Rattle.split_rules.specs.Expressions.{nodes_of}
 use Rattle.split_rules.specs.Positions.{Level, body}
-use Rattle.split_rules.specs.Walk.{entry_id, emitted, expr_emissions, other_readers, pass_emissions, send_emissions}
+use Rattle.split_rules.specs.Walk.{entry_id, emitted, expr_emissions, other_readers, pass_emissions}
 use Rattle.split_rules.specs.Walk.{argument_emissions, kept_emissions, call_emissions}
 use Rattle.split_rules.proofs.ToldStatements.{EntersWell}
 use Rattle.split_rules.proofs.ToldWalks.{readers_see}
 use Rattle.split_rules.proofs.WalkedCalls.{still_there}
 use Rattle.split_rules.proofs.WalkedMoves.{at_last}
-use Rattle.split_shades.specs.Flows.{IsSeenOn, ValueFlows, ArgumentsFlow, ResultFlows, AllFlow}
+use Rattle.split_shades.specs.Flows.{IsSeenOn, ArgumentsFlow, ResultFlows, AllFlow}
 use Rattle.split_shades.specs.Shades.{EntryShade, Ahead, calm_ahead, released_by}
 use Rattle.split_shades.specs.Shading.{Scene, reads_tell, IsBelow, IsLevelOf, Known, nowhere, here, known_at, AreShaded}
 use Rattle.split_shades.specs.Shading.{method_shade}

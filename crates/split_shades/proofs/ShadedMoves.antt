@@ -1,5 +1,5 @@
 -- Where the right to go on moves within a block, all that is given has the program label of the block.
-use Rattle.std.proofs.Common.{◌≡◌, ◌≢◌, ◌∙◌, ℕ, ◌+◌, ◌⊎◌, inl, inr, Bool, true, false, List, [], ◌∷◌, ◌++◌, length, refl, ap}
+use Rattle.std.proofs.Common.{◌≡◌, ◌≢◌, ◌∙◌, ℕ, ◌+◌, ◌⊎◌, inl, inr, false, List, [], ◌∷◌, ◌++◌, length, refl, ap}
 use Rattle.std.proofs.Common.{sym, subst, arith, eq-eqb, ne_eqb, append_assoc, append-nil, length-append}
 use Rattle.std.proofs.lemmas.Bool.Decides.{eqb_tells}
 use Rattle.std.specs.Prelude.{Option, Some, None, slice_get, ⊤}
@@ -11,7 +11,6 @@ use Rattle.host_code.specs.declared.instruction.Op.TheVariants as op
 use Rattle.msg_cost.specs.declared.spot.Spot.{Spot}
 use Rattle.need_labels.specs.Plan.{statement_host}
 use Rattle.msg_cost.specs.Moves.{PlannedShape, on, end_of, entered, next_spot, return_host}
-use Rattle.split_rules.specs.Emissions.{Emission, Emitted, Named, instruction, Counts}
 use Rattle.split_rules.specs.Positions.{Level, under}
 use Rattle.split_rules.specs.Walk.{Walked, Around, Lane, entry_id, emitted, leave_emissions, enter_emissions}
 use Rattle.split_rules.specs.Walk.{move_emissions, lane_at, end_emissions, push_or_ask}
@@ -22,7 +21,7 @@ use Rattle.split_rules.proofs.WalkedCalls.{still_there}
 use Rattle.split_rules.proofs.WalkedMoves.{at_last, entered_here, entered_there, next_here, next_there, lent_spot}
 use Rattle.split_shades.specs.Flows.{IsSeenOn}
 use Rattle.split_shades.specs.Shades.{Shade, EntryShade, Ahead, calm_ahead, Meets, level_entry}
-use Rattle.split_shades.specs.Shading.{Scene, IsLevelOf, IsBelow, IsShade, IsEntryShade, PushesAt, Names, HandsOn, IsPlain}
+use Rattle.split_shades.specs.Shading.{Scene, IsLevelOf, IsShade, IsEntryShade, PushesAt, Names}
 use Rattle.split_shades.specs.Shading.{Place, nowhere, here, Known, known_at, ShadedOp, IsShaded, AreShaded}
 use Rattle.split_shades.proofs.BasisLabels.{flows_self}
 use Rattle.split_shades.proofs.ShadedStates.{counts_in, shaded_on}

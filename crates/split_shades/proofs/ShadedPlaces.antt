@@ -2,7 +2,7 @@
 -- instruction that comes next.
 use Rattle.std.proofs.Common.{◌≡◌, ◌∙◌, ℕ, ◌+◌, inl, inr, List, [], ◌∷◌, ◌++◌, length, refl, ap, sym, subst, arith}
 use Rattle.std.proofs.Common.{Bool, true, false}
-use Rattle.std.specs.Prelude.{Option, Some, None, IfSome, slice_get}
+use Rattle.std.specs.Prelude.{Option, Some, None, slice_get}
 use Rattle.js_base.specs.declared.ids.HostId.{HostId}
 use Rattle.label_lattice.specs.declared.label.Label.{Label}
 use Rattle.host_code.specs.declared.instruction.Op.{Op}
@@ -13,9 +13,9 @@ use Rattle.split_rules.specs.Positions.{Level, body}
 use Rattle.split_rules.specs.SplitCode.{entries_in}
 use Rattle.split_rules.proofs.WalkedCalls.{still_there}
 use Rattle.split_shades.specs.Shades.{Shade, EntryShade, Ahead, Meets, ahead_of, level_entry}
-use Rattle.split_shades.specs.Shading.{Scene, IsLevelOf, IsBelow, Names, PushesAt, PushesCall, Pushes, Follows, HandsOn}
+use Rattle.split_shades.specs.Shading.{Scene, IsLevelOf, Names, PushesAt, Pushes, Follows, HandsOn}
 use Rattle.split_shades.specs.Shading.{Enters, Ends, IsShade, IsEntryShade, Place, nowhere, here, Known, known_at}
-use Rattle.split_shades.specs.Shading.{ShadedOp, IsShaded, no_begun, Shaded, AreShaded}
+use Rattle.split_shades.specs.Shading.{ShadedOp, no_begun, Shaded, AreShaded}
 use Rattle.split_shades.proofs.ReadOff.{GoesOn}
 use Rattle.split_shades.proofs.ShadedStates.{counts_behind, counts_of}
 

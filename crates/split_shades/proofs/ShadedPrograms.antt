@@ -1,7 +1,7 @@
 -- Programs: the bodies of all methods are shaded, one after another, behind their entries.
 use Rattle.std.proofs.Common.{◌≡◌, ◌∙◌, ℕ, zero, suc, ◌+◌, Bool, false, inl, List, [], ◌∷◌, ◌++◌, map, length, refl, ap}
 use Rattle.std.proofs.Common.{sym, subst, arith}
-use Rattle.std.specs.Prelude.{Option, Some, None, slice_get}
+use Rattle.std.specs.Prelude.{Some, slice_get}
 use Rattle.std.specs.List.{AllByRecursion}
 use Rattle.js_base.specs.declared.ids.HostId.{HostId}
 use Rattle.host_decl.specs.Hosts.{HostsShape}
@@ -21,12 +21,11 @@ use Rattle.split_rules.proofs.SeenPrograms.{program_tells_well}
 use Rattle.split_rules.proofs.ToldWalks.{MethodTellsWell}
 use Rattle.split_rules.proofs.WalkedCalls.{nothing_there}
 use Rattle.split_rules.proofs.WalkedPrograms.{front_counted}
-use Rattle.split_shades.specs.Basis.{Basis}
 use Rattle.split_shades.specs.Flows.{AreResultsLabelled, MethodFlows, AllFlow}
 use Rattle.split_shades.specs.Shades.{EntryShade, Ahead, calm_ahead}
-use Rattle.split_shades.specs.Shading.{Scene, IsLevelOf, Known, nowhere, here, known_at, AreShaded, method_shade}
+use Rattle.split_shades.specs.Shading.{Scene, Known, nowhere, here, known_at, AreShaded, method_shade}
 use Rattle.split_shades.specs.Shading.{method_shades, shades_start}
-use Rattle.split_shades.specs.Sites.{program_sites, IsSilentBlock, ReleasesNothing, scene_of}
+use Rattle.split_shades.specs.Sites.{IsSilentBlock, ReleasesNothing, scene_of}
 use Rattle.split_shades.proofs.FlowingPrograms.{program_flows}
 use Rattle.split_shades.proofs.LabelledSites.{MethodSitesLabelled, sites_labelled}
 use Rattle.split_shades.proofs.ShadedBlocks.{block_shaded}

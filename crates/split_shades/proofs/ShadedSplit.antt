@@ -1,23 +1,22 @@
 -- The code of a split program has a table of shades, which is read off the shaded walk.
-use Rattle.std.proofs.Common.{◌≡◌, ◌∙◌, ℕ, zero, suc, inl, inr, ◌+◌, ◌<◌, Bool, true, false, List, [], ◌∷◌, ◌++◌, map}
+use Rattle.std.proofs.Common.{◌≡◌, ◌∙◌, ℕ, zero, suc, inl, inr, ◌+◌, ◌<◌, Bool, false, List, [], ◌∷◌, ◌++◌, map}
 use Rattle.std.proofs.Common.{length, refl, ap, sym, subst, arith, length-append, append_assoc}
 use Rattle.std.specs.Prelude.{Option, Some, None, IfSome, slice_get, unwrap_or}
 use Rattle.std.proofs.lemmas.List.{length-map}
 use Rattle.std.proofs.lemmas.List.FromFn.{length-range_with_len}
-use Rattle.std.specs.List.{range_with_len, AllByRecursion}
+use Rattle.std.specs.List.{range_with_len}
 use Rattle.std.proofs.lemmas.Option.{slice_get_within}
 use Rattle.js_base.specs.declared.ids.HostId.{HostId}
 use Rattle.label_lattice.specs.declared.label.Label.{Label}
 use Rattle.label_lattice.specs.Lattice.{empty_label}
 use Rattle.host_decl.specs.Hosts.{HostsShape}
-use Rattle.jif_tree.specs.Trees.{MethodTree, ProgramTree}
+use Rattle.jif_tree.specs.Trees.{MethodTree}
 use Rattle.jif_tree.specs.LabelRules.{method_at, begin_label}
 use Rattle.host_code.specs.declared.code.Entry.{Entry}
 use Rattle.host_code.specs.declared.instruction.Instr.{Instr}
 use Rattle.host_code.specs.declared.instruction.Op.{Op}
 use Rattle.host_code.specs.declared.instruction.Op.TheVariants as op
 use Rattle.host_code.specs.Code.{CodeShape, instruction_at}
-use Rattle.entry_check.specs.Checks.{label_at}
 use Rattle.need_labels.specs.Labelled.{Labelled}
 use Rattle.need_labels.specs.Needs.{NeedsShape}
 use Rattle.need_labels.specs.Plan.{PlanShape}
@@ -28,7 +27,7 @@ use Rattle.split_rules.specs.Flow.{State}
 use Rattle.split_rules.specs.Held.{IsHeld}
 use Rattle.split_rules.specs.Positions.{body}
 use Rattle.split_rules.specs.SplitCode.{emitted_on, entries_in, before_entry, before_landing, landed, code_labels}
-use Rattle.split_rules.specs.SplitCode.{label_place, placed_instruction, part_on, code_of_emissions, split_code}
+use Rattle.split_rules.specs.SplitCode.{placed_instruction, part_on, code_of_emissions, split_code}
 use Rattle.split_rules.specs.Splittable.{IsSplittable}
 use Rattle.split_rules.specs.Walk.{methods_emissions, method_entry}
 use Rattle.split_rules.specs.WalkStart.{front_emissions}
@@ -50,13 +49,13 @@ use Rattle.split_shades.specs.Flows.{IsSeenOn, AreResultsLabelled}
 use Rattle.split_shades.specs.ShadedCode.{Shades, IsShadedOp, IsShadedAt, IsShadedEntry, IsShadedCode}
 use Rattle.split_shades.specs.ShadedCode.{ReleaseNothing}
 use Rattle.split_shades.specs.Shades.{Shade, EntryShade, Ahead, Meets, ahead_of}
-use Rattle.split_shades.specs.Shading.{Scene, IsShade, IsEntryShade, IsLevelOf, Follows, Divides, Ends, nowhere, here}
-use Rattle.split_shades.specs.Shading.{Known, known_at, ShadedOp, Shaded, AreShaded, method_shade, method_shades}
+use Rattle.split_shades.specs.Shading.{Scene, IsShade, IsEntryShade, Follows, Divides, Ends, nowhere, here}
+use Rattle.split_shades.specs.Shading.{Known, ShadedOp, Shaded, AreShaded, method_shade, method_shades}
 use Rattle.split_shades.specs.Shading.{halt_shade, shades_start}
 use Rattle.split_shades.specs.Sites.{ReleasesNothing, scene_of}
 use Rattle.split_shades.proofs.BasisLabels.{flows_self}
 use Rattle.split_shades.proofs.ForwardExits.{exit_behind}
-use Rattle.split_shades.proofs.ReadOff.{items_on, half, InstructionRead, instruction_read, MarkRead, stands_read, lands_read}
+use Rattle.split_shades.proofs.ReadOff.{items_on, half, InstructionRead, instruction_read, stands_read, lands_read}
 use Rattle.split_shades.proofs.ShadedPlaces.{Kept, kept_then, step_keeps, steps_keep, entries_many, shade_more, entry_more}
 use Rattle.split_shades.proofs.ShadedPlaces.{follows_more, ends_more, shade_of, Goes, Meet, not_nowhere, shades_go_on}
 use Rattle.split_shades.proofs.ShadedPrograms.{start_named, program_shaded}

@@ -1,17 +1,16 @@
 -- Assignments and results: what is kept is kept under a label to which it flows.
-use Rattle.std.proofs.Common.{◌≡◌, ◌∙◌, ℕ, false, List, [], ◌∷◌, ◌++◌, length, refl, ap, sym, subst}
+use Rattle.std.proofs.Common.{◌≡◌, ◌∙◌, ℕ, false, List, [], ◌∷◌, ◌++◌, refl, ap, subst}
 use Rattle.std.specs.Prelude.{Option, Some, None, IsSomeAnd, slice_get, pos}
 use Rattle.js_base.specs.declared.ids.HostId.{HostId}
 use Rattle.js_base.specs.declared.ids.FieldId.{FieldId}
 use Rattle.js_base.specs.declared.ids.VarId.{VarId}
 use Rattle.js_base.specs.declared.ids.StmtId.{StmtId}
 use Rattle.label_lattice.specs.declared.label.Label.{Label}
-use Rattle.label_lattice.specs.Label.{ConfFlows}
 use Rattle.jif_tree.specs.Trees.{ExprTree, number, FieldTree, MethodTree}
 use Rattle.jif_tree.specs.LabelRules.{field_label}
 use Rattle.host_code.specs.declared.code_expr.Node.{Node}
 use Rattle.host_code.specs.declared.instruction.Op.TheVariants as op
-use Rattle.need_labels.specs.Needs.{releases, label_of}
+use Rattle.need_labels.specs.Needs.{label_of}
 use Rattle.need_labels.specs.Plan.{field_host}
 use Rattle.split_rules.specs.Emissions.{Emission}
 use Rattle.split_rules.specs.Expressions.{reads_in, nodes_of, first_element}
@@ -22,10 +21,10 @@ use Rattle.split_rules.proofs.ToldEmissions.{Sees, Affects, PutsWell}
 use Rattle.split_rules.proofs.ToldWalks.{AreReaders}
 use Rattle.split_shades.specs.Flows.{IsSeenOn, ValueFlows, AnswerFlows}
 use Rattle.split_shades.specs.Shades.{EntryShade, Begun, Ahead, calm_ahead, released_by}
-use Rattle.split_shades.specs.Shading.{Scene, reads_tell, IsBelow, IsLevelOf, Keeps, Known, here, known_at, AreShaded}
-use Rattle.split_shades.proofs.BasisLabels.{flows_self, bottom_flows}
+use Rattle.split_shades.specs.Shading.{Scene, reads_tell, IsBelow, Keeps, Known, here, known_at, AreShaded}
+use Rattle.split_shades.proofs.BasisLabels.{bottom_flows}
 use Rattle.split_shades.proofs.ShadedStates.{shaded_on}
-use Rattle.split_shades.proofs.ShadedValues.{Site, IsSite, MayBegin, ahead_at, shade_at, site_known, one_shaded}
+use Rattle.split_shades.proofs.ShadedValues.{Site, IsSite, MayBegin, shade_at, site_known, one_shaded}
 use Rattle.split_shades.proofs.ShadedValues.{none_released, IsRead, ReadsTo, told_many, expr_shaded, sends_shaded}
 
 -- ---- statements of a block

@@ -3,7 +3,6 @@ use Rattle.std.proofs.Common.{◌≡◌, ◌∙◌, ℕ, ◌+◌, Bool, true, fa
 use Rattle.std.proofs.Common.{subst, append_assoc, append-nil, length-append, true≢false}
 use Rattle.std.proofs.lemmas.List.{map-append, length-map}
 use Rattle.std.specs.Prelude.{Option, Some, None, IfSome, IsSomeAnd, slice_get, pos}
-use Rattle.std.specs.List.{AllByRecursion}
 use Rattle.js_base.specs.declared.ids.HostId.{HostId}
 use Rattle.js_base.specs.declared.ids.FieldId.{FieldId}
 use Rattle.js_base.specs.declared.ids.VarId.{VarId}
@@ -17,20 +16,19 @@ use Rattle.host_code.specs.declared.instruction.Op.{Op}
 use Rattle.host_code.specs.declared.instruction.Op.TheVariants as op
 use Rattle.need_labels.specs.Needs.{releases, label_of}
 use Rattle.need_labels.specs.Plan.{field_host}
-use Rattle.msg_cost.specs.Moves.{PlannedShape}
 use Rattle.split_rules.specs.Emissions.{Emission}
 use Rattle.split_rules.specs.Expressions.{Reading, reads_in, nodes_of, readings_of, first_element}
 use Rattle.split_rules.specs.Positions.{Level, FieldRead, field_reads}
-use Rattle.split_rules.specs.Walk.{emitted, read_emissions, expr_emissions, other_readers, send_emissions, pass_emissions}
+use Rattle.split_rules.specs.Walk.{emitted, read_emissions, expr_emissions}
 use Rattle.split_rules.proofs.BackedLabels.{all_first, all_second}
 use Rattle.split_rules.proofs.ToldEmissions.{Sees, ReadsWell}
 use Rattle.split_rules.proofs.ToldStatements.{ExprReadsWell}
-use Rattle.split_rules.proofs.ToldWalks.{AreReaders, readers_see}
+use Rattle.split_rules.proofs.ToldWalks.{AreReaders}
 use Rattle.split_rules.proofs.TypedValues.{reads_many}
 use Rattle.split_shades.specs.Basis.{value_label, read_label}
 use Rattle.split_shades.specs.Flows.{IsSeenOn, IsIndexSeen, AreIndexesSeen}
-use Rattle.split_shades.specs.Shades.{Shade, EntryShade, Begun, Ahead, Meets, released_by}
-use Rattle.split_shades.specs.Shading.{Scene, reads_tell, IsBelow, IsUnderBlock, IsShade, Reads, Place, here, Known}
+use Rattle.split_shades.specs.Shades.{Shade, EntryShade, Begun, Ahead, released_by}
+use Rattle.split_shades.specs.Shading.{Scene, reads_tell, IsBelow, IsUnderBlock, here, Known}
 use Rattle.split_shades.specs.Shading.{known_at, ShadedOp, IsShaded, AreShaded}
 use Rattle.split_shades.proofs.ShadedStates.{shaded_on}
 

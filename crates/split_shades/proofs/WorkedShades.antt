@@ -2,7 +2,6 @@
 use Rattle.std.proofs.Common.{◌≡◌, ◌∙◌, ℕ, List, Bool, true, false, ap}
 use Rattle.std.specs.Prelude.{Option, Some, None, slice_get}
 use Rattle.js_base.specs.declared.ids.HostId.{HostId}
-use Rattle.label_lattice.specs.declared.label.Label.{Label}
 use Rattle.host_code.specs.declared.code.Entry.{Entry}
 use Rattle.host_code.specs.Code.{CodeShape}
 use Rattle.entry_check.specs.Checks.{label_at}

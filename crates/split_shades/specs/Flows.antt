@@ -13,9 +13,9 @@ use Rattle.jif_tree.specs.Trees.{call, give_back, FieldTree, MethodTree, Program
 use Rattle.jif_tree.specs.LabelRules.{MethodSetting, setting_of, field_label, guarded, declared_labels, method_at}
 use Rattle.jif_tree.specs.LabelRules.{begin_label, params_of, result_of}
 use Rattle.jif_tree.specs.Labelling.{IsLabelledIfAny}
-use Rattle.need_labels.specs.Labelled.{Labelled, all_labels}
+use Rattle.need_labels.specs.Labelled.{all_labels}
 use Rattle.need_labels.specs.Needs.{label_of}
-use Rattle.need_labels.specs.Plan.{statement_host, field_host}
+use Rattle.need_labels.specs.Plan.{field_host}
 use Rattle.msg_cost.specs.Moves.{PlannedShape}
 use Rattle.msg_cost.specs.Terms.{reads_on}
 use Rattle.split_rules.specs.Positions.{FieldRead, field_reads}

@@ -1,6 +1,5 @@
 -- Small programs whose blocks have labels apart, and what they give.
 use Rattle.std.specs.Prelude.{ℕ, List, [], ◌∷◌, map, true, pos}
-use Rattle.js_base.specs.declared.ids.HostId.{HostId}
 use Rattle.label_lattice.specs.declared.label.Label.{Label}
 use Rattle.jif_tree.specs.Trees.{ExprTree, number, scalar, element, declassified, BlockTree, done, set_field, branch, loop}
 use Rattle.host_code.specs.Code.{CodeShape}

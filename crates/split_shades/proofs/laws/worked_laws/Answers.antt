@@ -1,8 +1,8 @@
 use Rattle.std.proofs.Common.{◌≡◌, ◌∙◌, ℕ, refl, ap, sym, arith}
-use Rattle.std.specs.Prelude.{Option, Some, None, slice_get, unwrap_or}
+use Rattle.std.specs.Prelude.{Option, unwrap_or}
 use Rattle.std.specs.Option.{option_map}
 use Rattle.label_lattice.specs.declared.label.Label.{Label}
-use Rattle.label_lattice.specs.Lattice.{join_of, bottom_of}
+use Rattle.label_lattice.specs.Lattice.{join_of}
 use Rattle.msg_cost.specs.Moves.{is_trusted_by}
 use Rattle.split_rules.specs.Worked.{host_id}
 use Rattle.split_shades.specs.Worked.{branching, looping, scene_on, code_on}
