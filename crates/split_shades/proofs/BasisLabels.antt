@@ -99,8 +99,8 @@ same_value principals labelled tree pc (element field index) =
 same_value principals labelled tree pc (inverted operand) = same_value principals labelled tree pc operand
 same_value principals labelled tree pc (negated operand) = same_value principals labelled tree pc operand
 same_value principals labelled tree pc (binary operator left right) =
-    ap (λ label. join_of label (expr_label (setting_of principals labelled.program tree) pc (all_labels labelled) right))
-    (same_value principals labelled tree pc left)
+    ap (λ label. join_of label (expr_label (setting_of principals labelled.program tree) pc (all_labels labelled)
+    right)) (same_value principals labelled tree pc left)
     ∙ ap (λ label. join_of (value_label (basis_of principals labelled) pc left) label)
     (same_value principals labelled tree pc right)
 same_value principals labelled tree pc (declassified operand label) =

@@ -429,8 +429,8 @@ block_carried basis planned tree around (call heading site method arguments into
     parts_carried basis planned _ _ _
     (move_carried basis planned walked around counts lane next (heading.id ∷ others) block)
     (call_carried basis planned walked refl around block
-    (counts_after counts (move_emissions walked around counts lane next (heading.id ∷ others))) next.host heading.id site
-    method arguments into (under_token planned next others) own)
+    (counts_after counts (move_emissions walked around counts lane next (heading.id ∷ others))) next.host heading.id
+    site method arguments into (under_token planned next others) own)
     (block_carried basis planned tree around rest block kept.1 there.1 _ (lane_at counts lane next))
 block_carried basis planned tree around (give_back heading value rest) block kept there counts lane =
     let walked = walked_in basis.principals basis.labelled planned tree in

@@ -10,7 +10,8 @@ use Rattle.label_lattice.specs.Label.{ConfFlows}
 use Rattle.label_lattice.specs.Lattice.{join_of}
 use Rattle.jif_tree.specs.Trees.{ExprTree, BlockTree, done, set_local, set_field, set_element, branch, loop, call}
 use Rattle.jif_tree.specs.Trees.{give_back, MethodTree}
-use Rattle.jif_tree.specs.LabelRules.{VariableLabels, setting_of, variable_label, field_label, expr_label, Holds, guarded}
+use Rattle.jif_tree.specs.LabelRules.{VariableLabels, setting_of, variable_label, field_label, expr_label, Holds}
+use Rattle.jif_tree.specs.LabelRules.{guarded}
 use Rattle.jif_tree.specs.LabelRules.{expr_constraints, argument_flows, call_constraints, labels_after, block_labels}
 use Rattle.jif_tree.specs.LabelRules.{labels_after_assignment, declared_labels, method_at, params_of, result_of}
 use Rattle.jif_tree.specs.LabelRules.{begin_label}
@@ -25,7 +26,8 @@ use Rattle.split_rules.proofs.BackedLabels.{all_first, all_second, variable_foun
 use Rattle.split_rules.proofs.LabelsKept.{AreFinal, label_there}
 use Rattle.split_rules.proofs.SeenLabels.{flows_first, flows_second}
 use Rattle.split_rules.proofs.SeenBlocks.{IsToldWell, IsUseWell, guard_same, IsMet, IsKept, AreLabelsKept, AreUsesWell}
-use Rattle.split_shades.specs.Flows.{AreResultsLabelled, AreIndexesSeen, ValueFlows, ArgumentsFlow, ResultFlows, BlockFlows}
+use Rattle.split_shades.specs.Flows.{AreResultsLabelled, AreIndexesSeen, ValueFlows, ArgumentsFlow, ResultFlows}
+use Rattle.split_shades.specs.Flows.{BlockFlows}
 use Rattle.split_shades.proofs.BasisLabels.{flows_self, value_under, basis_of, same_value}
 use Rattle.split_shades.proofs.KeptValues.{indexes_seen, value_kept, arguments_flow, result_flows_on, answer_flows}
 
@@ -43,15 +45,15 @@ first_indexes : (principals : Declared) (labelled : Labelled) (planned : Planned
     AreIndexesSeen (basis_of principals labelled) planned pc value
 first_indexes principals labelled planned tree method pc value others there told =
     indexes_seen principals labelled planned tree method pc value there
-    (all_first (IsToldWell labelled planned) (tellings_in (setting_of principals labelled.program tree) labelled pc value)
-    _ told)
+    (all_first (IsToldWell labelled planned) (tellings_in (setting_of principals labelled.program tree) labelled pc
+    value) _ told)
 
 other_tellings : (principals : Declared) (labelled : Labelled) (planned : PlannedShape) (tree : MethodTree) (pc : Label)
     (value : ExprTree) (others : List ExprTree) → TellsUnder principals labelled planned tree pc (value ∷ others) →
     TellsUnder principals labelled planned tree pc others
 other_tellings principals labelled planned tree pc value others told =
-    all_second (IsToldWell labelled planned) (tellings_in (setting_of principals labelled.program tree) labelled pc value)
-    _ told
+    all_second (IsToldWell labelled planned) (tellings_in (setting_of principals labelled.program tree) labelled pc
+    value) _ told
 
 -- ---- guards
 
@@ -69,7 +71,8 @@ branch_guard principals labelled planned tree pc guard indexes =
     }
 
 loop_guard : (principals : Declared) (labelled : Labelled) (planned : PlannedShape) (tree : MethodTree) (pc : Label)
-    (guard : ExprTree) → let inside = guarded (setting_of principals labelled.program tree) pc (all_labels labelled) guard in
+    (guard : ExprTree) → let inside = guarded (setting_of principals labelled.program tree) pc (all_labels labelled)
+    guard in
     AreIndexesSeen (basis_of principals labelled) planned inside guard →
     ValueFlows (basis_of principals labelled) planned inside guard inside
 loop_guard principals labelled planned tree pc guard indexes =
@@ -111,10 +114,10 @@ call_flows principals labelled planned tree results labels final are stay since 
     let kept = all_second (Holds principals) (argument_flows setting pc labels arguments params) _ holds.1 in
     record {
       begins = holds.0.0;
-      arguments_flow = arguments_flow principals labelled planned tree labels final are stay own pc params arguments there
-          values has flows told;
-      result_flows = result_flows_on principals labelled planned tree labels final are stay since pc (result_of found) into
-          (declared found is) into_has kept;
+      arguments_flow = arguments_flow principals labelled planned tree labels final are stay own pc params arguments
+          there values has flows told;
+      result_flows = result_flows_on principals labelled planned tree labels final are stay since pc (result_of found)
+          into (declared found is) into_has kept;
     }
   where
     declared : (it : Option MethodTree) → method_at labelled.program called ≡ it →
@@ -135,8 +138,8 @@ pub block_flows : (principals : Declared) (labelled : Labelled) (planned : Plann
     AreLabelsKept labelled (block_labels setting pc labels block) →
     AreUsesWell labelled planned principals (block_uses labelled setting block) →
     BlockFlows (basis_of principals labelled) planned setting pc block
-block_flows principals labelled planned tree results method gives same_gives final are pc labels many since done stay there has
-    values met kept uses = tt
+block_flows principals labelled planned tree results method gives same_gives final are pc labels many since done stay
+    there has values met kept uses = tt
 block_flows principals labelled planned tree results method gives same_gives final are pc labels many since
     (set_local heading x value rest) stay there has values met kept uses =
     let setting = setting_of principals labelled.program tree in
@@ -150,13 +153,13 @@ block_flows principals labelled planned tree results method gives same_gives fin
     let flows = (all_second (Holds principals) (expr_constraints setting pc labels value) _ met.0).0 in
     let variable = variable_found labelled method x labels many there.0 in
     let own = assigned_labelled labels x (join_of from pc) variable.0 variable.1 in (
-      value_kept principals labelled planned tree labels final are (stay_then labels after final assigned later) pc value
-          values.0 (first_indexes principals labelled planned tree method pc value [] there.1 told) from
+      value_kept principals labelled planned tree labels final are (stay_then labels after final assigned later) pc
+          value values.0 (first_indexes principals labelled planned tree method pc value [] there.1 told) from
           (variable_label after x) (label_of labelled x) (flows_self from) flows
           (sym (label_there labelled after final are later x own)),
-      block_flows principals labelled planned tree results method gives same_gives final are pc after (assigned.many ∙ many)
-          (stay_then (declared_labels labelled.program) labels after since assigned) rest stay there.2 has values.1 met.1
-          kept.1 uses.1,
+      block_flows principals labelled planned tree results method gives same_gives final are pc after (assigned.many ∙
+          many) (stay_then (declared_labels labelled.program) labels after since assigned) rest stay there.2 has
+          values.1 met.1 kept.1 uses.1,
     )
 block_flows principals labelled planned tree results method gives same_gives final are pc labels many since
     (set_field heading field value rest) stay there has values met kept uses =
@@ -171,8 +174,8 @@ block_flows principals labelled planned tree results method gives same_gives fin
       value_kept principals labelled planned tree labels final are stays pc value values.0
           (first_indexes principals labelled planned tree method pc value [] there.1 told) from to to (flows_self from)
           flows refl,
-      block_flows principals labelled planned tree results method gives same_gives final are pc labels many since rest stay there.2
-          has values.1 met.1 kept.1 uses.1,
+      block_flows principals labelled planned tree results method gives same_gives final are pc labels many since rest
+          stay there.2 has values.1 met.1 kept.1 uses.1,
     )
 block_flows principals labelled planned tree results method gives same_gives final are pc labels many since
     (set_element heading field index value rest) stay there has values met kept uses =
@@ -195,8 +198,8 @@ block_flows principals labelled planned tree results method gives same_gives fin
           (first_indexes principals labelled planned tree method pc value [] there.2
           (other_tellings principals labelled planned tree pc index (value ∷ []) told)) from to to
           (flows_second first second) flows refl,
-      block_flows principals labelled planned tree results method gives same_gives final are pc labels many since rest stay there.3
-          has values.2 met.1 kept.1 uses.1,
+      block_flows principals labelled planned tree results method gives same_gives final are pc labels many since rest
+          stay there.3 has values.2 met.1 kept.1 uses.1,
     )
 block_flows principals labelled planned tree results method gives same_gives final are pc labels many since
     (branch heading guard first second rest) stay there has values met kept uses =
@@ -227,18 +230,18 @@ block_flows principals labelled planned tree results method gives same_gives fin
     BlockFlows (basis_of principals labelled) planned setting it block in (
       branch_guard principals labelled planned tree pc guard
           (first_indexes principals labelled planned tree method pc guard [] there.0 told),
-      subst (Q first) same (block_flows principals labelled planned tree results method gives same_gives final are inside labels many
-          since first from_second there.1 has.0 values.1 (all_first (IsMet principals) labels_one labels_two both_met)
-          (all_first (IsKept labelled) labels_one labels_two both_kept)
+      subst (Q first) same (block_flows principals labelled planned tree results method gives same_gives final are
+          inside labels many since first from_second there.1 has.0 values.1 (all_first (IsMet principals) labels_one
+          labels_two both_met) (all_first (IsKept labelled) labels_one labels_two both_kept)
           (all_first (IsUseWell labelled planned principals) uses_one uses_two both_uses)),
-      subst (Q second) same (block_flows principals labelled planned tree results method gives same_gives final are inside between
-          (first_stays.many ∙ many) since_second second rest_stays there.2 has.1 values.2
+      subst (Q second) same (block_flows principals labelled planned tree results method gives same_gives final are
+          inside between (first_stays.many ∙ many) since_second second rest_stays there.2 has.1 values.2
           (all_second (IsMet principals) labels_one labels_two both_met)
           (all_second (IsKept labelled) labels_one labels_two both_kept)
           (all_second (IsUseWell labelled planned principals) uses_one uses_two both_uses)),
       block_flows principals labelled planned tree results method gives same_gives final are pc behind
-          (second_stays.many ∙ first_stays.many ∙ many) (stay_then declared between behind since_second second_stays) rest
-          stay there.3 has.2 values.3 (all_second (IsMet principals) (labels_one ++ labels_two) _ met.1)
+          (second_stays.many ∙ first_stays.many ∙ many) (stay_then declared between behind since_second second_stays)
+          rest stay there.3 has.2 values.3 (all_second (IsMet principals) (labels_one ++ labels_two) _ met.1)
           (all_second (IsKept labelled) (labels_one ++ labels_two) _ kept.1)
           (all_second (IsUseWell labelled planned principals) (uses_one ++ uses_two) _ uses.1),
     )
@@ -263,13 +266,13 @@ block_flows principals labelled planned tree results method gives same_gives fin
       flows_first pc (expr_label setting pc (all_labels labelled) guard),
       loop_guard principals labelled planned tree pc guard
           (subst Q same (first_indexes principals labelled planned tree method inside guard [] there.0 told)),
-      subst R same (block_flows principals labelled planned tree results method gives same_gives final are inside labels many since
-          inner rest_stays there.1 has.0 values.1 (all_first (IsMet principals) labels_one _ met.1)
+      subst R same (block_flows principals labelled planned tree results method gives same_gives final are inside labels
+          many since inner rest_stays there.1 has.0 values.1 (all_first (IsMet principals) labels_one _ met.1)
           (all_first (IsKept labelled) labels_one _ kept.1)
           (all_first (IsUseWell labelled planned principals) uses_one _ uses.1)),
-      block_flows principals labelled planned tree results method gives same_gives final are pc behind (inner_stays.many ∙ many)
-          (stay_then declared labels behind since inner_stays) rest stay there.2 has.1 values.2
-          (all_second (IsMet principals) labels_one _ met.1) (all_second (IsKept labelled) labels_one _ kept.1)
+      block_flows principals labelled planned tree results method gives same_gives final are pc behind
+          (inner_stays.many ∙ many) (stay_then declared labels behind since inner_stays) rest stay there.2 has.1
+          values.2 (all_second (IsMet principals) labels_one _ met.1) (all_second (IsKept labelled) labels_one _ kept.1)
           (all_second (IsUseWell labelled planned principals) uses_one _ uses.1),
     )
 block_flows principals labelled planned tree results method gives same_gives final are pc labels many since
@@ -285,8 +288,8 @@ block_flows principals labelled planned tree results method gives same_gives fin
       flows.begins,
       flows.arguments_flow,
       flows.result_flows,
-      block_flows principals labelled planned tree results method gives same_gives final are pc labels many since rest stay there.3
-          has.2 values.1 met.1 kept.1 uses.1,
+      block_flows principals labelled planned tree results method gives same_gives final are pc labels many since rest
+          stay there.3 has.2 values.1 met.1 kept.1 uses.1,
     )
 block_flows principals labelled planned tree results method gives same_gives final are pc labels many since
     (give_back heading value rest) stay there has values met kept uses =
@@ -299,6 +302,6 @@ block_flows principals labelled planned tree results method gives same_gives fin
       answer_flows principals labelled planned tree labels final are stays pc value values.0
           (first_indexes principals labelled planned tree method pc value [] there.1 told) tree.result
           (same_gives ∙ there.0) has.0 holds,
-      block_flows principals labelled planned tree results method gives same_gives final are pc labels many since rest stay there.2
-          has.1 values.1 met.1 kept.1 uses.1,
+      block_flows principals labelled planned tree results method gives same_gives final are pc labels many since rest
+          stay there.2 has.1 values.1 met.1 kept.1 uses.1,
     )

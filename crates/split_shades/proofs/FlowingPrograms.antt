@@ -39,7 +39,8 @@ methods_flow : (principals : Declared) (labelled : Labelled) (planned : PlannedS
     AreLabelsKept labelled (methods_labels principals labelled.program labels methods) →
     AreUsesWell labelled planned principals (flat_map (method_uses principals labelled) methods) →
     AllByRecursion (MethodFlows (basis_of principals labelled) planned) methods
-methods_flow principals labelled planned results final are place [] labels many since end there has values met kept uses =
+methods_flow principals labelled planned results final are place [] labels many since end there has values met kept
+    uses =
     tt
 methods_flow principals labelled planned results final are place (method ∷ methods) labels many since end there has
     values met kept uses =
@@ -49,8 +50,8 @@ methods_flow principals labelled planned results final are place (method ∷ met
     let own_uses = block_uses labelled setting method.body in
     let stays = block_stays setting method.begin labels method.body in
     let stay = subst (Stay after) end (methods_stay principals labelled.program after methods) in (
-      block_flows principals labelled planned method results (record { 0 = place }) (is_some method.result) refl final are
-          method.begin labels many since method.body stay there.0.body has.0.labelled values.0
+      block_flows principals labelled planned method results (record { 0 = place }) (is_some method.result) refl final
+          are method.begin labels many since method.body stay there.0.body has.0.labelled values.0
           (all_first (IsMet principals) own _ met.1) (all_first (IsKept labelled) own _ kept.1)
           (all_first (IsUseWell labelled planned principals) own_uses _ uses.1),
       methods_flow principals labelled planned results final are (suc place) methods after (stays.many ∙ many)

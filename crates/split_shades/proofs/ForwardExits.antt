@@ -14,7 +14,8 @@ use Rattle.split_rules.specs.Emissions.{Emission, instruction, entry, stands, la
 use Rattle.split_rules.specs.SplitCode.{emitted_on, before_landing}
 use Rattle.split_rules.proofs.Places.{emitted_append}
 use Rattle.split_shades.specs.Shades.{Shade, EntryShade, Begun, Ahead, ahead_of}
-use Rattle.split_shades.specs.Shading.{Scene, PushesAt, Pushes, Follows, Divides, nowhere, here, Known, ShadedOp, IsShaded}
+use Rattle.split_shades.specs.Shading.{Scene, PushesAt, Pushes, Follows, Divides, nowhere, here, Known, ShadedOp}
+use Rattle.split_shades.specs.Shading.{IsShaded}
 use Rattle.split_shades.specs.Shading.{Shaded, AreShaded}
 use Rattle.split_shades.proofs.ShadedPlaces.{not_nowhere, here_host}
 use Rattle.split_shades.proofs.ShadedStates.{counts_of, counts_behind}

@@ -114,7 +114,8 @@ pub arguments_flow : (principals : Declared) (labelled : Labelled) (planned : Pl
     AllByRecursion (Holds principals) (argument_flows setting pc labels arguments params) →
     AllByRecursion (IsToldWell labelled planned) (flat_map (tellings_in setting labelled pc) arguments) →
     ArgumentsFlow (basis_of principals labelled) planned pc params arguments
-arguments_flow principals labelled planned tree labels final are stay method pc params [] there values has holds told = tt
+arguments_flow principals labelled planned tree labels final are stay method pc params [] there values has holds told =
+    tt
 arguments_flow principals labelled planned tree labels final are stay method pc [] (argument ∷ others) there values has
     holds told = tt
 arguments_flow principals labelled planned tree labels final are stay method pc (param ∷ params) (argument ∷ others)
@@ -149,7 +150,8 @@ result_flows_on principals labelled planned tree labels final are stay since pc 
     value_kept principals labelled planned tree labels final are stay pc (local result) there tt from
     (variable_label labels into) (label_of labelled into) (flows_self from) holds.0
     (sym (label_there labelled labels final are stay into has))
-result_flows_on principals labelled planned tree labels final are stay since pc (Some result) None declared has holds = tt
+result_flows_on principals labelled planned tree labels final are stay since pc (Some result) None declared has holds =
+    tt
 result_flows_on principals labelled planned tree labels final are stay since pc None (Some into) declared has holds = tt
 result_flows_on principals labelled planned tree labels final are stay since pc None None declared has holds = tt
 
@@ -162,7 +164,8 @@ pub answer_flows : (principals : Declared) (labelled : Labelled) (planned : Plan
     AnswerFlows (basis_of principals labelled) planned pc result value
 answer_flows principals labelled planned tree labels final are stay pc value values indexes None some has holds =
     absurd (true≢false (sym some))
-answer_flows principals labelled planned tree labels final are stay pc value values indexes (Some result) some has holds =
+answer_flows principals labelled planned tree labels final are stay pc value values indexes (Some result) some has
+    holds =
     let from = expr_label (setting_of principals labelled.program tree) pc labels value in
     value_kept principals labelled planned tree labels final are stay pc value values indexes from
     (variable_label labels result) (label_of labelled result) (flows_self from) holds.0

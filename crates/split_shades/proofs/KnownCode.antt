@@ -1,4 +1,5 @@
--- The code of a split program has the labels of its fields and variables, and its hosts may see what the plan lets them.
+-- The code of a split program has the labels of its fields and variables, and its hosts may see what the plan lets
+-- them.
 use Rattle.std.proofs.Common.{◌≡◌, ◌∙◌, ℕ, zero, suc, List, [], ◌∷◌, ◌++◌, map, ap, sym, subst}
 use Rattle.std.specs.Prelude.{Option, Some, None, slice_get, unwrap_or}
 use Rattle.std.specs.List.{flat_map, zip}
@@ -50,7 +51,8 @@ variable_known : (labelled : Labelled) (hosts : HostsShape) (planned : PlannedSh
 variable_known labelled hosts planned emissions x there is =
     let code = code_of_emissions labelled hosts planned emissions in
     let needed = code_labels labelled emissions in
-    let so = mapped (code_variable labelled.program needed) (zip labelled.program.vars labelled.var_labels) x.0 there is in
+    let so = mapped (code_variable labelled.program needed) (zip labelled.program.vars labelled.var_labels) x.0 there
+    is in
     let label = so.0.1 in
     let own = second_there labelled.program.vars labelled.var_labels x.0 so.0 so.1 in
     let fields = map (λ (field : FieldTree). field.label) labelled.program.fields in

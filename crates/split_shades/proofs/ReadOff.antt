@@ -88,8 +88,8 @@ half Step item host first (lands on number ∷ xs) ys last steps =
 
 -- ---- what comes next
 
--- A host goes on where something is known, and what comes next there meets it. What is known meets no less where an entry
--- is named or stands, or a branch leads.
+-- A host goes on where something is known, and what comes next there meets it. What is known meets no less where an
+-- entry is named or stands, or a branch leads.
 pub record GoesOn {K I : Type 0} (Step : K → Emission → K → Type 0) (item : Item Step I)
     (Goes : K → HostId → Type 0) (Meet : K → HostId → I → Type 0) : Type 0 where
   pub own : (known : K) (one : Emitted) (after : K) (host : HostId) → (step : Step known (instruction one) after) →

@@ -1,5 +1,6 @@
 -- Blocks: from a lane on, all emissions of a block are shaded.
-use Rattle.std.proofs.Common.{◌≡◌, ◌∙◌, false, inl, inr, List, [], ◌∷◌, ◌++◌, length, refl, ap, sym, subst, append_assoc}
+use Rattle.std.proofs.Common.{◌≡◌, ◌∙◌, false, inl, inr, List, [], ◌∷◌, ◌++◌, length, refl, ap, sym, subst}
+use Rattle.std.proofs.Common.{append_assoc}
 use Rattle.std.proofs.Common.{eq-eqb, ne_eqb}
 use Rattle.std.proofs.lemmas.Bool.Decides.{eqb_tells}
 use Rattle.std.specs.Prelude.{Option, Some, None, slice_get, ⊤}
@@ -134,7 +135,8 @@ statement_then scene tree around level lane statement others entries branches me
 
     moves : Moves scene (walked_of scene tree) around level lane (next_spot scene.planned lane.spot statement others)
         (statement ∷ others) entries branches
-    moves = move_shaded scene (walked_of scene tree) around level lane statement others entries branches is known sees see
+    moves = move_shaded scene (walked_of scene tree) around level lane statement others entries branches is known sees
+        see
 
     well : MovesWell scene.planned around.pc statement (next_spot scene.planned lane.spot statement others)
     well = next_well scene.planned around.pc lane.spot statement others sees see
@@ -201,9 +203,9 @@ block_shaded scene tree all around (set_local heading x value rest) well flows s
     let own : HostId → List Emission = λ host. expr_emissions host pc heading.id 0 value
     ++ emitted host pc heading.id (op.Let x (nodes_of 0 value)) ∷ send_emissions scene.planned host pc heading.id x in
     statement_then scene tree around level lane heading.id others entries branches methods is known sees
-    (statements_see scene.basis.labelled scene.planned (walked_of scene tree).setting pc (set_local heading x value rest)
-    well) (own next.host) (λ it lane_there. block_emissions (walked_of scene tree) around it lane_there rest) _ refl
-    (λ host_is level_there there methods_there level_is counted.
+    (statements_see scene.basis.labelled scene.planned (walked_of scene tree).setting pc (set_local heading x value
+    rest) well) (own next.host) (λ it lane_there. block_emissions (walked_of scene tree) around it lane_there rest) _
+    refl (λ host_is level_there there methods_there level_is counted.
     let host = statement_host scene.planned.plan heading.id in
     let P : HostId → Type 0 = λ it. Leads scene (block_known it pc level_there there branches) (own it)
     (here it (calm_ahead level_there pc)) in
@@ -215,8 +217,8 @@ block_shaded scene tree all around (set_local heading x value rest) well flows s
     (λ lane_there there branches_there methods_there level_is known_there sees_there.
     block_shaded scene tree all around rest well.3 flows.1 sites (λ none. (silent none).1) level lane_there there
     branches_there methods_there level_is known_there sees_there)
-block_shaded scene tree all around (set_field heading field value rest) well flows sites silent level lane entries branches
-    methods is known sees =
+block_shaded scene tree all around (set_field heading field value rest) well flows sites silent level lane entries
+    branches methods is known sees =
     let pc = around.pc in
     let others = own_statements rest in
     let next = next_spot scene.planned lane.spot heading.id others in
@@ -237,8 +239,8 @@ block_shaded scene tree all around (set_field heading field value rest) well flo
     (λ lane_there there branches_there methods_there level_is known_there sees_there.
     block_shaded scene tree all around rest well.3 flows.1 sites (λ none. (silent none).1) level lane_there there
     branches_there methods_there level_is known_there sees_there)
-block_shaded scene tree all around (set_element heading field index value rest) well flows sites silent level lane entries
-    branches methods is known sees =
+block_shaded scene tree all around (set_element heading field index value rest) well flows sites silent level lane
+    entries branches methods is known sees =
     let pc = around.pc in
     let others = own_statements rest in
     let next = next_spot scene.planned lane.spot heading.id others in
@@ -298,8 +300,8 @@ block_shaded scene tree all around (branch heading guard first second rest) well
     (λ lane_there there branches_there methods_there level_is known_there sees_there.
     block_shaded scene tree all around rest well.5 flows.3 sites.2 (λ none. (silent none).3) level lane_there there
     branches_there methods_there level_is known_there sees_there)
-block_shaded scene tree all around (loop heading guard inner_block rest) well flows sites silent level lane entries branches
-    methods is known sees =
+block_shaded scene tree all around (loop heading guard inner_block rest) well flows sites silent level lane entries
+    branches methods is known sees =
     let walked = walked_of scene tree in
     let pc = around.pc in
     let others = own_statements rest in
@@ -321,8 +323,8 @@ block_shaded scene tree all around (loop heading guard inner_block rest) well fl
     let Q : HostId → Type 0 = λ host. IsRead scene host inside.pc guard in
     let R : HostId → Type 0 = λ host. SpotSees scene.planned inside.pc (on host) in
     let sees_inside = subst R (sym host_is) (well.2, tt) in
-    subst P counted (loop_shaded scene tree around level_there heading guard next others one there branches methods_there
-    level_is
+    subst P counted (loop_shaded scene tree around level_there heading guard next others one there branches
+    methods_there level_is
     (subst Q (sym host_is)
     (record { reads = well.1; indexes = flows.1.indexes; silent = λ none. (silent none).0 })) flows.0 flows.1
     sees_inside.0
@@ -332,8 +334,8 @@ block_shaded scene tree all around (loop heading guard inner_block rest) well fl
     (λ lane_there there branches_there methods_there level_is known_there sees_there.
     block_shaded scene tree all around rest well.4 flows.3 sites.1 (λ none. (silent none).2) level lane_there there
     branches_there methods_there level_is known_there sees_there)
-block_shaded scene tree all around (call heading site method arguments into rest) well flows sites silent level lane entries
-    branches methods is known sees =
+block_shaded scene tree all around (call heading site method arguments into rest) well flows sites silent level lane
+    entries branches methods is known sees =
     let walked = walked_of scene tree in
     let pc = around.pc in
     let others = own_statements rest in
@@ -354,15 +356,15 @@ block_shaded scene tree all around (call heading site method arguments into rest
     (own (counts_after counts moved) it) (here it (calm_ahead level_there pc)) in
     let Q : Counts → Type 0 = λ it. Leads scene (block_known host pc level_there there branches) (own it host)
     (here host (calm_ahead level_there pc)) in
-    subst P (sym host_is) (subst Q counted (call_shaded scene tree all host pc heading.id level_there site method arguments
-    into left there branches methods_there level_is well.0 sites.0
+    subst P (sym host_is) (subst Q counted (call_shaded scene tree all host pc heading.id level_there site method
+    arguments into left there branches methods_there level_is well.0 sites.0
     (arguments_read scene host pc (params_of called) arguments well.1 flows.1 (λ none. (silent none).0)) well.2 flows.0
     flows.1 flows.2)))
     (λ lane_there there branches_there methods_there level_is known_there sees_there.
     block_shaded scene tree all around rest well.4 flows.3 sites.1 (λ none. (silent none).1) level lane_there there
     branches_there methods_there level_is known_there sees_there)
-block_shaded scene tree all around (give_back heading value rest) well flows sites silent level lane entries branches methods
-    is known sees =
+block_shaded scene tree all around (give_back heading value rest) well flows sites silent level lane entries branches
+    methods is known sees =
     let walked = walked_of scene tree in
     let pc = around.pc in
     let others = own_statements rest in
@@ -379,8 +381,8 @@ block_shaded scene tree all around (give_back heading value rest) well flows sit
     subst P (sym host_is) (leads_still scene (here host (calm_ahead level_there pc))
     (here host (calm_ahead level_there pc)) there branches (own host)
     (give_back_shaded scene tree host pc heading.id level_there there branches (pc, level_is, flows_self pc) value
-    (record { reads = well.1; indexes = answer_indexes tree.result flows.0; silent = λ none. (silent none).0 }) flows.0)))
-    (λ lane_there there branches_there methods_there level_is known_there sees_there.
+    (record { reads = well.1; indexes = answer_indexes tree.result flows.0; silent = λ none. (silent none).0 })
+    flows.0))) (λ lane_there there branches_there methods_there level_is known_there sees_there.
     block_shaded scene tree all around rest well.3 flows.1 sites (λ none. (silent none).1) level lane_there there
     branches_there methods_there level_is known_there sees_there)
   where

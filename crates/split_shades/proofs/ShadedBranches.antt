@@ -1,5 +1,6 @@
 -- Branches and loops, whose blocks have the program label to which their guard flows.
-use Rattle.std.proofs.Common.{◌≡◌, ◌∙◌, ℕ, false, inl, inr, List, [], ◌∷◌, ◌++◌, length, refl, ap, sym, subst, append_assoc}
+use Rattle.std.proofs.Common.{◌≡◌, ◌∙◌, ℕ, false, inl, inr, List, [], ◌∷◌, ◌++◌, length, refl, ap, sym, subst}
+use Rattle.std.proofs.Common.{append_assoc}
 use Rattle.std.specs.Prelude.{Some, None, slice_get}
 use Rattle.js_base.specs.declared.ids.HostId.{HostId}
 use Rattle.js_base.specs.declared.ids.StmtId.{StmtId}
@@ -34,14 +35,23 @@ use Rattle.split_shades.proofs.ShadedValues.{IsRead}
 one_lands : (scene : Scene) (host : HostId) (target : Ahead) (number : ℕ) (entries : List EntryShade)
     (branches : List Ahead) → slice_get branches number ≡ Some target → target.begun ≡ None →
     Leads scene (known_at nowhere entries branches) (lands host number ∷ []) (here host target)
-one_lands scene host target number entries branches there calm = leads_still scene nowhere (here host target) entries branches
-    (lands host number ∷ []) (known_at (here host target) entries branches, (target, there, (refl, calm), refl), refl)
+one_lands scene host target number entries branches there calm = leads_still scene nowhere (here host target) entries
+    branches (lands host number ∷ []) (
+      known_at (here host target) entries branches,
+      (
+        target,
+        there,
+        (refl, calm),
+        refl,
+      ),
+      refl,
+    )
 
 one_stands : (scene : Scene) (host : HostId) (own : EntryShade) (number : ℕ) (entries : List EntryShade)
     (branches : List Ahead) → slice_get entries number ≡ Some own → own.begun ≡ None →
     Leads scene (known_at nowhere entries branches) (stands host number ∷ []) (here host (ahead_of own))
-one_stands scene host own number entries branches there calm = leads_still scene nowhere (here host (ahead_of own)) entries
-    branches (stands host number ∷ [])
+one_stands scene host own number entries branches there calm = leads_still scene nowhere (here host (ahead_of own))
+    entries branches (stands host number ∷ [])
     (known_at (here host (ahead_of own)) entries branches, (own, there, inl (refl, calm), refl), refl)
 
 -- a block inside begins on the host of the branch or the loop
@@ -64,8 +74,8 @@ pub branch_shaded : (scene : Scene) (tree : MethodTree) (around : Around) (level
     Leads scene (block_known next.host around.pc level entries branches)
     (branch_own (branch_front (walked_of scene tree) around counts heading guard next left) counts next.host one two)
     (here next.host (calm_ahead level around.pc))
-branch_shaded scene tree around level heading guard next left one two entries branches methods is read flows sees one_goes
-    two_goes =
+branch_shaded scene tree around level heading guard next left one two entries branches methods is read flows sees
+    one_goes two_goes =
     subst P (sym same) (front_then scene entries branches (here host (calm_ahead level pc)) middle
     (here host (calm_ahead level pc)) join target front between_all begins
     (leads_on scene start ((one_there ++ between) ++ two_there) (stands host number ∷ []) nowhere
@@ -174,8 +184,8 @@ branch_shaded scene tree around level heading guard next left one two entries br
             (block_known host pc (under number) joined branches) outer_level
             (calm_ahead (under number) pc, ((refl, refl), (names, refl)), refl),
         reads_then scene site joined branches
-            (site_is scene joined host pc heading.id (under number) (inside, inner_level, flows.program)) None tt guard read
-            (emitted host pc heading.id (op.Branch (nodes_of 0 guard) (length branches)) ∷ []) start (λ last may. (
+            (site_is scene joined host pc heading.id (under number) (inside, inner_level, flows.program)) None tt guard
+            read (emitted host pc heading.id (op.Branch (nodes_of 0 guard) (length branches)) ∷ []) start (λ last may. (
               start,
               one_shaded scene site joined branches
                   (site_is scene joined host pc heading.id (under number) (inside, inner_level, flows.program))
@@ -228,7 +238,8 @@ pub loop_shaded : (scene : Scene) (tree : MethodTree) (around : Around) (level :
     Leads scene (block_known next.host around.pc level entries branches)
     (loop_own (loop_front (walked_of scene tree) around counts heading guard next left) counts next.host one)
     (here next.host (calm_ahead level around.pc))
-loop_shaded scene tree around level heading guard next left one entries branches methods is read above flows sees one_goes =
+loop_shaded scene tree around level heading guard next left one entries branches methods is read above flows sees
+    one_goes =
     subst P (sym (append_assoc front one_there between))
     (front_then scene entries branches (here host (calm_ahead level pc)) middle (here host (calm_ahead level pc)) head
     target front (one_there ++ between) begins

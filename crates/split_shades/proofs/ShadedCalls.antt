@@ -1,5 +1,6 @@
 -- Calls: arguments are kept in parameters, and a method is entered whose begin label is above that of the block.
-use Rattle.std.proofs.Common.{◌≡◌, ℕ, suc, inl, inr, true, List, [], ◌∷◌, ◌++◌, length, refl, ap, sym, subst, append-nil}
+use Rattle.std.proofs.Common.{◌≡◌, ℕ, suc, inl, inr, true, List, [], ◌∷◌, ◌++◌, length, refl, ap, sym, subst}
+use Rattle.std.proofs.Common.{append-nil}
 use Rattle.std.specs.Prelude.{Option, Some, None, slice_get, ⊤}
 use Rattle.js_base.specs.declared.ids.HostId.{HostId}
 use Rattle.js_base.specs.declared.ids.VarId.{VarId}
@@ -97,8 +98,8 @@ arguments_shaded scene tree all me pc id level entries branches below (param ∷
             (refl, refl, value_keeps scene site argument label flows.0, refl),
             refl,
           ),
-      passes_shaded scene site entries branches is refl refl param flows.0.program (other_readers scene.planned me param)
-          (readers_see scene.planned label me param (all.readers param)),
+      passes_shaded scene site entries branches is refl refl param flows.0.program (other_readers scene.planned me
+          param) (readers_see scene.planned label me param (all.readers param)),
     )))
     (arguments_shaded scene tree all me pc id level entries branches below params others read.1 flows.1)
 
@@ -140,8 +141,8 @@ pub call_shaded : (scene : Scene) (tree : MethodTree) → AllFlow scene.basis sc
     Leads scene (block_known me pc level entries branches)
     (call_emissions (walked_of scene tree) (counts_in entries branches) me pc id site method arguments into left)
     (here me (calm_ahead level pc))
-call_shaded scene tree all me pc id level site method arguments into left entries branches methods is sees site_there read
-    enters begins arguments_flow result_flows = record {
+call_shaded scene tree all me pc id level site method arguments into left entries branches methods is sees site_there
+    read enters begins arguments_flow result_flows = record {
       more = behind ∷ [];
       ahead = [];
       shaded = (

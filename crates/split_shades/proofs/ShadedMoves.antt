@@ -146,8 +146,8 @@ leave_from scene around level host (Some back) number entries branches is known 
     let pc = around.pc in
     let given = block_entry level pc (Some pc) in (
       known_at nowhere entries branches,
-      plain_shaded scene host pc around.owner op.Back (under number) entries branches (known_at nowhere entries branches)
-          (given, known, refl) (((refl, refl), refl, refl), refl),
+      plain_shaded scene host pc around.owner op.Back (under number) entries branches (known_at nowhere entries
+          branches) (given, known, refl) (((refl, refl), refl, refl), refl),
       (
         known_at (here back (calm_ahead level pc)) entries branches,
         (given, known, inl (refl, refl), refl),
@@ -238,10 +238,10 @@ push_shaded scene me back level pc statement number entries branches is there se
     let pushes : PushesAt None entries (plain_shade level pc) number next = (names, refl) in
     let after = known_at (here me next) entries branches in
     elim (eqb_tells me.0 back.0) [
-      | inl same ↦ rw same.0 (plain_shaded scene me pc statement (op.Push (entry_id number)) level entries branches after
-          is (next, ((refl, refl), pushes), refl))
-      | inr other ↦ rw other.0 (plain_shaded scene me pc statement (op.Ask (entry_id number) back) level entries branches
-          after is (next, ((refl, refl), refl, refl, pushes, seen), refl))
+      | inl same ↦ rw same.0 (plain_shaded scene me pc statement (op.Push (entry_id number)) level entries branches
+          after is (next, ((refl, refl), pushes), refl))
+      | inr other ↦ rw other.0 (plain_shaded scene me pc statement (op.Ask (entry_id number) back) level entries
+          branches after is (next, ((refl, refl), refl, refl, pushes, seen), refl))
     ]
 
 -- the right to go on is lent
@@ -329,7 +329,8 @@ pub record Moves (scene : Scene) (walked : Walked) (around : Around) (level : Le
   pub more : List EntryShade
   pub shaded : AreShaded scene (known_at (lane_place level around.pc lane) entries branches)
       (move_emissions walked around (counts_in entries branches) lane next statements)
-      (known_at (lane_place level around.pc (lane_at (counts_in entries branches) lane next)) (entries ++ more) branches)
+      (known_at (lane_place level around.pc (lane_at (counts_in entries branches) lane next)) (entries ++ more)
+      branches)
   pub known : IsLaneKnown (entries ++ more) level around.pc (lane_at (counts_in entries branches) lane next)
 
 -- it stays
@@ -368,8 +369,8 @@ pub move_shaded : (scene : Scene) (walked : Walked) (around : Around) (level : L
     (others : List StmtId) (entries : List EntryShade) (branches : List Ahead) → IsLevelOf entries level around.pc →
     IsLaneKnown entries level around.pc lane → SpotSees scene.planned around.pc lane.spot →
     AllSee scene.planned around.pc (statement ∷ others) →
-    Moves scene walked around level lane (next_spot scene.planned lane.spot statement others) (statement ∷ others) entries
-    branches
+    Moves scene walked around level lane (next_spot scene.planned lane.spot statement others) (statement ∷ others)
+    entries branches
 move_shaded scene walked around level lane statement others entries branches is known sees see =
     elim (eqb_tells lane.spot.host.0 host.0) [
       | inl same ↦ subst P (sym (next_here planned lane.spot statement others same.1))
@@ -405,8 +406,9 @@ move_shaded scene walked around level lane statement others entries branches is 
             let well = (next_well planned around.pc lane.spot statement others sees see).sees in
             let Q : Spot → Type 0 = λ spot. SpotSees planned around.pc spot in
             let both = subst Q (next_there planned lane.spot statement others apart ∙ at) well in
-            subst P (sym at) (moved scene walked around level lane (lent_spot host back) statements entries branches apart
-            is known (lent scene walked around level from host back statements entries branches is see.0 both.1 other.1))
+            subst P (sym at) (moved scene walked around level lane (lent_spot host back) statements entries branches
+            apart is known (lent scene walked around level from host back statements entries branches is see.0 both.1
+            other.1))
       ]
     ]
 
@@ -422,7 +424,7 @@ end_shaded scene around level lane entries branches is known =
     (known_at (here last (calm_ahead level around.pc)) entries branches) (known_at nowhere entries branches)
     (leave_shaded scene around level lane entries branches is known) (
       known_at nowhere entries branches,
-      plain_shaded scene last around.pc around.owner op.Back level entries branches (known_at nowhere entries branches) is
-          (((refl, refl), refl, refl), refl),
+      plain_shaded scene last around.pc around.owner op.Back level entries branches (known_at nowhere entries branches)
+          is (((refl, refl), refl, refl), refl),
       refl,
     )

@@ -61,8 +61,8 @@ shades_many planned number (method ∷ methods) = ap suc (shades_many planned (s
 begins : (scene : Scene) (home : HostId) (number : ℕ) (method : MethodTree) (entries : List EntryShade)
     (branches : List Ahead) (emissions : List Emission) →
     slice_get entries (suc number) ≡ Some (method_shade number method) →
-    Leads scene (known_at (here home (calm_ahead (body (record { 0 = number })) method.begin)) entries branches) emissions
-    nowhere → Leads scene (known_at nowhere entries branches) (stands home (suc number) ∷ emissions) nowhere
+    Leads scene (known_at (here home (calm_ahead (body (record { 0 = number })) method.begin)) entries branches)
+    emissions nowhere → Leads scene (known_at nowhere entries branches) (stands home (suc number) ∷ emissions) nowhere
 begins scene home number method entries branches emissions is leads = record {
   more = leads.more;
   ahead = leads.ahead;
@@ -96,8 +96,8 @@ methods_shaded scene all number (method ∷ methods) there well flows sites sile
     let own_there = named number method (subst P none (there 0 method refl)) in
     leads_on scene (known_at nowhere entries branches) (stands home (suc number) ∷ bodies)
     (methods_emissions scene.basis.principals scene.basis.labelled planned
-    (counts_after (counts_in entries branches) (stands home (suc number) ∷ bodies)) (suc number) methods) nowhere nowhere
-    (begins scene home number method entries branches bodies own_there
+    (counts_after (counts_in entries branches) (stands home (suc number) ∷ bodies)) (suc number) methods) nowhere
+    nowhere (begins scene home number method entries branches bodies own_there
     (block_shaded scene method all (record { owner = method.head; pc = method.begin }) method.body well.0.body flows.0
     sites.0 (λ none. (silent none).0) (body (record { 0 = number })) (lane_on home) entries branches named
     (method_shade number method, own_there, refl) tt (well.0.home, tt)))
@@ -159,8 +159,8 @@ program_shaded labelled needs hosts plan may_release splittable allowed held res
         (methods_emissions hosts.principals labelled planned (counts_in entries []) 0 labelled.program.methods) nowhere
     leads = methods_shaded scene all 0 labelled.program.methods from_zero
         (program_tells_well labelled needs hosts plan splittable allowed held) all.methods
-        (sites_labelled (record { principals = hosts.principals; labelled = labelled }) splittable.sites) silent entries []
-        (start_named scene)
+        (sites_labelled (record { principals = hosts.principals; labelled = labelled }) splittable.sites) silent entries
+        [] (start_named scene)
 
     P : Counts → Type 0
     P one = AreShaded scene (shades_start labelled.program)

@@ -56,7 +56,8 @@ use Rattle.split_shades.specs.Sites.{ReleasesNothing, scene_of}
 use Rattle.split_shades.proofs.BasisLabels.{flows_self}
 use Rattle.split_shades.proofs.ForwardExits.{exit_behind}
 use Rattle.split_shades.proofs.ReadOff.{items_on, half, InstructionRead, instruction_read, stands_read, lands_read}
-use Rattle.split_shades.proofs.ShadedPlaces.{Kept, kept_then, step_keeps, steps_keep, entries_many, shade_more, entry_more}
+use Rattle.split_shades.proofs.ShadedPlaces.{Kept, kept_then, step_keeps, steps_keep, entries_many, shade_more}
+use Rattle.split_shades.proofs.ShadedPlaces.{entry_more}
 use Rattle.split_shades.proofs.ShadedPlaces.{follows_more, ends_more, shade_of, Goes, Meet, not_nowhere, shades_go_on}
 use Rattle.split_shades.proofs.ShadedPrograms.{start_named, program_shaded}
 
@@ -126,7 +127,8 @@ op_shaded : (scene : Scene) (hosts : HostsShape) (main : MethodTree) (emissions 
     let shade = (table_in walk).at me place in
     (shade.pc ≡ one.label) × IsShade scene walk.last.entries shade
     × IfSome shade.guard (λ own. place < (table_in walk).exits me own)
-    × IsShadedOp scene (table_in walk) me place (landed me (given scene.basis.labelled scene.planned main emissions) what)
+    × IsShadedOp scene (table_in walk) me place (landed me (given scene.basis.labelled scene.planned main emissions)
+    what)
 unfolding table_of
 op_shaded scene hosts main emissions walk before one behind is me own what what_is =
     (ap (λ it. it.pc) here_is ∙ so.step.label_is, is_shade, exits, by what what_is law)
@@ -191,9 +193,10 @@ op_shaded scene hosts main emissions walk before one behind is me own what what_
         let labelled = scene.basis.labelled in
         let lands_there = branch_leads labelled hosts scene.planned main emissions walk.end walk.walk before one behind
         is me own guard number it_is in
-        let marked = lands_read (Shaded scene) (shade_of scene) Goes Meet (shades_go_on scene) me me number first emissions
-        (before_landing number emissions) lands_there.behind walk.last lands_there.is (nobody_goes me walk.last walk.ends)
-        walk.shaded in
+        let marked = lands_read (Shaded scene) (shade_of scene) Goes Meet (shades_go_on scene) me me number first
+        emissions
+        (before_landing number emissions) lands_there.behind walk.last lands_there.is (nobody_goes me walk.last
+        walk.ends) walk.shaded in
         let later = steps_keep scene so.after behind walk.last so.from in
         let marked_later = kept_then marked.known.branches marked.after.branches walk.last.branches
         (step_keeps scene marked.known (lands me number) marked.after marked.step).branches
@@ -233,7 +236,8 @@ op_shaded scene hosts main emissions walk before one behind is me own what what_
         subst P (sym here_is) (ends_more scene so.known.entries walk.last.entries kept shade (op.Go there on) so_law.0)
     by (op.Call there on) it_is so_law =
         let P : Shade → Type 0 = λ it. Ends scene walk.last.entries it (op.Call there on) in
-        subst P (sym here_is) (ends_more scene so.known.entries walk.last.entries kept shade (op.Call there on) so_law.0)
+        subst P (sym here_is) (ends_more scene so.known.entries walk.last.entries kept shade (op.Call there on)
+        so_law.0)
     by op.Back it_is so_law =
         let P : Shade → Type 0 = λ it. Ends scene walk.last.entries it op.Back in
         subst P (sym here_is) (ends_more scene so.known.entries walk.last.entries kept shade op.Back so_law.0)
@@ -313,7 +317,8 @@ later_shaded : (scene : Scene) (first last : Known) (emissions before : List Emi
     NamedShaded scene last.entries (length first.entries + length (entries_in before)) named
 later_shaded scene first last emissions before named behind is so =
     let P : List Emission → Type 0 = λ list. AreShaded scene first list last in
-    let parts = half (Shaded scene) (shade_of scene) named.host first before (entry named ∷ behind) last (subst P is so) in
+    let parts = half (Shaded scene) (shade_of scene) named.host first before (entry named ∷ behind) last (subst P is
+    so) in
     let step = parts.behind.1 in
     let rest = steps_keep scene parts.behind.0 behind last parts.behind.2 in
     let kept = kept_then parts.middle.entries parts.behind.0.entries last.entries
@@ -448,7 +453,8 @@ entries_shaded scene hosts main emissions walk homes number there is =
     let named = made.0 in
     let own = named_shaded scene hosts main emissions walk homes number named made.1 in
     let so = found_entry all number named made.1 in
-    let label_is = emission_labelled labelled hosts scene.planned all so.before (entry named) so.behind so.is named.label
+    let label_is = emission_labelled labelled hosts scene.planned all so.before (entry named) so.behind so.is
+    named.label
     (inl refl) in
     let P : Entry → Type 0 = λ it. IsShadedEntry scene code (table_in walk) number it in
     subst P (sym made.2) (record {
@@ -471,15 +477,18 @@ entries_stand scene hosts main emissions walk number there it is it_is =
     let made = entry_made (code_labels labelled all) all (suc number) there is in
     let named = made.0 in
     let so = others_stand labelled hosts planned main emissions walk.end walk.walk number named made.1 in
-    let marked = stands_read (Shaded scene) (shade_of scene) Goes Meet (shades_go_on scene) named.host named.host (suc number)
+    let marked = stands_read (Shaded scene) (shade_of scene) Goes Meet (shades_go_on scene) named.host named.host (suc
+    number)
     first emissions (before_entry (suc number) emissions) so.1.behind walk.last so.1.is
     (nobody_goes named.host walk.last walk.ends) walk.shaded in
     let kept = kept_then marked.known.entries marked.after.entries walk.last.entries
     (step_keeps scene marked.known (stands named.host (suc number)) marked.after marked.step).entries
     (steps_keep scene marked.after so.1.behind walk.last marked.from).entries in
-    let same = same_there walk.last.entries (suc number) marked.step.0 it (kept (suc number) marked.step.0 marked.step.1)
+    let same = same_there walk.last.entries (suc number) marked.step.0 it (kept (suc number) marked.step.0
+    marked.step.1)
     it_is in
-    let comes : marked.after.place ≡ here named.host (ahead_of marked.step.0) = ap (λ known. known.place) marked.step.3 in
+    let comes : marked.after.place ≡ here named.host (ahead_of marked.step.0) = ap (λ known. known.place)
+    marked.step.3 in
     let next = marked.next (ahead_of marked.step.0, comes) in
     let at = length (emitted_on named.host (before_entry (suc number) emissions)) in
     let place = entry_place named.host labelled planned main number emissions in
@@ -545,7 +554,8 @@ split_is_shaded labelled needs hosts plan may_release splittable allowed held re
 
     emissions : List Emission
     emissions = methods_emissions hosts.principals labelled planned
-        (counts_after (record { entries = 0; branches = 0 }) (front_emissions labelled planned)) 0 labelled.program.methods
+        (counts_after (record { entries = 0; branches = 0 }) (front_emissions labelled planned)) 0
+        labelled.program.methods
 
     walk : Walk scene hosts main emissions
     walk =
@@ -567,7 +577,8 @@ split_is_shaded labelled needs hosts plan may_release splittable allowed held re
     }
 
     P : List Emission → Type 0
-    P front = (shades : Shades) × IsShadedCode scene (code_of_emissions labelled hosts planned (front ++ emissions)) shades
+    P front = (shades : Shades) × IsShadedCode scene (code_of_emissions labelled hosts planned (front ++ emissions))
+        shades
 
 -- Where the program releases nothing, no instruction does.
 pub split_is_silent : (labelled : Labelled) (needs : NeedsShape) (hosts : HostsShape) (plan : PlanShape) →

@@ -167,7 +167,8 @@ pub set_element_shaded : (scene : Scene) (me : HostId) (pc : Label) (id : StmtId
     (expr_emissions me pc id 0 index ++ expr_emissions me pc id (reads_in index) value
     ++ emitted me pc id (op.Put field (nodes_of 0 index) (nodes_of (reads_in index) value)) ∷ [])
     (block_known me pc level entries branches)
-set_element_shaded scene me pc id level entries branches below field index value read read_value index_flows flows well =
+set_element_shaded scene me pc id level entries branches below field index value read read_value index_flows flows
+    well =
     let site = site_in me pc id level in
     let is = site_is scene entries me pc id level below in
     let next = block_known me pc level entries branches in
@@ -239,8 +240,8 @@ give_back_shaded scene tree me pc id level entries branches below value read flo
         (reads_then scene site entries branches (site_is scene entries me pc id level below) None tt value read _ next
         (λ last may. (
           next,
-          one_shaded scene site entries branches (site_is scene entries me pc id level below) (reads_tell scene pc value)
-              (released_by 0 value) (λ none. none_released value (read.silent none) 0) last may
+          one_shaded scene site entries branches (site_is scene entries me pc id level below) (reads_tell scene pc
+              value) (released_by 0 value) (λ none. none_released value (read.silent none) 0) last may
               (op.Ret result (nodes_of 0 value)) next (
                 calm_ahead level pc,
                 (refl, refl, value_keeps scene site value (label_of scene.basis.labelled result) kept, refl),

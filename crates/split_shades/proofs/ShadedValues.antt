@@ -1,5 +1,6 @@
 -- What an expression reads is told by the temporaries that its reads leave, and variables are sent to who may see them.
-use Rattle.std.proofs.Common.{◌≡◌, ◌∙◌, ℕ, ◌+◌, Bool, true, false, ◌||◌, List, [], ◌∷◌, ◌++◌, map, length, refl, ap, sym}
+use Rattle.std.proofs.Common.{◌≡◌, ◌∙◌, ℕ, ◌+◌, Bool, true, false, ◌||◌, List, [], ◌∷◌, ◌++◌, map, length, refl, ap}
+use Rattle.std.proofs.Common.{sym}
 use Rattle.std.proofs.Common.{subst, append_assoc, append-nil, length-append, true≢false}
 use Rattle.std.proofs.lemmas.List.{map-append, length-map}
 use Rattle.std.specs.Prelude.{Option, Some, None, IfSome, IsSomeAnd, slice_get, pos}
@@ -103,7 +104,13 @@ one_shaded scene site entries branches is temps released silent begun may what a
   shade = shade_at site temps released;
   ahead = ahead_at site temps begun;
   is_here = refl;
-  meets = record { level = refl; block = refl; temps = refl; calls = refl; begun = may_meet site.pc site.guard begun may };
+  meets = record {
+    level = refl;
+    block = refl;
+    temps = refl;
+    calls = refl;
+    begun = may_meet site.pc site.guard begun may;
+  };
   label_is = refl;
   is_shade = record { under_block = is.under_block; below = is.below; silent = silent };
   guarded = may_guard site.pc site.guard begun may;

@@ -44,8 +44,8 @@ abbrev pub IsOwn : Basis → PlannedShape → HostId → Label → StmtId → Ty
 IsOwn basis planned host label statement =
     (statement_host planned.plan statement ≡ host) × (pc_of basis.labelled statement ≡ label)
 
--- Where the right to go on moves, an instruction is for the block. All others are for a statement on their host. Entries
--- are pushed for either.
+-- Where the right to go on moves, an instruction is for the block. All others are for a statement on their host.
+-- Entries are pushed for either.
 abbrev pub CarriesWell : Basis → PlannedShape → HostId → Label → StmtId → Op → Type 0
 CarriesWell basis planned host label statement (op.Go there on) = IsBlockOf basis statement label
 CarriesWell basis planned host label statement (op.Ask there on) = IsBlockOf basis statement label

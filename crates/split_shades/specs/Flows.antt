@@ -74,8 +74,8 @@ AnswerFlows basis planned pc (Some result) value =
 
 -- ---- blocks
 
--- The statements of a block under its program label. What a guard tells flows to the program label of the blocks inside,
--- and that of a loop is evaluated under this label itself.
+-- The statements of a block under its program label. What a guard tells flows to the program label of the blocks
+-- inside, and that of a loop is evaluated under this label itself.
 abbrev pub BlockFlows : Basis → PlannedShape → MethodSetting → Label → BlockTree → Type 0
 BlockFlows basis planned setting pc done = ⊤
 BlockFlows basis planned setting pc (set_local heading x value rest) =

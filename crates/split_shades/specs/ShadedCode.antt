@@ -80,8 +80,8 @@ ReleaseNothing code shades = (host : HostId) (place : ℕ) (there : Instr) →
 
 -- ---- what else the code has
 
--- The code has the labels of the fields and the variables, and the hosts of the fields, who may see them. What a host may
--- see by the plan, it may see by the code.
+-- The code has the labels of the fields and the variables, and the hosts of the fields, who may see them. What a host
+-- may see by the plan, it may see by the code.
 pub record AreKnownInCode (basis : Basis) (planned : PlannedShape) (code : CodeShape) : Type 0 where
   pub fields : (field : FieldId) (there : CodeFieldShape) → field_at code field ≡ Some there →
       (label_at code there.label ≡ Some (field_label basis.labelled.program field))

@@ -104,8 +104,8 @@ Sends scene here x to = IsPlain here × (here.guard ≡ None) × ConfFlows here.
 
 -- ---- pushes
 
--- An entry is pushed by instructions of one program label. It stands in the block of the instruction that pushes it, and
--- under the same token.
+-- An entry is pushed by instructions of one program label. It stands in the block of the instruction that pushes it,
+-- and under the same token.
 pub record Names (entries : List EntryShade) (here : Shade) (number : ℕ) : Type 0 where
   pub it : EntryShade
   pub is : slice_get entries number ≡ Some it
@@ -113,7 +113,8 @@ pub record Names (entries : List EntryShade) (here : Shade) (number : ℕ) : Typ
   pub block : it.block ≡ here.block
   pub pushed : it.pushed ≡ Some here.pc
 
--- Behind the push of an entry its token is held. Behind a guard a loop pushes the entry that stands there, and its body has the program label of the guard.
+-- Behind the push of an entry its token is held. Behind a guard a loop pushes the entry that stands there, and its body
+-- has the program label of the guard.
 abbrev pub PushesAt : Option ℕ → List EntryShade → Shade → ℕ → Ahead → Type 0
 PushesAt None entries here number next =
     Names entries here number × (next ≡ calm_ahead (under number) here.block)
@@ -228,8 +229,8 @@ pub record IsShade (scene : Scene) (entries : List EntryShade) (here : Shade) : 
   pub below : IsBelow entries here.level here.block
   pub silent : scene.may_release ≡ false → here.released ≡ []
 
--- Whose token is held where an entry stands, the block there and who pushes it, all flow to its label, which its host may
--- see where it is pushed.
+-- Whose token is held where an entry stands, the block there and who pushes it, all flow to its label, which its host
+-- may see where it is pushed.
 pub record IsEntryShade (scene : Scene) (entries : List EntryShade) (host : HostId) (it : EntryShade) : Type 0 where
   pub level : (label : Label) × IsLevelOf entries it.level label × ConfFlows it.block label × ConfFlows label it.label
   pub pushed : IfSome it.pushed (λ pc. ConfFlows pc it.label)

@@ -1,5 +1,5 @@
--- What is asked of the calls and the values of a program: under which program labels its calls stand, by their sites, and
--- that no value is released.
+-- What is asked of the calls and the values of a program: under which program labels its calls stand, by their sites,
+-- and that no value is released.
 use Rattle.std.specs.Prelude.{◌≡◌, Bool, false, List, [], ◌∷◌, ◌++◌, ⊤}
 use Rattle.std.specs.List.{AllByRecursion, flat_map}
 use Rattle.label_lattice.specs.declared.label.Label.{Label}

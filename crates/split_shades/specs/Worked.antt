@@ -1,7 +1,8 @@
 -- Small programs whose blocks have labels apart, and what they give.
 use Rattle.std.specs.Prelude.{ℕ, List, [], ◌∷◌, map, true, pos}
 use Rattle.label_lattice.specs.declared.label.Label.{Label}
-use Rattle.jif_tree.specs.Trees.{ExprTree, number, scalar, element, declassified, BlockTree, done, set_field, branch, loop}
+use Rattle.jif_tree.specs.Trees.{ExprTree, number, scalar, element, declassified, BlockTree, done, set_field, branch}
+use Rattle.jif_tree.specs.Trees.{loop}
 use Rattle.host_code.specs.Code.{CodeShape}
 use Rattle.msg_cost.specs.Moves.{PlannedShape}
 use Rattle.split_rules.specs.SplitCode.{emitted_on, entries_in, code_of_emissions}

@@ -18,7 +18,8 @@ ghost use Rattle.split_shades.specs.Carried.{AreCarried};
 ghost use Rattle.split_shades.specs.ShadedCode.{Shades, IsShadedCode, ReleaseNothing, AreKnownInCode};
 ghost use Rattle.split_rules.specs.SplitCode.{split_code};
 ghost use Rattle.split_shades.specs.Shades.{EntryShade, released_by};
-ghost use Rattle.split_shades.specs.Worked.{branching, looping, scene_on, code_on, entry_words, instruction_words, outer};
+ghost use Rattle.split_shades.specs.Worked.{branching, looping, scene_on, code_on, entry_words, instruction_words};
+ghost use Rattle.split_shades.specs.Worked.{outer};
 ghost use Rattle.split_shades.specs.Worked.{indexed_by, released_field};
 ghost use Rattle.split_rules.specs.Worked.{host_id};
 ghost use Rattle.host_code.specs.declared.code_expr.Node.TheVariants as node;
@@ -33,9 +34,9 @@ pub fn flow_laws()
         AllFlow (record { principals = hosts.principals; labelled = labelled }) (planned_of labelled needs hosts plan) }
 {}
 
-/// What the walk over such a program gives is shaded: each instruction runs under the program label of its block, or of the
-/// loop whose guard it evaluates, what the temporaries tell is what was read, and each entry stands in a block and under
-/// a token whose labels flow to its own. Where the program releases nothing, no instruction does.
+/// What the walk over such a program gives is shaded: each instruction runs under the program label of its block, or of
+/// the loop whose guard it evaluates, what the temporaries tell is what was read, and each entry stands in a block and
+/// under a token whose labels flow to its own. Where the program releases nothing, no instruction does.
 pub fn walk_laws()
     ensures shaded { (labelled : Labelled) (needs : NeedsShape) (hosts : HostsShape) (plan : PlanShape)
         (may_release : Bool) →
@@ -48,9 +49,9 @@ pub fn walk_laws()
         (methods_emissions hosts.principals labelled planned counts 0 labelled.program.methods) last }
 {}
 
-/// The code of such a program has a table of shades: for each instruction the program label under which it runs, that of
-/// its block, what its temporaries tell and what it releases, and for each entry the labels that flow to its own. Each
-/// instruction keeps the law of its kind, and where the program releases nothing, no instruction does.
+/// The code of such a program has a table of shades: for each instruction the program label under which it runs, that
+/// of its block, what its temporaries tell and what it releases, and for each entry the labels that flow to its own.
+/// Each instruction keeps the law of its kind, and where the program releases nothing, no instruction does.
 pub fn shade_laws()
     ensures shaded { (labelled : Labelled) (needs : NeedsShape) (hosts : HostsShape) (plan : PlanShape)
         (may_release : Bool) →
@@ -63,14 +64,14 @@ pub fn shade_laws()
         AreResultsLabelled labelled.program → ReleasesNothing labelled.program →
         (shades : Shades) × IsShadedCode (scene_of labelled needs hosts plan false)
         (split_code labelled needs hosts plan) shades × ReleaseNothing (split_code labelled needs hosts plan) shades }
-    // Each instruction carries the program label of the statement that it is for, which stands on its host, or that of a
-    // block where the right to go on moves, and each entry carries that of a block.
+    // Each instruction carries the program label of the statement that it is for, which stands on its host, or that of
+    // a block where the right to go on moves, and each entry carries that of a block.
     ensures carried { (labelled : Labelled) (needs : NeedsShape) (hosts : HostsShape) (plan : PlanShape) →
         IsSplittable labelled hosts plan → IsAllowed labelled needs hosts plan → IsHeld labelled needs hosts plan →
         AreCarried (record { principals = hosts.principals; labelled = labelled })
         (planned_of labelled needs hosts plan) (split_code labelled needs hosts plan) }
-    // The code has the labels of fields and variables that shades speak of, each field stands on a host that may see it,
-    // and a host may see by the code what it may see by the plan.
+    // The code has the labels of fields and variables that shades speak of, each field stands on a host that may see
+    // it, and a host may see by the code what it may see by the plan.
     ensures known { (labelled : Labelled) (needs : NeedsShape) (hosts : HostsShape) (plan : PlanShape) →
         IsSplittable labelled hosts plan → IsAllowed labelled needs hosts plan → IsHeld labelled needs hosts plan →
         AreKnownInCode (record { principals = hosts.principals; labelled = labelled })
