@@ -139,7 +139,7 @@ quiet_on labelled planned named xs ys one two = record {
 abbrev pub IsCounted : Counts → List Named → Type 0
 IsCounted counts named = counts.entries ≡ length named
 
-no_entry : (what : Op) (counts : Counts) → (one_more_branch what counts).entries ≡ counts.entries
+pub no_entry : (what : Op) (counts : Counts) → (one_more_branch what counts).entries ≡ counts.entries
 no_entry (op.Branch guard number) counts = refl
 no_entry other counts = refl
 

@@ -434,7 +434,7 @@ record NamedTyped (planned : PlannedShape) (entries : List Entrance) (number : �
   trusted : AreDueOn planned named.host position.due
   covers : Covers planned named.need position.due
 
-method_named : (planned : PlannedShape) (methods : List MethodTree) (place : ℕ) (named : Named) →
+pub method_named : (planned : PlannedShape) (methods : List MethodTree) (place : ℕ) (named : Named) →
     slice_get (entries_in (map (method_entry planned) methods)) place ≡ Some named →
     (method : MethodTree) × (slice_get methods place ≡ Some method) × (named ≡ record {
       host = home_of planned method;

@@ -30,7 +30,7 @@ typed_on planned first (x ∷ xs) ys middle last one two =
 
 -- ---- counts
 
-one_longer : {X : Type 0} (xs : List X) (x : X) → length (xs ++ x ∷ []) ≡ suc (length xs)
+pub one_longer : {X : Type 0} (xs : List X) (x : X) → length (xs ++ x ∷ []) ≡ suc (length xs)
 one_longer xs x = rw length-append (omega arith)
 
 counts_op : (planned : PlannedShape) (known : Known) (me : HostId) (from : Position) (what : Op) (after : Known) →

@@ -23,7 +23,7 @@ HaveHosts sites (number ∷ numbers) (host ∷ hosts) =
 
 -- ---- sites that count up
 
-range_moved : (numbers : List ℕ) (first other : ℕ) → first ≡ other → numbers ≡ range_with_len first (length numbers) →
+pub range_moved : (numbers : List ℕ) (first other : ℕ) → first ≡ other → numbers ≡ range_with_len first (length numbers) →
     numbers ≡ range_with_len other (length numbers)
 range_moved numbers first other same is =
     let P : ℕ → Type 0 = λ one. numbers ≡ range_with_len one (length numbers) in
@@ -81,7 +81,7 @@ as_many_in_all plan (method ∷ methods) =
 
 -- ---- the sites of each block
 
-in_three : {X : Type 0} (one two three behind : List X) →
+pub in_three : {X : Type 0} (one two three behind : List X) →
     (one ++ two ++ three) ++ behind ≡ one ++ (two ++ (three ++ behind))
 in_three one two three behind =
     append_assoc (one ++ two) three behind ∙ append_assoc one two (three ++ behind)
