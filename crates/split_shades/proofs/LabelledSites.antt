@@ -1,7 +1,7 @@
 -- Each call site has the program label of its call, where sites are numbered in the order of the text.
 use Rattle.std.proofs.Common.{◌≡◌, ◌∙◌, ℕ, suc, ◌+◌, List, [], ◌∷◌, ◌++◌, length, refl, ap, sym, subst, arith}
 use Rattle.std.proofs.Common.{append_assoc, length-append}
-use Rattle.std.specs.Prelude.{Some, ⊤, slice_get, get_or}
+use Rattle.std.specs.Prelude.{Some, ⊤, slice_get, get_or, drop}
 use Rattle.std.specs.List.{AllByRecursion, flat_map, range_with_len}
 use Rattle.label_lattice.specs.declared.label.Label.{Label}
 use Rattle.label_lattice.specs.Lattice.{empty_label}
@@ -11,6 +11,7 @@ use Rattle.jif_tree.specs.Trees.{BlockTree, done, set_local, set_field, set_elem
 use Rattle.jif_tree.specs.Trees.{MethodTree}
 use Rattle.need_labels.specs.Labelled.{Labelled, all_labels}
 use Rattle.split_rules.proofs.WalkedMoves.{at_last}
+use Rattle.split_rules.proofs.WalkedSites.{range_moved, in_three}
 use Rattle.split_shades.specs.Basis.{Basis}
 use Rattle.split_shades.specs.Sites.{site_labels, program_sites}
 use Rattle.split_shades.proofs.ShadedBlocks.{AreSitesLabelled}
@@ -25,19 +26,8 @@ HaveLabels sites (number ∷ numbers) (label ∷ labels) =
 
 -- ---- sites that count up
 
-range_moved : (numbers : List ℕ) (first other : ℕ) → first ≡ other → numbers ≡ range_with_len first (length numbers) →
-    numbers ≡ range_with_len other (length numbers)
-range_moved numbers first other same is =
-    let P : ℕ → Type 0 = λ one. numbers ≡ range_with_len one (length numbers) in
-    subst P same is
-
-tail_of : List ℕ → List ℕ
-tail_of [] = []
-tail_of (number ∷ numbers) = numbers
-
 counted : (before labels : List Label) (numbers : List ℕ) → length numbers ≡ length labels →
     numbers ≡ range_with_len (length before) (length numbers) → HaveLabels (before ++ labels) numbers labels
-unfolding tail_of
 counted before [] [] long is = tt
 counted before [] (number ∷ numbers) long is = absurd (omega arith)
 counted before (label ∷ labels) [] long is = absurd (omega arith)
@@ -45,7 +35,7 @@ counted before (label ∷ labels) (number ∷ numbers) long is =
     let P : ℕ → Type 0 = λ one. slice_get (before ++ label ∷ labels) one ≡ Some label in
     let Q : List Label → Type 0 = λ sites. HaveLabels sites numbers labels in
     let first : number ≡ length before = ap (λ (all : List ℕ). get_or all 0 0) is in
-    let others : numbers ≡ range_with_len (length before + 1) (length numbers) = ap tail_of is in
+    let others : numbers ≡ range_with_len (length before + 1) (length numbers) = ap (drop 1) is in
     let next : length before + 1 ≡ length (before ++ label ∷ []) = rw length-append (omega arith) in (
       subst P (sym first) (at_last before label labels),
       subst Q (append_assoc before (label ∷ []) labels)
@@ -89,11 +79,6 @@ as_many_in_all basis (method ∷ methods) =
     simp length-append (omega arith)
 
 -- ---- the sites of each block
-
-in_three : {X : Type 0} (one two three behind : List X) →
-    (one ++ two ++ three) ++ behind ≡ one ++ (two ++ (three ++ behind))
-in_three one two three behind =
-    append_assoc (one ++ two) three behind ∙ append_assoc one two (three ++ behind)
 
 block_first : (sites : List Label) (labelled : Labelled) (setting : MethodSetting) (pc : Label) (block : BlockTree)
     (numbers : List ℕ) (labels : List Label) →

@@ -11,6 +11,7 @@ use Rattle.split_rules.specs.Emissions.{Emission, instruction, entry, stands, la
 use Rattle.split_rules.specs.Emissions.{one_more_branch, counts_with}
 use Rattle.split_rules.specs.Positions.{Level, body}
 use Rattle.split_rules.specs.SplitCode.{entries_in}
+use Rattle.split_rules.proofs.ToldEmissions.{no_entry}
 use Rattle.split_rules.proofs.WalkedCalls.{still_there}
 use Rattle.split_shades.specs.Shades.{Shade, EntryShade, Ahead, Meets, ahead_of, level_entry}
 use Rattle.split_shades.specs.Shading.{Scene, IsLevelOf, Names, PushesAt, Pushes, Follows, HandsOn}
@@ -93,10 +94,6 @@ steps_keep scene first (x ∷ xs) last so =
     }
 
 -- ---- as many entries as are named
-
-no_entry : (what : Op) (counts : Counts) → (one_more_branch what counts).entries ≡ counts.entries
-no_entry (op.Branch guard number) counts = refl
-no_entry other counts = refl
 
 entries_counted : (counts : Counts) (xs : List Emission) →
     (counts_after counts xs).entries ≡ counts.entries + length (entries_in xs)

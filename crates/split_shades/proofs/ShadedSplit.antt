@@ -41,7 +41,7 @@ use Rattle.split_rules.proofs.SoundInstructions.{mapped, branch_leads}
 use Rattle.split_rules.proofs.ToldCode.{emission_labelled}
 use Rattle.split_rules.proofs.ToldEmissions.{entry_of}
 use Rattle.split_rules.proofs.ToldWalks.{MethodTellsWell}
-use Rattle.split_rules.proofs.TypedSplit.{landing_place, entry_place, same_there}
+use Rattle.split_rules.proofs.TypedSplit.{landing_place, entry_place, same_there, method_named}
 use Rattle.split_rules.proofs.WalkedCalls.{nothing_there}
 use Rattle.split_rules.proofs.WalkedMoves.{at_last}
 use Rattle.split_rules.proofs.WalkedPrograms.{program_goes}
@@ -339,13 +339,6 @@ record Homes (scene : Scene) (main : MethodTree) : Type 0 where
   main_is : method_at scene.basis.labelled.program scene.basis.labelled.program.main ≡ Some main
   see : (place : ℕ) (tree : MethodTree) → slice_get scene.basis.labelled.program.methods place ≡ Some tree →
       IsSeenOn scene.planned (home_of scene.planned tree) tree.begin
-
-method_named : (planned : PlannedShape) (methods : List MethodTree) (place : ℕ) (named : Named) →
-    slice_get (entries_in (map (method_entry planned) methods)) place ≡ Some named →
-    (method : MethodTree) × (slice_get methods place ≡ Some method) × (named ≡ entry_of planned method)
-method_named planned [] place named there = absurd (nothing_there place named there)
-method_named planned (method ∷ methods) zero named there = (method, refl, cc)
-method_named planned (method ∷ methods) (suc place) named there = method_named planned methods place named there
 
 -- an entry with the begin label of a method, of whose token is held there
 begin_shaded : (scene : Scene) (entries : List EntryShade) (place : ℕ) (tree : MethodTree) →

@@ -7,6 +7,7 @@ use Rattle.host_code.specs.declared.instruction.Op.{Op}
 use Rattle.host_code.specs.declared.instruction.Op.TheVariants as op
 use Rattle.split_rules.specs.Emissions.{Emission, instruction, entry, stands, lands, Counts, one_more_branch}
 use Rattle.split_rules.specs.Emissions.{counts_with, counts_after}
+use Rattle.split_rules.proofs.TypedStates.{one_longer}
 use Rattle.split_shades.specs.Shades.{Shade, EntryShade, Ahead}
 use Rattle.split_shades.specs.Shading.{Scene, Place, Known, known_at, ShadedOp, Shaded, AreShaded}
 
@@ -25,9 +26,6 @@ shaded_on scene first (x ∷ xs) ys middle last one two =
     (one.0, one.1, shaded_on scene one.0 xs ys middle last one.2 two)
 
 -- ---- counts
-
-one_longer : {X : Type 0} (xs : List X) (x : X) → length (xs ++ x ∷ []) ≡ suc (length xs)
-one_longer xs x = rw length-append (omega arith)
 
 counts_op : (scene : Scene) (known : Known) (me : HostId) (shade : Shade) (what : Op) (after : Known) →
     ShadedOp scene known me shade what after → counts_of after ≡ one_more_branch what (counts_of known)
