@@ -5,6 +5,7 @@ use Rattle.jif_tree.specs.Trees.{ExprTree, number, scalar, element, declassified
 use Rattle.jif_tree.specs.Trees.{loop}
 use Rattle.host_code.specs.Code.{CodeShape}
 use Rattle.msg_cost.specs.Moves.{PlannedShape}
+use Rattle.split_rules.specs.Positions.{FieldRead}
 use Rattle.split_rules.specs.SplitCode.{emitted_on, entries_in, code_of_emissions}
 use Rattle.split_rules.specs.Worked.{host_id, field_id, heading, trusted_by, a_host, field_with, main_of, program_with}
 use Rattle.split_rules.specs.Worked.{nobody, planned_for, labelled_with, emissions_on}
@@ -59,7 +60,17 @@ entry_words planned = map (λ named. named.label.trust) (entries_in (emissions_o
 abbrev pub instruction_words : PlannedShape → ℕ → List ℕ
 instruction_words planned host = map (λ one. one.label.trust) (emitted_on (host_id host) (emissions_on planned))
 
--- `a[f]`, and `a[declassify(f, {..})]`
+-- an array with the label of `main`, beside a field that fewer principals trust
+abbrev pub telling : PlannedShape
+telling = planned_for
+    (program_with (field_with guarding ∷ field_with outer ∷ []) [] (record (main_of done) { begin = outer } ∷ []))
+    (a_host 3 ∷ []) ((0 ∷ []) ∷ []) (1 ∷ []) [] (host_id 0 ∷ host_id 0 ∷ []) (host_id 0 ∷ [])
+
+-- `a[f]`, where `f` is that field
+abbrev pub read_at : FieldRead
+read_at = record { field = field_id 1; index = scalar (field_id 0) }
+
+-- `a[..]`, and `declassify(f, {..})`
 abbrev pub indexed_by : ExprTree → ExprTree
 indexed_by index = element (field_id 1) index
 

@@ -20,8 +20,10 @@ ghost use Rattle.split_rules.specs.SplitCode.{split_code};
 ghost use Rattle.split_shades.specs.Shades.{EntryShade, released_by};
 ghost use Rattle.split_shades.specs.Worked.{branching, looping, scene_on, code_on, entry_words, instruction_words};
 ghost use Rattle.split_shades.specs.Worked.{outer};
-ghost use Rattle.split_shades.specs.Worked.{indexed_by, released_field};
-ghost use Rattle.split_rules.specs.Worked.{host_id};
+ghost use Rattle.split_shades.specs.Worked.{basis_on, telling, read_at, indexed_by, released_field};
+ghost use Rattle.split_shades.specs.Basis.{read_label};
+ghost use Rattle.jif_tree.specs.LabelRules.{field_label};
+ghost use Rattle.split_rules.specs.Worked.{host_id, field_id};
 ghost use Rattle.host_code.specs.declared.code_expr.Node.TheVariants as node;
 ghost use Rattle.std.specs.Prelude.{◌≡◌, Bool, false, [], ◌∷◌, Some, slice_get};
 
@@ -84,6 +86,8 @@ pub fn worked_laws()
     ensures branch_entries { entry_words branching ≡ 3 ∷ 3 ∷ 1 ∷ 1 ∷ [] }
     // The join is pushed and the guard evaluated before that.
     ensures branch_words { instruction_words branching 0 ≡ 3 ∷ 3 ∷ 3 ∷ 1 ∷ 1 ∷ 3 ∷ [] }
+    // What is done inside has that label too, up to where the token is given back.
+    ensures branch_elsewhere { instruction_words branching 1 ≡ 1 ∷ 1 ∷ [] }
     // A loop has its label from the guard on, again and again.
     ensures loop_entries { entry_words looping ≡ 3 ∷ 3 ∷ 1 ∷ 1 ∷ [] }
     ensures loop_words { instruction_words looping 0 ≡ 1 ∷ 1 ∷ 1 ∷ 1 ∷ 3 ∷ [] }
@@ -102,6 +106,8 @@ pub fn worked_laws()
     // The guard of a loop has not the label of the block around it.
     ensures guard_apart { (shades : Shades) →
         IsShadedCode (scene_on looping) (code_on looping) shades → ¬ ((shades.at (host_id 0) 0).pc ≡ outer) }
+    // An element tells by which index it was read, so it has not the label of its field.
+    ensures index_told { ¬ (read_label (basis_on telling) outer read_at ≡ field_label telling.program (field_id 1)) }
     // What is released in an index is released by the read of the element, and not where the expression around it is
     // evaluated.
     ensures in_index { released_by 0 (indexed_by released_field) ≡ [] }

@@ -17,6 +17,10 @@ pub returns-clause-branch_words : goal.returns-clause-branch_words
 unfolding is_trusted_by join_of
 returns-clause-branch_words c = refl
 
+pub returns-clause-branch_elsewhere : goal.returns-clause-branch_elsewhere
+unfolding is_trusted_by join_of
+returns-clause-branch_elsewhere c = refl
+
 pub returns-clause-loop_entries : goal.returns-clause-loop_entries
 unfolding is_trusted_by join_of
 returns-clause-loop_entries c = refl
@@ -65,3 +69,7 @@ unfolding is_trusted_by join_of
 returns-clause-guard_apart c shades shaded own =
     let read = shaded.instructions (host_id 0) 0 _ refl in
     apart_words 1 3 refl refl (ap word read.label_is ∙ ap (λ label. label.trust) own)
+
+pub returns-clause-index_told : goal.returns-clause-index_told
+unfolding join_of
+returns-clause-index_told c same = apart_words 1 3 refl refl (ap (λ label. label.trust) same)
