@@ -1,8 +1,8 @@
 -- The code of a split program has the labels of its fields and variables, and its hosts may see what the plan lets
 -- them.
-use Rattle.std.proofs.Common.{◌≡◌, ◌∙◌, ℕ, zero, suc, List, [], ◌∷◌, ◌++◌, map, ap, sym, subst}
+use Rattle.std.proofs.Common.{◌≡◌, ◌∙◌, List, ap, sym, subst}
 use Rattle.std.specs.Prelude.{Option, Some, None, slice_get, unwrap_or}
-use Rattle.std.specs.List.{flat_map, zip}
+use Rattle.std.specs.List.{zip}
 use Rattle.std.specs.Option.{option_map}
 use Rattle.js_base.specs.declared.ids.HostId.{HostId}
 use Rattle.js_base.specs.declared.ids.FieldId.{FieldId}
@@ -21,28 +21,17 @@ use Rattle.msg_cost.specs.Moves.{PlannedShape, planned_of}
 use Rattle.split_rules.specs.Allowed.{IsAllowed}
 use Rattle.split_rules.specs.Emissions.{Emission}
 use Rattle.split_rules.specs.Held.{IsHeld}
-use Rattle.split_rules.specs.SplitCode.{code_labels, code_variable, label_of_emission, label_place, code_of_emissions}
+use Rattle.split_rules.specs.SplitCode.{code_labels, code_variable, code_of_emissions}
 use Rattle.split_rules.specs.SplitCode.{split_code}
 use Rattle.split_rules.specs.Splittable.{IsSplittable}
 use Rattle.split_rules.specs.Walk.{program_emissions}
 use Rattle.split_rules.proofs.CodeItems.{code_field, fields_numbered}
-use Rattle.split_rules.proofs.CodeLabels.{label_left, label_right, label_placed}
-use Rattle.split_rules.proofs.CodeLabels as labels
-use Rattle.split_rules.proofs.NumberedLists.{made}
+use Rattle.split_rules.proofs.NumberedLists.{made, zip_there}
 use Rattle.split_rules.proofs.SeenLabels.{label_of_found}
 use Rattle.split_rules.proofs.SeenPrograms.{Premises, program_well}
 use Rattle.split_rules.proofs.SoundInstructions.{mapped}
-use Rattle.split_rules.proofs.ToldCode.{sees_in_code, field_labelled}
+use Rattle.split_rules.proofs.ToldCode.{sees_in_code, field_labelled, variable_labelled}
 use Rattle.split_shades.specs.ShadedCode.{AreKnownInCode}
-
--- the second of two lists in step
-second_there : {X Y : Type 0} (xs : List X) (ys : List Y) (place : ℕ) (pair : X × Y) →
-    slice_get (zip xs ys) place ≡ Some pair → slice_get ys place ≡ Some pair.1
-second_there [] ys place pair is = absurd (cc)
-second_there (first ∷ xs) [] place pair is = absurd (cc)
-second_there {X} {Y} (first ∷ xs) (second ∷ ys) zero pair is =
-    ap (λ found. option_map (λ (both : X × Y). both.1) found) is
-second_there (first ∷ xs) (second ∷ ys) (suc place) pair is = second_there xs ys place pair is
 
 variable_known : (labelled : Labelled) (hosts : HostsShape) (planned : PlannedShape) (emissions : List Emission)
     (x : VarId) (there : CodeVariableShape) →
@@ -50,20 +39,14 @@ variable_known : (labelled : Labelled) (hosts : HostsShape) (planned : PlannedSh
     variable_at code x ≡ Some there → label_at code there.label ≡ Some (label_of labelled x)
 variable_known labelled hosts planned emissions x there is =
     let code = code_of_emissions labelled hosts planned emissions in
-    let needed = code_labels labelled emissions in
-    let so = mapped (code_variable labelled.program needed) (zip labelled.program.vars labelled.var_labels) x.0 there
-    is in
+    let make = code_variable labelled.program (code_labels labelled emissions) in
+    let so = mapped make (zip labelled.program.vars labelled.var_labels) x.0 there is in
     let label = so.0.1 in
-    let own = second_there labelled.program.vars labelled.var_labels x.0 so.0 so.1 in
-    let fields = map (λ (field : FieldTree). field.label) labelled.program.fields in
-    let given = flat_map label_of_emission emissions in
-    let placed : label_at code (label_place 0 label needed) ≡ Some label =
-    label_placed label (fields ++ labelled.var_labels ++ given)
-    (label_left label (fields ++ labelled.var_labels) given
-    (label_right label fields labelled.var_labels (labels.label_at labelled.var_labels x.0 label own))) in
+    let own = (zip_there labelled.program.vars labelled.var_labels x.0 so.0 so.1).1 in
     let found : Option Label → Label = λ it. unwrap_or (unwrap_or (option_map Some it) None) empty_label in
     let same : label_of labelled x ≡ label = label_of_found labelled x ∙ ap found own in
-    ap (λ (one : CodeVariableShape). label_at code one.label) (sym so.2) ∙ placed ∙ ap Some (sym same)
+    ap (λ (one : CodeVariableShape). label_at code one.label) (sym so.2)
+    ∙ variable_labelled labelled hosts planned emissions x label own ∙ ap Some (sym same)
 
 field_known : (labelled : Labelled) (needs : NeedsShape) (hosts : HostsShape) (plan : PlanShape)
     (emissions : List Emission) → Premises labelled needs hosts plan → (field : FieldId) (there : CodeFieldShape) →

@@ -1,5 +1,5 @@
 -- Each call site has the program label of its call, where sites are numbered in the order of the text.
-use Rattle.std.proofs.Common.{◌≡◌, ◌∙◌, ℕ, suc, ◌+◌, List, [], ◌∷◌, ◌++◌, length, refl, ap, sym, subst, arith}
+use Rattle.std.proofs.Common.{◌≡◌, ℕ, suc, ◌+◌, List, [], ◌∷◌, ◌++◌, length, refl, ap, sym, subst, arith}
 use Rattle.std.proofs.Common.{append_assoc, length-append}
 use Rattle.std.specs.Prelude.{Some, ⊤, slice_get, get_or, drop}
 use Rattle.std.specs.List.{AllByRecursion, flat_map, range_with_len}

@@ -42,7 +42,6 @@ use Rattle.split_rules.proofs.ToldCode.{emission_labelled}
 use Rattle.split_rules.proofs.ToldEmissions.{entry_of}
 use Rattle.split_rules.proofs.ToldWalks.{MethodTellsWell}
 use Rattle.split_rules.proofs.TypedSplit.{landing_place, entry_place, same_there, method_named}
-use Rattle.split_rules.proofs.WalkedCalls.{nothing_there}
 use Rattle.split_rules.proofs.WalkedMoves.{at_last}
 use Rattle.split_rules.proofs.WalkedPrograms.{program_goes}
 use Rattle.split_shades.specs.Flows.{IsSeenOn, AreResultsLabelled}
