@@ -1,5 +1,5 @@
 -- Parameters and results are declared with a label.
-use Rattle.std.proofs.Common.{◌≡◌, ◌∙◌, ℕ, suc, ◌+◌, if◌then◌else◌, List, [], ◌∷◌, ◌++◌, map, length, Option, Some, None}
+use Rattle.std.proofs.Common.{◌≡◌, ◌∙◌, ℕ, zero, suc, ◌+◌, if◌then◌else◌, List, [], ◌∷◌, ◌++◌, map, length, Option, Some, None}
 use Rattle.std.proofs.Common.{slice_get, refl, ap, sym, subst, arith}
 use Rattle.std.specs.List.{AllByRecursion}
 use Rattle.std.specs.Option.{option_map}
@@ -115,3 +115,20 @@ pub heads_labelled : (principals : Declared) (draft : DraftShape) (tree : Progra
 heads_labelled principals draft tree is =
     heads_from principals tree (globals_of draft) 0 [] draft.methods tree.methods (all_stand principals draft tree is)
     is.is_tree.methods
+
+result_there : (program : ProgramTree) (methods : List MethodTree) → AllByRecursion (IsHeadLabelled program) methods →
+    (place : ℕ) (method : MethodTree) → slice_get methods place ≡ Some method →
+    IsLabelledIfAny (declared_labels program) method.result
+result_there program [] heads place method there = absurd (cc)
+result_there program (first ∷ methods) heads zero method there =
+    let same : first ≡ method = cc in
+    subst (λ one. IsLabelledIfAny (declared_labels program) one.result) same heads.0.1
+result_there program (first ∷ methods) heads (suc place) method there =
+    result_there program methods heads.1 place method there
+
+-- each method that has a result declares it with a label
+pub results_labelled : (principals : Declared) (draft : DraftShape) (tree : ProgramTree) →
+    IsProgramOf principals draft tree → (place : ℕ) (method : MethodTree) →
+    slice_get tree.methods place ≡ Some method → IsLabelledIfAny (declared_labels tree) method.result
+results_labelled principals draft tree is place method there =
+    result_there tree tree.methods (heads_labelled principals draft tree is) place method there

@@ -6,7 +6,7 @@ ghost use Rattle.principals.specs.ActsFor.{Declared, IsDeclared};
 ghost use Rattle.label_lattice.specs.Over.{TrustsOver};
 ghost use Rattle.label_lattice.specs.declared.label.TheConstants.{READERS};
 ghost use Rattle.jif_tree.specs.LabelRules.{declared_labels};
-ghost use Rattle.jif_tree.specs.Labelling.{AreLabelledMethods};
+ghost use Rattle.jif_tree.specs.Labelling.{AreLabelledMethods, IsLabelledIfAny};
 ghost use Rattle.jif_tree.specs.Limits.{IsWithinLimits};
 ghost use Rattle.jif_tree.specs.ValueLabels.{AreAllValuesLabelled};
 ghost use Rattle.jif_tree.specs.Results.{AreGivenBack, AreUnread};
@@ -100,6 +100,10 @@ pub fn labelling_laws()
     ensures values { (principals : Declared) (draft : DraftShape) (tree : ProgramTree) →
         IsProgramOf principals draft tree →
         AreAllValuesLabelled principals tree (declared_labels tree) tree.methods }
+    // Each method that has a result declares it with a label.
+    ensures results { (principals : Declared) (draft : DraftShape) (tree : ProgramTree) →
+        IsProgramOf principals draft tree → (place : ℕ) (method : MethodTree) →
+        slice_get tree.methods place ≡ Some method → IsLabelledIfAny (declared_labels tree) method.result }
 {}
 
 /// What becomes of results: a method that has one gives it back, and no expression reads it.

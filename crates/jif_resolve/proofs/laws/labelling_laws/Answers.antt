@@ -1,4 +1,5 @@
 use Rattle.jif_resolve.proofs.BeginLabels.{begins_over, readers}
+use Rattle.jif_resolve.proofs.DeclaredLabels.{results_labelled}
 use Rattle.jif_resolve.proofs.LabelledValues.{values_are_labelled}
 use Rattle.jif_resolve.proofs.LabelledPrograms.{methods_are_labelled}
 use Rattle.jif_resolve.proofs.Returning.{returns_last}
@@ -11,4 +12,5 @@ returns c = record {
   readers = readers;
   labelled = methods_are_labelled;
   values = values_are_labelled;
+  results = results_labelled;
 }
