@@ -1,8 +1,6 @@
 -- What a host keeps of fields and of variables, as two maps.
 use Rattle.std.specs.Prelude.{ℕ, ◌+◌, ◌==◌, ◌&&◌, Bool, if◌then◌else◌, ℤ, pos, List, []}
-use Rattle.std.specs.Prelude.{◌∷◌, Option, Some, None}
-use Rattle.std.specs.Prelude.{suc}
-use Rattle.std.specs.Option.{option_map}
+use Rattle.std.specs.Prelude.{◌∷◌}
 use Rattle.js_base.specs.declared.ids.HostId.{HostId}
 use Rattle.js_base.specs.declared.ids.FrameId.{FrameId}
 use Rattle.js_base.specs.declared.ids.VarId.{VarId}
@@ -11,7 +9,7 @@ use Rattle.host_code.specs.Code.{CodeFieldShape}
 use Rattle.host_stores.specs.declared.variables.VarCell.{VarCell}
 
 -- A row of elements for each field of the code, which is empty where the field is on another host; a cell for each
--- variable of a frame that was set, in any order; and for how many more variables there is room. Contracts read the
+-- variable of a frame that was set, in their order; and for how many more variables there is room. Contracts read the
 -- cells by `variable_of` alone.
 pub record StoresShape : Type 0 where
   pub rows : List (List ℤ)
@@ -46,14 +44,6 @@ abbrev pub value_in : List VarCell → FrameId → VarId → ℤ
 value_in [] frame variable = pos 0
 value_in (cell ∷ cells) frame variable =
     if is_same_variable cell.frame cell.var frame variable then cell.value else value_in cells frame variable
-
--- the place of the first cell of the variable
-abbrev pub place_in : List VarCell → FrameId → VarId → Option ℕ
-place_in [] frame variable = None
-place_in (cell ∷ cells) frame variable =
-    if is_same_variable cell.frame cell.var frame variable
-    then Some 0
-    else option_map (λ place. suc place) (place_in cells frame variable)
 
 -- the value of a variable of a frame, 0 where none was set
 abbrev pub variable_of : StoresShape → FrameId → VarId → ℤ

@@ -18,13 +18,14 @@ use std::marker::Model;
 pub struct Stores {
     /// A row for each field of the code, empty where the field is on another host.
     rows: Vec<Row>,
-    /// The variables in the order in which they were first set.
+    /// The variables that were set, in order.
     cells: Vec<VarCell>,
 }
 
 impl Model for Stores {
     ghost use Rattle.std.specs.Prelude.{◌-◌};
     ghost use Rattle.std.specs.Vec.{vec_len, vec_capacity};
+    ghost use Rattle.host_stores.specs.Order.{AreInOrder};
     ghost use Rattle.host_stores.specs.Stores.{StoresShape};
 
     ghost Value = { StoresShape };
@@ -34,6 +35,8 @@ impl Model for Stores {
       cells = s.cells.items;
       spare = vec_capacity s.cells - vec_len s.cells;
     } };
+
+    ghost invariant = { λ s. AreInOrder s.cells.items };
 }
 
 impl Stores {

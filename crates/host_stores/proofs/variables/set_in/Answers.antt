@@ -1,26 +1,39 @@
--- The first cell of the variable is changed, or one is added.
-use Rattle.std.proofs.Common.{◌≡◌, sym, ◌∙◌, subst, List, Some, None, true, w64}
-use Rattle.std.specs.Prelude.{is_ok}
-use Rattle.std.proofs.lemmas.Int.{to_z-of_z}
+use Rattle.std.proofs.Common.{rules, subst, List, Ok, Err}
 use Rattle.host_stores.specs.declared.variables.VarCell.{VarCell}
-use Rattle.host_stores.specs.Stores.{place_in}
-use Rattle.host_stores.proofs.Cells.{value_in-set, value_in-push, itself}
+use Rattle.host_stores.specs.Order.{IsPlaceOf}
+use Rattle.host_stores.proofs.Cells.{set_at_place, order_at_place, insert_at_place, order_inserted}
 use Rattle.host_stores.proofs.variables.set_in.Goals as goal
 
-pub returns-in-Some-clause-variables : goal.returns-in-Some-clause-variables
-returns-in-Some-clause-variables c = λ other another.
-    let a = c.args in
-    let P : List VarCell → Type 0 = λ cells. place_in cells a.frame a.var ≡ Some (c.in-Some.place) in
-    rw (to_z-of_z w64 a.value c.ranges.value)
-    (value_in-set a.cells.now.items a.frame a.var c.in-Some.place
-    (record { frame = a.frame; var = a.var; value = a.value }) other another
-    (subst P c.deref.ensures.value (sym c.in-Some.ensures.place)) (itself a.frame a.var))
+pub returns-in-Ok-clause-variables : goal.returns-in-Ok-clause-variables
+returns-in-Ok-clause-variables c other another =
+    let place = subst (λ (cells : List VarCell). IsPlaceOf cells c.args.frame c.args.var (Ok c.in-Ok.place))
+    c.deref.ensures.value c.in-Ok.ensures in
+    let set = set_at_place c.args.cells.now.items c.in-Ok.place c.args.frame c.args.var c.args.value other another
+    c.requires.order place in
+    search (rules, set)
 
-pub returns-in-None-clause-variables : goal.returns-in-None-clause-variables
-returns-in-None-clause-variables c = λ other another.
-    let a = c.args in
-    let P : List VarCell → Type 0 = λ cells. place_in cells a.frame a.var ≡ None in
-    let pushed : is_ok c.push-pushed.result ≡ true = sym c.is_ok.ensures.value ∙ c.if-prove.false in
-    rw (c.push-pushed.ensures.items, pushed, to_z-of_z w64 a.value c.ranges.value)
-    (value_in-push a.cells.now.items (record { frame = a.frame; var = a.var; value = a.value }) other another
-    (subst P c.deref.ensures.value (sym c.in-None.ensures.place)))
+pub returns-in-Ok-clause-order : goal.returns-in-Ok-clause-order
+returns-in-Ok-clause-order c =
+    order_at_place c.args.cells.now.items c.in-Ok.place c.args.frame c.args.var _ c.requires.order
+    (subst (λ (cells : List VarCell). IsPlaceOf cells c.args.frame c.args.var (Ok c.in-Ok.place))
+    c.deref.ensures.value c.in-Ok.ensures)
+
+pub returns-in-Err-clause-variables : goal.returns-in-Err-clause-variables
+returns-in-Err-clause-variables c other another =
+    let place = subst (λ (cells : List VarCell). IsPlaceOf cells c.args.frame c.args.var (Err c.in-Err.place))
+    c.deref.ensures.value c.in-Err.ensures in
+    let inserted = insert_at_place c.args.cells.now.items c.in-Err.place c.args.frame c.args.var c.args.value other
+    another place in
+    let items = c.insert-inserted.ensures.items in
+    let done = c.if-prove.ensures.value in
+    search (rules, inserted)
+
+pub returns-in-Err-clause-order : goal.returns-in-Err-clause-order
+returns-in-Err-clause-order c =
+    let place = subst (λ (cells : List VarCell). IsPlaceOf cells c.args.frame c.args.var (Err c.in-Err.place))
+    c.deref.ensures.value c.in-Err.ensures in
+    let order = order_inserted c.args.cells.now.items c.in-Err.place c.args.frame c.args.var c.args.value
+    c.requires.order place in
+    let items = c.insert-inserted.ensures.items in
+    let done = c.if-prove.ensures.value in
+    search (rules, order)
