@@ -12,6 +12,8 @@ mod host_files;
 #[cfg(test)]
 mod limits;
 #[cfg(test)]
+mod misbehaving;
+#[cfg(test)]
 mod outside;
 #[cfg(test)]
 mod plans;
