@@ -49,6 +49,20 @@ impl Label {
         Label { rows: [u64::MAX; PRINCIPALS], trust: 0 }
     }
 
+    /// The label of what these principals trust.
+    #[allow(dead_code)]
+    pub fn trusted(principals: u64) -> Self {
+        Label { trust: principals, ..Label::empty() }
+    }
+
+    /// The label of what an owner lets these principals see.
+    #[allow(dead_code)]
+    pub fn owned(owner: usize, readers: u64) -> Self {
+        let mut label = Label::empty();
+        label.rows[owner] = readers;
+        label
+    }
+
     pub fn conf_flows(&self, to: &Label) -> bool {
         self.rows.iter().zip(&to.rows).all(|(row, other)| other & !row == 0)
     }

@@ -247,6 +247,29 @@ impl Host {
         self.stores.element(field, index)
     }
 
+    #[allow(dead_code)]
+    pub fn set_element(&mut self, field: FieldId, index: i64, value: i64) {
+        self.stores.set_element(field, index, value);
+    }
+
+    /// How many threads wait.
+    #[allow(dead_code)]
+    pub fn waiting(&self) -> usize {
+        self.waiting.len()
+    }
+
+    /// How many entries its control stack has.
+    #[allow(dead_code)]
+    pub fn depth(&self) -> usize {
+        self.stack.entries.len()
+    }
+
+    /// How many messages it has ignored.
+    #[allow(dead_code)]
+    pub fn ignored(&self) -> u64 {
+        self.ignored
+    }
+
     /// The instruction that the running thread has come to.
     #[allow(dead_code)]
     pub fn instruction<'a>(&self, code: &'a Code) -> Option<&'a Instr> {

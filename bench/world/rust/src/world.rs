@@ -139,6 +139,26 @@ impl World {
         self.hosts.get(host.0 as usize)?.as_ref()
     }
 
+    /// Sets an element before the first event.
+    #[allow(dead_code)]
+    pub fn set_element(&mut self, host: HostId, field: FieldId, index: i64, value: i64) {
+        if let Some(Some(there)) = self.hosts.get_mut(host.0 as usize) {
+            there.set_element(field, index, value);
+        }
+    }
+
+    /// The messages in flight from the one host to the other.
+    #[allow(dead_code)]
+    pub fn in_flight(&self, from: HostId, to: HostId) -> impl Iterator<Item = &Message> {
+        self.queues[place_of(from, to)].iter().map(|flight| &flight.message)
+    }
+
+    /// What misbehaving hosts were sent: by whom, to whom, and the message.
+    #[allow(dead_code)]
+    pub fn told(&self) -> &[(HostId, HostId, Message)] {
+        &self.told.messages
+    }
+
     pub fn apply(&mut self, code: &Code, event: &Event) -> Result<(), EventError> {
         match *event {
             Event::Take(from, to, place) => self.take(code, from, to, place),

@@ -1,0 +1,199 @@
+//! A replay in stock Rust: replay EVENTS reads a script on the code that a loop of two hosts is split into, lets its
+//! events happen one by one, and prints what `jifsplit replay` prints.
+
+mod code;
+mod host;
+mod message;
+mod script;
+mod sha256;
+mod world;
+
+use code::{A, B, BinOp, Code, CodeField, CodeHost, Entry, EntryId, FieldId, FrameId, HostId, Instr, Label, Node, Op};
+use message::{Message, Token};
+use script::{FIELDS, HOSTS, Script, read_script};
+use std::env;
+use std::fs;
+use std::io::{self, BufWriter, Write};
+use std::process::ExitCode;
+use world::{EventError, World};
+
+/// The counter of the loop, on host T.
+const N: FieldId = FieldId(0);
+
+/// What is added up, on host A.
+const S: FieldId = FieldId(1);
+
+/// The most bytes of a script.
+const SCRIPT_BYTES: usize = 1 << 24;
+
+/// The bit of Alice.
+const ALICE: u64 = 1;
+
+fn number(value: i64) -> Vec<Node> {
+    vec![Node::Number(value)]
+}
+
+fn with(operator: BinOp, second: Node) -> Vec<Node> {
+    vec![Node::Temp(0), second, Node::Binary(operator)]
+}
+
+fn entry(host: HostId, at: u32, need: u64) -> Entry {
+    Entry { host, at, label: 0, need }
+}
+
+/// The code of `while (n < 4) { s = s + n; n = n + 1; }`, where the first statement of the body is lent to the second
+/// host. Entry 2 is the head, 3 the return point, and 4 the segment on the second host. Fields start with 1 in this
+/// world.
+fn split_loop() -> Code {
+    let first = vec![
+        Op::Read(N, number(0)),
+        Op::Branch(with(BinOp::Less, Node::Number(4)), 8),
+        Op::Push(EntryId(2)),
+        Op::Push(EntryId(3)),
+        Op::Go(EntryId(4), B),
+        Op::Read(N, number(0)),
+        Op::Put(N, number(0), with(BinOp::Add, Node::Number(1))),
+        Op::Back,
+        Op::Back,
+    ];
+    let second = vec![
+        Op::Read(S, number(0)),
+        Op::Read(N, number(0)),
+        Op::Put(S, number(0), with(BinOp::Add, Node::Temp(1))),
+        Op::Back,
+    ];
+    let part = |ops: Vec<Op>| ops.into_iter().map(|op| Instr { label: 0, op }).collect();
+    let trusted = Label::trusted(ALICE);
+    let owned = Label::owned(0, ALICE);
+    Code {
+        hosts: vec![CodeHost { label: trusted.clone() }, CodeHost { label: owned.clone() }],
+        labels: vec![trusted, owned],
+        fields: vec![CodeField { label: 0, host: A }, CodeField { label: 1, host: B }],
+        vars: vec![],
+        entries: vec![
+            entry(A, 0, 0),
+            entry(A, 0, ALICE),
+            entry(A, 0, ALICE),
+            entry(A, 5, ALICE),
+            entry(B, 0, 0),
+        ],
+        sites: vec![],
+        parts: vec![part(first), part(second)],
+        root: A,
+        main: EntryId(1),
+    }
+}
+
+fn put_token(out: &mut impl Write, token: &Token) -> io::Result<()> {
+    let Token { host, frame: FrameId { site, count }, entry, serial, .. } = token;
+    write!(out, "{}:{}.{count}:e{}:{serial}", HOSTS[host.0 as usize], site.0, entry.0)
+}
+
+fn put_message(out: &mut impl Write, message: &Message) -> io::Result<()> {
+    match message {
+        Message::Get { request, field, index } => {
+            let name = FIELDS[field.0 as usize];
+            write!(out, "get {}.{} {name} {index}", request.at, request.count)
+        }
+        Message::Set { request, field, index, value } => {
+            let name = FIELDS[field.0 as usize];
+            write!(out, "set {}.{} {name} {index} {value}", request.at, request.count)
+        }
+        Message::Forward { request, frame, var, value } => {
+            let (site, count) = (frame.site.0, frame.count);
+            write!(out, "forward {}.{} {site}.{count} {} {value}", request.at, request.count, var.0)
+        }
+        Message::Sync { request, frame, entry, token } => {
+            let (site, count) = (frame.site.0, frame.count);
+            write!(out, "sync {}.{} {site}.{count} e{} ", request.at, request.count, entry.0)?;
+            put_token(out, token)
+        }
+        Message::Rgoto { frame, entry, token } => {
+            write!(out, "rgoto {}.{} e{} ", frame.site.0, frame.count, entry.0)?;
+            put_token(out, token)
+        }
+        Message::Lgoto { token } => {
+            write!(out, "lgoto ")?;
+            put_token(out, token)
+        }
+        Message::Value { request, value } => write!(out, "value {}.{} {value}", request.at, request.count),
+        Message::Ack { request } => write!(out, "ack {}.{}", request.at, request.count),
+        Message::Token { request, token } => {
+            write!(out, "token {}.{} ", request.at, request.count)?;
+            put_token(out, token)
+        }
+    }
+}
+
+fn put_report(out: &mut impl Write, code: &Code, world: &World) -> io::Result<()> {
+    let obeying = || (0..HOSTS.len() as u8).map(HostId).filter_map(|me| Some((me, world.host(me)?)));
+    let halted = obeying().any(|(_, host)| host.halted());
+    writeln!(out, "halted {}", if halted { "yes" } else { "no" })?;
+    for (field, (name, there)) in FIELDS.iter().zip(&code.fields).enumerate() {
+        if let Some(host) = world.host(there.host) {
+            writeln!(out, "field {name} = {}", host.element(FieldId(field as u32), 0))?;
+        }
+    }
+    for (me, host) in obeying() {
+        let running = if host.rests() { 0 } else { 1 };
+        let (waiting, depth, ignored) = (host.waiting(), host.depth(), host.ignored());
+        let name = HOSTS[me.0 as usize];
+        writeln!(out, "host {name}: running {running}, waiting {waiting}, stack {depth}, ignored {ignored}")?;
+    }
+    for (from, sender) in HOSTS.iter().enumerate() {
+        for (to, taker) in HOSTS.iter().enumerate() {
+            for (place, message) in world.in_flight(HostId(from as u8), HostId(to as u8)).enumerate() {
+                write!(out, "flying {sender} {taker} {place}: ")?;
+                put_message(out, message)?;
+                writeln!(out)?;
+            }
+        }
+    }
+    for (place, (from, to, message)) in world.told().iter().enumerate() {
+        write!(out, "sent {place} {} {}: ", HOSTS[from.0 as usize], HOSTS[to.0 as usize])?;
+        put_message(out, message)?;
+        writeln!(out)?;
+    }
+    out.flush()
+}
+
+/// Replays a script, or says why it is refused.
+fn replay(code: &Code, name: &str) -> Result<World, String> {
+    let bytes = fs::read(name).map_err(|_| format!("{name}: no such file"))?;
+    if bytes.len() > SCRIPT_BYTES {
+        return Err(format!("{name}: too long"));
+    }
+    let read = read_script(&bytes);
+    let Script { bad, settings, events } = read.map_err(|line| format!("{name} line {line}: no form"))?;
+    let mut world = World::start(code, bad);
+    for (field, value) in settings {
+        world.set_element(code.fields[field.0 as usize].host, field, 0, value);
+    }
+    for (line, event) in &events {
+        world.apply(code, event).map_err(|error| match error {
+            EventError::NotThere => format!("{name} line {line}: not there"),
+            EventError::HostBusy => format!("{name} line {line}: host busy"),
+            EventError::NoSuchToken(sent) => format!("{name} line {line}: no such token of {sent}"),
+            EventError::NotBad => format!("{name} line {line}: not misbehaving"),
+            EventError::OutOfMemory | EventError::Stopped => "no memory".to_string(),
+        })?;
+    }
+    Ok(world)
+}
+
+fn main() -> ExitCode {
+    let Some(name) = env::args().nth(1) else {
+        return ExitCode::from(2);
+    };
+    let code = split_loop();
+    match replay(&code, &name) {
+        Ok(world) => {
+            let put = put_report(&mut BufWriter::new(io::stdout().lock()), &code, &world);
+            if put.is_ok() { ExitCode::SUCCESS } else { ExitCode::from(7) }
+        }
+        Err(why) => {
+            eprintln!("stock: {why}");
+            ExitCode::from(4)
+        }
+    }
+}
