@@ -2,6 +2,8 @@
 #![tactic(auto)]
 
 #[cfg(test)]
+mod event_lines;
+#[cfg(test)]
 mod misbehaving;
 #[cfg(test)]
 mod programs;
