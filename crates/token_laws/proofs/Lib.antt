@@ -15,4 +15,5 @@ pub mod Asked
 pub mod AskedLaws
 pub mod ValueNumbers
 pub mod HostNumbers
+pub mod EachFlight
 pub mod WorldNumbers

@@ -1,10 +1,10 @@
 -- Every event keeps the numbers of a world within 64 bits.
-use Rattle.std.proofs.Common.{◌≡◌, ℕ, zero, suc, ◌+◌, inl, inr, ℤ, Bool, true, false, List, [], ◌∷◌}
+use Rattle.std.proofs.Common.{◌≡◌, ℕ, zero, suc, ◌+◌, ℤ, Bool, true, false, List, [], ◌∷◌}
 use Rattle.std.proofs.Common.{Option, Some, None, refl, sym, subst}
-use Rattle.std.specs.Prelude.{slice_get, slice_set, remove, All, IfSome, if◌then◌else◌, ◌==◌, ◌&&◌}
+use Rattle.std.specs.Prelude.{slice_get, All, IfSome, if◌then◌else◌, ◌==◌}
 use Rattle.std.specs.Option.{option_map}
 use Rattle.std.specs.Int.{bit_at}
-use Rattle.std.proofs.lemmas.List.Elements.{All-nil, All-cons, All-push}
+use Rattle.std.proofs.lemmas.List.Elements.{All-nil, All-cons}
 use Rattle.js_base.specs.declared.ids.HostId.{HostId}
 use Rattle.capability.specs.declared.token.Token.{Token}
 use Rattle.jif_tree.specs.Numbers.{IsNumber}
@@ -13,78 +13,28 @@ use Rattle.host_code.specs.declared.message.Message.{Message}
 use Rattle.host_code.specs.declared.message.Message.TheVariants as message
 use Rattle.host_code.specs.Code.{CodeShape, CodeFieldShape, entry_at, halt}
 use Rattle.host_stores.specs.Stores.{own_rows}
-use Rattle.host_core.specs.Host.{HostShape, Letter, after_push, new_token}
+use Rattle.host_core.specs.Host.{HostShape, after_push, new_token}
 use Rattle.host_core.specs.Start.{idle_host, root_host, main_frame, last_token}
 use Rattle.host_core.specs.Turn.{label_of_turn}
 use Rattle.event_text.specs.declared.event.Event.{Event}
 use Rattle.event_text.specs.declared.event.Event.TheVariants.{Take, Turn, Act}
 use Rattle.event_text.specs.declared.event.BadMessage.{BadMessage}
 use Rattle.event_text.specs.declared.event.BadMessage.TheVariants as bad
-use Rattle.net_world.specs.Flying.{Flight, Flying, with_flights}
+use Rattle.net_world.specs.Flying.{Flight}
 use Rattle.net_world.specs.Told.{message_made, token_presented}
-use Rattle.net_world.specs.World.{WorldShape, IsStep, IsTakeStep, IsTurnStep, IsActStep, given, state_at, misbehaves}
-use Rattle.net_world.specs.World.{with_state, without_flight, after_sending, after_telling, after_posting, letter_of}
+use Rattle.net_world.specs.World.{WorldShape, IsStep, IsTakeStep, IsTurnStep, IsActStep, given}
+use Rattle.net_world.specs.World.{with_state, without_flight}
 use Rattle.net_world.specs.World.{tokens_sent, hosts_before}
-use Rattle.net_world.proofs.Moved.{moved_acted, either}
+use Rattle.net_world.proofs.Moved.{moved_acted}
 use Rattle.net_world.proofs.StepLaws.{take_puts, turn_puts, act_puts}
 use Rattle.token_laws.specs.Numbers.{CodeHasNumbers, RowsHaveNumbers, EventHasNumbers, MadeHasNumbers}
 use Rattle.token_laws.specs.Numbers.{MessageHasNumbers, StateHasNumbers, WorldHasNumbers}
 use Rattle.token_laws.specs.Reached.{IsReached}
+use Rattle.token_laws.proofs.EachFlight.{FlyWith, fly_without, fly_sent, of_state, states_after}
 use Rattle.token_laws.proofs.HeldLaws.{all_at}
-use Rattle.token_laws.proofs.HostNumbers.{turn_numbers, taking_numbers, all_but, enters, same_parts}
+use Rattle.token_laws.proofs.HostNumbers.{turn_numbers, taking_numbers, enters, same_parts}
 use Rattle.token_laws.proofs.ValueNumbers.{zero_fits, row_fits}
 use Rattle.token_laws.proofs.Walks.{reached}
-
--- ---- what is in flight
-
-abbrev FlyWithNumbers : Flying → Type 0
-FlyWithNumbers flying = (from to : HostId) → All (λ flight. MessageHasNumbers flight.message) (flying from to)
-
-cell_fits : (b : Bool) (flights other : List Flight) → All (λ flight. MessageHasNumbers flight.message) flights →
-    All (λ flight. MessageHasNumbers flight.message) other →
-    All (λ flight. MessageHasNumbers flight.message) (if b then flights else other)
-cell_fits true flights other fits also = fits
-cell_fits false flights other fits also = also
-
-changed : (flying : Flying) (from to : HostId) (flights : List Flight) → FlyWithNumbers flying →
-    All (λ flight. MessageHasNumbers flight.message) flights → FlyWithNumbers (with_flights flying from to flights)
-changed flying from to flights fits also one other =
-    cell_fits (one.0 == from.0 && other.0 == to.0) flights (flying one other) also (fits one other)
-
-told : (world : WorldShape) (from : HostId) (letter : Letter) (tells : Bool) → FlyWithNumbers world.flying →
-    MessageHasNumbers letter.message →
-    FlyWithNumbers (if tells then after_telling world from (Some (letter.to, letter.message))
-    else after_posting world from letter).flying
-told world from letter true fits named = fits
-told world from letter false fits named =
-    changed world.flying from letter.to _ fits
-    (All-push (λ flight. MessageHasNumbers flight.message) (world.flying from letter.to) _ (fits from letter.to) named)
-
-sends : (world : WorldShape) (from : HostId) (label : Option ℕ) (sent : Option (HostId × Message)) →
-    FlyWithNumbers world.flying → IfSome sent (λ letter. MessageHasNumbers letter.1) →
-    FlyWithNumbers (after_sending world from (letter_of label sent)).flying
-sends world from None sent fits named = fits
-sends world from (Some label) None fits named = fits
-sends world from (Some label) (Some sent) fits named =
-    told world from (record { to = sent.0; message = sent.1; label = label }) (misbehaves world sent.0) fits named
-
--- ---- the states
-
-states_after : (world after : WorldShape) (me : HostId) (old state : HostShape) → state_at world me ≡ Some old →
-    after.hosts ≡ slice_set world.hosts me.0 (Some state) → WorldHasNumbers world → StateHasNumbers state →
-    (host : HostId) (o : Option HostShape) → state_at after host ≡ o → IfSome o StateHasNumbers
-states_after world after me old state obeys puts fits also host None is = tt
-states_after world after me old state obeys puts fits also host (Some there) is =
-    elim (either world after me old state after.flying obeys (record { hosts = puts; flying = refl }) host there is) [
-      | inl mover ↦ subst StateHasNumbers (sym mover.is) also
-      | inr other ↦
-          subst (λ (o : Option HostShape). IfSome o StateHasNumbers) other.obeys (fits.states host)
-    ]
-
-the_numbers : (world : WorldShape) (host : HostId) (state : HostShape) → WorldHasNumbers world →
-    state_at world host ≡ Some state → StateHasNumbers state
-the_numbers world host state fits obeys =
-    subst (λ (o : Option HostShape). IfSome o StateHasNumbers) obeys (fits.states host)
 
 -- ---- the events
 
@@ -96,31 +46,28 @@ numbers_take code world after from to place step fits =
     (fits.flying from to) step.there in
     let outcome =
     taking_numbers code step.state from step.flight.message step.outcome
-    (the_numbers world to step.state fits step.obeys) named step.takes in
+    (of_state StateHasNumbers world to step.state fits.states step.obeys) named step.takes in
     let left = without_flight world from to place in
     record {
-      states = λ host.
-          states_after world after to step.state step.outcome.state step.obeys
-          (take_puts code world after from to place step) fits outcome.state host (state_at after host) refl;
-      flying = subst (λ (w : WorldShape). FlyWithNumbers w.flying) step.leaves
-          (sends (with_state left to step.outcome.state) to (Some step.flight.label) step.outcome.sent
-          (changed world.flying from to (remove (world.flying from to) place) fits.flying
-          (all_but (λ (f : Flight). MessageHasNumbers f.message) (world.flying from to) place (fits.flying from to)))
-          outcome.sent);
+      states = states_after StateHasNumbers world after to step.state step.outcome.state step.obeys
+          (take_puts code world after from to place step) fits.states outcome.state;
+      flying = subst (λ (w : WorldShape). FlyWith MessageHasNumbers w.flying) step.leaves
+          (fly_sent MessageHasNumbers (with_state left to step.outcome.state) to (Some step.flight.label)
+          step.outcome.sent (fly_without MessageHasNumbers world from to place fits.flying) outcome.sent);
     }
 
 numbers_turn : (code : CodeShape) (world after : WorldShape) (me : HostId) → CodeHasNumbers code →
     IsTurnStep code world me after → WorldHasNumbers world → WorldHasNumbers after
 numbers_turn code world after me named step fits =
     let outcome =
-    turn_numbers code step.state step.outcome named (the_numbers world me step.state fits step.obeys) step.turns in
+    turn_numbers code step.state step.outcome named
+    (of_state StateHasNumbers world me step.state fits.states step.obeys) step.turns in
     record {
-      states = λ host.
-          states_after world after me step.state step.outcome.state step.obeys (turn_puts code world after me step)
-          fits outcome.state host (state_at after host) refl;
-      flying = subst (λ (w : WorldShape). FlyWithNumbers w.flying) step.leaves
-          (sends (with_state world me step.outcome.state) me (label_of_turn code step.state) step.outcome.sent
-          fits.flying outcome.sent);
+      states = states_after StateHasNumbers world after me step.state step.outcome.state step.obeys
+          (turn_puts code world after me step) fits.states outcome.state;
+      flying = subst (λ (w : WorldShape). FlyWith MessageHasNumbers w.flying) step.leaves
+          (fly_sent MessageHasNumbers (with_state world me step.outcome.state) me (label_of_turn code step.state)
+          step.outcome.sent fits.flying outcome.sent);
     }
 
 -- the numbers of a message that is made are those of the act
@@ -152,13 +99,13 @@ numbers_act : (code : CodeShape) (world after : WorldShape) (from to : HostId) (
     MadeHasNumbers made → IsActStep code world from to made after → WorldHasNumbers world → WorldHasNumbers after
 numbers_act code world after from to made named step fits =
     let outcome =
-    taking_numbers code step.state from step.message step.outcome (the_numbers world to step.state fits step.obeys)
+    taking_numbers code step.state from step.message step.outcome
+    (of_state StateHasNumbers world to step.state fits.states step.obeys)
     (made_numbers (tokens_sent world) made step.message named step.makes) step.takes in
     record {
-      states = λ host.
-          states_after world after to step.state step.outcome.state step.obeys
-          (act_puts code world after from to made step) fits outcome.state host (state_at after host) refl;
-      flying = subst FlyWithNumbers (sym (moved_acted world to step.outcome after step.leaves).flying) fits.flying;
+      states = states_after StateHasNumbers world after to step.state step.outcome.state step.obeys
+          (act_puts code world after from to made step) fits.states outcome.state;
+      flying = subst (FlyWith MessageHasNumbers) (sym (moved_acted world to step.outcome after step.leaves).flying) fits.flying;
     }
 
 numbers_step : (code : CodeShape) (world after : WorldShape) (event : Event) → CodeHasNumbers code →
