@@ -1,0 +1,3 @@
+pub mod OpenSteps
+pub mod OpenWorlds
+pub mod OutsideLaws

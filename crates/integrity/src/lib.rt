@@ -1,0 +1,6 @@
+//! What holds of hosts that run the code of a split program, though some of them misbehave: definitions and their laws.
+#![tactic(auto)]
+
+mod laws;
+
+pub use laws::outside_laws;
