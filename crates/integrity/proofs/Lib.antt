@@ -1,3 +1,5 @@
 pub mod OpenSteps
 pub mod OpenWorlds
 pub mod OutsideLaws
+pub mod Starts
+pub mod RootLaws

@@ -1,2 +1,3 @@
 pub mod Exposed
 pub mod Outside
+pub mod Altering

@@ -3,4 +3,4 @@
 
 mod laws;
 
-pub use laws::outside_laws;
+pub use laws::{outside_laws, root_laws};

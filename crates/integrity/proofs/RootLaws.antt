@@ -1,0 +1,163 @@
+-- Where the root misbehaves, what misbehaving hosts may not affect is as it was at the start.
+use Rattle.std.proofs.Common.{◌≡◌, ◌∙◌, ℕ, ◌+◌, ◌<◌, inl, inr, ℤ, List, [], ◌∷◌, length, replicate}
+use Rattle.std.proofs.Common.{take, get_or, refl, sym, subst, arith, Option, Some, None}
+use Rattle.std.specs.Prelude.{◌⊎◌, slice_get, All, IsSomeAnd, IsTrue}
+use Rattle.std.specs.Int.{bit_at}
+use Rattle.std.specs.List.Sorted.{IsNonDecreasing}
+use Rattle.std.proofs.lemmas.List.{get_or-replicate, length-replicate}
+use Rattle.std.proofs.lemmas.List.Elements.{All-nil, All-take}
+use Rattle.host_decl.specs.Hosts as declared_hosts
+use Rattle.host_decl.specs.Hosts.{HostsShape}
+use Rattle.jif_tree.specs.declared.program.Program.{Program}
+use Rattle.jif_tree.specs.Altered.{Exposure, FieldIsAffected}
+use Rattle.jif_tree.specs.SourceRun.{configuration_at_start}
+use Rattle.jif_tree.specs.Store.{row_of}
+use Rattle.host_code.specs.Code.{CodeShape}
+use Rattle.host_core.specs.Host.{HostShape}
+use Rattle.msg_cost.specs.Moves.{planned_of}
+use Rattle.need_labels.specs.Labelled.{Labelled}
+use Rattle.need_labels.specs.Needs.{NeedsShape}
+use Rattle.need_labels.specs.Plan.{PlanShape}
+use Rattle.event_text.specs.declared.event.Event.{Event}
+use Rattle.net_world.specs.Fits.{HasOwnToken}
+use Rattle.net_world.specs.World.{WorldShape, IsRun, world_at_start, state_at, has_halted}
+use Rattle.split_rules.specs.Allowed.{IsAllowed}
+use Rattle.split_rules.specs.SplitCode.{split_code}
+use Rattle.split_rules.specs.Splittable.{IsSplittable}
+use Rattle.split_rules.specs.Typable.{IsTypable}
+use Rattle.split_rules.specs.TypedCode.{Table, IsTypedCode}
+use Rattle.token_laws.specs.Reached.{IsReached}
+use Rattle.integrity.specs.Altering.{StandsFor, FollowsAltered}
+use Rattle.integrity.specs.Exposed.{FieldsStand, AreAsBefore, IsAsBefore, exposure_of}
+use Rattle.integrity.specs.Outside.{threat_of}
+use Rattle.integrity.proofs.OutsideLaws.{AreLaws, along}
+use Rattle.integrity.proofs.Starts.{fields_at_start, outside_at_start, bad_at_start}
+
+-- ---- what is as before stands
+
+row_stands : {X : Type 0} (A : Type 0) (now was start : X) → (now ≡ was) ⊎ A → ¬ A → was ≡ start → now ≡ start
+row_stands A now was start (inl is) apart same = is ∙ same
+row_stands A now was start (inr may) apart same = absurd (apart may)
+
+stands_from : (exposure : Exposure) (number : ℕ) (store : List (List ℤ)) (state : HostShape) (found : Option HostShape) →
+    ((old : HostShape) → found ≡ Some old → row_of old.rows number ≡ row_of store number) →
+    IsSomeAnd found (λ old. IsAsBefore exposure old state) → ¬ FieldIsAffected exposure (record { 0 = number }) →
+    row_of state.rows number ≡ row_of store number
+stands_from exposure number store state None start stays apart = absurd stays
+stands_from exposure number store state (Some old) start stays apart =
+    row_stands (FieldIsAffected exposure (record { 0 = number })) _ _ _ (stays.rows (record { 0 = number })) apart
+    (start old refl)
+
+fields_stand : (code : CodeShape) (exposure : Exposure) (rows : List declared_hosts.HostShape) (bad : ℕ)
+    (store : List (List ℤ)) (world : WorldShape) →
+    AreAsBefore exposure (world_at_start code rows bad store) world → FieldsStand code exposure world store
+fields_stand code exposure rows bad store world stays number field state there at apart =
+    stands_from exposure number store state (state_at (world_at_start code rows bad store) field.host)
+    (λ old obeyed. fields_at_start code rows bad store number field old there obeyed) (stays field.host state at) apart
+
+-- ---- a root that misbehaves never halts
+
+never_halts : (found first : Option HostShape) (P : HostShape → HostShape → Type 0) →
+    ((state : HostShape) → found ≡ Some state → IsSomeAnd first (λ old. P old state)) → first ≡ None →
+    ¬ IsSomeAnd found (λ host. IsTrue host.halted)
+never_halts None first P stays none halted = halted
+never_halts (Some state) first P stays none halted =
+    subst (λ (o : Option HostShape). IsSomeAnd o (λ old. P old state)) none (stays state refl)
+
+root_runs : (code : CodeShape) (exposure : Exposure) (rows : List declared_hosts.HostShape) (bad : ℕ)
+    (store : List (List ℤ)) (world : WorldShape) → bit_at bad code.root.0 ≡ 1 →
+    AreAsBefore exposure (world_at_start code rows bad store) world → ¬ has_halted code.root world
+root_runs code exposure rows bad store world misbehaving stays =
+    never_halts (state_at world code.root) (state_at (world_at_start code rows bad store) code.root)
+    (IsAsBefore exposure) (stays code.root) (bad_at_start code rows bad store code.root misbehaving)
+
+-- ---- one configuration
+
+abbrev first_places : ℕ → List ℕ
+first_places count = replicate count 0
+
+many_first : (count : ℕ) → length (first_places count) ≡ count
+many_first count = length-replicate count 0
+
+each_first : (count i d : ℕ) → i < count → get_or (first_places count) i d ≡ 0
+each_first count i d within = get_or-replicate count i 0 d within
+
+none_falls : (count : ℕ) → IsNonDecreasing (first_places count)
+none_falls count i j d le lt =
+    let many = many_first count in
+    let within : j < count = omega (arith, many, lt) in
+    let before : i < count = omega (arith, le, within) in
+    let one = each_first count i d before in
+    let other = each_first count j d within in
+    omega (arith, one, other)
+
+-- ---- the laws
+
+-- besides what opens, split programs have typed code
+pub record AreSplitLaws : Type 0 where
+  pub opening : AreLaws
+  pub typable : (labelled : Labelled) (needs : NeedsShape) (hosts : HostsShape) (plan : PlanShape) →
+      IsAllowed labelled needs hosts plan → IsTypable (planned_of labelled needs hosts plan)
+  pub typed : (labelled : Labelled) (needs : NeedsShape) (hosts : HostsShape) (plan : PlanShape) →
+      IsSplittable labelled hosts plan → IsTypable (planned_of labelled needs hosts plan) →
+      (table : Table) × IsTypedCode (planned_of labelled needs hosts plan) (split_code labelled needs hosts plan) table
+
+start_reached : (code : CodeShape) (rows : List declared_hosts.HostShape) (bad : ℕ) (store : List (List ℤ))
+    (events : List Event) (world : WorldShape) → IsReached code rows bad store events world →
+    IsReached code rows bad store [] (world_at_start code rows bad store)
+start_reached code rows bad store events world reach =
+    record { sound = reach.sound; hosts = reach.hosts; own = All-nil _; ran = refl }
+
+module _ (laws : AreSplitLaws) (program : Program) (labelled : Labelled) (needs : NeedsShape) (hosts : HostsShape)
+    (plan : PlanShape) (bad : ℕ) (store : List (List ℤ)) (splittable : IsSplittable labelled hosts plan)
+    (allowed : IsAllowed labelled needs hosts plan)
+    (misbehaving : bit_at bad (split_code labelled needs hosts plan).root.0 ≡ 1) where
+  -- at every moment
+  stands_after : (events more : List Event) (world last : WorldShape) →
+      IsReached (split_code labelled needs hosts plan) hosts.hosts bad store events last →
+      All (HasOwnToken (world_at_start (split_code labelled needs hosts plan) hosts.hosts bad store)) more →
+      IsRun (split_code labelled needs hosts plan)
+      (world_at_start (split_code labelled needs hosts plan) hosts.hosts bad store) more world →
+      StandsFor (split_code labelled needs hosts plan) (exposure_of labelled needs hosts bad) world
+      (configuration_at_start program store)
+  stands_after events more world last reach own ran =
+      let code = split_code labelled needs hosts plan in
+      let exposure = exposure_of labelled needs hosts bad in
+      let typed = laws.typed labelled needs hosts plan splittable (laws.typable labelled needs hosts plan allowed) in
+      let stays =
+      (along laws.opening labelled needs hosts plan typed.0 bad store [] more
+      (world_at_start code hosts.hosts bad store) world splittable allowed typed.1
+      (start_reached code hosts.hosts bad store events last reach) own ran
+      (outside_at_start (threat_of labelled needs hosts plan typed.0 bad) hosts.hosts bad store misbehaving)).1 in
+      record {
+        fields = fields_stand code exposure hosts.hosts bad store world stays;
+        halted = λ halted. absurd (root_runs code exposure hosts.hosts bad store world misbehaving stays halted);
+      }
+
+  pub starting : (events : List Event) (world : WorldShape) →
+      IsReached (split_code labelled needs hosts plan) hosts.hosts bad store events world →
+      StandsFor (split_code labelled needs hosts plan) (exposure_of labelled needs hosts bad) world
+      (configuration_at_start program store)
+  starting events world reach = stands_after events events world world reach reach.own reach.ran
+
+  pub follows_nothing : (events : List Event) (world : WorldShape) →
+      IsReached (split_code labelled needs hosts plan) hosts.hosts bad store events world →
+      FollowsAltered program (exposure_of labelled needs hosts bad) (split_code labelled needs hosts plan) hosts.hosts
+      bad store events
+  follows_nothing events world reach =
+      let start = world_at_start (split_code labelled needs hosts plan) hosts.hosts bad store in
+      let c = configuration_at_start program store in
+      record {
+        run = c ∷ [];
+        altered = (refl, tt);
+        places = first_places (length events + 1);
+        moments = many_first (length events + 1);
+        first = each_first (length events + 1) 0 0 (omega arith);
+        rising = none_falls (length events + 1);
+        stands = λ moment there within ran.
+            subst (λ (place : ℕ). IsSomeAnd (slice_get (c ∷ []) place)
+            (StandsFor (split_code labelled needs hosts plan) (exposure_of labelled needs hosts bad) there))
+            (sym (each_first (length events + 1) moment 0 (omega arith)))
+            (stands_after events (take moment events) there world reach
+            (All-take (HasOwnToken start) moment events reach.own) ran);
+      }
