@@ -3,3 +3,4 @@ pub mod OpenWorlds
 pub mod OutsideLaws
 pub mod Starts
 pub mod RootLaws
+pub mod IntegrityExamples

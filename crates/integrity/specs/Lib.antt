@@ -1,3 +1,4 @@
 pub mod Exposed
 pub mod Outside
 pub mod Altering
+pub mod IntegrityExamples

@@ -1,27 +1,34 @@
 //! What misbehaving hosts can't affect, whatever they do. The calls do nothing: their contracts are the laws.
 
-ghost use Rattle.std.specs.Prelude.{◌≡◌, ℕ, ℤ, List, All};
+ghost use Rattle.std.specs.Prelude.{◌≡◌, ℕ, ℤ, List, [], ◌∷◌, All};
 ghost use Rattle.std.specs.Int.{bit_at};
 ghost use Rattle.jif_tree.specs.declared.program.Program.{Program};
+ghost use Rattle.jif_tree.specs.Altered.{Exposure, FieldIsAffected, StatementIsAffected, VariableIsAffected};
 ghost use Rattle.jif_tree.specs.SourceRun.{configuration_at_start};
 ghost use Rattle.event_text.specs.declared.event.Event.{Event};
 ghost use Rattle.host_decl.specs.Hosts.{HostsShape};
-ghost use Rattle.msg_cost.specs.Moves.{planned_of};
+ghost use Rattle.msg_cost.specs.Moves.{PlannedShape, planned_of};
 ghost use Rattle.need_labels.specs.Labelled.{Labelled};
 ghost use Rattle.need_labels.specs.Needs.{NeedsShape};
 ghost use Rattle.need_labels.specs.Plan.{PlanShape};
 ghost use Rattle.net_world.specs.Fits.{HasOwnToken};
 ghost use Rattle.net_world.specs.World.{WorldShape, IsStep, IsRun, world_at_start};
 ghost use Rattle.split_rules.specs.Allowed.{IsAllowed};
+ghost use Rattle.split_rules.specs.OpenExamples.{untrusted, trusted_by_first};
+ghost use Rattle.split_rules.specs.Worked.{field_id, var_id, statement_id};
 ghost use Rattle.split_rules.specs.SplitCode.{split_code};
 ghost use Rattle.split_rules.specs.Splittable.{IsSplittable};
 ghost use Rattle.split_rules.specs.TypedCode.{Table, IsTypedCode};
 ghost use Rattle.token_laws.specs.Reached.{IsReached};
+ghost use Rattle.token_laws.specs.TokenExamples.{small, start};
 ghost use Rattle.integrity.specs.Altering.{StandsFor, FollowsAltered};
-ghost use Rattle.integrity.specs.Exposed.{AreAsBefore, exposure_of};
-ghost use Rattle.integrity.specs.Outside.{IsOutside, threat_of};
+ghost use Rattle.integrity.specs.Exposed.{AreAsBefore, FieldsStand, exposure_of};
+ghost use Rattle.integrity.specs.IntegrityExamples.{sent_threat, sending, waiting, two_fields, exposed_to, store};
+ghost use Rattle.integrity.specs.IntegrityExamples.{before_set, sets_to_nine, after_set, after_refused, halted_world};
+ghost use Rattle.integrity.specs.IntegrityExamples.{at_end, not_at_end};
+ghost use Rattle.integrity.specs.Outside.{IsOutside, StateIsOpen, Threat, threat_of};
 
-use split_rules::{opening_laws, split_laws, trust_laws};
+use split_rules::{opening_examples, opening_laws, split_laws, trust_laws};
 
 /// Where all that goes on in a world could be the doing of misbehaving hosts, it is so after any event, and no field or
 /// variable has changed that they may not affect.
@@ -73,4 +80,40 @@ pub fn root_laws()
     split_laws();
     trust_laws();
     opening_laws();
+}
+
+/// What the second of two hosts may affect in a small program and a small world.
+pub fn integrity_examples()
+    // The hosts of the word's bits are known by their labels.
+    ensures second_bad { (sent_threat 2).exposure.bad ≡ untrusted ∷ [] }
+    ensures first_bad { (sent_threat 1).exposure.bad ≡ trusted_by_first ∷ [] }
+    ensures none_bad { (sent_threat 0).exposure.bad ≡ [] }
+    // A host that nobody trusts may affect what nobody trusts, and nothing that the first principal trusts.
+    ensures affects { FieldIsAffected (sent_threat 2).exposure (field_id 0) }
+    ensures affects_statement { StatementIsAffected (sent_threat 2).exposure (statement_id 2) }
+    ensures denied_variable { ¬ VariableIsAffected (sent_threat 2).exposure (var_id 0) }
+    ensures denied_statement { ¬ StatementIsAffected (sent_threat 2).exposure (statement_id 1) }
+    // That a local is sent which the first principal trusts is none of its doing, but that a thread waits for the answer
+    // could be: only what is due then counts.
+    ensures sending_denied { ¬ StateIsOpen (sent_threat 2) sending }
+    ensures waits { StateIsOpen (sent_threat 2) waiting }
+    // Where nobody misbehaves, nothing that waits is anybody's doing.
+    ensures waiting_denied { ¬ StateIsOpen (sent_threat 0) waiting }
+    // It sets a field that it may affect, which then has not what the store has. So that no field changes is false, and
+    // so it would be to say that nobody misbehaves.
+    ensures sets { IsRun two_fields before_set (sets_to_nine 0 ∷ []) after_set }
+    ensures stands { FieldsStand two_fields (exposed_to 2) after_set store }
+    ensures stands_denied { ¬ FieldsStand two_fields (exposed_to 0) after_set store }
+    ensures as_before_denied { ¬ AreAsBefore (exposed_to 0) before_set after_set }
+    // To set the other field is refused.
+    ensures refuses { IsRun two_fields before_set (sets_to_nine 1 ∷ []) after_refused }
+    // Where the entry that ends the program is on a stack, not all is the doing of misbehaving hosts, whoever they are.
+    ensures outside_denied { (planned : PlannedShape) (table : Table) (exposure : Exposure) →
+        let threat : Threat = record { planned = planned; code = small; table = table; exposure = exposure } in
+        ¬ IsOutside threat start }
+    // A world in which the program has halted stands for a configuration at its end, and for no other.
+    ensures halted { (exposure : Exposure) → StandsFor small exposure halted_world at_end }
+    ensures halted_denied { (exposure : Exposure) → ¬ StandsFor small exposure halted_world not_at_end }
+{
+    opening_examples();
 }
