@@ -3,21 +3,25 @@
 use Rattle.std.proofs.Common.{◌≡◌, ◌∙◌, ℕ, zero, suc, ◌+◌, inl, inr, ℤ, Bool, true, false, List, [], ◌∷◌}
 use Rattle.std.proofs.Common.{Option, Some, None, refl, sym, ap, subst, arith}
 use Rattle.std.specs.Prelude.{◌⊎◌, ◌==◌, if◌then◌else◌, slice_get, unwrap_or, All, Any, IfSome, IsSomeAnd}
-use Rattle.std.specs.Prelude.{IsTrue}
+use Rattle.std.specs.Prelude.{IsTrue, ◌≤◌, length, slice_index, slice_set, ⊤}
 use Rattle.std.specs.Option.{option_map}
-use Rattle.std.proofs.lemmas.Bool.Decides.{eqb_tells}
+use Rattle.std.proofs.lemmas.Bool.Decides.{eqb_tells, leb_tells}
+use Rattle.std.proofs.lemmas.Grind.{get_or-set_at}
+use Rattle.std.proofs.lemmas.List.{get_or_past, get_or-set_other}
 use Rattle.std.proofs.lemmas.List.Elements.{All-cons, All-push}
 use Rattle.js_base.specs.declared.ids.HostId.{HostId}
 use Rattle.js_base.specs.declared.ids.FieldId.{FieldId}
 use Rattle.js_base.specs.declared.ids.EntryId.{EntryId}
 use Rattle.js_base.specs.declared.ids.FrameId.{FrameId}
 use Rattle.js_base.specs.declared.ids.VarId.{VarId}
+use Rattle.js_base.specs.declared.ids.SiteId.{SiteId}
 use Rattle.label_lattice.specs.declared.label.Label.{Label}
 use Rattle.label_lattice.specs.Label.{IntegFlows, IsTrustedBy}
 use Rattle.capability.specs.declared.token.Token.{Token}
 use Rattle.jif_tree.specs.Altered.{Exposure, IsAffected, FieldIsAffected, VariableIsAffected}
 use Rattle.jif_tree.specs.Store.{row_of, store_after_write}
 use Rattle.ics_stack.specs.declared.stack.StackEntry.{StackEntry}
+use Rattle.ics_stack.specs.Stack.{top_token}
 use Rattle.host_code.specs.declared.code.Entry.{Entry}
 use Rattle.host_code.specs.declared.code_expr.Node.{Node}
 use Rattle.host_code.specs.declared.instruction.Instr.{Instr}
@@ -35,18 +39,18 @@ use Rattle.entry_check.specs.Checks.{MayAffect, MayEnter, IsTrustedFor, MaySee, 
 use Rattle.host_core.specs.Fits.{StateFits, EntryFits, IsEntryOf}
 use Rattle.host_core.specs.Host.{HostShape, Outcome, with_running, with_one_ignored, with_token, with_temporary}
 use Rattle.host_core.specs.Host.{after_pop, after_entering, after_asking, value_in_thread, without_message, thread_at}
-use Rattle.host_core.specs.Host.{with_row_written, with_variable_set}
-use Rattle.host_core.specs.Taking.{IsTaking, Passes, after_taking, after_answer}
+use Rattle.host_core.specs.Host.{with_row_written, with_variable_set, after_push, after_clearing}
+use Rattle.host_core.specs.Taking.{place_of_awaiting, IsTaking, Passes, after_taking, after_answer}
+use Rattle.host_core.specs.Turn.{PassesWith, after_frame}
 use Rattle.host_core.specs.Turn.{IsTurn, IsTurnOf, IsRunning, after_operation, after_read, after_put, after_own_push}
 use Rattle.host_core.specs.Turn.{after_ask, after_go, after_own_call, after_return, after_back, with_thread}
-use Rattle.host_core.specs.Host.{after_push, after_clearing}
 use Rattle.host_core.proofs.Kept.{kept_at_rest}
 use Rattle.net_world.proofs.Present.{get_other, same_id}
 use Rattle.split_rules.specs.Opening.{IsOpenTo, IsOpenCode, OpensOp, MayChange, MayChangeField, HasNeed}
 use Rattle.token_laws.proofs.HostNumbers.{all_but}
 use Rattle.token_laws.proofs.Tests.{parts_same, number_same}
 use Rattle.integrity.specs.Exposed.{IsAsBefore}
-use Rattle.integrity.specs.Outside.{Threat, PlaceIsOpen, ThreadIsOpen, EntryIsOpen, MessageIsOpen, StateIsOpen}
+use Rattle.integrity.specs.Outside.{Threat, PlaceIsOpen, ThreadIsOpen, EntryIsOpen, MessageIsOpen}
 
 -- ---- what is known
 
@@ -90,10 +94,33 @@ variable_affected threat known x any =
 
 -- ---- what a step leaves and sends
 
-pub record LeavesOpen (threat : Threat) (old : HostShape) (outcome : Outcome) : Type 0 where
-  pub state : StateIsOpen threat outcome.state
+-- What is asked of a thread that waits on a host, and of an entry on a stack. Open ones have it, and maybe others too.
+pub record Kinds (threat : Threat) : Type 1 where
+  pub waits : HostId → WaitingShape → Type 0
+  pub keeps : StackEntry → Type 0
+  pub open_waits : (me : HostId) (waiting : WaitingShape) → ThreadIsOpen threat me waiting.thread → waits me waiting
+  pub open_keeps : (on_stack : StackEntry) → EntryIsOpen threat on_stack.entry → keeps on_stack
+
+-- what runs is open
+pub record HasOpen (threat : Threat) (kinds : Kinds threat) (state : HostShape) : Type 0 where
+  pub running : IfSome state.running (ThreadIsOpen threat state.me)
+  pub waiting : All (kinds.waits state.me) state.waiting
+  pub entries : All kinds.keeps state.entries
+
+-- no site has fewer frames
+abbrev FramesStay : HostShape → HostShape → Type 0
+FramesStay old new = (site : ℕ) → slice_index old.frames site ≤ slice_index new.frames site
+
+pub record LeavesOpen (threat : Threat) (kinds : Kinds threat) (old : HostShape) (outcome : Outcome) : Type 0 where
+  pub state : HasOpen threat kinds outcome.state
   pub stays : IsAsBefore threat.exposure old outcome.state
+  pub frames : FramesStay old outcome.state
   pub sent : IfSome outcome.sent (λ letter. MessageIsOpen threat letter.1)
+
+same_frames : (old new : HostShape) → new.frames ≡ old.frames → FramesStay old new
+same_frames old new same site =
+    let is = ap (λ (counts : List ℕ). slice_index counts site) same in
+    omega (arith, is)
 
 as_before : (exposure : Exposure) (old new : HostShape) → new.rows ≡ old.rows → new.variables ≡ old.variables →
     IsAsBefore exposure old new
@@ -103,9 +130,9 @@ as_before exposure old new rows variables = record {
 }
 
 -- what else there is in the state before is nothing to this
-from_same : (threat : Threat) (old bare : HostShape) (outcome : Outcome) → bare.rows ≡ old.rows →
-    bare.variables ≡ old.variables → LeavesOpen threat bare outcome → LeavesOpen threat old outcome
-from_same threat old bare outcome rows variables part = record {
+from_same : (threat : Threat) (kinds : Kinds threat) (old bare : HostShape) (outcome : Outcome) → bare.rows ≡ old.rows →
+    bare.variables ≡ old.variables → bare.frames ≡ old.frames → LeavesOpen threat kinds bare outcome → LeavesOpen threat kinds old outcome
+from_same threat kinds old bare outcome rows variables frames part = record {
   state = part.state;
   stays = record {
     rows = λ field.
@@ -115,41 +142,50 @@ from_same threat old bare outcome rows variables part = record {
         subst (λ (all : FrameId → VarId → ℤ). (outcome.state.variables frame x ≡ all frame x)
         ⊎ VariableIsAffected threat.exposure x) variables (part.stays.variables frame x);
   };
+  frames = λ site.
+      let is = ap (λ (counts : List ℕ). slice_index counts site) frames in
+      let less = part.frames site in
+      omega (arith, is, less);
   sent = part.sent;
 }
 
-stands : (threat : Threat) (old new : HostShape) → new.rows ≡ old.rows → new.variables ≡ old.variables →
-    StateIsOpen threat new → LeavesOpen threat old (without_message new)
-stands threat old new rows variables was =
-    record { state = was; stays = as_before threat.exposure old new rows variables; sent = tt }
+stands : (threat : Threat) (kinds : Kinds threat) (old new : HostShape) → new.rows ≡ old.rows → new.variables ≡ old.variables →
+    new.frames ≡ old.frames → HasOpen threat kinds new → LeavesOpen threat kinds old (without_message new)
+stands threat kinds old new rows variables frames was = record {
+  state = was;
+  stays = as_before threat.exposure old new rows variables;
+  frames = same_frames old new frames;
+  sent = tt;
+}
 
-either : (threat : Threat) (old : HostShape) (b : Bool) (first second : Outcome) →
-    (b ≡ true → LeavesOpen threat old first) → LeavesOpen threat old second →
-    LeavesOpen threat old (if b then first else second)
-either threat old true first second one other = one refl
-either threat old false first second one other = other
+either : (threat : Threat) (kinds : Kinds threat) (old : HostShape) (b : Bool) (first second : Outcome) →
+    (b ≡ true → LeavesOpen threat kinds old first) → LeavesOpen threat kinds old second →
+    LeavesOpen threat kinds old (if b then first else second)
+either threat kinds old true first second one other = one refl
+either threat kinds old false first second one other = other
 
 -- ---- the changes
 
-runs : (threat : Threat) (host : HostShape) (running : Option ThreadShape) → StateIsOpen threat host →
-    IfSome running (ThreadIsOpen threat host.me) → StateIsOpen threat (with_running host running)
-runs threat host running was also = record { running = also; waiting = was.waiting; entries = was.entries }
+runs : (threat : Threat) (kinds : Kinds threat) (host : HostShape) (running : Option ThreadShape) → HasOpen threat kinds host →
+    IfSome running (ThreadIsOpen threat host.me) → HasOpen threat kinds (with_running host running)
+runs threat kinds host running was also = record { running = also; waiting = was.waiting; entries = was.entries }
 
-goes_on : (threat : Threat) (host : HostShape) (thread : ThreadShape) → StateIsOpen threat host →
-    ThreadIsOpen threat host.me thread → LeavesOpen threat host (with_thread host thread)
-goes_on threat host thread was also =
-    stands threat host (with_running host (Some thread)) refl refl (runs threat host (Some thread) was also)
+goes_on : (threat : Threat) (kinds : Kinds threat) (host : HostShape) (thread : ThreadShape) → HasOpen threat kinds host →
+    ThreadIsOpen threat host.me thread → LeavesOpen threat kinds host (with_thread host thread)
+goes_on threat kinds host thread was also =
+    stands threat kinds host (with_running host (Some thread)) refl refl refl (runs threat kinds host (Some thread) was also)
 
-waits : (threat : Threat) (host : HostShape) (at : ℕ) (thread : ThreadShape) (awaited : Awaited) (to : HostId)
-    (m : Message) → StateIsOpen threat host → ThreadIsOpen threat host.me thread → MessageIsOpen threat m →
-    LeavesOpen threat host (record { state = after_asking host at thread awaited to; sent = Some (to, m) })
-waits threat host at thread awaited to m was also said = record {
+waits : (threat : Threat) (kinds : Kinds threat) (host : HostShape) (at : ℕ) (thread : ThreadShape) (awaited : Awaited) (to : HostId)
+    (m : Message) → HasOpen threat kinds host → ThreadIsOpen threat host.me thread → MessageIsOpen threat m →
+    LeavesOpen threat kinds host (record { state = after_asking host at thread awaited to; sent = Some (to, m) })
+waits threat kinds host at thread awaited to m was also said = record {
   state = record {
     running = tt;
-    waiting = All-push (λ (w : WaitingShape). ThreadIsOpen threat host.me w.thread) host.waiting _ was.waiting also;
+    waiting = All-push (kinds.waits host.me) host.waiting _ was.waiting (kinds.open_waits host.me _ also);
     entries = was.entries;
   };
   stays = as_before threat.exposure host (after_asking host at thread awaited to) refl refl;
+  frames = same_frames host (after_asking host at thread awaited to) refl;
   sent = said;
 }
 
@@ -210,40 +246,45 @@ opened : (threat : Threat) → IsKnown threat → (me : HostId) (there : EntryId
 opened threat known me there may on =
     entered threat known me there there.0 refl may (entry_at threat.code there) refl on
 
-enters : (threat : Threat) (host : HostShape) (found : Option Entry) (frame : FrameId) (token : Token) →
-    StateIsOpen threat host → IfSome found (λ entry. PlaceIsOpen threat host.me entry.at) →
-    LeavesOpen threat host (without_message (after_entering host found frame token))
-enters threat host None frame token was at =
-    stands threat host (with_running host None) refl refl (runs threat host None was tt)
-enters threat host (Some entry) frame token was at =
+enters : (threat : Threat) (kinds : Kinds threat) (host : HostShape) (found : Option Entry) (frame : FrameId) (token : Token) →
+    HasOpen threat kinds host → IfSome found (λ entry. PlaceIsOpen threat host.me entry.at) →
+    LeavesOpen threat kinds host (without_message (after_entering host found frame token))
+enters threat kinds host None frame token was at =
+    stands threat kinds host (with_running host None) refl refl refl (runs threat kinds host None was tt)
+enters threat kinds host (Some entry) frame token was at =
     let thread = thread_at entry frame token in
-    stands threat host (with_running host (Some thread)) refl refl (runs threat host (Some thread) was at)
+    stands threat kinds host (with_running host (Some thread)) refl refl refl (runs threat kinds host (Some thread) was at)
 
-popped : (threat : Threat) (host : HostShape) (found : Option Entry) (frame : FrameId) (kept : Token) (halts : Bool) →
-    StateIsOpen threat host → IfSome found (λ entry. PlaceIsOpen threat host.me entry.at) →
-    LeavesOpen threat host (without_message (if halts then record host { running = None; halted = true }
+popped : (threat : Threat) (kinds : Kinds threat) (host : HostShape) (found : Option Entry) (frame : FrameId) (kept : Token) (halts : Bool) →
+    HasOpen threat kinds host → IfSome found (λ entry. PlaceIsOpen threat host.me entry.at) →
+    LeavesOpen threat kinds host (without_message (if halts then record host { running = None; halted = true }
     else after_entering host found frame kept))
-popped threat host found frame kept true was at =
-    stands threat host (record host { running = None; halted = true }) refl refl
+popped threat kinds host found frame kept true was at =
+    stands threat kinds host (record host { running = None; halted = true }) refl refl refl
     (record { running = tt; waiting = was.waiting; entries = was.entries })
-popped threat host found frame kept false was at = enters threat host found frame kept was at
+popped threat kinds host found frame kept false was at = enters threat kinds host found frame kept was at
 
-pops : (threat : Threat) → IsKnown threat → (host : HostShape) (entries : List StackEntry) →
-    StateIsOpen threat host → All (λ on_stack. EntryIsOpen threat on_stack.entry) entries →
+-- the entry on top of a stack is open
+abbrev pub TopIsOpen : Threat → List StackEntry → Type 0
+TopIsOpen threat [] = ⊤
+TopIsOpen threat (top ∷ below) = EntryIsOpen threat top.entry
+
+pops : (threat : Threat) (kinds : Kinds threat) → IsKnown threat → (host : HostShape) (entries : List StackEntry) →
+    HasOpen threat kinds host → All kinds.keeps entries → TopIsOpen threat entries →
     All (EntryFits threat.code host.me) entries →
-    LeavesOpen threat host (without_message (after_pop threat.code host entries))
-pops threat known host [] was all fits = stands threat host host refl refl was
-pops threat known host (top ∷ below) was all fits =
+    LeavesOpen threat kinds host (without_message (after_pop threat.code host entries))
+pops threat kinds known host [] was all may fits = stands threat kinds host host refl refl refl was
+pops threat kinds known host (top ∷ below) was all may fits =
     let bare : HostShape = record host { entries = below } in
-    let also : StateIsOpen threat bare =
+    let also : HasOpen threat kinds bare =
     record {
       running = was.running;
       waiting = was.waiting;
       entries = λ k d lt. all (suc k) d (omega arith);
     } in
-    from_same threat host bare _ refl refl
-    (popped threat bare (entry_at threat.code top.entry) top.frame top.kept (top.entry.0 == halt.0) also
-    (opened threat known host.me top.entry (all 0 top (omega arith)) (fits 0 top (omega arith)).entry))
+    from_same threat kinds host bare _ refl refl refl
+    (popped threat kinds bare (entry_at threat.code top.entry) top.frame top.kept (top.entry.0 == halt.0) also
+    (opened threat known host.me top.entry may (fits 0 top (omega arith)).entry))
 
 -- ---- the instructions
 
@@ -267,117 +308,156 @@ behind threat me place operation each law =
     subst (PlaceIsOpen threat me) same
     (part threat me place operation (λ label. IsOpenTo threat.planned label (threat.table.at me.0 (suc place))) each law)
 
-reads : (threat : Threat) (host : HostShape) (thread : ThreadShape) (field : FieldId) (index : List Node)
-    (there : Option CodeFieldShape) → StateIsOpen threat host → ThreadIsOpen threat host.me thread →
-    PlaceIsOpen threat host.me (thread.at + 1) → LeavesOpen threat host (after_read host thread field index there)
-reads threat host thread field index None was here next = goes_on threat host thread was here
-reads threat host thread field index (Some there) was here next =
-    either threat host (there.host.0 == host.me.0) _ _ (λ own. goes_on threat host _ was next)
-    (waits threat host thread.at _ value_of_field there.host _ was next tt)
+reads : (threat : Threat) (kinds : Kinds threat) (host : HostShape) (thread : ThreadShape) (field : FieldId) (index : List Node)
+    (there : Option CodeFieldShape) → HasOpen threat kinds host → ThreadIsOpen threat host.me thread →
+    PlaceIsOpen threat host.me (thread.at + 1) → LeavesOpen threat kinds host (after_read host thread field index there)
+reads threat kinds host thread field index None was here next = goes_on threat kinds host thread was here
+reads threat kinds host thread field index (Some there) was here next =
+    either threat kinds host (there.host.0 == host.me.0) _ _ (λ own. goes_on threat kinds host _ was next)
+    (waits threat kinds host thread.at _ value_of_field there.host _ was next tt)
 
-writes_on : (threat : Threat) (host : HostShape) (thread : ThreadShape) (field : FieldId) (index value : ℤ) →
-    StateIsOpen threat host → ThreadIsOpen threat host.me thread → FieldIsAffected threat.exposure field →
-    LeavesOpen threat host (with_thread (with_row_written host field index value) thread)
-writes_on threat host thread field index value was here may =
+writes_on : (threat : Threat) (kinds : Kinds threat) (host : HostShape) (thread : ThreadShape) (field : FieldId) (index value : ℤ) →
+    HasOpen threat kinds host → ThreadIsOpen threat host.me thread → FieldIsAffected threat.exposure field →
+    LeavesOpen threat kinds host (with_thread (with_row_written host field index value) thread)
+writes_on threat kinds host thread field index value was here may =
     let changed = writes threat.exposure host field index value may in
     record {
       state = record { running = here; waiting = was.waiting; entries = was.entries };
       stays = record { rows = changed.rows; variables = changed.variables };
+      frames = λ site. omega arith;
       sent = tt;
     }
 
-sets_on : (threat : Threat) (host : HostShape) (thread : ThreadShape) (frame : FrameId) (x : VarId) (value : ℤ) →
-    StateIsOpen threat host → ThreadIsOpen threat host.me thread → VariableIsAffected threat.exposure x →
-    LeavesOpen threat host (with_thread (with_variable_set host frame x value) thread)
-sets_on threat host thread frame x value was here may =
+sets_on : (threat : Threat) (kinds : Kinds threat) (host : HostShape) (thread : ThreadShape) (frame : FrameId) (x : VarId) (value : ℤ) →
+    HasOpen threat kinds host → ThreadIsOpen threat host.me thread → VariableIsAffected threat.exposure x →
+    LeavesOpen threat kinds host (with_thread (with_variable_set host frame x value) thread)
+sets_on threat kinds host thread frame x value was here may =
     let changed = sets threat.exposure host frame x value may in
     record {
       state = record { running = here; waiting = was.waiting; entries = was.entries };
       stays = record { rows = changed.rows; variables = changed.variables };
+      frames = λ site. omega arith;
       sent = tt;
     }
 
-puts : (threat : Threat) (host : HostShape) (thread : ThreadShape) (field : FieldId) (index value : List Node)
-    (there : Option CodeFieldShape) → StateIsOpen threat host → ThreadIsOpen threat host.me thread →
-    PlaceIsOpen threat host.me (thread.at + 1) → FieldIsAffected threat.exposure field →
-    LeavesOpen threat host (after_put host thread field index value there)
-puts threat host thread field index value None was here next may = goes_on threat host thread was here
-puts threat host thread field index value (Some there) was here next may =
-    either threat host (there.host.0 == host.me.0) _ _
-    (λ own. writes_on threat host (after_clearing thread) field (value_in_thread host thread index)
-    (value_in_thread host thread value) was next may)
-    (waits threat host thread.at (after_clearing thread) acknowledgement there.host _ was next may)
+one_frame_more : (counts : List ℕ) (site place : ℕ) →
+    slice_index counts place ≤ slice_index (slice_set counts site (slice_index counts site + 1)) place
+one_frame_more counts site place = elim (eqb_tells place site) [
+  | inl same ↦ elim (leb_tells (length counts) site) [
+    | inl past ↦
+        let none = get_or_past counts place 0 (omega (arith, past.1, same.1)) in
+        omega (arith, none)
+    | inr within ↦
+        let is = get_or-set_at counts site place (slice_index counts site + 1) 0 same.1 within.1 in
+        let was = ap (λ (at : ℕ). slice_index counts at) same.1 in
+        omega (arith, is, was)
+  ]
+  | inr apart ↦
+      let is = get_or-set_other counts site place (slice_index counts site + 1) 0 apart.1 in
+      omega (arith, is)
+]
 
-pushes : (threat : Threat) (host : HostShape) (thread : ThreadShape) (there : EntryId) (held : Option Token) →
-    StateIsOpen threat host → ThreadIsOpen threat host.me thread → PlaceIsOpen threat host.me (thread.at + 1) →
-    EntryIsOpen threat there → LeavesOpen threat host (after_own_push host thread there held)
-pushes threat host thread there None was here next may = goes_on threat host thread was here
-pushes threat host thread there (Some held) was here next may =
-    stands threat host _ refl refl (record {
+makes_frame : (threat : Threat) (kinds : Kinds threat) (host : HostShape) (thread : ThreadShape) (site : SiteId) →
+    HasOpen threat kinds host → PlaceIsOpen threat host.me (thread.at + 1) →
+    LeavesOpen threat kinds host (after_frame host thread site)
+makes_frame threat kinds host thread site was next = record {
+  state = record { running = next; waiting = was.waiting; entries = was.entries };
+  stays = record { rows = λ field. inl refl; variables = λ frame x. inl refl };
+  frames = λ place. one_frame_more host.frames site.0 place;
+  sent = tt;
+}
+
+puts : (threat : Threat) (kinds : Kinds threat) (host : HostShape) (thread : ThreadShape) (field : FieldId) (index value : List Node)
+    (there : Option CodeFieldShape) → HasOpen threat kinds host → ThreadIsOpen threat host.me thread →
+    PlaceIsOpen threat host.me (thread.at + 1) → FieldIsAffected threat.exposure field →
+    LeavesOpen threat kinds host (after_put host thread field index value there)
+puts threat kinds host thread field index value None was here next may = goes_on threat kinds host thread was here
+puts threat kinds host thread field index value (Some there) was here next may =
+    either threat kinds host (there.host.0 == host.me.0) _ _
+    (λ own. writes_on threat kinds host (after_clearing thread) field (value_in_thread host thread index)
+    (value_in_thread host thread value) was next may)
+    (waits threat kinds host thread.at (after_clearing thread) acknowledgement there.host _ was next may)
+
+pushes : (threat : Threat) (kinds : Kinds threat) (host : HostShape) (thread : ThreadShape) (there : EntryId) (held : Option Token) →
+    HasOpen threat kinds host → ThreadIsOpen threat host.me thread → PlaceIsOpen threat host.me (thread.at + 1) →
+    EntryIsOpen threat there → LeavesOpen threat kinds host (after_own_push host thread there held)
+pushes threat kinds host thread there None was here next may = goes_on threat kinds host thread was here
+pushes threat kinds host thread there (Some held) was here next may =
+    stands threat kinds host _ refl refl refl (record {
       running = next;
       waiting = was.waiting;
-      entries = All-cons (λ (on_stack : StackEntry). EntryIsOpen threat on_stack.entry) _ _ may was.entries;
+      entries = All-cons kinds.keeps _ _ (kinds.open_keeps _ may) was.entries;
     })
 
-asks_for : (threat : Threat) (host : HostShape) (thread : ThreadShape) (there : EntryId) (on : HostId)
-    (held : Option Token) → StateIsOpen threat host → ThreadIsOpen threat host.me thread →
+asks_for : (threat : Threat) (kinds : Kinds threat) (host : HostShape) (thread : ThreadShape) (there : EntryId) (on : HostId)
+    (held : Option Token) → HasOpen threat kinds host → ThreadIsOpen threat host.me thread →
     PlaceIsOpen threat host.me (thread.at + 1) → EntryIsOpen threat there →
-    LeavesOpen threat host (after_ask host thread there on held)
-asks_for threat host thread there on None was here next may = goes_on threat host thread was here
-asks_for threat host thread there on (Some held) was here next may =
-    waits threat host thread.at _ token_of_entry on _ was next may
+    LeavesOpen threat kinds host (after_ask host thread there on held)
+asks_for threat kinds host thread there on None was here next may = goes_on threat kinds host thread was here
+asks_for threat kinds host thread there on (Some held) was here next may =
+    waits threat kinds host thread.at _ token_of_entry on _ was next may
 
-goes : (threat : Threat) (host : HostShape) (thread : ThreadShape) (frame : FrameId) (there : EntryId) (on : HostId)
-    (held : Option Token) → StateIsOpen threat host → ThreadIsOpen threat host.me thread → EntryIsOpen threat there →
-    LeavesOpen threat host (after_go host thread frame there on held)
-goes threat host thread frame there on None was here may = goes_on threat host thread was here
-goes threat host thread frame there on (Some held) was here may = record {
-  state = runs threat host None was tt;
+goes : (threat : Threat) (kinds : Kinds threat) (host : HostShape) (thread : ThreadShape) (frame : FrameId) (there : EntryId) (on : HostId)
+    (held : Option Token) → HasOpen threat kinds host → ThreadIsOpen threat host.me thread → EntryIsOpen threat there →
+    LeavesOpen threat kinds host (after_go host thread frame there on held)
+goes threat kinds host thread frame there on None was here may = goes_on threat kinds host thread was here
+goes threat kinds host thread frame there on (Some held) was here may = record {
+  state = runs threat kinds host None was tt;
   stays = as_before threat.exposure host (with_running host None) refl refl;
+  frames = same_frames host (with_running host None) refl;
   sent = may;
 }
 
-calls_own : (threat : Threat) (host : HostShape) (thread : ThreadShape) (found : Option Entry) →
-    StateIsOpen threat host → ThreadIsOpen threat host.me thread →
+calls_own : (threat : Threat) (kinds : Kinds threat) (host : HostShape) (thread : ThreadShape) (found : Option Entry) →
+    HasOpen threat kinds host → ThreadIsOpen threat host.me thread →
     IfSome found (λ entry. PlaceIsOpen threat host.me entry.at) →
-    LeavesOpen threat host (after_own_call host thread found)
-calls_own threat host thread None was here at = goes_on threat host thread was here
-calls_own threat host thread (Some entry) was here at = goes_on threat host _ was at
+    LeavesOpen threat kinds host (after_own_call host thread found)
+calls_own threat kinds host thread None was here at = goes_on threat kinds host thread was here
+calls_own threat kinds host thread (Some entry) was here at = goes_on threat kinds host _ was at
 
-gives_result : (threat : Threat) (host : HostShape) (thread : ThreadShape) (x : VarId) (value : List Node)
-    (held : Option Token) (passes : Bool) → StateIsOpen threat host → ThreadIsOpen threat host.me thread →
+gives_result : (threat : Threat) (kinds : Kinds threat) (host : HostShape) (thread : ThreadShape) (x : VarId) (value : List Node)
+    (held : Option Token) (passes : Bool) → HasOpen threat kinds host → ThreadIsOpen threat host.me thread →
     PlaceIsOpen threat host.me (thread.at + 1) → VariableIsAffected threat.exposure x →
-    LeavesOpen threat host (after_return host thread x value held passes)
-gives_result threat host thread x value None passes was here next may = goes_on threat host thread was here
-gives_result threat host thread x value (Some held) passes was here next may =
-    either threat host (held.host.0 == host.me.0) _ _
-    (λ own. sets_on threat host (after_clearing thread) held.frame x (value_in_thread host thread value) was next may)
-    (either threat host passes _ _
-    (λ is. waits threat host thread.at _ acknowledgement held.host _ was next may)
-    (goes_on threat host _ was next))
+    LeavesOpen threat kinds host (after_return host thread x value held passes)
+gives_result threat kinds host thread x value None passes was here next may = goes_on threat kinds host thread was here
+gives_result threat kinds host thread x value (Some held) passes was here next may =
+    either threat kinds host (held.host.0 == host.me.0) _ _
+    (λ own. sets_on threat kinds host (after_clearing thread) held.frame x (value_in_thread host thread value) was next may)
+    (either threat kinds host passes _ _
+    (λ is. waits threat kinds host thread.at _ acknowledgement held.host _ was next may)
+    (goes_on threat kinds host _ was next))
 
-pops_if : (threat : Threat) → IsKnown threat → (host : HostShape) (passes : Bool) → StateIsOpen threat host →
-    All (EntryFits threat.code host.me) host.entries →
-    LeavesOpen threat host (without_message (if passes
+-- the entry that a thread takes off the stack with its token is open
+abbrev pub PopsOpen : Threat → HostShape → Option Token → Type 0
+PopsOpen threat host held = (token : Token) → held ≡ Some token → top_token host.entries ≡ Some token →
+    TopIsOpen threat host.entries
+
+pops_if : (threat : Threat) (kinds : Kinds threat) → IsKnown threat → (host : HostShape) (passes : Bool) → HasOpen threat kinds host →
+    All (EntryFits threat.code host.me) host.entries → (passes ≡ true → TopIsOpen threat host.entries) →
+    LeavesOpen threat kinds host (without_message (if passes
     then after_pop threat.code (with_running host None) host.entries
     else with_one_ignored (with_running host None)))
-pops_if threat known host true was fits =
+pops_if threat kinds known host true was fits may =
     let bare = with_running host None in
-    from_same threat host bare _ refl refl
-    (pops threat known bare host.entries (runs threat host None was tt) was.entries fits)
-pops_if threat known host false was fits =
-    stands threat host (with_one_ignored (with_running host None)) refl refl
+    from_same threat kinds host bare _ refl refl refl
+    (pops threat kinds known bare host.entries (runs threat kinds host None was tt) was.entries (may refl) fits)
+pops_if threat kinds known host false was fits may =
+    stands threat kinds host (with_one_ignored (with_running host None)) refl refl refl
     (record { running = tt; waiting = was.waiting; entries = was.entries })
 
-gives_back : (threat : Threat) → IsKnown threat → (host : HostShape) (thread : ThreadShape) (held : Option Token)
-    (passes : Bool) → StateIsOpen threat host → ThreadIsOpen threat host.me thread →
+gives_back : (threat : Threat) (kinds : Kinds threat) → IsKnown threat → (host : HostShape) (thread : ThreadShape) (held : Option Token)
+    (passes : Bool) → HasOpen threat kinds host → ThreadIsOpen threat host.me thread →
     All (EntryFits threat.code host.me) host.entries →
-    LeavesOpen threat host (after_back threat.code host thread held passes)
-gives_back threat known host thread None passes was here fits = goes_on threat host thread was here
-gives_back threat known host thread (Some held) passes was here fits =
-    either threat host (held.host.0 == host.me.0) _ _ (λ own. pops_if threat known host passes was fits) (record {
-      state = runs threat host None was tt;
+    (IsTrue passes → PassesWith threat.code host op.Back held) → PopsOpen threat host held →
+    LeavesOpen threat kinds host (after_back threat.code host thread held passes)
+gives_back threat kinds known host thread None passes was here fits check may = goes_on threat kinds host thread was here
+gives_back threat kinds known host thread (Some held) passes was here fits check may =
+    either threat kinds host (held.host.0 == host.me.0) _ _
+    (λ own. pops_if threat kinds known host passes was fits
+    (λ is. may held refl (check is (number_same held.host.0 host.me.0 own)))) (record {
+      state = runs threat kinds host None was tt;
       stays = as_before threat.exposure host (with_running host None) refl refl;
+      frames = same_frames host (with_running host None) refl;
       sent = tt;
     })
 
@@ -388,191 +468,209 @@ entry_here threat me on there is own =
     some_each (λ (entry : Entry). entry.host ≡ on) (λ entry. entry.host ≡ me) (entry_at threat.code there)
     (λ entry at. at ∙ same_id on me (number_same on.0 me.0 own)) is
 
-operation : (threat : Threat) → IsKnown threat → (host : HostShape) (thread : ThreadShape) (operation : Op) (count : ℕ)
-    (passes : Bool) → StateIsOpen threat host → ThreadIsOpen threat host.me thread →
+operation : (threat : Threat) (kinds : Kinds threat) → IsKnown threat → (host : HostShape) (thread : ThreadShape) (operation : Op) (count : ℕ)
+    (passes : Bool) → HasOpen threat kinds host → ThreadIsOpen threat host.me thread →
     All (EntryFits threat.code host.me) host.entries → OperationFits threat.code host.me count operation →
+    (IsTrue passes → PassesWith threat.code host operation thread.held) → PopsOpen threat host thread.held →
     OpIsOpen threat host.me thread.at operation →
-    LeavesOpen threat host (after_operation threat.code host thread operation passes)
-operation threat known host thread (op.Read field index) count passes was here fits names law =
-    reads threat host thread field index (field_at threat.code field) was here
+    LeavesOpen threat kinds host (after_operation threat.code host thread operation passes)
+operation threat kinds known host thread (op.Read field index) count passes was here fits names check may law =
+    reads threat kinds host thread field index (field_at threat.code field) was here
     (behind threat host.me thread.at (op.Read field index) (λ label one. one) law)
-operation threat known host thread (op.Let x value) count passes was here fits names law =
-    sets_on threat host (after_clearing thread) thread.frame x (value_in_thread host thread value) was
+operation threat kinds known host thread (op.Let x value) count passes was here fits names check may law =
+    sets_on threat kinds host (after_clearing thread) thread.frame x (value_in_thread host thread value) was
     (behind threat host.me thread.at (op.Let x value) (λ label one. one.1) law)
     (variable_affected threat known x
     (part threat host.me thread.at (op.Let x value) (λ label. MayChange threat.code label x) (λ label one. one.0) law))
-operation threat known host thread (op.Put field index value) count passes was here fits names law =
-    puts threat host thread field index value (field_at threat.code field) was here
+operation threat kinds known host thread (op.Put field index value) count passes was here fits names check may law =
+    puts threat kinds host thread field index value (field_at threat.code field) was here
     (behind threat host.me thread.at (op.Put field index value) (λ label one. one.1) law)
     (field_affected threat known field
     (part threat host.me thread.at (op.Put field index value) (λ label. MayChangeField threat.code label field)
     (λ label one. one.0) law))
-operation threat known host thread (op.Send x to) count passes was here fits names law =
-    waits threat host thread.at _ acknowledgement to _ was
+operation threat kinds known host thread (op.Send x to) count passes was here fits names check may law =
+    waits threat kinds host thread.at _ acknowledgement to _ was
     (behind threat host.me thread.at (op.Send x to) (λ label one. one.1) law)
     (variable_affected threat known x
     (part threat host.me thread.at (op.Send x to) (λ label. MayChange threat.code label x) (λ label one. one.0) law))
-operation threat known host thread (op.Frame site) count passes was here fits names law =
-    stands threat host _ refl refl (record {
-      running = behind threat host.me thread.at (op.Frame site) (λ label one. one) law;
-      waiting = was.waiting;
-      entries = was.entries;
-    })
-operation threat known host thread (op.Arg x value) count passes was here fits names law =
-    sets_on threat host (after_clearing thread) thread.new_frame x (value_in_thread host thread value) was
+operation threat kinds known host thread (op.Frame site) count passes was here fits names check may law =
+    makes_frame threat kinds host thread site was (behind threat host.me thread.at (op.Frame site) (λ label one. one) law)
+operation threat kinds known host thread (op.Arg x value) count passes was here fits names check may law =
+    sets_on threat kinds host (after_clearing thread) thread.new_frame x (value_in_thread host thread value) was
     (behind threat host.me thread.at (op.Arg x value) (λ label one. one.1) law)
     (variable_affected threat known x
     (part threat host.me thread.at (op.Arg x value) (λ label. MayChange threat.code label x) (λ label one. one.0) law))
-operation threat known host thread (op.Pass x to) count passes was here fits names law =
-    waits threat host thread.at _ acknowledgement to _ was
+operation threat kinds known host thread (op.Pass x to) count passes was here fits names check may law =
+    waits threat kinds host thread.at _ acknowledgement to _ was
     (behind threat host.me thread.at (op.Pass x to) (λ label one. one.1) law)
     (variable_affected threat known x
     (part threat host.me thread.at (op.Pass x to) (λ label. MayChange threat.code label x) (λ label one. one.0) law))
-operation threat known host thread (op.Push there) count passes was here fits names law =
-    pushes threat host thread there thread.held was here
+operation threat kinds known host thread (op.Push there) count passes was here fits names check may law =
+    pushes threat kinds host thread there thread.held was here
     (behind threat host.me thread.at (op.Push there) (λ label one. one.1) law) (
       names.0,
       part threat host.me thread.at (op.Push there) (λ label. HasNeed threat.code label there) (λ label one. one.0) law,
     )
-operation threat known host thread (op.Ask there on) count passes was here fits names law =
-    asks_for threat host thread there on thread.held was here
+operation threat kinds known host thread (op.Ask there on) count passes was here fits names check may law =
+    asks_for threat kinds host thread there on thread.held was here
     (behind threat host.me thread.at (op.Ask there on) (λ label one. one.1) law) (
       names.0.0,
       part threat host.me thread.at (op.Ask there on) (λ label. HasNeed threat.code label there)
           (λ label one. one.0) law,
     )
-operation threat known host thread (op.Go there on) count passes was here fits names law =
-    goes threat host thread thread.frame there on thread.held was here (names.0.0, law)
-operation threat known host thread (op.Call there on) count passes was here fits names law =
-    either threat host (on.0 == host.me.0) _ _
-    (λ own. calls_own threat host thread (entry_at threat.code there) was here
+operation threat kinds known host thread (op.Go there on) count passes was here fits names check may law =
+    goes threat kinds host thread thread.frame there on thread.held was here (names.0.0, law)
+operation threat kinds known host thread (op.Call there on) count passes was here fits names check may law =
+    either threat kinds host (on.0 == host.me.0) _ _
+    (λ own. calls_own threat kinds host thread (entry_at threat.code there) was here
     (opened threat known host.me there (names.0.0, law) (entry_here threat host.me on there names.0.1 own)))
-    (goes threat host thread thread.new_frame there on thread.held was here (names.0.0, law))
-operation threat known host thread (op.Ret x value) count passes was here fits names law =
-    gives_result threat host thread x value thread.held passes was here
+    (goes threat kinds host thread thread.new_frame there on thread.held was here (names.0.0, law))
+operation threat kinds known host thread (op.Ret x value) count passes was here fits names check may law =
+    gives_result threat kinds host thread x value thread.held passes was here
     (behind threat host.me thread.at (op.Ret x value) (λ label one. one.1) law)
     (variable_affected threat known x
     (part threat host.me thread.at (op.Ret x value) (λ label. MayChange threat.code label x) (λ label one. one.0) law))
-operation threat known host thread op.Back count passes was here fits names law =
-    gives_back threat known host thread thread.held passes was here fits
-operation threat known host thread (op.Branch guard target) count passes was here fits names law =
-    either threat host _ _ _ (λ is. goes_on threat host _ was
+operation threat kinds known host thread op.Back count passes was here fits names check may law =
+    gives_back threat kinds known host thread thread.held passes was here fits check may
+operation threat kinds known host thread (op.Branch guard target) count passes was here fits names check may law =
+    either threat kinds host _ _ _ (λ is. goes_on threat kinds host _ was
     (part threat host.me thread.at (op.Branch guard target)
     (λ label. IsOpenTo threat.planned label (threat.table.at host.me.0 target)) (λ label one. one.1) law))
-    (goes_on threat host _ was (behind threat host.me thread.at (op.Branch guard target) (λ label one. one.0) law))
+    (goes_on threat kinds host _ was (behind threat host.me thread.at (op.Branch guard target) (λ label one. one.0) law))
 
 -- ---- a turn
 
-running_open : (threat : Threat) → IsKnown threat → (host : HostShape) (thread : ThreadShape) (there : Option Instr)
-    (outcome : Outcome) → StateIsOpen threat host → ThreadIsOpen threat host.me thread →
-    StateFits threat.code host → instruction_at threat.code host.me thread.at ≡ there →
-    IsRunning threat.code host thread there outcome → LeavesOpen threat host outcome
-running_open threat known host thread None outcome was here fits is step =
-    subst (LeavesOpen threat host) step (goes_on threat host thread was here)
-running_open threat known host thread (Some instruction) outcome was here fits is step =
-    subst (LeavesOpen threat host) step.2
-    (operation threat known host thread instruction.op
+running_open : (threat : Threat) (kinds : Kinds threat) → IsKnown threat → (host : HostShape) (thread : ThreadShape) (there : Option Instr)
+    (outcome : Outcome) → HasOpen threat kinds host → ThreadIsOpen threat host.me thread →
+    StateFits threat.code host → PopsOpen threat host thread.held →
+    instruction_at threat.code host.me thread.at ≡ there → IsRunning threat.code host thread there outcome → LeavesOpen threat kinds host outcome
+running_open threat kinds known host thread None outcome was here fits may is step =
+    subst (LeavesOpen threat kinds host) step (goes_on threat kinds host thread was here)
+running_open threat kinds known host thread (Some instruction) outcome was here fits may is step =
+    subst (LeavesOpen threat kinds host) step.2
+    (operation threat kinds known host thread instruction.op
     (temporaries_at threat.code.entries host.me (part_of threat.code host.me) thread.at) step.0 was here fits.entries
-    ((known.sound.parts host.me fits.me).instructions thread.at instruction is).operation
+    ((known.sound.parts host.me fits.me).instructions thread.at instruction is).operation step.1.0 may
     (any_each (λ label. IsOpenTo threat.planned label (threat.table.at host.me.0 thread.at))
     (λ label. OpensOp threat.planned threat.code threat.table label host.me thread.at instruction.op)
     threat.exposure.bad
     (λ label. known.opens.instructions label host.me thread.at instruction is) here))
 
-turn_of : (threat : Threat) → IsKnown threat → (host : HostShape) (running : Option ThreadShape) (outcome : Outcome) →
-    StateIsOpen threat host → IfSome running (ThreadIsOpen threat host.me) → StateFits threat.code host →
-    IsTurnOf threat.code host running outcome → LeavesOpen threat host outcome
-turn_of threat known host None outcome was here fits step =
-    subst (LeavesOpen threat host) step (stands threat host host refl refl was)
-turn_of threat known host (Some thread) outcome was here fits step =
+turn_of : (threat : Threat) (kinds : Kinds threat) → IsKnown threat → (host : HostShape) (running : Option ThreadShape) (outcome : Outcome) →
+    HasOpen threat kinds host → IfSome running (ThreadIsOpen threat host.me) → StateFits threat.code host →
+    IfSome running (λ thread. PopsOpen threat host thread.held) → IsTurnOf threat.code host running outcome → LeavesOpen threat kinds host outcome
+turn_of threat kinds known host None outcome was here fits may step =
+    subst (LeavesOpen threat kinds host) step (stands threat kinds host host refl refl refl was)
+turn_of threat kinds known host (Some thread) outcome was here fits may step =
     let bare = with_running host None in
-    from_same threat host bare outcome refl refl
-    (running_open threat known bare thread (instruction_at threat.code host.me thread.at) outcome
-    (runs threat host None was tt) here (kept_at_rest threat.code host fits) refl step)
+    from_same threat kinds host bare outcome refl refl refl
+    (running_open threat kinds known bare thread (instruction_at threat.code host.me thread.at) outcome
+    (runs threat kinds host None was tt) here (kept_at_rest threat.code host fits) may refl step)
 
 -- an open thread's turn
-pub open_turn : (threat : Threat) → IsKnown threat → (host : HostShape) (outcome : Outcome) →
-    StateIsOpen threat host → StateFits threat.code host → IsTurn threat.code host outcome →
-    LeavesOpen threat host outcome
-open_turn threat known host outcome was fits step =
-    turn_of threat known host host.running outcome was was.running fits step
+pub open_turn : (threat : Threat) (kinds : Kinds threat) → IsKnown threat → (host : HostShape) (outcome : Outcome) →
+    HasOpen threat kinds host → StateFits threat.code host →
+    IfSome host.running (λ thread. PopsOpen threat host thread.held) → IsTurn threat.code host outcome →
+    LeavesOpen threat kinds host outcome
+open_turn threat kinds known host outcome was fits may step =
+    turn_of threat kinds known host host.running outcome was was.running fits may step
 
 -- ---- a message
 
-found : (threat : Threat) (me : HostId) (threads : List WaitingShape) (place : ℕ)
-    (answered : ThreadShape → ThreadShape) →
-    ((thread : ThreadShape) → ThreadIsOpen threat me thread → ThreadIsOpen threat me (answered thread)) →
-    All (λ waiting. ThreadIsOpen threat me waiting.thread) threads →
-    IfSome (option_map (λ waiting. answered waiting.thread) (slice_get threads place)) (ThreadIsOpen threat me)
-found threat me [] place answered keeps all = tt
-found threat me (first ∷ threads) zero answered keeps all = keeps first.thread (all 0 first (omega arith))
-found threat me (first ∷ threads) (suc place) answered keeps all =
-    found threat me threads place answered keeps (λ k d lt. all (suc k) d (omega arith))
+-- the thread is open that waits for an answer
+abbrev pub WakesOpen : Threat → HostShape → Option ℕ → Type 0
+WakesOpen threat host place = (at : ℕ) (waiting : WaitingShape) → place ≡ Some at →
+    slice_get host.waiting at ≡ Some waiting → ThreadIsOpen threat host.me waiting.thread
 
-wakes : (threat : Threat) (host : HostShape) (place : Option ℕ) (answered : ThreadShape → ThreadShape) →
-    StateIsOpen threat host →
+-- what a message asks for is open, and so is the entry or the thread that it starts
+abbrev pub DoesOpen : Threat → HostShape → HostId → Message → Type 0
+DoesOpen threat host from (message.Lgoto token) = TopIsOpen threat host.entries
+DoesOpen threat host from (message.Value request value) =
+    WakesOpen threat host (place_of_awaiting host value_of_field request from)
+DoesOpen threat host from (message.Ack request) =
+    WakesOpen threat host (place_of_awaiting host acknowledgement request from)
+DoesOpen threat host from (message.Token request token) =
+    WakesOpen threat host (place_of_awaiting host token_of_entry request from)
+DoesOpen threat host from m = MessageIsOpen threat m
+
+woken : (threat : Threat) (me : HostId) (there : Option WaitingShape) (answered : ThreadShape → ThreadShape) →
+    ((thread : ThreadShape) → ThreadIsOpen threat me thread → ThreadIsOpen threat me (answered thread)) →
+    ((waiting : WaitingShape) → there ≡ Some waiting → ThreadIsOpen threat me waiting.thread) →
+    IfSome (option_map (λ waiting. answered waiting.thread) there) (ThreadIsOpen threat me)
+woken threat me None answered keeps may = tt
+woken threat me (Some waiting) answered keeps may = keeps waiting.thread (may waiting refl)
+
+wakes : (threat : Threat) (kinds : Kinds threat) (host : HostShape) (place : Option ℕ)
+    (answered : ThreadShape → ThreadShape) → HasOpen threat kinds host → WakesOpen threat host place →
     ((thread : ThreadShape) → ThreadIsOpen threat host.me thread → ThreadIsOpen threat host.me (answered thread)) →
-    LeavesOpen threat host (without_message (after_answer host place answered))
-wakes threat host None answered was keeps = stands threat host host refl refl was
-wakes threat host (Some place) answered was keeps =
-    stands threat host (after_answer host (Some place) answered) refl refl (record {
-      running = found threat host.me host.waiting place answered keeps was.waiting;
-      waiting = all_but (λ (w : WaitingShape). ThreadIsOpen threat host.me w.thread) host.waiting place was.waiting;
+    LeavesOpen threat kinds host (without_message (after_answer host place answered))
+wakes threat kinds host None answered was may keeps = stands threat kinds host host refl refl refl was
+wakes threat kinds host (Some place) answered was may keeps =
+    stands threat kinds host (after_answer host (Some place) answered) refl refl refl (record {
+      running = woken threat host.me (slice_get host.waiting place) answered keeps (λ waiting. may place waiting refl);
+      waiting = all_but (kinds.waits host.me) host.waiting place was.waiting;
       entries = was.entries;
     })
 
-takes : (threat : Threat) → IsKnown threat → (host : HostShape) (from : HostId) (m : Message) (passes : Bool) →
-    StateIsOpen threat host → StateFits threat.code host → (IsTrue passes → Passes threat.code host from m) →
-    (Passes threat.code host from m → MessageIsOpen threat m) →
-    LeavesOpen threat host (after_taking threat.code host from m passes)
-takes threat known host from m false was fits check said =
-    stands threat host (with_one_ignored host) refl refl
+takes : (threat : Threat) (kinds : Kinds threat) → IsKnown threat → (host : HostShape) (from : HostId) (m : Message) (passes : Bool) →
+    HasOpen threat kinds host → StateFits threat.code host → (IsTrue passes → Passes threat.code host from m) →
+    (Passes threat.code host from m → DoesOpen threat host from m) →
+    LeavesOpen threat kinds host (after_taking threat.code host from m passes)
+takes threat kinds known host from m false was fits check said =
+    stands threat kinds host (with_one_ignored host) refl refl refl
     (record { running = was.running; waiting = was.waiting; entries = was.entries })
-takes threat known host from (message.Get request field index) true was fits check said =
-    record { state = was; stays = as_before threat.exposure host host refl refl; sent = tt }
-takes threat known host from (message.Set request field index value) true was fits check said = record {
+takes threat kinds known host from (message.Get request field index) true was fits check said =
+    record {
+      state = was;
+      stays = as_before threat.exposure host host refl refl;
+      frames = same_frames host host refl;
+      sent = tt;
+    }
+takes threat kinds known host from (message.Set request field index value) true was fits check said = record {
   state = record { running = was.running; waiting = was.waiting; entries = was.entries };
   stays = writes threat.exposure host field index value (said (check refl));
+  frames = λ site. omega arith;
   sent = tt;
 }
-takes threat known host from (message.Forward request frame x value) true was fits check said = record {
+takes threat kinds known host from (message.Forward request frame x value) true was fits check said = record {
   state = record { running = was.running; waiting = was.waiting; entries = was.entries };
   stays = sets threat.exposure host frame x value (said (check refl));
+  frames = λ site. omega arith;
   sent = tt;
 }
-takes threat known host from (message.Sync request frame there token) true was fits check said = record {
+takes threat kinds known host from (message.Sync request frame there token) true was fits check said = record {
   state = record {
     running = was.running;
     waiting = was.waiting;
-    entries = All-cons (λ (on_stack : StackEntry). EntryIsOpen threat on_stack.entry) _ _ (said (check refl))
-        was.entries;
+    entries = All-cons kinds.keeps _ _ (kinds.open_keeps _ (said (check refl))) was.entries;
   };
   stays = as_before threat.exposure host (after_push host there frame token) refl refl;
+  frames = same_frames host (after_push host there frame token) refl;
   sent = tt;
 }
-takes threat known host from (message.Rgoto frame there token) true was fits check said =
-    enters threat host (entry_at threat.code there) frame token was
+takes threat kinds known host from (message.Rgoto frame there token) true was fits check said =
+    enters threat kinds host (entry_at threat.code there) frame token was
     (opened threat known host.me there (said (check refl))
     (some_each (λ (entry : Entry). (entry.host ≡ host.me)
     × IsTrustedFor (label_of_host threat.code from) entry.need
     × MaySee (label_at threat.code entry.label) (label_of_host threat.code from))
     (λ entry. entry.host ≡ host.me) (entry_at threat.code there) (λ entry may. may.0) (check refl).1))
-takes threat known host from (message.Lgoto token) true was fits check said =
-    pops threat known host host.entries was was.entries fits.entries
-takes threat known host from (message.Value request number) true was fits check said =
-    wakes threat host _ (with_temporary number) was (λ thread may. may)
-takes threat known host from (message.Ack request) true was fits check said =
-    wakes threat host _ (λ thread. thread) was (λ thread may. may)
-takes threat known host from (message.Token request token) true was fits check said =
-    wakes threat host _ (with_token (Some token)) was (λ thread may. may)
+takes threat kinds known host from (message.Lgoto token) true was fits check said =
+    pops threat kinds known host host.entries was was.entries (said (check refl)) fits.entries
+takes threat kinds known host from (message.Value request number) true was fits check said =
+    wakes threat kinds host _ (with_temporary number) was (said (check refl)) (λ thread may. may)
+takes threat kinds known host from (message.Ack request) true was fits check said =
+    wakes threat kinds host _ (λ thread. thread) was (said (check refl)) (λ thread may. may)
+takes threat kinds known host from (message.Token request token) true was fits check said =
+    wakes threat kinds host _ (with_token (Some token)) was (said (check refl)) (λ thread may. may)
 
 -- a message is taken that is open where it passes its check
-pub open_taking : (threat : Threat) → IsKnown threat → (host : HostShape) (from : HostId) (m : Message)
-    (outcome : Outcome) → StateIsOpen threat host → StateFits threat.code host →
-    (Passes threat.code host from m → MessageIsOpen threat m) → IsTaking threat.code host from m outcome →
-    LeavesOpen threat host outcome
-open_taking threat known host from m outcome was fits said step =
-    subst (LeavesOpen threat host) step.2 (takes threat known host from m step.0 was fits step.1.0 said)
+pub open_taking : (threat : Threat) (kinds : Kinds threat) → IsKnown threat → (host : HostShape) (from : HostId) (m : Message)
+    (outcome : Outcome) → HasOpen threat kinds host → StateFits threat.code host →
+    (Passes threat.code host from m → DoesOpen threat host from m) → IsTaking threat.code host from m outcome →
+    LeavesOpen threat kinds host outcome
+open_taking threat kinds known host from m outcome was fits said step =
+    subst (LeavesOpen threat kinds host) step.2 (takes threat kinds known host from m step.0 was fits step.1.0 said)
 
 -- ---- what misbehaving hosts send
 

@@ -10,6 +10,10 @@ use Rattle.js_base.specs.declared.ids.HostId.{HostId}
 use Rattle.label_lattice.specs.declared.label.Label.{Label}
 use Rattle.jif_tree.specs.Altered.{Exposure}
 use Rattle.host_decl.specs.Hosts as declared_hosts
+use Rattle.ics_stack.specs.declared.stack.StackEntry.{StackEntry}
+use Rattle.host_code.specs.declared.message.Message.{Message}
+use Rattle.host_code.specs.declared.message.Message.TheVariants as message
+use Rattle.host_code.specs.Thread.{ThreadShape, WaitingShape}
 use Rattle.host_code.specs.Code.{CodeShape}
 use Rattle.host_core.specs.Host.{HostShape}
 use Rattle.host_core.specs.Turn.{label_of_turn}
@@ -30,8 +34,10 @@ use Rattle.token_laws.proofs.EachFlight.{FlyWith, fly_without, fly_sent, of_stat
 use Rattle.token_laws.proofs.HeldLaws.{all_at}
 use Rattle.token_laws.proofs.Walks.{same_bad, fits_there, one_more}
 use Rattle.integrity.specs.Exposed.{IsAsBefore, AreAsBefore, bad_labels}
+use Rattle.integrity.specs.Outside.{ThreadIsOpen, EntryIsOpen}
 use Rattle.integrity.specs.Outside.{Threat, StateIsOpen, MessageIsOpen, IsOutside}
-use Rattle.integrity.proofs.OpenSteps.{IsKnown, open_turn, open_taking, passes_open}
+use Rattle.integrity.proofs.OpenSteps.{IsKnown, Kinds, HasOpen, TopIsOpen, PopsOpen, WakesOpen, DoesOpen}
+use Rattle.integrity.proofs.OpenSteps.{open_turn, open_taking, passes_open}
 
 -- ---- who misbehaves
 
@@ -137,6 +143,49 @@ before_then : (exposure : Exposure) (world next after : WorldShape) → AreAsBef
 before_then exposure world next after first later host new at =
     before_on exposure new (state_at next host) (state_at world host) (later host new at) (first host)
 
+-- ---- where all is open
+
+abbrev all_open : (threat : Threat) → Kinds threat
+all_open threat = record {
+  waits = λ me waiting. ThreadIsOpen threat me waiting.thread;
+  keeps = λ on_stack. EntryIsOpen threat on_stack.entry;
+  open_waits = λ me waiting may. may;
+  open_keeps = λ on_stack may. may;
+}
+
+has_open : (threat : Threat) (state : HostShape) → StateIsOpen threat state → HasOpen threat (all_open threat) state
+has_open threat state was = record { running = was.running; waiting = was.waiting; entries = was.entries }
+
+is_open : (threat : Threat) (state : HostShape) → HasOpen threat (all_open threat) state → StateIsOpen threat state
+is_open threat state has = record { running = has.running; waiting = has.waiting; entries = has.entries }
+
+top_open : (threat : Threat) (entries : List StackEntry) → All (λ on_stack. EntryIsOpen threat on_stack.entry) entries →
+    TopIsOpen threat entries
+top_open threat [] all = tt
+top_open threat (top ∷ below) all = all 0 top (omega arith)
+
+pops_open : (threat : Threat) (state : HostShape) (running : Option ThreadShape) → StateIsOpen threat state →
+    IfSome running (λ thread. PopsOpen threat state thread.held)
+pops_open threat state None was = tt
+pops_open threat state (Some thread) was = λ token held top. top_open threat state.entries was.entries
+
+wakes_open : (threat : Threat) (state : HostShape) (place : Option ℕ) → StateIsOpen threat state →
+    WakesOpen threat state place
+wakes_open threat state place was at waiting is there =
+    all_at (λ (w : WaitingShape). ThreadIsOpen threat state.me w.thread) state.waiting at waiting was.waiting there
+
+does_open : (threat : Threat) (state : HostShape) (from : HostId) (m : Message) → StateIsOpen threat state →
+    MessageIsOpen threat m → DoesOpen threat state from m
+does_open threat state from (message.Get request field index) was said = tt
+does_open threat state from (message.Set request field index value) was said = said
+does_open threat state from (message.Forward request frame x value) was said = said
+does_open threat state from (message.Sync request frame there token) was said = said
+does_open threat state from (message.Rgoto frame there token) was said = said
+does_open threat state from (message.Lgoto token) was said = top_open threat state.entries was.entries
+does_open threat state from (message.Value request value) was said = wakes_open threat state _ was
+does_open threat state from (message.Ack request) was said = wakes_open threat state _ was
+does_open threat state from (message.Token request token) was said = wakes_open threat state _ was
+
 -- ---- the events
 
 state_fits : (threat : Threat) (world : WorldShape) (host : HostId) (state : HostShape) → ShapeFits threat.code world →
@@ -154,15 +203,16 @@ open_take threat known world after from to place fits step outside =
     let said =
     all_at (λ (f : Flight). MessageIsOpen threat f.message) (world.flying from to) place step.flight
     (outside.flying from to) step.there in
+    let was = of_state (StateIsOpen threat) world to step.state outside.states step.obeys in
     let leaves =
-    open_taking threat known step.state from step.flight.message step.outcome
-    (of_state (StateIsOpen threat) world to step.state outside.states step.obeys)
-    (state_fits threat world to step.state fits step.obeys).fits (λ passes. said) step.takes in
+    open_taking threat (all_open threat) known step.state from step.flight.message step.outcome
+    (has_open threat step.state was) (state_fits threat world to step.state fits step.obeys).fits
+    (λ passes. does_open threat step.state from step.flight.message was said) step.takes in
     let left = without_flight world from to place in
     let puts = take_puts threat.code world after from to place step in (
       record {
         states = states_after (StateIsOpen threat) world after to step.state step.outcome.state step.obeys puts
-            outside.states leaves.state;
+            outside.states (is_open threat step.outcome.state leaves.state);
         flying = subst (λ (w : WorldShape). FlyWith (MessageIsOpen threat) w.flying) step.leaves
             (fly_sent (MessageIsOpen threat) (with_state left to step.outcome.state) to (Some step.flight.label)
             step.outcome.sent (fly_without (MessageIsOpen threat) world from to place outside.flying) leaves.sent);
@@ -174,14 +224,15 @@ open_turned : (threat : Threat) → IsKnown threat → (world after : WorldShape
     ShapeFits threat.code world → IsTurnStep threat.code world me after → IsOutside threat world →
     StaysOpen threat world after
 open_turned threat known world after me fits step outside =
+    let was = of_state (StateIsOpen threat) world me step.state outside.states step.obeys in
     let leaves =
-    open_turn threat known step.state step.outcome
-    (of_state (StateIsOpen threat) world me step.state outside.states step.obeys)
-    (state_fits threat world me step.state fits step.obeys).fits step.turns in
+    open_turn threat (all_open threat) known step.state step.outcome (has_open threat step.state was)
+    (state_fits threat world me step.state fits step.obeys).fits
+    (pops_open threat step.state step.state.running was) step.turns in
     let puts = turn_puts threat.code world after me step in (
       record {
         states = states_after (StateIsOpen threat) world after me step.state step.outcome.state step.obeys puts
-            outside.states leaves.state;
+            outside.states (is_open threat step.outcome.state leaves.state);
         flying = subst (λ (w : WorldShape). FlyWith (MessageIsOpen threat) w.flying) step.leaves
             (fly_sent (MessageIsOpen threat) (with_state world me step.outcome.state) me
             (label_of_turn threat.code step.state) step.outcome.sent outside.flying leaves.sent);
@@ -194,15 +245,17 @@ open_act : (threat : Threat) → IsKnown threat → (world after : WorldShape) (
     IsOutside threat world → StaysOpen threat world after
 open_act threat known world after from to made fits bad step outside =
     let sender = bad from step.bad in
+    let was = of_state (StateIsOpen threat) world to step.state outside.states step.obeys in
     let leaves =
-    open_taking threat known step.state from step.message step.outcome
-    (of_state (StateIsOpen threat) world to step.state outside.states step.obeys)
-    (state_fits threat world to step.state fits step.obeys).fits
-    (passes_open threat known step.state from sender.label step.message sender.of_host sender.among) step.takes in
+    open_taking threat (all_open threat) known step.state from step.message step.outcome
+    (has_open threat step.state was) (state_fits threat world to step.state fits step.obeys).fits
+    (λ passes. does_open threat step.state from step.message was
+    (passes_open threat known step.state from sender.label step.message sender.of_host sender.among passes))
+    step.takes in
     let puts = act_puts threat.code world after from to made step in (
       record {
         states = states_after (StateIsOpen threat) world after to step.state step.outcome.state step.obeys puts
-            outside.states leaves.state;
+            outside.states (is_open threat step.outcome.state leaves.state);
         flying = subst (FlyWith (MessageIsOpen threat))
             (sym (moved_acted world to step.outcome after step.leaves).flying) outside.flying;
       },
