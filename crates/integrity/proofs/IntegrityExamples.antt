@@ -1,5 +1,5 @@
 -- What a misbehaving host may affect in a small program and a small world, as it is computed.
-use Rattle.std.proofs.Common.{◌≡◌, ℕ, ℤ, pos, true, false, List, [], ◌∷◌, refl, inl, inr, arith, lit<, None}
+use Rattle.std.proofs.Common.{◌≡◌, ◌≢◌, ap, ℕ, ℤ, pos, true, false, List, [], ◌∷◌, refl, inl, inr, arith, lit<, None}
 use Rattle.std.specs.Prelude.{Any}
 use Rattle.std.proofs.lemmas.List.Elements.{All-nil, All-push}
 use Rattle.label_lattice.specs.declared.label.Label.{Label}
@@ -7,7 +7,13 @@ use Rattle.label_lattice.specs.Label.{IntegFlows, IsTrustedBy}
 use Rattle.label_lattice.specs.Lattice.{empty_label}
 use Rattle.jif_tree.specs.Altered.{Exposure, FieldIsAffected, StatementIsAffected, VariableIsAffected}
 use Rattle.need_labels.proofs.Somewhere.{any_here, any_first, any_none}
-use Rattle.msg_cost.specs.Moves.{PlannedShape}
+use Rattle.msg_cost.specs.Moves.{PlannedShape, is_trusted_by}
+use Rattle.split_rules.proofs.TrustedNeeds.{none_needed}
+use Rattle.split_rules.specs.Opening.{HasNeed}
+use Rattle.split_rules.specs.Walk.{entry_id}
+use Rattle.js_base.specs.declared.ids.EntryId.{EntryId}
+use Rattle.js_base.specs.declared.ids.FrameId.{FrameId}
+use Rattle.js_base.specs.declared.ids.RequestId.{RequestId}
 use Rattle.host_code.specs.declared.message.Message.TheVariants as message
 use Rattle.host_code.specs.Code.{halt}
 use Rattle.host_code.specs.Thread.{WaitingShape}
@@ -22,7 +28,7 @@ use Rattle.token_laws.specs.TokenExamples.{first_request, first_token, small, st
 use Rattle.integrity.specs.Exposed.{FieldsStand, AreAsBefore}
 use Rattle.integrity.specs.IntegrityExamples.{sent_threat, sending, waiting, two_fields, exposed_to, store, before_set}
 use Rattle.integrity.specs.IntegrityExamples.{holder, sets_to_nine, setting, refusing, after_set, after_refused}
-use Rattle.integrity.specs.Outside.{ThreadIsOpen, StateIsOpen, IsOutside}
+use Rattle.integrity.specs.Outside.{Threat, ThreadIsOpen, EntryIsOpen, MessageIsOpen, StateIsOpen, IsOutside}
 
 only_one : (P : Label → Type 0) (label : Label) → Any P (label ∷ []) → P label
 only_one P label some = elim (any_first P label [] some) [
@@ -72,6 +78,27 @@ waiting_denied open_state =
       request = first_request;
       asked = host_id 1;
     }) (omega arith))
+
+pub forward_denied : (request : RequestId) (frame : FrameId) (value : ℤ) →
+    ¬ MessageIsOpen (sent_threat 2) (message.Forward request frame (var_id 0) value)
+forward_denied request frame value may = denied_variable may
+
+pub main_denied : ¬ EntryIsOpen (sent_threat 2) (entry_id 1)
+unfolding is_trusted_by
+main_denied may = not_trusted (only_one (λ label. HasNeed (sent_threat 2).code label (entry_id 1)) untrusted may.1)
+
+not_halt : entry_id 2 ≢ halt
+not_halt same = omega (arith, ap (λ (e : EntryId). e.0) same)
+
+pub enters : EntryIsOpen (sent_threat 2) (entry_id 2)
+unfolding is_trusted_by
+enters = (
+  not_halt,
+  any_here (λ label. HasNeed (sent_threat 2).code label (entry_id 2)) untrusted [] (none_needed untrusted),
+)
+
+pub halt_denied : (threat : Threat) → ¬ EntryIsOpen threat halt
+halt_denied threat may = may.0 refl
 
 -- ---- a world
 

@@ -5,6 +5,11 @@ ghost use Rattle.std.specs.Int.{bit_at};
 ghost use Rattle.jif_tree.specs.declared.program.Program.{Program};
 ghost use Rattle.jif_tree.specs.Altered.{Exposure, FieldIsAffected, StatementIsAffected, VariableIsAffected};
 ghost use Rattle.jif_tree.specs.SourceRun.{configuration_at_start};
+ghost use Rattle.js_base.specs.declared.ids.FrameId.{FrameId};
+ghost use Rattle.js_base.specs.declared.ids.RequestId.{RequestId};
+ghost use Rattle.host_code.specs.declared.message.Message.TheVariants as message;
+ghost use Rattle.host_code.specs.Code.{halt};
+ghost use Rattle.split_rules.specs.Walk.{entry_id};
 ghost use Rattle.event_text.specs.declared.event.Event.{Event};
 ghost use Rattle.host_decl.specs.Hosts.{HostsShape};
 ghost use Rattle.msg_cost.specs.Moves.{PlannedShape, planned_of};
@@ -26,7 +31,7 @@ ghost use Rattle.integrity.specs.Exposed.{AreAsBefore, FieldsStand, exposure_of}
 ghost use Rattle.integrity.specs.IntegrityExamples.{sent_threat, sending, waiting, two_fields, exposed_to, store};
 ghost use Rattle.integrity.specs.IntegrityExamples.{before_set, sets_to_nine, after_set, after_refused, halted_world};
 ghost use Rattle.integrity.specs.IntegrityExamples.{at_end, not_at_end};
-ghost use Rattle.integrity.specs.Outside.{IsOutside, StateIsOpen, Threat, threat_of};
+ghost use Rattle.integrity.specs.Outside.{EntryIsOpen, IsOutside, MessageIsOpen, StateIsOpen, Threat, threat_of};
 
 use split_rules::{opening_examples, opening_laws, split_laws, trust_laws};
 
@@ -99,6 +104,13 @@ pub fn integrity_examples()
     ensures waits { StateIsOpen (sent_threat 2) waiting }
     // Where nobody misbehaves, nothing that waits is anybody's doing.
     ensures waiting_denied { ¬ StateIsOpen (sent_threat 0) waiting }
+    // Nor may it send a value for that local, or enter where the first principal has to trust who enters. It may where
+    // nobody has to, but not at the entry that ends the program.
+    ensures forward_denied { (request : RequestId) (frame : FrameId) (value : ℤ) →
+        ¬ MessageIsOpen (sent_threat 2) (message.Forward request frame (var_id 0) value) }
+    ensures main_denied { ¬ EntryIsOpen (sent_threat 2) (entry_id 1) }
+    ensures enters { EntryIsOpen (sent_threat 2) (entry_id 2) }
+    ensures halt_denied { (threat : Threat) → ¬ EntryIsOpen threat halt }
     // It sets a field that it may affect, which then has not what the store has. So that no field changes is false, and
     // so it would be to say that nobody misbehaves.
     ensures sets { IsRun two_fields before_set (sets_to_nine 0 ∷ []) after_set }
@@ -111,7 +123,9 @@ pub fn integrity_examples()
     ensures outside_denied { (planned : PlannedShape) (table : Table) (exposure : Exposure) →
         let threat : Threat = record { planned = planned; code = small; table = table; exposure = exposure } in
         ¬ IsOutside threat start }
-    // A world in which the program has halted stands for a configuration at its end, and for no other.
+    // A world in which the program has halted stands for a configuration at its end, and for no other. One in which it
+    // has not need not.
+    ensures running { (exposure : Exposure) → StandsFor small exposure start not_at_end }
     ensures halted { (exposure : Exposure) → StandsFor small exposure halted_world at_end }
     ensures halted_denied { (exposure : Exposure) → ¬ StandsFor small exposure halted_world not_at_end }
 {

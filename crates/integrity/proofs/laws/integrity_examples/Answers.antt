@@ -33,3 +33,15 @@ returns-clause-refuses c = example.refuses
 
 pub returns-clause-outside_denied : goal.returns-clause-outside_denied
 returns-clause-outside_denied c = example.outside_denied
+
+pub returns-clause-forward_denied : goal.returns-clause-forward_denied
+returns-clause-forward_denied c = example.forward_denied
+
+pub returns-clause-main_denied : goal.returns-clause-main_denied
+returns-clause-main_denied c = example.main_denied
+
+pub returns-clause-enters : goal.returns-clause-enters
+returns-clause-enters c = example.enters
+
+pub returns-clause-halt_denied : goal.returns-clause-halt_denied
+returns-clause-halt_denied c = example.halt_denied
