@@ -2,28 +2,28 @@
 use Rattle.std.proofs.Common.{◌≡◌, ◌≢◌, ap, ℕ, ℤ, pos, true, false, List, [], ◌∷◌, refl, inl, inr, arith, lit<, None}
 use Rattle.std.specs.Prelude.{Any}
 use Rattle.std.proofs.lemmas.List.Elements.{All-nil, All-push}
+use Rattle.js_base.specs.declared.ids.EntryId.{EntryId}
+use Rattle.js_base.specs.declared.ids.FrameId.{FrameId}
+use Rattle.js_base.specs.declared.ids.RequestId.{RequestId}
 use Rattle.label_lattice.specs.declared.label.Label.{Label}
 use Rattle.label_lattice.specs.Label.{IntegFlows, IsTrustedBy}
 use Rattle.label_lattice.specs.Lattice.{empty_label}
 use Rattle.jif_tree.specs.Altered.{Exposure, FieldIsAffected, StatementIsAffected, VariableIsAffected}
 use Rattle.need_labels.proofs.Somewhere.{any_here, any_first, any_none}
 use Rattle.msg_cost.specs.Moves.{PlannedShape, is_trusted_by}
-use Rattle.split_rules.proofs.TrustedNeeds.{none_needed}
-use Rattle.split_rules.specs.Opening.{HasNeed}
-use Rattle.split_rules.specs.Walk.{entry_id}
-use Rattle.js_base.specs.declared.ids.EntryId.{EntryId}
-use Rattle.js_base.specs.declared.ids.FrameId.{FrameId}
-use Rattle.js_base.specs.declared.ids.RequestId.{RequestId}
 use Rattle.host_code.specs.declared.message.Message.TheVariants as message
 use Rattle.host_code.specs.Code.{halt}
 use Rattle.host_code.specs.Thread.{WaitingShape}
 use Rattle.host_code.specs.Thread.Awaited.{acknowledgement}
 use Rattle.host_core.specs.Start.{main_frame}
 use Rattle.net_world.specs.World.{IsRun}
+use Rattle.split_rules.specs.Opening.{HasNeed}
+use Rattle.split_rules.specs.Walk.{entry_id}
 use Rattle.split_rules.specs.Opening.{IsOpenTo}
 use Rattle.split_rules.specs.OpenExamples.{untrusted, trusted_by_first, sent_table}
 use Rattle.split_rules.specs.TypedCode.{Table}
 use Rattle.split_rules.specs.Worked.{host_id, field_id, var_id, statement_id, sent_local}
+use Rattle.split_rules.proofs.TrustedNeeds.{none_needed}
 use Rattle.token_laws.specs.TokenExamples.{first_request, first_token, small, start}
 use Rattle.integrity.specs.Exposed.{FieldsStand, AreAsBefore}
 use Rattle.integrity.specs.IntegrityExamples.{sent_threat, sending, waiting, two_fields, exposed_to, store, before_set}
@@ -59,7 +59,8 @@ denied_statement may = not_trusted (only_one (λ host. IsTrustedBy host 1) untru
 
 pub sending_denied : ¬ StateIsOpen (sent_threat 2) sending
 sending_denied open_state =
-    not_trusted (only_one (λ label. IsOpenTo sent_local label (sent_table.at 0 1)) untrusted open_state.running).sent.0.0.0
+    not_trusted (only_one (λ label. IsOpenTo sent_local label
+    (sent_table.at 0 1)) untrusted open_state.running).sent.0.0.0
 
 pub waits : IsOpenTo sent_local untrusted (sent_table.at 0 2) → StateIsOpen (sent_threat 2) waiting
 waits behind = record {

@@ -17,9 +17,9 @@ use Rattle.js_base.specs.declared.ids.VarId.{VarId}
 use Rattle.js_base.specs.declared.ids.SiteId.{SiteId}
 use Rattle.label_lattice.specs.declared.label.Label.{Label}
 use Rattle.label_lattice.specs.Label.{IntegFlows, IsTrustedBy}
-use Rattle.capability.specs.declared.token.Token.{Token}
 use Rattle.jif_tree.specs.Altered.{Exposure, IsAffected, FieldIsAffected, VariableIsAffected}
 use Rattle.jif_tree.specs.Store.{row_of, store_after_write}
+use Rattle.capability.specs.declared.token.Token.{Token}
 use Rattle.ics_stack.specs.declared.stack.StackEntry.{StackEntry}
 use Rattle.ics_stack.specs.Stack.{top_token}
 use Rattle.host_code.specs.declared.code.Entry.{Entry}
@@ -131,7 +131,8 @@ as_before exposure old new rows variables = record {
 
 -- what else there is in the state before is nothing to this
 from_same : (threat : Threat) (kinds : Kinds threat) (old bare : HostShape) (outcome : Outcome) → bare.rows ≡ old.rows →
-    bare.variables ≡ old.variables → bare.frames ≡ old.frames → LeavesOpen threat kinds bare outcome → LeavesOpen threat kinds old outcome
+    bare.variables ≡ old.variables → bare.frames ≡ old.frames → LeavesOpen threat kinds bare outcome →
+    LeavesOpen threat kinds old outcome
 from_same threat kinds old bare outcome rows variables frames part = record {
   state = part.state;
   stays = record {
@@ -149,7 +150,8 @@ from_same threat kinds old bare outcome rows variables frames part = record {
   sent = part.sent;
 }
 
-stands : (threat : Threat) (kinds : Kinds threat) (old new : HostShape) → new.rows ≡ old.rows → new.variables ≡ old.variables →
+stands : (threat : Threat) (kinds : Kinds threat) (old new : HostShape) → new.rows ≡ old.rows →
+    new.variables ≡ old.variables →
     new.frames ≡ old.frames → HasOpen threat kinds new → LeavesOpen threat kinds old (without_message new)
 stands threat kinds old new rows variables frames was = record {
   state = was;
@@ -166,16 +168,20 @@ either threat kinds old false first second one other = other
 
 -- ---- the changes
 
-runs : (threat : Threat) (kinds : Kinds threat) (host : HostShape) (running : Option ThreadShape) → HasOpen threat kinds host →
+runs : (threat : Threat) (kinds : Kinds threat) (host : HostShape) (running : Option ThreadShape) →
+    HasOpen threat kinds host →
     IfSome running (ThreadIsOpen threat host.me) → HasOpen threat kinds (with_running host running)
 runs threat kinds host running was also = record { running = also; waiting = was.waiting; entries = was.entries }
 
-goes_on : (threat : Threat) (kinds : Kinds threat) (host : HostShape) (thread : ThreadShape) → HasOpen threat kinds host →
+goes_on : (threat : Threat) (kinds : Kinds threat) (host : HostShape) (thread : ThreadShape) →
+    HasOpen threat kinds host →
     ThreadIsOpen threat host.me thread → LeavesOpen threat kinds host (with_thread host thread)
 goes_on threat kinds host thread was also =
-    stands threat kinds host (with_running host (Some thread)) refl refl refl (runs threat kinds host (Some thread) was also)
+    stands threat kinds host (with_running host (Some thread)) refl refl refl (runs threat kinds host
+    (Some thread) was also)
 
-waits : (threat : Threat) (kinds : Kinds threat) (host : HostShape) (at : ℕ) (thread : ThreadShape) (awaited : Awaited) (to : HostId)
+waits : (threat : Threat) (kinds : Kinds threat) (host : HostShape) (at : ℕ) (thread : ThreadShape)
+    (awaited : Awaited) (to : HostId)
     (m : Message) → HasOpen threat kinds host → ThreadIsOpen threat host.me thread → MessageIsOpen threat m →
     LeavesOpen threat kinds host (record { state = after_asking host at thread awaited to; sent = Some (to, m) })
 waits threat kinds host at thread awaited to m was also said = record {
@@ -246,16 +252,19 @@ opened : (threat : Threat) → IsKnown threat → (me : HostId) (there : EntryId
 opened threat known me there may on =
     entered threat known me there there.0 refl may (entry_at threat.code there) refl on
 
-enters : (threat : Threat) (kinds : Kinds threat) (host : HostShape) (found : Option Entry) (frame : FrameId) (token : Token) →
+enters : (threat : Threat) (kinds : Kinds threat) (host : HostShape) (found : Option Entry) (frame : FrameId)
+    (token : Token) →
     HasOpen threat kinds host → IfSome found (λ entry. PlaceIsOpen threat host.me entry.at) →
     LeavesOpen threat kinds host (without_message (after_entering host found frame token))
 enters threat kinds host None frame token was at =
     stands threat kinds host (with_running host None) refl refl refl (runs threat kinds host None was tt)
 enters threat kinds host (Some entry) frame token was at =
     let thread = thread_at entry frame token in
-    stands threat kinds host (with_running host (Some thread)) refl refl refl (runs threat kinds host (Some thread) was at)
+    stands threat kinds host (with_running host (Some thread)) refl refl refl (runs threat kinds host
+    (Some thread) was at)
 
-popped : (threat : Threat) (kinds : Kinds threat) (host : HostShape) (found : Option Entry) (frame : FrameId) (kept : Token) (halts : Bool) →
+popped : (threat : Threat) (kinds : Kinds threat) (host : HostShape) (found : Option Entry) (frame : FrameId)
+    (kept : Token) (halts : Bool) →
     HasOpen threat kinds host → IfSome found (λ entry. PlaceIsOpen threat host.me entry.at) →
     LeavesOpen threat kinds host (without_message (if halts then record host { running = None; halted = true }
     else after_entering host found frame kept))
@@ -306,9 +315,11 @@ behind : (threat : Threat) (me : HostId) (place : ℕ) (operation : Op) →
 behind threat me place operation each law =
     let same : suc place ≡ place + 1 = omega arith in
     subst (PlaceIsOpen threat me) same
-    (part threat me place operation (λ label. IsOpenTo threat.planned label (threat.table.at me.0 (suc place))) each law)
+    (part threat me place operation (λ label. IsOpenTo threat.planned label (threat.table.at me.0
+    (suc place))) each law)
 
-reads : (threat : Threat) (kinds : Kinds threat) (host : HostShape) (thread : ThreadShape) (field : FieldId) (index : List Node)
+reads : (threat : Threat) (kinds : Kinds threat) (host : HostShape) (thread : ThreadShape) (field : FieldId)
+    (index : List Node)
     (there : Option CodeFieldShape) → HasOpen threat kinds host → ThreadIsOpen threat host.me thread →
     PlaceIsOpen threat host.me (thread.at + 1) → LeavesOpen threat kinds host (after_read host thread field index there)
 reads threat kinds host thread field index None was here next = goes_on threat kinds host thread was here
@@ -316,7 +327,8 @@ reads threat kinds host thread field index (Some there) was here next =
     either threat kinds host (there.host.0 == host.me.0) _ _ (λ own. goes_on threat kinds host _ was next)
     (waits threat kinds host thread.at _ value_of_field there.host _ was next tt)
 
-writes_on : (threat : Threat) (kinds : Kinds threat) (host : HostShape) (thread : ThreadShape) (field : FieldId) (index value : ℤ) →
+writes_on : (threat : Threat) (kinds : Kinds threat) (host : HostShape) (thread : ThreadShape) (field : FieldId)
+    (index value : ℤ) →
     HasOpen threat kinds host → ThreadIsOpen threat host.me thread → FieldIsAffected threat.exposure field →
     LeavesOpen threat kinds host (with_thread (with_row_written host field index value) thread)
 writes_on threat kinds host thread field index value was here may =
@@ -328,7 +340,8 @@ writes_on threat kinds host thread field index value was here may =
       sent = tt;
     }
 
-sets_on : (threat : Threat) (kinds : Kinds threat) (host : HostShape) (thread : ThreadShape) (frame : FrameId) (x : VarId) (value : ℤ) →
+sets_on : (threat : Threat) (kinds : Kinds threat) (host : HostShape) (thread : ThreadShape) (frame : FrameId)
+    (x : VarId) (value : ℤ) →
     HasOpen threat kinds host → ThreadIsOpen threat host.me thread → VariableIsAffected threat.exposure x →
     LeavesOpen threat kinds host (with_thread (with_variable_set host frame x value) thread)
 sets_on threat kinds host thread frame x value was here may =
@@ -367,7 +380,8 @@ makes_frame threat kinds host thread site was next = record {
   sent = tt;
 }
 
-puts : (threat : Threat) (kinds : Kinds threat) (host : HostShape) (thread : ThreadShape) (field : FieldId) (index value : List Node)
+puts : (threat : Threat) (kinds : Kinds threat) (host : HostShape) (thread : ThreadShape) (field : FieldId)
+    (index value : List Node)
     (there : Option CodeFieldShape) → HasOpen threat kinds host → ThreadIsOpen threat host.me thread →
     PlaceIsOpen threat host.me (thread.at + 1) → FieldIsAffected threat.exposure field →
     LeavesOpen threat kinds host (after_put host thread field index value there)
@@ -378,7 +392,8 @@ puts threat kinds host thread field index value (Some there) was here next may =
     (value_in_thread host thread value) was next may)
     (waits threat kinds host thread.at (after_clearing thread) acknowledgement there.host _ was next may)
 
-pushes : (threat : Threat) (kinds : Kinds threat) (host : HostShape) (thread : ThreadShape) (there : EntryId) (held : Option Token) →
+pushes : (threat : Threat) (kinds : Kinds threat) (host : HostShape) (thread : ThreadShape) (there : EntryId)
+    (held : Option Token) →
     HasOpen threat kinds host → ThreadIsOpen threat host.me thread → PlaceIsOpen threat host.me (thread.at + 1) →
     EntryIsOpen threat there → LeavesOpen threat kinds host (after_own_push host thread there held)
 pushes threat kinds host thread there None was here next may = goes_on threat kinds host thread was here
@@ -389,7 +404,8 @@ pushes threat kinds host thread there (Some held) was here next may =
       entries = All-cons kinds.keeps _ _ (kinds.open_keeps _ may) was.entries;
     })
 
-asks_for : (threat : Threat) (kinds : Kinds threat) (host : HostShape) (thread : ThreadShape) (there : EntryId) (on : HostId)
+asks_for : (threat : Threat) (kinds : Kinds threat) (host : HostShape) (thread : ThreadShape) (there : EntryId)
+    (on : HostId)
     (held : Option Token) → HasOpen threat kinds host → ThreadIsOpen threat host.me thread →
     PlaceIsOpen threat host.me (thread.at + 1) → EntryIsOpen threat there →
     LeavesOpen threat kinds host (after_ask host thread there on held)
@@ -397,7 +413,8 @@ asks_for threat kinds host thread there on None was here next may = goes_on thre
 asks_for threat kinds host thread there on (Some held) was here next may =
     waits threat kinds host thread.at _ token_of_entry on _ was next may
 
-goes : (threat : Threat) (kinds : Kinds threat) (host : HostShape) (thread : ThreadShape) (frame : FrameId) (there : EntryId) (on : HostId)
+goes : (threat : Threat) (kinds : Kinds threat) (host : HostShape) (thread : ThreadShape) (frame : FrameId)
+    (there : EntryId) (on : HostId)
     (held : Option Token) → HasOpen threat kinds host → ThreadIsOpen threat host.me thread → EntryIsOpen threat there →
     LeavesOpen threat kinds host (after_go host thread frame there on held)
 goes threat kinds host thread frame there on None was here may = goes_on threat kinds host thread was here
@@ -415,14 +432,16 @@ calls_own : (threat : Threat) (kinds : Kinds threat) (host : HostShape) (thread 
 calls_own threat kinds host thread None was here at = goes_on threat kinds host thread was here
 calls_own threat kinds host thread (Some entry) was here at = goes_on threat kinds host _ was at
 
-gives_result : (threat : Threat) (kinds : Kinds threat) (host : HostShape) (thread : ThreadShape) (x : VarId) (value : List Node)
+gives_result : (threat : Threat) (kinds : Kinds threat) (host : HostShape) (thread : ThreadShape) (x : VarId)
+    (value : List Node)
     (held : Option Token) (passes : Bool) → HasOpen threat kinds host → ThreadIsOpen threat host.me thread →
     PlaceIsOpen threat host.me (thread.at + 1) → VariableIsAffected threat.exposure x →
     LeavesOpen threat kinds host (after_return host thread x value held passes)
 gives_result threat kinds host thread x value None passes was here next may = goes_on threat kinds host thread was here
 gives_result threat kinds host thread x value (Some held) passes was here next may =
     either threat kinds host (held.host.0 == host.me.0) _ _
-    (λ own. sets_on threat kinds host (after_clearing thread) held.frame x (value_in_thread host thread value) was next may)
+    (λ own. sets_on threat kinds host (after_clearing thread) held.frame x
+    (value_in_thread host thread value) was next may)
     (either threat kinds host passes _ _
     (λ is. waits threat kinds host thread.at _ acknowledgement held.host _ was next may)
     (goes_on threat kinds host _ was next))
@@ -432,7 +451,8 @@ abbrev pub PopsOpen : Threat → HostShape → Option Token → Type 0
 PopsOpen threat host held = (token : Token) → held ≡ Some token → top_token host.entries ≡ Some token →
     TopIsOpen threat host.entries
 
-pops_if : (threat : Threat) (kinds : Kinds threat) → IsKnown threat → (host : HostShape) (passes : Bool) → HasOpen threat kinds host →
+pops_if : (threat : Threat) (kinds : Kinds threat) → IsKnown threat → (host : HostShape) (passes : Bool) →
+    HasOpen threat kinds host →
     All (EntryFits threat.code host.me) host.entries → (passes ≡ true → TopIsOpen threat host.entries) →
     LeavesOpen threat kinds host (without_message (if passes
     then after_pop threat.code (with_running host None) host.entries
@@ -445,12 +465,14 @@ pops_if threat kinds known host false was fits may =
     stands threat kinds host (with_one_ignored (with_running host None)) refl refl refl
     (record { running = tt; waiting = was.waiting; entries = was.entries })
 
-gives_back : (threat : Threat) (kinds : Kinds threat) → IsKnown threat → (host : HostShape) (thread : ThreadShape) (held : Option Token)
+gives_back : (threat : Threat) (kinds : Kinds threat) → IsKnown threat →
+    (host : HostShape) (thread : ThreadShape) (held : Option Token)
     (passes : Bool) → HasOpen threat kinds host → ThreadIsOpen threat host.me thread →
     All (EntryFits threat.code host.me) host.entries →
     (IsTrue passes → PassesWith threat.code host op.Back held) → PopsOpen threat host held →
     LeavesOpen threat kinds host (after_back threat.code host thread held passes)
-gives_back threat kinds known host thread None passes was here fits check may = goes_on threat kinds host thread was here
+gives_back threat kinds known host thread None passes was here fits check may =
+    goes_on threat kinds host thread was here
 gives_back threat kinds known host thread (Some held) passes was here fits check may =
     either threat kinds host (held.host.0 == host.me.0) _ _
     (λ own. pops_if threat kinds known host passes was fits
@@ -468,7 +490,8 @@ entry_here threat me on there is own =
     some_each (λ (entry : Entry). entry.host ≡ on) (λ entry. entry.host ≡ me) (entry_at threat.code there)
     (λ entry at. at ∙ same_id on me (number_same on.0 me.0 own)) is
 
-operation : (threat : Threat) (kinds : Kinds threat) → IsKnown threat → (host : HostShape) (thread : ThreadShape) (operation : Op) (count : ℕ)
+operation : (threat : Threat) (kinds : Kinds threat) → IsKnown threat →
+    (host : HostShape) (thread : ThreadShape) (operation : Op) (count : ℕ)
     (passes : Bool) → HasOpen threat kinds host → ThreadIsOpen threat host.me thread →
     All (EntryFits threat.code host.me) host.entries → OperationFits threat.code host.me count operation →
     (IsTrue passes → PassesWith threat.code host operation thread.held) → PopsOpen threat host thread.held →
@@ -494,7 +517,8 @@ operation threat kinds known host thread (op.Send x to) count passes was here fi
     (variable_affected threat known x
     (part threat host.me thread.at (op.Send x to) (λ label. MayChange threat.code label x) (λ label one. one.0) law))
 operation threat kinds known host thread (op.Frame site) count passes was here fits names check may law =
-    makes_frame threat kinds host thread site was (behind threat host.me thread.at (op.Frame site) (λ label one. one) law)
+    makes_frame threat kinds host thread site was (behind threat host.me thread.at (op.Frame site)
+    (λ label one. one) law)
 operation threat kinds known host thread (op.Arg x value) count passes was here fits names check may law =
     sets_on threat kinds host (after_clearing thread) thread.new_frame x (value_in_thread host thread value) was
     (behind threat host.me thread.at (op.Arg x value) (λ label one. one.1) law)
@@ -536,14 +560,17 @@ operation threat kinds known host thread (op.Branch guard target) count passes w
     either threat kinds host _ _ _ (λ is. goes_on threat kinds host _ was
     (part threat host.me thread.at (op.Branch guard target)
     (λ label. IsOpenTo threat.planned label (threat.table.at host.me.0 target)) (λ label one. one.1) law))
-    (goes_on threat kinds host _ was (behind threat host.me thread.at (op.Branch guard target) (λ label one. one.0) law))
+    (goes_on threat kinds host _ was (behind threat host.me thread.at (op.Branch guard target)
+    (λ label one. one.0) law))
 
 -- ---- a turn
 
-running_open : (threat : Threat) (kinds : Kinds threat) → IsKnown threat → (host : HostShape) (thread : ThreadShape) (there : Option Instr)
+running_open : (threat : Threat) (kinds : Kinds threat) → IsKnown threat →
+    (host : HostShape) (thread : ThreadShape) (there : Option Instr)
     (outcome : Outcome) → HasOpen threat kinds host → ThreadIsOpen threat host.me thread →
     StateFits threat.code host → PopsOpen threat host thread.held →
-    instruction_at threat.code host.me thread.at ≡ there → IsRunning threat.code host thread there outcome → LeavesOpen threat kinds host outcome
+    instruction_at threat.code host.me thread.at ≡ there → IsRunning threat.code host thread there outcome →
+    LeavesOpen threat kinds host outcome
 running_open threat kinds known host thread None outcome was here fits may is step =
     subst (LeavesOpen threat kinds host) step (goes_on threat kinds host thread was here)
 running_open threat kinds known host thread (Some instruction) outcome was here fits may is step =
@@ -556,9 +583,11 @@ running_open threat kinds known host thread (Some instruction) outcome was here 
     threat.exposure.bad
     (λ label. known.opens.instructions label host.me thread.at instruction is) here))
 
-turn_of : (threat : Threat) (kinds : Kinds threat) → IsKnown threat → (host : HostShape) (running : Option ThreadShape) (outcome : Outcome) →
+turn_of : (threat : Threat) (kinds : Kinds threat) → IsKnown threat →
+    (host : HostShape) (running : Option ThreadShape) (outcome : Outcome) →
     HasOpen threat kinds host → IfSome running (ThreadIsOpen threat host.me) → StateFits threat.code host →
-    IfSome running (λ thread. PopsOpen threat host thread.held) → IsTurnOf threat.code host running outcome → LeavesOpen threat kinds host outcome
+    IfSome running (λ thread. PopsOpen threat host thread.held) → IsTurnOf threat.code host running outcome →
+    LeavesOpen threat kinds host outcome
 turn_of threat kinds known host None outcome was here fits may step =
     subst (LeavesOpen threat kinds host) step (stands threat kinds host host refl refl refl was)
 turn_of threat kinds known host (Some thread) outcome was here fits may step =
@@ -612,7 +641,8 @@ wakes threat kinds host (Some place) answered was may keeps =
       entries = was.entries;
     })
 
-takes : (threat : Threat) (kinds : Kinds threat) → IsKnown threat → (host : HostShape) (from : HostId) (m : Message) (passes : Bool) →
+takes : (threat : Threat) (kinds : Kinds threat) → IsKnown threat →
+    (host : HostShape) (from : HostId) (m : Message) (passes : Bool) →
     HasOpen threat kinds host → StateFits threat.code host → (IsTrue passes → Passes threat.code host from m) →
     (Passes threat.code host from m → DoesOpen threat host from m) →
     LeavesOpen threat kinds host (after_taking threat.code host from m passes)
@@ -665,7 +695,8 @@ takes threat kinds known host from (message.Token request token) true was fits c
     wakes threat kinds host _ (with_token (Some token)) was (said (check refl)) (λ thread may. may)
 
 -- a message is taken that is open where it passes its check
-pub open_taking : (threat : Threat) (kinds : Kinds threat) → IsKnown threat → (host : HostShape) (from : HostId) (m : Message)
+pub open_taking : (threat : Threat) (kinds : Kinds threat) → IsKnown threat →
+    (host : HostShape) (from : HostId) (m : Message)
     (outcome : Outcome) → HasOpen threat kinds host → StateFits threat.code host →
     (Passes threat.code host from m → DoesOpen threat host from m) → IsTaking threat.code host from m outcome →
     LeavesOpen threat kinds host outcome

@@ -1,31 +1,40 @@
--- Every event keeps that all that goes on could be the doing of misbehaving hosts, and changes nothing that they may not
--- affect.
-use Rattle.std.proofs.Common.{◌≡◌, ◌∙◌, ℕ, zero, suc, ◌+◌, inl, inr, ℤ, Bool, true, false, List, [], ◌∷◌, ◌++◌}
-use Rattle.std.proofs.Common.{Option, Some, None, refl, sym, ap, subst, arith}
+-- Every event keeps that all that goes on could be the doing of misbehaving hosts, and changes nothing that they may
+-- not affect.
 use Rattle.std.specs.Prelude.{◌==◌, ◌⊎◌, if◌then◌else◌, slice_get, slice_set, All, Any, IfSome, IsSomeAnd}
 use Rattle.std.specs.Option.{option_map}
 use Rattle.std.specs.Int.{bit_at}
+use Rattle.std.proofs.Common.{◌≡◌, ◌∙◌, ℕ, zero, suc, ◌+◌, inl, inr, ℤ, Bool, true, false, List, [], ◌∷◌, ◌++◌}
+use Rattle.std.proofs.Common.{Option, Some, None, refl, sym, ap, subst, arith}
 use Rattle.std.proofs.lemmas.Option.{slice_get-map}
 use Rattle.js_base.specs.declared.ids.HostId.{HostId}
 use Rattle.label_lattice.specs.declared.label.Label.{Label}
-use Rattle.jif_tree.specs.Altered.{Exposure}
 use Rattle.host_decl.specs.Hosts as declared_hosts
+use Rattle.jif_tree.specs.Altered.{Exposure}
+use Rattle.need_labels.proofs.Somewhere.{any_here, any_right}
 use Rattle.ics_stack.specs.declared.stack.StackEntry.{StackEntry}
 use Rattle.host_code.specs.declared.message.Message.{Message}
 use Rattle.host_code.specs.declared.message.Message.TheVariants as message
 use Rattle.host_code.specs.Thread.{ThreadShape, WaitingShape}
 use Rattle.host_code.specs.Code.{CodeShape}
-use Rattle.host_core.specs.Host.{HostShape}
-use Rattle.host_core.specs.Turn.{label_of_turn}
 use Rattle.entry_check.specs.Checks.{label_of_host}
-use Rattle.need_labels.proofs.Somewhere.{any_here, any_right}
 use Rattle.event_text.specs.declared.event.Event.{Event}
 use Rattle.event_text.specs.declared.event.Event.TheVariants.{Take, Turn, Act}
 use Rattle.event_text.specs.declared.event.BadMessage.{BadMessage}
+use Rattle.host_core.specs.Host.{HostShape}
+use Rattle.host_core.specs.Turn.{label_of_turn}
 use Rattle.net_world.specs.Fits.{ShapeFits, IsStateOf, HasOwnToken}
 use Rattle.net_world.specs.World.{IsRun}
 use Rattle.net_world.specs.Flying.{Flight}
-use Rattle.net_world.specs.World.{WorldShape, IsStep, IsTakeStep, IsTurnStep, IsActStep, state_at, misbehaves, is_absent}
+use Rattle.net_world.specs.World.{
+  WorldShape,
+  IsStep,
+  IsTakeStep,
+  IsTurnStep,
+  IsActStep,
+  state_at,
+  misbehaves,
+  is_absent,
+}
 use Rattle.net_world.specs.World.{named_host, hosts_before, with_state, without_flight, world_at_start}
 use Rattle.net_world.proofs.Moved.{moved_acted, either}
 use Rattle.net_world.proofs.StepLaws.{take_puts, turn_puts, act_puts}

@@ -12,13 +12,13 @@ use Rattle.jif_tree.specs.declared.program.Program.{Program}
 use Rattle.jif_tree.specs.Altered.{Exposure, FieldIsAffected}
 use Rattle.jif_tree.specs.SourceRun.{configuration_at_start}
 use Rattle.jif_tree.specs.Store.{row_of}
-use Rattle.host_code.specs.Code.{CodeShape}
-use Rattle.host_core.specs.Host.{HostShape}
-use Rattle.msg_cost.specs.Moves.{planned_of}
 use Rattle.need_labels.specs.Labelled.{Labelled}
 use Rattle.need_labels.specs.Needs.{NeedsShape}
 use Rattle.need_labels.specs.Plan.{PlanShape}
+use Rattle.msg_cost.specs.Moves.{planned_of}
+use Rattle.host_code.specs.Code.{CodeShape}
 use Rattle.event_text.specs.declared.event.Event.{Event}
+use Rattle.host_core.specs.Host.{HostShape}
 use Rattle.net_world.specs.Fits.{HasOwnToken}
 use Rattle.net_world.specs.World.{WorldShape, IsRun, world_at_start, state_at, has_halted}
 use Rattle.split_rules.specs.Allowed.{IsAllowed}
@@ -39,7 +39,8 @@ row_stands : {X : Type 0} (A : Type 0) (now was start : X) → (now ≡ was) ⊎
 row_stands A now was start (inl is) apart same = is ∙ same
 row_stands A now was start (inr may) apart same = absurd (apart may)
 
-stands_from : (exposure : Exposure) (number : ℕ) (store : List (List ℤ)) (state : HostShape) (found : Option HostShape) →
+stands_from : (exposure : Exposure) (number : ℕ) (store : List (List ℤ)) (state : HostShape)
+    (found : Option HostShape) →
     ((old : HostShape) → found ≡ Some old → row_of old.rows number ≡ row_of store number) →
     IsSomeAnd found (λ old. IsAsBefore exposure old state) → ¬ FieldIsAffected exposure (record { 0 = number }) →
     row_of state.rows number ≡ row_of store number

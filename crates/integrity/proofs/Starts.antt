@@ -1,4 +1,5 @@
--- The world before the first event: the fields have the values of the store, and where the root misbehaves nothing runs.
+-- The world before the first event: the fields have the values of the store, and where the root misbehaves nothing
+-- runs.
 use Rattle.std.proofs.Common.{◌≡◌, ◌∙◌, ℕ, zero, suc, ◌+◌, ℤ, Bool, true, false, List, [], ◌∷◌, Option, Some, None}
 use Rattle.std.proofs.Common.{refl, sym, ap, arith}
 use Rattle.std.specs.Prelude.{◌==◌, if◌then◌else◌, slice_get, IfSome}
@@ -7,9 +8,9 @@ use Rattle.std.proofs.lemmas.Bool.{eq-eqb}
 use Rattle.std.proofs.lemmas.List.Elements.{All-nil}
 use Rattle.js_base.specs.declared.ids.HostId.{HostId}
 use Rattle.js_base.specs.declared.ids.FrameId.{FrameId}
-use Rattle.capability.specs.declared.token.Token.{Token}
 use Rattle.host_decl.specs.Hosts as declared_hosts
 use Rattle.jif_tree.specs.Store.{row_of}
+use Rattle.capability.specs.declared.token.Token.{Token}
 use Rattle.host_code.specs.declared.code.Entry.{Entry}
 use Rattle.host_code.specs.Code.{CodeShape, CodeFieldShape, halt, entry_at}
 use Rattle.host_stores.specs.Stores.{own_rows}
@@ -48,7 +49,8 @@ first_rows code store key me true =
 first_rows code store key me false = refl
 
 rows_if : (code : CodeShape) (store : List (List ℤ)) (key : List ℕ) (me : HostId) (misbehaves : Bool)
-    (state : HostShape) → given (Some (if misbehaves then None else Some (host_at_start code store key me))) ≡ Some state →
+    (state : HostShape) → given (Some (if misbehaves then None else Some
+    (host_at_start code store key me))) ≡ Some state →
     state.rows ≡ own_rows me store 0 code.fields
 rows_if code store key me true state is = absurd (cc)
 rows_if code store key me false state is =

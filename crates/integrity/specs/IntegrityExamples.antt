@@ -8,13 +8,13 @@ use Rattle.host_code.specs.declared.instruction.Op.TheVariants as op
 use Rattle.host_code.specs.declared.message.Message.TheVariants as message
 use Rattle.host_code.specs.Thread.{ThreadShape}
 use Rattle.host_code.specs.Code.{CodeShape}
+use Rattle.event_text.specs.declared.event.Event.{Event}
+use Rattle.event_text.specs.declared.event.Event.TheVariants.{Act}
+use Rattle.event_text.specs.declared.event.BadMessage.TheVariants as bad
 use Rattle.host_core.specs.Host.{HostShape, Outcome, with_running}
 use Rattle.host_core.specs.Start.{main_frame, idle_host}
 use Rattle.host_core.specs.Taking.{after_taking}
 use Rattle.host_core.specs.Turn.{after_operation}
-use Rattle.event_text.specs.declared.event.Event.{Event}
-use Rattle.event_text.specs.declared.event.Event.TheVariants.{Act}
-use Rattle.event_text.specs.declared.event.BadMessage.TheVariants as bad
 use Rattle.net_world.specs.World.{WorldShape, world_at_start, after_telling, with_state}
 use Rattle.split_rules.specs.OpenExamples.{untrusted, trusted_by_first, sent_table}
 use Rattle.split_rules.specs.Worked.{host_id, field_id, var_id, a_host, labelled_with, sent_local}

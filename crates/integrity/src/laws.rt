@@ -2,22 +2,22 @@
 
 ghost use Rattle.std.specs.Prelude.{◌≡◌, ℕ, ℤ, List, [], ◌∷◌, All};
 ghost use Rattle.std.specs.Int.{bit_at};
+ghost use Rattle.js_base.specs.declared.ids.FrameId.{FrameId};
+ghost use Rattle.js_base.specs.declared.ids.RequestId.{RequestId};
+ghost use Rattle.host_decl.specs.Hosts.{HostsShape};
 ghost use Rattle.jif_tree.specs.declared.program.Program.{Program};
 ghost use Rattle.jif_tree.specs.Altered.{Exposure, FieldIsAffected, StatementIsAffected, VariableIsAffected};
 ghost use Rattle.jif_tree.specs.SourceRun.{configuration_at_start};
-ghost use Rattle.js_base.specs.declared.ids.FrameId.{FrameId};
-ghost use Rattle.js_base.specs.declared.ids.RequestId.{RequestId};
-ghost use Rattle.host_code.specs.declared.message.Message.TheVariants as message;
-ghost use Rattle.host_code.specs.Code.{halt};
-ghost use Rattle.split_rules.specs.Walk.{entry_id};
-ghost use Rattle.event_text.specs.declared.event.Event.{Event};
-ghost use Rattle.host_decl.specs.Hosts.{HostsShape};
-ghost use Rattle.msg_cost.specs.Moves.{PlannedShape, planned_of};
 ghost use Rattle.need_labels.specs.Labelled.{Labelled};
 ghost use Rattle.need_labels.specs.Needs.{NeedsShape};
 ghost use Rattle.need_labels.specs.Plan.{PlanShape};
+ghost use Rattle.msg_cost.specs.Moves.{PlannedShape, planned_of};
+ghost use Rattle.host_code.specs.declared.message.Message.TheVariants as message;
+ghost use Rattle.host_code.specs.Code.{halt};
+ghost use Rattle.event_text.specs.declared.event.Event.{Event};
 ghost use Rattle.net_world.specs.Fits.{HasOwnToken};
 ghost use Rattle.net_world.specs.World.{WorldShape, IsStep, IsRun, world_at_start};
+ghost use Rattle.split_rules.specs.Walk.{entry_id};
 ghost use Rattle.split_rules.specs.Allowed.{IsAllowed};
 ghost use Rattle.split_rules.specs.OpenExamples.{untrusted, trusted_by_first};
 ghost use Rattle.split_rules.specs.Worked.{field_id, var_id, statement_id};
@@ -98,8 +98,8 @@ pub fn integrity_examples()
     ensures affects_statement { StatementIsAffected (sent_threat 2).exposure (statement_id 2) }
     ensures denied_variable { ¬ VariableIsAffected (sent_threat 2).exposure (var_id 0) }
     ensures denied_statement { ¬ StatementIsAffected (sent_threat 2).exposure (statement_id 1) }
-    // That a local is sent which the first principal trusts is none of its doing, but that a thread waits for the answer
-    // could be: only what is due then counts.
+    // That a local is sent which the first principal trusts is none of its doing. That a thread waits for the answer
+    // could be, since only what is due then counts.
     ensures sending_denied { ¬ StateIsOpen (sent_threat 2) sending }
     ensures waits { StateIsOpen (sent_threat 2) waiting }
     // Where nobody misbehaves, nothing that waits is anybody's doing.
