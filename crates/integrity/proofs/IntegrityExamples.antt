@@ -1,5 +1,24 @@
 -- What a misbehaving host may affect in a small program and a small world, as it is computed.
-use Rattle.std.proofs.Common.{◌≡◌, ◌≢◌, ap, ℕ, ℤ, pos, true, false, List, [], ◌∷◌, refl, inl, inr, arith, lit<, None}
+use Rattle.std.proofs.Common.{
+  ◌≡◌,
+  ◌≢◌,
+  ap,
+  subst,
+  ℕ,
+  ℤ,
+  pos,
+  true,
+  false,
+  List,
+  [],
+  ◌∷◌,
+  refl,
+  inl,
+  inr,
+  arith,
+  lit<,
+  None,
+}
 use Rattle.std.specs.Prelude.{Any}
 use Rattle.std.proofs.lemmas.List.Elements.{All-nil, All-push}
 use Rattle.js_base.specs.declared.ids.EntryId.{EntryId}
@@ -9,6 +28,7 @@ use Rattle.label_lattice.specs.declared.label.Label.{Label}
 use Rattle.label_lattice.specs.Label.{IntegFlows, IsTrustedBy}
 use Rattle.label_lattice.specs.Lattice.{empty_label}
 use Rattle.jif_tree.specs.Altered.{Exposure, FieldIsAffected, StatementIsAffected, VariableIsAffected}
+use Rattle.jif_tree.specs.SourceRun.{Configuration}
 use Rattle.need_labels.proofs.Somewhere.{any_here, any_first, any_none}
 use Rattle.msg_cost.specs.Moves.{PlannedShape, is_trusted_by}
 use Rattle.host_code.specs.declared.message.Message.TheVariants as message
@@ -25,6 +45,7 @@ use Rattle.split_rules.specs.TypedCode.{Table}
 use Rattle.split_rules.specs.Worked.{host_id, field_id, var_id, statement_id, sent_local}
 use Rattle.split_rules.proofs.TrustedNeeds.{none_needed}
 use Rattle.token_laws.specs.TokenExamples.{first_request, first_token, small, start}
+use Rattle.integrity.specs.Altering.{StandsFor}
 use Rattle.integrity.specs.Exposed.{FieldsStand, AreAsBefore}
 use Rattle.integrity.specs.IntegrityExamples.{sent_threat, sending, waiting, two_fields, exposed_to, store, before_set}
 use Rattle.integrity.specs.IntegrityExamples.{holder, sets_to_nine, setting, refusing, after_set, after_refused}
@@ -148,6 +169,10 @@ none_affects may = any_none (λ host. IntegFlows host untrusted) may
 
 pub stands_denied : ¬ FieldsStand two_fields (exposed_to 0) after_set store
 stands_denied stands = nine_is_not_seven (stands 0 _ setting.state refl refl none_affects)
+
+pub stands_for_denied : (c : Configuration) → c.store ≡ store → ¬ StandsFor two_fields (exposed_to 0) after_set c
+stands_for_denied c same stands =
+    stands_denied (subst (FieldsStand two_fields (exposed_to 0) after_set) same stands.fields)
 
 pub as_before_denied : ¬ AreAsBefore (exposed_to 0) before_set after_set
 as_before_denied stays = elim ((stays (host_id 0) setting.state refl).rows (field_id 0)) [

@@ -7,7 +7,7 @@ ghost use Rattle.js_base.specs.declared.ids.RequestId.{RequestId};
 ghost use Rattle.host_decl.specs.Hosts.{HostsShape};
 ghost use Rattle.jif_tree.specs.declared.program.Program.{Program};
 ghost use Rattle.jif_tree.specs.Altered.{Exposure, FieldIsAffected, StatementIsAffected, VariableIsAffected};
-ghost use Rattle.jif_tree.specs.SourceRun.{configuration_at_start};
+ghost use Rattle.jif_tree.specs.SourceRun.{Configuration, configuration_at_start};
 ghost use Rattle.need_labels.specs.Labelled.{Labelled};
 ghost use Rattle.need_labels.specs.Needs.{NeedsShape};
 ghost use Rattle.need_labels.specs.Plan.{PlanShape};
@@ -116,6 +116,8 @@ pub fn integrity_examples()
     ensures sets { IsRun two_fields before_set (sets_to_nine 0 ∷ []) after_set }
     ensures stands { FieldsStand two_fields (exposed_to 2) after_set store }
     ensures stands_denied { ¬ FieldsStand two_fields (exposed_to 0) after_set store }
+    ensures stands_for_denied { (c : Configuration) → c.store ≡ store →
+        ¬ StandsFor two_fields (exposed_to 0) after_set c }
     ensures as_before_denied { ¬ AreAsBefore (exposed_to 0) before_set after_set }
     // To set the other field is refused.
     ensures refuses { IsRun two_fields before_set (sets_to_nine 1 ∷ []) after_refused }

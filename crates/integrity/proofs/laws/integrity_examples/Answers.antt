@@ -45,3 +45,6 @@ returns-clause-enters c = example.enters
 
 pub returns-clause-halt_denied : goal.returns-clause-halt_denied
 returns-clause-halt_denied c = example.halt_denied
+
+pub returns-clause-stands_for_denied : goal.returns-clause-stands_for_denied
+returns-clause-stands_for_denied c = example.stands_for_denied
