@@ -2,6 +2,7 @@
 use Rattle.std.specs.Prelude.{◌≡◌, ℕ, ◌⊎◌, List, Option}
 use Rattle.js_base.specs.Counts.{Rose}
 use Rattle.js_base.specs.Sink.{Takes, TakesFront}
+use Rattle.js_base.specs.declared.sink.Sink as sinks
 use Rattle.js_base.specs.declared.status.Status.{Status}
 use Rattle.js_base.specs.declared.status.Status.TheVariants.{OutFault, NoMemory}
 use Rattle.split_cli.specs.Verdicts.{VerdictShape, Refuse, Print, no_memory_line}
@@ -14,6 +15,15 @@ pub record SinkChange : Type 0 where
   pub faults_after : ℕ
   pub taken_before : Option (List ℕ)
   pub taken_after : Option (List ℕ)
+
+-- what a sink of this kind did between two moments, by what it tells of itself
+abbrev pub sink_change : {S : Type 0} → sinks.Ghosts S → (before after : S) → SinkChange
+sink_change of before after = record {
+  faults_before = of.faults before;
+  faults_after = of.faults after;
+  taken_before = of.taken before;
+  taken_after = of.taken after;
+}
 
 -- nothing was put, and no fault was counted
 abbrev pub IsUntouched : SinkChange → Type 0

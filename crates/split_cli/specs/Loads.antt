@@ -3,6 +3,7 @@ use Rattle.std.specs.Prelude.{◌≡◌, ℕ, ◌+◌, zero, suc, List, take, Op
 use Rattle.std.specs.Prelude.{slice_get}
 use Rattle.std.specs.List.{AllByRecursion}
 use Rattle.js_base.specs.Counts.{counted, Rose}
+use Rattle.js_base.specs.declared.files.Files as files
 use Rattle.split_cli.specs.Verdicts.{VerdictShape, file_fault}
 
 -- What files hold before and after a call, where they tell, and what they counted: loads, saves, and faults, of which
@@ -17,6 +18,20 @@ pub record FilesChange : Type 0 where
   pub faults_before : ℕ
   pub faults_after : ℕ
   pub failed : List ℕ
+
+-- what files of this kind did between two moments, by what they tell of themselves
+abbrev pub files_change : {F : Type 0} → files.Ghosts F → (before after : F) → FilesChange
+files_change of before after = record {
+  held = of.held before;
+  held_after = of.held after;
+  loads_before = of.loads before;
+  loads_after = of.loads after;
+  saves_before = of.saves before;
+  saves_after = of.saves after;
+  faults_before = of.faults before;
+  faults_after = of.faults after;
+  failed = of.failed after;
+}
 
 -- where the files tell what they hold, this is held under the name
 abbrev pub Told : Option (List ℕ → Option (List ℕ)) → List ℕ → Option (List ℕ) → Type 0

@@ -4,7 +4,7 @@ ghost use Rattle.std.specs.Prelude.{◌≡◌, ◌≤◌, ◌+◌, length, map, 
 ghost use Rattle.std.specs.List.{AllZip};
 ghost use Rattle.js_base.specs.Counts.{counted};
 ghost use Rattle.split_cli.specs.Loading.{Gives, IsStopOf, LoadStops, StopCounts, StopsWith, StopsLoading};
-ghost use Rattle.split_cli.specs.Loads.{counted_by};
+ghost use Rattle.split_cli.specs.Loads.{counted_by, files_change};
 
 use crate::stop::{Stop, stopped};
 use crate::verdict::Verdict;
@@ -45,17 +45,7 @@ pub fn load_all<F: Files>(
     ensures loaded { IfOk result (λ loaded.
         AllZip (λ one given. Gives (F.held files.old) one.name.now one.most given) asked.now loaded.items) }
     ensures stopped { IfErr result (StopsWith (StopsLoading (map (λ one. one.name.now) asked.now)
-        (record {
-          held = F.held files.old;
-          held_after = F.held files.new;
-          loads_before = F.loads files.old;
-          loads_after = F.loads files.new;
-          saves_before = F.saves files.old;
-          saves_after = F.saves files.new;
-          faults_before = F.faults files.old;
-          faults_after = F.faults files.new;
-          failed = F.failed files.new;
-        }))) }
+        (files_change F.Files files.old files.new))) }
     ensures loads { OnOk result (F.loads files.new ≡ counted_by (length asked.now) (F.loads files.old)) }
     ensures faults { OnOk result (F.faults files.new ≡ F.faults files.old) }
     ensures few { F.loads files.new ≤ F.loads files.old + length asked.now }

@@ -5,11 +5,12 @@ ghost use Rattle.std.specs.Prelude.{Option, Some};
 ghost use Rattle.js_base.specs.Counts.{last_count};
 ghost use Rattle.js_base.specs.declared.status.Status.{Status};
 ghost use Rattle.js_base.specs.Sink.{TakesFront};
-ghost use Rattle.split_cli.specs.Answers.{AnswersTo};
+ghost use Rattle.split_cli.specs.Answers.{AnswersTo, sink_change};
 ghost use Rattle.split_cli.specs.Commands as command;
 ghost use Rattle.split_cli.specs.Asked.{command_shape};
 ghost use Rattle.split_cli.specs.Due.{Due, IsDue, IsDueForCommand};
 ghost use Rattle.split_cli.specs.Faithful.{PutsDriven, PutsFaithfully};
+ghost use Rattle.split_cli.specs.Loads.{files_change};
 ghost use Rattle.split_cli.specs.Verdicts.{Print, verdict_shape, no_memory_line};
 
 use crate::commands::check::due_for_check;
@@ -56,30 +57,10 @@ pub fn jifsplit<F: Files, S: Sink, E: Sink>(
 ) -> Status
     // What is answered and put out is what is due.
     ensures answer { AnswersTo (map string_bytes words.now)
-        (record {
-          held = F.held files.old;
-          held_after = F.held files.new;
-          loads_before = F.loads files.old;
-          loads_after = F.loads files.new;
-          saves_before = F.saves files.old;
-          saves_after = F.saves files.new;
-          faults_before = F.faults files.old;
-          faults_after = F.faults files.new;
-          failed = F.failed files.new;
-        })
+        (files_change F.Files files.old files.new)
         result
-        (record {
-          faults_before = S.faults out.old;
-          faults_after = S.faults out.new;
-          taken_before = S.taken out.old;
-          taken_after = S.taken out.new;
-        })
-        (record {
-          faults_before = E.faults err.old;
-          faults_after = E.faults err.new;
-          taken_before = E.taken err.old;
-          taken_after = E.taken err.new;
-        }) }
+        (sink_change S.Sink out.old out.new)
+        (sink_change E.Sink err.old err.new) }
     // Where a replay went well, what was put is the report of hosts whose fields follow the plain run of the program.
     ensures headline { (program hosts events : List ℕ) →
         map string_bytes words.now ≡ command.words_of (command.Replay program hosts events) → result ≡ Status.Done →
@@ -129,30 +110,10 @@ fn answered<F: Files, S: Sink, E: Sink>(
     err: &mut E,
 ) -> Status
     ensures answer { AnswersTo (map string_bytes words.now)
-        (record {
-          held = F.held files.old;
-          held_after = F.held files.new;
-          loads_before = F.loads files.old;
-          loads_after = F.loads files.new;
-          saves_before = F.saves files.old;
-          saves_after = F.saves files.new;
-          faults_before = F.faults files.old;
-          faults_after = F.faults files.new;
-          failed = F.failed files.new;
-        })
+        (files_change F.Files files.old files.new)
         result
-        (record {
-          faults_before = S.faults out.old;
-          faults_after = S.faults out.new;
-          taken_before = S.taken out.old;
-          taken_after = S.taken out.new;
-        })
-        (record {
-          faults_before = E.faults err.old;
-          faults_after = E.faults err.new;
-          taken_before = E.taken err.old;
-          taken_after = E.taken err.new;
-        }) }
+        (sink_change S.Sink out.old out.new)
+        (sink_change E.Sink err.old err.new) }
     ensures loads { (asked : command.CommandShape) → command.IsCommand asked →
         map string_bytes words.now ≡ command.words_of asked →
         F.loads files.new ≤ F.loads files.old + length (command.files_of asked) }
@@ -176,17 +137,7 @@ fn answered<F: Files, S: Sink, E: Sink>(
 /// What is due for the words.
 fn due<F: Files>(alloc: Global, words: &[String], files: &mut F) -> Result<Verdict, OutOfMemory>
     ensures due { IfOk result (λ verdict. IsDue (map string_bytes words.now)
-        (record {
-          held = F.held files.old;
-          held_after = F.held files.new;
-          loads_before = F.loads files.old;
-          loads_after = F.loads files.new;
-          saves_before = F.saves files.old;
-          saves_after = F.saves files.new;
-          faults_before = F.faults files.old;
-          faults_after = F.faults files.new;
-          failed = F.failed files.new;
-        })
+        (files_change F.Files files.old files.new)
         (verdict_shape verdict)) }
     ensures loads { (asked : command.CommandShape) → command.IsCommand asked →
         map string_bytes words.now ≡ command.words_of asked →
@@ -209,17 +160,7 @@ fn due_for<F: Files>(
 ) -> Result<Verdict, OutOfMemory>
     requires { command.IsCommand (command_shape asked.now) }
     ensures due { IfOk result (λ verdict. IsDueForCommand (command_shape asked.now)
-        (record {
-          held = F.held files.old;
-          held_after = F.held files.new;
-          loads_before = F.loads files.old;
-          loads_after = F.loads files.new;
-          saves_before = F.saves files.old;
-          saves_after = F.saves files.new;
-          faults_before = F.faults files.old;
-          faults_after = F.faults files.new;
-          failed = F.failed files.new;
-        })
+        (files_change F.Files files.old files.new)
         (verdict_shape verdict)) }
     ensures loads { F.loads files.new ≤ F.loads files.old + length (command.files_of (command_shape asked.now)) }
     ensures saves { F.saves files.new ≡ F.saves files.old }

@@ -11,6 +11,7 @@ ghost use Rattle.split_cli.specs.Commands as command;
 ghost use Rattle.split_cli.specs.Check.{accepted_line, plan_report};
 ghost use Rattle.split_cli.specs.Due.{DueForBytes, IsDueForCommand};
 ghost use Rattle.split_cli.specs.Loading.{EndsIn, IsLoaded};
+ghost use Rattle.split_cli.specs.Loads.{files_change};
 ghost use Rattle.split_cli.specs.PlacedShapes.{placed_shape};
 ghost use Rattle.split_cli.specs.PlacedSources.{labelled_source};
 ghost use Rattle.split_cli.specs.SourceShapes.{source_shape};
@@ -37,17 +38,7 @@ pub fn due_for_check<F: Files>(
     files: &mut F,
 ) -> Result<Verdict, Stop>
     ensures due { EndsIn (IsDueForCommand (command.Check program.now hosts.now)
-        (record {
-          held = F.held files.old;
-          held_after = F.held files.new;
-          loads_before = F.loads files.old;
-          loads_after = F.loads files.new;
-          saves_before = F.saves files.old;
-          saves_after = F.saves files.new;
-          faults_before = F.faults files.old;
-          faults_after = F.faults files.new;
-          failed = F.failed files.new;
-        })) result }
+        (files_change F.Files files.old files.new)) result }
     ensures loads { F.loads files.new ≤ F.loads files.old + 2 }
     ensures saves { F.saves files.new ≡ F.saves files.old }
     ensures held { F.held files.new ≡ F.held files.old }

@@ -11,6 +11,7 @@ ghost use Rattle.split_cli.specs.Commands.{IsStepCount};
 ghost use Rattle.split_cli.specs.Drive.{IsDriveReport};
 ghost use Rattle.split_cli.specs.Due.{DueForBytes, IsDueForCommand};
 ghost use Rattle.split_cli.specs.Loading.{EndsIn, IsLoaded};
+ghost use Rattle.split_cli.specs.Loads.{files_change};
 ghost use Rattle.split_cli.specs.PlacedShapes.{placed_shape};
 ghost use Rattle.split_cli.specs.PlacedSources.{labelled_source};
 ghost use Rattle.split_cli.specs.SourceShapes.{source_shape};
@@ -41,17 +42,7 @@ pub fn due_for_drive<F: Files>(
 ) -> Result<Verdict, Stop>
     requires { IsStepCount events }
     ensures due { EndsIn (IsDueForCommand (command.Drive program.now hosts.now start.now events)
-        (record {
-          held = F.held files.old;
-          held_after = F.held files.new;
-          loads_before = F.loads files.old;
-          loads_after = F.loads files.new;
-          saves_before = F.saves files.old;
-          saves_after = F.saves files.new;
-          faults_before = F.faults files.old;
-          faults_after = F.faults files.new;
-          failed = F.failed files.new;
-        })) result }
+        (files_change F.Files files.old files.new)) result }
     ensures loads { F.loads files.new ≤ F.loads files.old + 3 }
     ensures saves { F.saves files.new ≡ F.saves files.old }
     ensures held { F.held files.new ≡ F.held files.old }

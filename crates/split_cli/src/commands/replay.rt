@@ -5,6 +5,7 @@ ghost use Rattle.js_base.specs.declared.limits.TheConstants.{PROGRAM_BYTES, HOST
 ghost use Rattle.split_cli.specs.Commands as command;
 ghost use Rattle.split_cli.specs.Due.{DueForBytes, IsDueForCommand};
 ghost use Rattle.split_cli.specs.Loading.{EndsIn, IsLoaded};
+ghost use Rattle.split_cli.specs.Loads.{files_change};
 
 use crate::commands::{host_file, program_file, script_file};
 use crate::load::{Loaded, load_all};
@@ -28,17 +29,7 @@ pub fn due_for_replay<F: Files>(
     files: &mut F,
 ) -> Result<Verdict, Stop>
     ensures due { EndsIn (IsDueForCommand (command.Replay program.now hosts.now events.now)
-        (record {
-          held = F.held files.old;
-          held_after = F.held files.new;
-          loads_before = F.loads files.old;
-          loads_after = F.loads files.new;
-          saves_before = F.saves files.old;
-          saves_after = F.saves files.new;
-          faults_before = F.faults files.old;
-          faults_after = F.faults files.new;
-          failed = F.failed files.new;
-        })) result }
+        (files_change F.Files files.old files.new)) result }
     ensures loads { F.loads files.new ≤ F.loads files.old + 3 }
     ensures saves { F.saves files.new ≡ F.saves files.old }
     ensures held { F.held files.new ≡ F.held files.old }

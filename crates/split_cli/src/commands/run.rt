@@ -7,6 +7,7 @@ ghost use Rattle.jif_tree.specs.Trees.{field_tree};
 ghost use Rattle.split_cli.specs.Commands as command;
 ghost use Rattle.split_cli.specs.Due.{DueForBytes, IsDueForCommand};
 ghost use Rattle.split_cli.specs.Loading.{EndsIn, IsLoaded};
+ghost use Rattle.split_cli.specs.Loads.{files_change};
 ghost use Rattle.split_cli.specs.PlainRun.{IsRunReport, end_line, end_status, run_report, store_lines};
 ghost use Rattle.split_cli.specs.Text.{line_text, lines_text};
 ghost use Rattle.split_cli.specs.Verdicts.{verdict_shape};
@@ -34,17 +35,7 @@ pub fn due_for_run<F: Files>(
     files: &mut F,
 ) -> Result<Verdict, Stop>
     ensures due { EndsIn (IsDueForCommand (command.Run program.now hosts.now start.now steps)
-        (record {
-          held = F.held files.old;
-          held_after = F.held files.new;
-          loads_before = F.loads files.old;
-          loads_after = F.loads files.new;
-          saves_before = F.saves files.old;
-          saves_after = F.saves files.new;
-          faults_before = F.faults files.old;
-          faults_after = F.faults files.new;
-          failed = F.failed files.new;
-        })) result }
+        (files_change F.Files files.old files.new)) result }
     ensures loads { F.loads files.new ≤ F.loads files.old + 3 }
     ensures saves { F.saves files.new ≡ F.saves files.old }
     ensures held { F.held files.new ≡ F.held files.old }

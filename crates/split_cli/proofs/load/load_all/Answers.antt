@@ -1,5 +1,6 @@
 use Rattle.std.proofs.Common.{◌∙◌, add-one, ap, arith}
 use Rattle.js_base.specs.Counts.{counted}
+use Rattle.split_cli.specs.Loads.{files_change}
 use Rattle.split_cli.proofs.Stages.{stops_weaker}
 use Rattle.split_cli.proofs.Stops.{counted_by_little, few_loads, held_in_front, name_at, one_more_given, stop_at}
 use Rattle.split_cli.proofs.load.load_all.Goals as goal
@@ -11,17 +12,8 @@ returns-in_err-push-in-Ok-clause-few g c =
 pub returns-in-Err-clause-stopped : goal.returns-in-Err-clause-stopped
 returns-in-Err-clause-stopped g c =
     stops_weaker _ _ c.due_at_stop.result
-    (λ verdict is. stop_at _ c.loop-one.one-index _ (record {
-      held = _;
-      held_after = g.F.Files.held c.load.new.files;
-      loads_before = _;
-      loads_after = _;
-      saves_before = g.F.Files.saves c.args.files.now;
-      saves_after = g.F.Files.saves c.load.new.files;
-      faults_before = _;
-      faults_after = _;
-      failed = _;
-    }) _ _ c.in-Err.stop verdict
+    (λ verdict is. stop_at _ c.loop-one.one-index _ (files_change g.F.Files c.args.files.now c.load.new.files) _ _
+    c.in-Err.stop verdict
     (name_at c.args.asked.now c.loop-one.one-index _ (omega arith))
     (held_in_front _ c.args.asked.now c.loop-one.one-index c.loop-one.all.items c.loop-one.invariant.given_are)
     c.loop-one.invariant.loads c.loop-one.invariant.faults c.load.ensures.loads
