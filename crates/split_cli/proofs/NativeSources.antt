@@ -14,8 +14,6 @@ use Rattle.jif_tree.specs.Trees.{ProgramTree, program_tree}
 use Rattle.jif_tree.specs.WellNumbered.{IsWellNumbered}
 use Rattle.jif_resolve.specs.Sizes.{KeepsLimits}
 use Rattle.jif_resolve.specs.Verdicts.{IsProgramOf}
-use Rattle.jif_tree.proofs.VariableCounts.{variable_count}
-use Rattle.split_cli.specs.PlacedSources.{labelled_source}
 use Rattle.split_cli.specs.ReadPrograms.{IsReadProgram}
 use Rattle.split_cli.specs.Sources.{Source, Sources}
 use Rattle.split_cli.specs.Stages.{given}
@@ -38,7 +36,7 @@ pub record NativeLaws : Type 0 where
 
 -- what is known of a source, with the numbers of its call sites
 pub is_read : NativeLaws → (program hosts : List ℕ) (source : Source) → CountsFrom 1 (site_numbers source.tree) →
-    Sources program hosts (given source) → IsReadProgram (labelled_source source)
+    Sources program hosts (given source) → IsReadProgram source.tree
 is_read laws program hosts source sites accepted =
     let read = read_source program hosts source accepted in
     let principals = source.file.principals in
@@ -49,7 +47,6 @@ is_read laws program hosts source sites accepted =
       sites = sites;
       named = laws.named read.list principals read.draft source.tree small read.parsed read.resolved;
       within = laws.within principals read.draft source.tree keeps read.resolved;
-      var_labels = variable_count principals source.tree;
     }
 
 pub source_seen : NativeLaws → (program hosts : List ℕ) (source : Source) → Sources program hosts (given source) →

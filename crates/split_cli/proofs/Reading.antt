@@ -2,11 +2,10 @@
 use Rattle.std.proofs.Common.{ℕ, List, inl}
 use Rattle.jif_grammar.specs.DraftShapes.{DraftShape}
 use Rattle.host_decl.specs.Hosts.{HostsShape}
-use Rattle.jif_tree.specs.Trees.{ProgramTree}
 use Rattle.split_cli.specs.declared.stop.Stop.{Stop}
 use Rattle.split_cli.specs.Stages.{given, stopped}
 use Rattle.split_cli.specs.Loading.{StopsWith}
-use Rattle.split_cli.specs.Sources.{Drafted, HostsRead, Resolved, Labelled, Accepted, AcceptedWith, Sources}
+use Rattle.split_cli.specs.Sources.{Drafted, HostsRead, Accepted, AcceptedWith, Sources}
 use Rattle.split_cli.proofs.Stages.{stops_weaker}
 
 pub after_draft : (p h : List ℕ) (draft : DraftShape) (why : Stop) → Drafted p (given draft) →
@@ -22,10 +21,3 @@ pub after_hosts : (h : List ℕ) (draft : DraftShape) (file : HostsShape) (why :
 after_hosts h draft file why was stops =
     stops_weaker (λ verdict. Accepted file draft (stopped verdict))
     (λ verdict. AcceptedWith h draft (stopped verdict)) why (λ verdict end. inl (file, was, end)) stops
-
-pub after_program : (file : HostsShape) (draft : DraftShape) (tree : ProgramTree) (why : Stop) →
-    Resolved file draft (given tree) → StopsWith (λ verdict. Labelled file tree (stopped verdict)) why →
-    StopsWith (λ verdict. Accepted file draft (stopped verdict)) why
-after_program file draft tree why was stops =
-    stops_weaker (λ verdict. Labelled file tree (stopped verdict)) (λ verdict. Accepted file draft (stopped verdict))
-    why (λ verdict end. inl (tree, was, end)) stops

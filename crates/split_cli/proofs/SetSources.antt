@@ -22,7 +22,6 @@ use Rattle.jif_tree.specs.Numbering.{CountsFrom, statement_numbers, site_numbers
 use Rattle.jif_tree.specs.Trees.{ProgramTree, program_tree}
 use Rattle.jif_tree.specs.ValueLabels.{AreAllValuesLabelled}
 use Rattle.jif_tree.specs.WellNumbered.{IsWellNumbered}
-use Rattle.jif_tree.proofs.VariableCounts.{variable_count}
 use Rattle.jif_grammar.specs.DraftShapes.{DraftShape}
 use Rattle.jif_grammar.specs.Programs as grammar
 use Rattle.jif_resolve.specs.Returns.{AreReturnedLast}
@@ -236,13 +235,12 @@ module _ (sources : ReadingLaws) (plans : PlanLaws) (granted : GrantedLaw) (prog
 
   splits_there : IsSplittable (labelled_source placed.source) placed.source.file placed.plan
   splits_there =
-      splittable (labelled_source placed.source) placed.source.file placed.plan (record {
+      splittable placed.source placed.plan (record {
         numbered = numbered;
         sites = sources.sites placed.source.file.principals read.draft placed.source.tree read.resolved;
         named = sources.named program read.list placed.source.file.principals read.draft placed.source.tree read.few
             read.read read.parsed read.resolved;
         within = within;
-        var_labels = variable_count placed.source.file.principals placed.source.tree;
       }) are_hosts (sources.short hosts placed.source.file read.file)
       (plans.hosts (labelled_source placed.source) placed.needs placed.source.file placed.allowed placed.plan choice.plan)
 

@@ -58,7 +58,7 @@ splits laws program hosts placed accepted =
     let given_source = source_given program hosts placed accepted in
     let read = read_source program hosts source given_source in
     let choice = chosen program hosts placed accepted in
-    splittable (labelled_source source) source.file placed.plan
+    splittable source placed.plan
     (is_read laws.native program hosts source (laws.sites source.file.principals read.draft source.tree read.resolved)
     given_source)
     (laws.hosts hosts source.file read.file) (laws.short_names hosts source.file read.file)

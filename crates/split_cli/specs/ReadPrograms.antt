@@ -1,5 +1,5 @@
 -- What is known of a program that was read and checked, for whoever makes its code.
-use Rattle.std.specs.Prelude.{◌≡◌, ◌≤◌, List, All, length}
+use Rattle.std.specs.Prelude.{◌≤◌, List, All, length}
 use Rattle.js_base.specs.declared.limits.TheConstants.{HOSTS_BYTES}
 use Rattle.host_decl.specs.Hosts.{HostsShape}
 use Rattle.jif_lex.specs.declared.token.Token.{Token}
@@ -9,8 +9,8 @@ use Rattle.jif_grammar.specs.Programs as grammar
 use Rattle.jif_tree.specs.Limits.{IsWithinLimits}
 use Rattle.jif_tree.specs.Named.{AreNamed}
 use Rattle.jif_tree.specs.Numbering.{CountsFrom, site_numbers}
+use Rattle.jif_tree.specs.Trees.{ProgramTree}
 use Rattle.jif_tree.specs.WellNumbered.{IsWellNumbered}
-use Rattle.need_labels.specs.Labelled.{Labelled}
 
 -- no name of a host is longer than a host file may be
 abbrev pub AreShort : HostsShape → Type 0
@@ -22,10 +22,9 @@ pub record IsReadDraft (draft : DraftShape) : Type 0 where
   pub tokens : AreTokens list
   pub parsed : grammar.IsProgramOf list draft
 
--- its statements and sites are numbered, all has names, it is within the limits, and each variable has a label
-pub record IsReadProgram (labelled : Labelled) : Type 0 where
-  pub numbered : IsWellNumbered labelled.program
-  pub sites : CountsFrom 1 (site_numbers labelled.program)
-  pub named : AreNamed labelled.program
-  pub within : IsWithinLimits labelled.program
-  pub var_labels : length labelled.var_labels ≡ length labelled.program.vars
+-- its statements and sites are numbered, all has names, and it is within the limits
+pub record IsReadProgram (program : ProgramTree) : Type 0 where
+  pub numbered : IsWellNumbered program
+  pub sites : CountsFrom 1 (site_numbers program)
+  pub named : AreNamed program
+  pub within : IsWithinLimits program

@@ -2,8 +2,7 @@
 
 ghost use Rattle.std.specs.Prelude.{◌≡◌, ◌≤◌, ◌<◌, ◌^◌, ◌++◌, ◌∷◌, ℕ, OnOk, length, map};
 ghost use Rattle.std.specs.String.{string_bytes};
-ghost use Rattle.jif_tree.specs.Numbering as numbering;
-ghost use Rattle.jif_tree.specs.Trees.{field_tree, program_tree};
+ghost use Rattle.jif_tree.specs.Trees.{field_tree};
 ghost use Rattle.split_cli.specs.PlacedShapes.{placed_shape};
 ghost use Rattle.split_cli.specs.PlaceLines.{field_place, field_places, name_at, names_in, place_lines, placing};
 ghost use Rattle.split_cli.specs.PlaceLines.{statement_place, statement_places};
@@ -25,12 +24,11 @@ pub fn push_places(
     text: &mut String,
     placed: &PlacedSource,
 ) -> Result<(), OutOfMemory>
-    requires fields { length placed.now.source.checked.program.fields.items < 2 ^ 32 }
-    requires statements { length (numbering.statement_lines (program_tree placed.now.source.checked.program)) < 2 ^ 32 }
     ensures { OnOk result (string_bytes text.new
         ≡ string_bytes text.old ++ lines_text (place_lines (placed_shape placed.now))) }
 {
-    let program = &placed.source.checked.program;
+    let source = &placed.source;
+    let program = &source.checked.program;
     push_fields(text, placed, &program.fields)?;
     let lines = statement_lines(alloc, program)?;
     push_statements(text, placed, &lines)
@@ -63,11 +61,12 @@ fn push_field(
     ensures { OnOk result (string_bytes text.new ≡ string_bytes text.old
         ++ line_text (field_place (placed_shape placed.now) number (field_tree field.now))) }
 {
+    let source = &placed.source;
     let name = field.name.as_str();
     let word = placed.allowed.fields().get(number).copied().unwrap_or(0);
     let host = placed.plan.host_of_field(FieldId(number as u32));
     write!(text, "field {name}").map_err(|_| OutOfMemory)?;
-    push_placing(text, placed.source.hosts.hosts(), word, host)
+    push_placing(text, source.hosts.hosts(), word, host)
 }
 
 /// Adds the lines of the statements, which stand on these lines of the program.
@@ -97,6 +96,7 @@ fn push_statement(
     ensures { OnOk result (string_bytes text.new ≡ string_bytes text.old
         ++ line_text (statement_place (placed_shape placed.now) number line)) }
 {
+    let source = &placed.source;
     let word = placed
         .allowed
         .statements()
@@ -105,7 +105,7 @@ fn push_statement(
         .unwrap_or(0);
     let host = placed.plan.host_of(StmtId(number as u32));
     write!(text, "statement {number} line {line}").map_err(|_| OutOfMemory)?;
-    push_placing(text, placed.source.hosts.hosts(), word, host)
+    push_placing(text, source.hosts.hosts(), word, host)
 }
 
 /// Adds the rest of a line: the hosts of a word, and the host of the plan.

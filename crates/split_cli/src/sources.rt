@@ -1,21 +1,15 @@
 //! What a program and a host file say: the hosts, and the program that is accepted with them.
 
-ghost use Rattle.std.specs.Prelude.{◌≡◌, ◌≤◌, ℕ, List, IfOk, MatchResult, length};
+ghost use Rattle.std.specs.Prelude.{◌≤◌, ℕ, List, IfOk, MatchResult, length};
 ghost use Rattle.js_base.specs.declared.limits.TheConstants.{PROGRAM_BYTES, HOSTS_BYTES};
 ghost use Rattle.jif_lex.specs.Lexing.{LexFails};
 ghost use Rattle.jif_lex.specs.TokenLists.{AreTokens};
 ghost use Rattle.jif_lex.specs.Tokens.{ReadsAs, tokens};
 ghost use Rattle.jif_grammar.specs.DraftShapes.{draft_shape};
 ghost use Rattle.host_decl.specs.Reading.{ReadsHosts, RefusesHosts};
-ghost use Rattle.jif_tree.specs.Limits.{IsWithinLimits};
-ghost use Rattle.jif_tree.specs.Numbering.{CountsFrom, site_numbers, statement_numbers};
 ghost use Rattle.jif_tree.specs.Trees.{program_tree};
-ghost use Rattle.jif_tree.specs.WellNumbered.{IsWellNumbered};
-ghost use Rattle.jif_resolve.specs.Sizes.{KeepsLimits};
 ghost use Rattle.label_check.specs.Checking.{AreAuthorities};
-ghost use Rattle.need_labels.specs.Labelled.{labelled_of};
 ghost use Rattle.split_cli.specs.Loading.{EndsAs, IsLoaded};
-ghost use Rattle.split_cli.specs.PlacedSources.{labelled_source};
 ghost use Rattle.split_cli.specs.ReadPrograms.{AreShort, IsReadDraft, IsReadProgram};
 ghost use Rattle.split_cli.specs.SourceShapes.{source_shape};
 ghost use Rattle.split_cli.specs.Sources.{Lexed, Parsed, Drafted, HostsRead, Resolved, Labelled, Sources};
@@ -31,6 +25,7 @@ use jif_resolve::{limit_laws, program_laws, resolve};
 use jif_tree::{Checked, Draft, Program};
 use label_check::check;
 use std::alloc::Global;
+use std::marker::Model;
 
 /// An accepted program with its labels, and the hosts that it is for.
 #[derive(Drop)]
@@ -39,33 +34,34 @@ pub struct Source {
     pub checked: Checked,
 }
 
+impl Model for Source {
+    ghost use Rattle.std.specs.Coded.{codes};
+    ghost use Rattle.jif_tree.specs.contracts.program.Checked.{the_row};
+    ghost use Rattle.split_cli.specs.SourceShapes.{IsAccepted, SourceModel};
+
+    ghost Value = { SourceModel };
+
+    ghost coded = { Prim.hlevel (codes, the_row.coded) };
+
+    ghost view = { λ s. record { hosts = s.hosts; checked = s.checked } };
+
+    ghost invariant = { λ s. IsAccepted (record { hosts = s.hosts; checked = s.checked }) };
+}
+
 /// The hosts and the accepted program of two files, or what is due where one of them is refused.
 pub fn read_sources(alloc: Global, program: &Loaded, hosts: &Loaded) -> Result<Source, Stop>
-    ensures sources { (p h : List ℕ) → IsLoaded PROGRAM_BYTES p program.now → IsLoaded HOSTS_BYTES h hosts.now →
+    ensures { (p h : List ℕ) → IsLoaded PROGRAM_BYTES p program.now → IsLoaded HOSTS_BYTES h hosts.now →
         EndsAs source_shape (Sources p h) result }
-    ensures limits { IfOk result (λ source. IsWithinLimits (program_tree source.checked.program)) }
-    ensures numbered { IfOk result (λ source. IsWellNumbered (program_tree source.checked.program)) }
-    // It has a program label for each statement.
-    ensures labels { IfOk result (λ source. length source.checked.pc.items
-        ≡ length (statement_numbers (program_tree source.checked.program))) }
-    ensures labelled { IfOk result (λ source. labelled_of source.checked ≡ labelled_source (source_shape source)) }
-    ensures authorities { IfOk result
-        (λ source. AreAuthorities source.hosts.principals (program_tree source.checked.program)) }
-    ensures read { IfOk result (λ source. IsReadProgram (labelled_of source.checked)) }
-    ensures short { IfOk result (λ source. AreShort source.hosts) }
 {
-    named_laws();
     let draft = drafted(alloc, program)?;
     let hosts = hosts_read(alloc, hosts)?;
     let program = resolved(alloc, draft, &hosts)?;
-    let checked = labelled(alloc, program, &hosts)?;
-    Ok(Source { hosts, checked })
+    labelled(alloc, program, hosts)
 }
 
 /// The draft of a program.
 fn drafted(alloc: Global, program: &Loaded) -> Result<Draft, Stop>
     ensures drafted { (p : List ℕ) → IsLoaded PROGRAM_BYTES p program.now → EndsAs draft_shape (Drafted p) result }
-    ensures limits { IfOk result (λ draft. KeepsLimits (draft_shape draft)) }
     ensures read { IfOk result (λ draft. IsReadDraft (draft_shape draft)) }
 {
     let tokens = lexed(alloc, program)?;
@@ -102,10 +98,8 @@ fn tokens_of(alloc: Global, program: &Loaded) -> Result<Vec<Token>, LexError>
 fn parsed(alloc: Global, tokens: &[Token]) -> Result<Draft, Stop>
     requires { AreTokens tokens.now }
     ensures parsed { EndsAs draft_shape (Parsed tokens.now) result }
-    ensures limits { IfOk result (λ draft. KeepsLimits (draft_shape draft)) }
     ensures read { IfOk result (λ draft. IsReadDraft (draft_shape draft)) }
 {
-    limit_laws();
     match parse(alloc, tokens) {
         Ok(draft) => Ok(draft),
         Err(why) => Err(stopped(Verdict::not_parsed(alloc, why))),
@@ -138,13 +132,12 @@ fn hosts_of(alloc: Global, file: &Loaded) -> Result<Hosts, HostsError>
 
 /// The program of a draft, by the principals of these hosts.
 fn resolved(alloc: Global, draft: Draft, hosts: &Hosts) -> Result<Program, Stop>
-    requires limits { KeepsLimits (draft_shape draft) }
+    requires { IsReadDraft (draft_shape draft) }
     ensures resolved { EndsAs program_tree (Resolved hosts.now (draft_shape draft)) result }
-    ensures limits { IfOk result (λ program. IsWithinLimits (program_tree program)) }
-    ensures numbered { IfOk result (λ program. IsWellNumbered (program_tree program)) }
+    ensures read { IfOk result (λ program. IsReadProgram (program_tree program)) }
     ensures authorities { IfOk result (λ program. AreAuthorities hosts.now.principals (program_tree program)) }
-    ensures sites { IfOk result (λ program. CountsFrom 1 (site_numbers (program_tree program))) }
 {
+    named_laws();
     limit_laws();
     program_laws();
     match resolve(alloc, draft, hosts.principals()) {
@@ -154,20 +147,18 @@ fn resolved(alloc: Global, draft: Draft, hosts: &Hosts) -> Result<Program, Stop>
 }
 
 /// The program with its labels, by the principals of these hosts.
-fn labelled(alloc: Global, program: Program, hosts: &Hosts) -> Result<Checked, Stop>
-    requires { AreAuthorities hosts.now.principals (program_tree program) }
-    ensures labelled { EndsAs (λ checked. record { file = hosts.now; tree = program_tree checked.program })
-        (Labelled hosts.now (program_tree program)) result }
-    ensures kept { IfOk result (λ checked. program_tree checked.program ≡ program_tree program) }
-    ensures labels { IfOk result (λ checked. length checked.pc.items
-        ≡ length (statement_numbers (program_tree program))) }
-    ensures found { IfOk result (λ checked. labelled_of checked
-        ≡ labelled_source (record { file = hosts.now; tree = program_tree program })) }
+fn labelled(alloc: Global, program: Program, hosts: Hosts) -> Result<Source, Stop>
+    requires read { IsReadProgram (program_tree program) }
+    requires authorities { AreAuthorities hosts.principals (program_tree program) }
+    requires short { AreShort hosts }
+    ensures { EndsAs source_shape (Labelled hosts (program_tree program)) result }
 {
-    let principals = hosts.principals();
     let lines = statement_lines(alloc, &program)?;
-    match check(alloc, program, principals) {
-        Ok(checked) => Ok(checked),
-        Err(why) => Err(stopped(Verdict::labels_refused(alloc, principals, &lines, &why))),
+    match check(alloc, program, hosts.principals()) {
+        Ok(checked) => Ok(Source { hosts, checked }),
+        Err(why) => {
+            let principals = hosts.principals();
+            Err(stopped(Verdict::labels_refused(alloc, principals, &lines, &why)))
+        }
     }
 }

@@ -1,20 +1,15 @@
 //! The command `check`.
 
-ghost use Rattle.std.specs.Prelude.{◌≡◌, ◌≤◌, ◌+◌, ◌∷◌, [], ℕ, List, IfOk, length};
+ghost use Rattle.std.specs.Prelude.{◌≡◌, ◌≤◌, ◌+◌, ◌∷◌, [], ℕ, List, IfOk};
 ghost use Rattle.js_base.specs.declared.limits.TheConstants.{PROGRAM_BYTES, HOSTS_BYTES};
 ghost use Rattle.std.specs.String.{string_bytes};
-ghost use Rattle.jif_tree.specs.Limits.{IsWithinLimits};
-ghost use Rattle.jif_tree.specs.Numbering.{statement_numbers};
 ghost use Rattle.jif_tree.specs.Trees.{program_tree};
-ghost use Rattle.need_labels.specs.Labelled.{labelled_of};
 ghost use Rattle.split_cli.specs.Commands as command;
 ghost use Rattle.split_cli.specs.Check.{accepted_line, plan_report};
 ghost use Rattle.split_cli.specs.Due.{DueForBytes, IsDueForCommand};
 ghost use Rattle.split_cli.specs.Loading.{EndsIn, IsLoaded};
 ghost use Rattle.split_cli.specs.Loads.{files_change};
 ghost use Rattle.split_cli.specs.PlacedShapes.{placed_shape};
-ghost use Rattle.split_cli.specs.PlacedSources.{labelled_source};
-ghost use Rattle.split_cli.specs.SourceShapes.{source_shape};
 ghost use Rattle.split_cli.specs.Text.{line_text};
 ghost use Rattle.split_cli.specs.Verdicts.{verdict_shape};
 
@@ -22,9 +17,9 @@ use crate::commands::{host_file, program_file};
 use crate::load::{Loaded, load_all};
 use crate::place_lines::push_places;
 use crate::placed::{PlacedSource, read_places};
+use crate::sources::Source;
 use crate::stop::Stop;
 use crate::verdict::Verdict;
-use jif_tree::Checked;
 use js_base::{Files, OutOfMemory, Status};
 use msg_cost::cost;
 use std::alloc::Global;
@@ -62,23 +57,14 @@ fn due_for_loaded(alloc: Global, program: &Loaded, hosts: &Loaded) -> Result<Ver
 }
 
 /// The report of a program in its places: how much there is of it, which hosts may hold what, where it stands, and what
-/// its plan costs. It has a program label for each statement.
+/// its plan costs.
 fn plan_report(alloc: Global, placed: &PlacedSource) -> Result<Verdict, OutOfMemory>
-    requires limits { IsWithinLimits (program_tree placed.now.source.checked.program) }
-    requires labels { length placed.now.source.checked.pc.items
-        ≡ length (statement_numbers (program_tree placed.now.source.checked.program)) }
-    requires labelled { labelled_of placed.now.source.checked
-        ≡ labelled_source (source_shape placed.now.source) }
     ensures { IfOk result (λ verdict. verdict_shape verdict ≡ plan_report (placed_shape placed.now)) }
 {
-    let mut text = accepted(alloc, &placed.source.checked)?;
+    let source = &placed.source;
+    let mut text = accepted(alloc, source)?;
     push_places(alloc, &mut text, placed)?;
-    let cost = cost(
-        &placed.source.checked,
-        &placed.needs,
-        &placed.source.hosts,
-        &placed.plan,
-    );
+    let cost = cost(&source.checked, &placed.needs, &source.hosts, &placed.plan);
     writeln!(text, "cost {cost}").map_err(|_| OutOfMemory)?;
     Ok(Verdict::Print {
         status: Status::Done,
@@ -86,13 +72,13 @@ fn plan_report(alloc: Global, placed: &PlacedSource) -> Result<Verdict, OutOfMem
     })
 }
 
-/// The line of a program that is accepted: how many fields, methods and statements it has. It has a program label for
+/// The line of a program that is accepted: how many fields, methods and statements it has. There is a program label for
 /// each statement.
-fn accepted(alloc: Global, checked: &Checked) -> Result<String, OutOfMemory>
-    requires { length checked.now.pc.items ≡ length (statement_numbers (program_tree checked.now.program)) }
+fn accepted(alloc: Global, source: &Source) -> Result<String, OutOfMemory>
     ensures { IfOk result
-        (λ text. string_bytes text ≡ line_text (accepted_line (program_tree checked.now.program))) }
+        (λ text. string_bytes text ≡ line_text (accepted_line (program_tree source.now.checked.program))) }
 {
+    let checked = &source.checked;
     let fields = checked.program.fields.len();
     let methods = checked.program.methods.len();
     let statements = checked.pc.len();

@@ -2,9 +2,6 @@
 
 ghost use Rattle.std.specs.Prelude.{◌≡◌, ◌≤◌, ◌+◌, ◌∷◌, [], ℕ, List, IfOk};
 ghost use Rattle.js_base.specs.declared.limits.TheConstants.{PROGRAM_BYTES, HOSTS_BYTES, SCRIPT_BYTES};
-ghost use Rattle.jif_tree.specs.Trees.{program_tree};
-ghost use Rattle.need_labels.specs.Labelled.{labelled_of};
-ghost use Rattle.split_rules.specs.Splittable.{IsSplittable};
 ghost use Rattle.split_cli.specs.declared.words.TheConstants.{STEPS};
 ghost use Rattle.split_cli.specs.Commands as command;
 ghost use Rattle.split_cli.specs.Commands.{IsStepCount};
@@ -13,8 +10,6 @@ ghost use Rattle.split_cli.specs.Due.{DueForBytes, IsDueForCommand};
 ghost use Rattle.split_cli.specs.Loading.{EndsIn, IsLoaded};
 ghost use Rattle.split_cli.specs.Loads.{files_change};
 ghost use Rattle.split_cli.specs.PlacedShapes.{placed_shape};
-ghost use Rattle.split_cli.specs.PlacedSources.{labelled_source};
-ghost use Rattle.split_cli.specs.SourceShapes.{source_shape};
 ghost use Rattle.split_cli.specs.Verdicts.{verdict_shape};
 
 use crate::commands::{host_file, program_file, script_file};
@@ -71,7 +66,8 @@ fn due_for_loaded(
         EndsIn (DueForBytes (command.Drive names others name.now most) (p ∷ h ∷ s ∷ [])) result }
 {
     let placed = read_places(alloc, program, hosts)?;
-    let store = starting_values(alloc, name, start, &placed.source.checked.program)?;
+    let source = &placed.source;
+    let store = starting_values(alloc, name, start, &source.checked.program)?;
     Ok(driven(alloc, &placed, &store, most)?)
 }
 
@@ -82,14 +78,12 @@ fn driven(
     store: &Store,
     most: u64,
 ) -> Result<Verdict, OutOfMemory>
-    requires most { most ≤ STEPS }
-    requires splittable { IsSplittable (labelled_of placed.now.source.checked) placed.now.source.hosts
-        placed.now.plan }
-    requires labelled { labelled_of placed.now.source.checked ≡ labelled_source (source_shape placed.now.source) }
+    requires { most ≤ STEPS }
     ensures { IfOk result (λ verdict. IsDriveReport (placed_shape placed.now) store.now most (verdict_shape verdict)) }
 {
     let code = code_of(alloc, placed)?;
-    let mut world = World::start(alloc, &code, &placed.source.hosts, 0, store)?;
+    let source = &placed.source;
+    let mut world = World::start(alloc, &code, &source.hosts, 0, store)?;
     let driven = drive(&code, &mut world, most)?;
     let text = drive_text(alloc, &code, driven.made, &world)?;
     Ok(Verdict::Print {

@@ -1,23 +1,33 @@
+use Rattle.std.proofs.Common.{rules, refl}
+use Rattle.jif_tree.specs.Trees.{program_tree}
 use Rattle.need_labels.specs.Labelled.{labelled_of}
 use Rattle.split_cli.proofs.PlacedLists.{a_host_each}
 use Rattle.split_cli.proofs.ReadLaws.{splittable}
 use Rattle.split_cli.proofs.placed.placed.Goals as goal
 
-pub returns-in-Ok-clause-hosts : goal.returns-in-Ok-clause-hosts
-returns-in-Ok-clause-hosts c =
-    c.placement_laws.ensures.hosts (labelled_of c.args.source.checked) c.in_ok-needs.needs c.args.source.hosts _ _
-    c.in-Ok.ensures.placed
+pub invariant_of-result : goal.invariant_of-result
+invariant_of-result c =
+    let source = c.source.inside in
+    let labelled = labelled_of source.checked in
+    let needs_are = rw c.principals.ensures.principals at c.in_ok-needs.ensures in
+    let allowed = c.placement_laws.ensures.allowed labelled c.in_ok-needs.needs source.hosts _ _ c.in-Ok.ensures.placed in
+    let has = c.placement_laws.ensures.hosts labelled c.in_ok-needs.needs source.hosts _ _ c.in-Ok.ensures.placed in
+    rw (← c.source.view_is) (record {
+      each = a_host_each source.hosts.principals source.checked c.in_ok-needs.needs source.hosts _ needs_are allowed;
+      splittable = splittable (record { file = source.hosts; tree = program_tree source.checked.program }) _
+          c.source.invariant.read c.principals.ensures.sound c.source.invariant.short has;
+    })
 
-pub returns-in-Ok-clause-each : goal.returns-in-Ok-clause-each
-returns-in-Ok-clause-each c =
-    a_host_each c.args.source.hosts.principals c.args.source.checked c.in_ok-needs.needs c.args.source.hosts _
-    (rw c.principals.ensures.principals at c.in_ok-needs.ensures)
-    (c.placement_laws.ensures.allowed (labelled_of c.args.source.checked) c.in_ok-needs.needs c.args.source.hosts _ _
-    c.in-Ok.ensures.placed)
+pub returns-in-Ok : goal.returns-in-Ok
+returns-in-Ok c =
+    let labelled = c.source.invariant.labelled in
+    rw (← c.source.view_is) (record {
+      same = refl;
+      needs = rw (← labelled, ← c.principals.ensures.principals) c.in_ok-needs.ensures;
+      plan = rw (← labelled) c.in-Ok.ensures.placed;
+    })
 
-pub returns-in-Ok-clause-splittable : goal.returns-in-Ok-clause-splittable
-returns-in-Ok-clause-splittable c =
-    splittable (labelled_of c.args.source.checked) c.args.source.hosts _ c.requires.read c.principals.ensures.sound
-    c.requires.short
-    (c.placement_laws.ensures.hosts (labelled_of c.args.source.checked) c.in_ok-needs.needs c.args.source.hosts _ _
-    c.in-Ok.ensures.placed)
+pub returns-in-Err : goal.returns-in-Err
+returns-in-Err c =
+    let labelled = c.source.invariant.labelled in
+    rw (← c.source.view_is) (search rules)

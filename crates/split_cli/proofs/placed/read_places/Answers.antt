@@ -5,13 +5,13 @@ use Rattle.split_cli.specs.Sources.{Sources}
 use Rattle.split_cli.proofs.Stages.{handed_on, then_ends, then_stops}
 use Rattle.split_cli.proofs.placed.read_places.Goals as goal
 
-pub returns-in_err-source-clause-places : goal.returns-in_err-source-clause-places
-returns-in_err-source-clause-places c = λ p h loaded_p loaded_h.
+pub returns-in_err-source : goal.returns-in_err-source
+returns-in_err-source c = λ p h loaded_p loaded_h.
     handed_on placed_shape (PlacedSources p h) c.in_err-source.field-0.0 c.from_residual.result
     c.from_residual.ensures
-    (then_stops (Sources p h) OnHosts c.in_err-source.field-0.0 (c.in_err-source.ensures.sources p h loaded_p loaded_h))
+    (then_stops (Sources p h) OnHosts c.in_err-source.field-0.0 (c.in_err-source.ensures p h loaded_p loaded_h))
 
-pub returns-clause-places : goal.returns-clause-places
-returns-clause-places c = λ p h loaded_p loaded_h.
+pub returns : goal.returns
+returns c = λ p h loaded_p loaded_h.
     then_ends source_shape placed_shape (Sources p h) OnHosts c.in_ok-source.source c.placed.result
-    (c.in_ok-source.ensures.sources p h loaded_p loaded_h) c.placed.ensures.placed
+    (c.in_ok-source.ensures p h loaded_p loaded_h) c.placed.ensures

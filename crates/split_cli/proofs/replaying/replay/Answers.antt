@@ -1,5 +1,4 @@
-use Rattle.std.proofs.Common.{◌≡◌, ap, Err, subst, sym, get_or, arith}
-use Rattle.std.specs.Prelude.{All}
+use Rattle.std.proofs.Common.{ap, Err, get_or}
 use Rattle.net_world.specs.Fits.{world_of}
 use Rattle.split_cli.proofs.ReplayedEvents.{run_more, stops}
 use Rattle.split_cli.proofs.replaying.replay.Goals as goal

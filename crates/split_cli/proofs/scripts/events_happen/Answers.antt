@@ -1,6 +1,5 @@
-use Rattle.std.proofs.Common.{ℕ, refl, subst, sym}
+use Rattle.std.proofs.Common.{ℕ, subst, sym}
 use Rattle.std.proofs.lemmas.Result.{IfOk-weaker}
-use Rattle.event_text.specs.declared.event.Event.{Event}
 use Rattle.net_world.specs.Fits.{world_of}
 use Rattle.net_world.specs.World.{not_bad, not_there, host_busy, no_such_token}
 use Rattle.split_cli.specs.Replay.{EventsHappen, happened, refused}

@@ -6,8 +6,16 @@ use Rattle.split_cli.specs.Verdicts.{program_refused, why_not_resolved}
 use Rattle.split_cli.proofs.Stages.{refusal_stops}
 use Rattle.split_cli.proofs.sources.resolved.Goals as goal
 
-pub returns-in-Ok-clause-numbered : goal.returns-in-Ok-clause-numbered
-returns-in-Ok-clause-numbered c = c.program_laws.ensures.well_numbered _ _ _ c.in-Ok.ensures.found
+pub resolve-requires : goal.resolve-requires
+resolve-requires c = c.limit_laws.ensures.kept _ _ c.requires.parsed
+
+pub returns-in-Ok-clause-read : goal.returns-in-Ok-clause-read
+returns-in-Ok-clause-read c = record {
+  numbered = c.program_laws.ensures.well_numbered _ _ _ c.in-Ok.ensures.found;
+  sites = c.program_laws.ensures.sites _ _ _ c.in-Ok.ensures.found;
+  named = c.named_laws.ensures.of_tokens _ _ _ _ c.requires.tokens c.requires.parsed c.in-Ok.ensures.found;
+  within = c.in-Ok.ensures.limits;
+}
 
 pub returns-in-Ok-clause-authorities : goal.returns-in-Ok-clause-authorities
 returns-in-Ok-clause-authorities c =
@@ -19,6 +27,3 @@ returns-in-Err-clause-resolved c =
     (λ (why : ResolveError). program_refused (why_not_resolved why)) c.in-Err.why c.not_resolved.result
     c.stopped.result (rw c.principals.ensures.principals at c.in-Err.ensures.refused)
     c.not_resolved.ensures.refused c.not_resolved.ensures.not_memory c.stopped.ensures
-
-pub returns-in-Ok-clause-sites : goal.returns-in-Ok-clause-sites
-returns-in-Ok-clause-sites c = c.program_laws.ensures.sites _ _ _ c.in-Ok.ensures.found

@@ -5,7 +5,7 @@ use Rattle.split_cli.specs.Due.{DueForBytes}
 use Rattle.split_cli.specs.PlacedShapes.{placed_shape}
 use Rattle.split_cli.specs.PlacedSources.{PlacedSource, PlacedSources}
 use Rattle.split_cli.specs.Verdicts.{VerdictShape}
-use Rattle.split_cli.proofs.Stages.{due_handed_on, due_stops}
+use Rattle.split_cli.proofs.Stages.{due_handed_on, due_stops, memory_ran_out}
 use Rattle.split_cli.proofs.commands.check.due_for_loaded.Goals as goal
 
 pub returns-in_err-placed : goal.returns-in_err-placed
@@ -13,12 +13,17 @@ returns-in_err-placed c = λ names others p h loaded_p loaded_h.
     due_handed_on (DueForBytes (Check names others) (p ∷ h ∷ [])) c.in_err-placed.field-0.0 c.from_residual.result
     c.from_residual.ensures
     (due_stops (PlacedSources p h) (λ (placed : PlacedSource) (end : VerdictShape). end ≡ plan_report placed)
-    c.in_err-placed.field-0.0 (c.in_err-placed.ensures.places p h loaded_p loaded_h))
+    c.in_err-placed.field-0.0 (c.in_err-placed.ensures p h loaded_p loaded_h))
+
+pub returns-in_err-plan_report : goal.returns-in_err-plan_report
+returns-in_err-plan_report c = λ names others p h loaded_p loaded_h.
+    memory_ran_out (DueForBytes (Check names others) (p ∷ h ∷ [])) c.from_residual-in_err-plan_report.result
+    c.from_residual-in_err-plan_report.ensures
 
 pub returns : goal.returns
 returns c = λ names others p h loaded_p loaded_h.
     inl (
       placed_shape c.in_ok-placed.placed,
-      c.in_ok-placed.ensures.places p h loaded_p loaded_h,
+      c.in_ok-placed.ensures p h loaded_p loaded_h,
       c.in_ok-plan_report.ensures,
     )

@@ -1,16 +1,26 @@
-use Rattle.jif_tree.specs.Trees.{program_tree}
-use Rattle.split_cli.specs.PlacedShapes.{placed_shape}
-use Rattle.split_cli.proofs.LineCounts.{few_lines}
+use Rattle.std.proofs.Common.{◌≡◌, ◌∙◌, ◌++◌, ap, sym}
+use Rattle.std.specs.String.{string_bytes}
+use Rattle.split_cli.specs.Check.{plan_report}
+use Rattle.split_cli.specs.PlacedShapes.{PlacedModel, placed_shape}
+use Rattle.split_cli.specs.PlaceLines.{place_lines}
+use Rattle.split_cli.specs.SourceShapes.{SourceModel}
+use Rattle.split_cli.specs.Text.{lines_text}
 use Rattle.split_cli.proofs.PlanLines.{report_text}
 use Rattle.split_cli.proofs.ReportLines.{from_ok}
 use Rattle.split_cli.proofs.commands.check.plan_report.Goals as goal
 
-pub push_places-requires-clause-statements : goal.push_places-requires-clause-statements
-push_places-requires-clause-statements c =
-    few_lines (program_tree c.args.placed.now.source.checked.program) c.requires.limits
-
 pub returns : goal.returns
 returns c =
-    report_text (placed_shape c.args.placed.now) c.args.placed.now.source.checked _ _ _ _ c.requires.labelled
-    c.in_ok-text.ensures c.in_ok-push_places.ensures c.cost-cost.ensures
-    (from_ok c.writeln.result c.in_ok-map_err.ensures.variant c.writeln.ensures.bytes)
+    let source : SourceModel = record { hosts = c.source.inside.hosts; checked = c.source.inside.checked } in
+    let with_source : SourceModel → PlacedModel = λ source. record {
+      source = source;
+      needs = c.placed.inside.needs;
+      allowed = c.placed.inside.allowed;
+      plan = c.placed.inside.plan;
+    } in
+    let same : with_source source ≡ c.args.placed.now = ap with_source c.source.view_is ∙ c.placed.view_is in
+    report_text (placed_shape (with_source source)) source.checked _ _ _ _ c.source.invariant.labelled
+    (rw (← c.source.view_is) at c.in_ok-text.ensures) (c.in_ok-push_places.ensures
+    ∙ ap (λ (placed : PlacedModel). string_bytes c.in_ok-text.text ++ lines_text (place_lines (placed_shape placed)))
+    (sym same)) c.cost-cost.ensures (from_ok c.writeln.result c.in_ok-map_err.ensures.variant c.writeln.ensures.bytes)
+    ∙ ap (λ (placed : PlacedModel). plan_report (placed_shape placed)) same

@@ -1,9 +1,11 @@
-use Rattle.std.proofs.Common.{[], ◌∷◌, inl, inr, refl}
+use Rattle.std.proofs.Common.{[], ◌∷◌, ◌∙◌, ap, inl, inr}
+use Rattle.jif_tree.specs.Trees.{program_tree}
 use Rattle.split_cli.specs.Commands.{Drive}
 use Rattle.split_cli.specs.Due.{DueForBytes}
-use Rattle.split_cli.specs.PlacedShapes.{placed_shape}
+use Rattle.split_cli.specs.PlacedShapes.{PlacedModel, placed_shape}
 use Rattle.split_cli.specs.PlacedSources.{PlacedSources}
 use Rattle.split_cli.specs.Drive.{DueForDrive}
+use Rattle.split_cli.specs.SourceShapes.{SourceModel}
 use Rattle.split_cli.specs.Stages.{stopped}
 use Rattle.split_cli.specs.Starting.{StartingValues}
 use Rattle.split_cli.proofs.Stages.{due_handed_on, due_stops, memory_ran_out, stops_weaker}
@@ -14,19 +16,21 @@ returns-in_err-placed c = λ names others p h s loaded_p loaded_h loaded_s.
     due_handed_on (DueForBytes (Drive names others c.args.name.now c.args.most) (p ∷ h ∷ s ∷ []))
     c.in_err-placed.field-0.0 c.from_residual.result c.from_residual.ensures
     (due_stops (PlacedSources p h) (DueForDrive c.args.name.now s c.args.most) c.in_err-placed.field-0.0
-    (c.in_err-placed.ensures.places p h loaded_p loaded_h))
+    (c.in_err-placed.ensures p h loaded_p loaded_h))
 
 pub returns-in_err-store : goal.returns-in_err-store
 returns-in_err-store c = λ names others p h s loaded_p loaded_h loaded_s.
-    let program = c.in_ok-placed.placed.source.checked.program in
+    let program = c.source.inside.checked.program in
+    let tree = ap (λ (source : SourceModel). program_tree source.checked.program) c.source.view_is
+    ∙ ap (λ (placed : PlacedModel). program_tree placed.source.checked.program) c.placed.view_is in
     due_handed_on (DueForBytes (Drive names others c.args.name.now c.args.most) (p ∷ h ∷ s ∷ []))
     c.in_err-store.field-0.0 c.from_residual-in_err-store.result c.from_residual-in_err-store.ensures
     (stops_weaker (λ verdict. StartingValues c.args.name.now s program.fields.items (stopped verdict))
     (DueForBytes (Drive names others c.args.name.now c.args.most) (p ∷ h ∷ s ∷ [])) c.in_err-store.field-0.0
     (λ verdict stops. inl (
       placed_shape c.in_ok-placed.placed,
-      c.in_ok-placed.ensures.places p h loaded_p loaded_h,
-      (program, refl, inr stops),
+      c.in_ok-placed.ensures p h loaded_p loaded_h,
+      (program, tree, inr stops),
     ))
     (c.in_err-store.ensures s loaded_s))
 
@@ -39,10 +43,11 @@ pub returns : goal.returns
 returns c = λ names others p h s loaded_p loaded_h loaded_s.
     inl (
       placed_shape c.in_ok-placed.placed,
-      c.in_ok-placed.ensures.places p h loaded_p loaded_h,
+      c.in_ok-placed.ensures p h loaded_p loaded_h,
       (
-        c.in_ok-placed.placed.source.checked.program,
-        refl,
+        c.source.inside.checked.program,
+        ap (λ (source : SourceModel). program_tree source.checked.program) c.source.view_is
+            ∙ ap (λ (placed : PlacedModel). program_tree placed.source.checked.program) c.placed.view_is,
         inl (c.in_ok-store.store, c.in_ok-store.ensures s loaded_s, c.in_ok-driven.ensures),
       ),
     )

@@ -1,8 +1,9 @@
-use Rattle.std.proofs.Common.{[], ◌∷◌, inl, inr, refl}
+use Rattle.std.proofs.Common.{[], ◌∷◌, ap, inl, inr}
+use Rattle.jif_tree.specs.Trees.{program_tree}
 use Rattle.split_cli.specs.Commands.{Run}
 use Rattle.split_cli.specs.Due.{DueForBytes}
 use Rattle.split_cli.specs.PlainRun.{DueForRun}
-use Rattle.split_cli.specs.SourceShapes.{source_shape}
+use Rattle.split_cli.specs.SourceShapes.{SourceModel, source_shape}
 use Rattle.split_cli.specs.Sources.{Source, Sources}
 use Rattle.split_cli.specs.Stages.{stopped}
 use Rattle.split_cli.specs.Starting.{StartingValues}
@@ -14,19 +15,20 @@ returns-in_err-source c = λ names others p h s loaded_p loaded_h loaded_s.
     due_handed_on (DueForBytes (Run names others c.args.name.now c.args.steps) (p ∷ h ∷ s ∷ []))
     c.in_err-source.field-0.0 c.from_residual.result c.from_residual.ensures
     (due_stops (Sources p h) (λ (source : Source). DueForRun c.args.name.now s c.args.steps source.tree)
-    c.in_err-source.field-0.0 (c.in_err-source.ensures.sources p h loaded_p loaded_h))
+    c.in_err-source.field-0.0 (c.in_err-source.ensures p h loaded_p loaded_h))
 
 pub returns-in_err-store : goal.returns-in_err-store
 returns-in_err-store c = λ names others p h s loaded_p loaded_h loaded_s.
-    let program = c.in_ok-source.source.checked.program in
+    let program = c.source.inside.checked.program in
+    let tree = ap (λ (source : SourceModel). program_tree source.checked.program) c.source.view_is in
     due_handed_on (DueForBytes (Run names others c.args.name.now c.args.steps) (p ∷ h ∷ s ∷ []))
     c.in_err-store.field-0.0 c.from_residual-in_err-store.result c.from_residual-in_err-store.ensures
     (stops_weaker (λ verdict. StartingValues c.args.name.now s program.fields.items (stopped verdict))
     (DueForBytes (Run names others c.args.name.now c.args.steps) (p ∷ h ∷ s ∷ [])) c.in_err-store.field-0.0
     (λ verdict stops. inl (
       source_shape c.in_ok-source.source,
-      c.in_ok-source.ensures.sources p h loaded_p loaded_h,
-      (program, refl, inr stops),
+      c.in_ok-source.ensures p h loaded_p loaded_h,
+      (program, tree, inr stops),
     ))
     (c.in_err-store.ensures s loaded_s))
 
@@ -39,10 +41,10 @@ pub returns : goal.returns
 returns c = λ names others p h s loaded_p loaded_h loaded_s.
     inl (
       source_shape c.in_ok-source.source,
-      c.in_ok-source.ensures.sources p h loaded_p loaded_h,
+      c.in_ok-source.ensures p h loaded_p loaded_h,
       (
-        c.in_ok-source.source.checked.program,
-        refl,
+        c.source.inside.checked.program,
+        ap (λ (source : SourceModel). program_tree source.checked.program) c.source.view_is,
         inl (c.in_ok-store.store, c.in_ok-store.ensures s loaded_s, c.in_ok-run_from.ensures),
       ),
     )
