@@ -61,12 +61,11 @@ fn push_field(
     ensures { OnOk result (string_bytes text.new ≡ string_bytes text.old
         ++ line_text (field_place (placed_shape placed.now) number (field_tree field.now))) }
 {
-    let source = &placed.source;
     let name = field.name.as_str();
     let word = placed.allowed.fields().get(number).copied().unwrap_or(0);
     let host = placed.plan.host_of_field(FieldId(number as u32));
     write!(text, "field {name}").map_err(|_| OutOfMemory)?;
-    push_placing(text, source.hosts.hosts(), word, host)
+    push_placing(text, placed.hosts().hosts(), word, host)
 }
 
 /// Adds the lines of the statements, which stand on these lines of the program.
@@ -96,7 +95,6 @@ fn push_statement(
     ensures { OnOk result (string_bytes text.new ≡ string_bytes text.old
         ++ line_text (statement_place (placed_shape placed.now) number line)) }
 {
-    let source = &placed.source;
     let word = placed
         .allowed
         .statements()
@@ -105,7 +103,7 @@ fn push_statement(
         .unwrap_or(0);
     let host = placed.plan.host_of(StmtId(number as u32));
     write!(text, "statement {number} line {line}").map_err(|_| OutOfMemory)?;
-    push_placing(text, source.hosts.hosts(), word, host)
+    push_placing(text, placed.hosts().hosts(), word, host)
 }
 
 /// Adds the rest of a line: the hosts of a word, and the host of the plan.

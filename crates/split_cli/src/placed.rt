@@ -1,6 +1,6 @@
 //! An accepted program with its hosts, and what is chosen for it: which hosts may hold what, and a plan.
 
-ghost use Rattle.std.specs.Prelude.{ℕ, List};
+ghost use Rattle.std.specs.Prelude.{◌≡◌, ℕ, List};
 ghost use Rattle.js_base.specs.declared.limits.TheConstants.{PROGRAM_BYTES, HOSTS_BYTES};
 ghost use Rattle.split_cli.specs.Loading.{EndsAs, IsLoaded};
 ghost use Rattle.split_cli.specs.PlacedShapes.{placed_shape};
@@ -11,6 +11,7 @@ use crate::load::Loaded;
 use crate::sources::{Source, read_sources};
 use crate::stop::{Stop, stopped};
 use crate::verdict::Verdict;
+use host_decl::Hosts;
 use need_labels::{Needs, Plan, needs_of};
 use place_rules::Allowed;
 use placement::{place, placement_laws};
@@ -39,6 +40,16 @@ impl Model for PlacedSource {
 
     ghost invariant = { λ p. IsWellPlaced
         (record { source = p.source; needs = p.needs; allowed = p.allowed; plan = p.plan }) };
+}
+
+impl PlacedSource {
+    /// The hosts that its program is for.
+    pub fn hosts(&self) -> &Hosts
+        ensures { result.now ≡ self.now.source.hosts }
+    {
+        let source = &self.source;
+        &source.hosts
+    }
 }
 
 /// The accepted program of two files in its places on the hosts, or what is due where it is refused or has none.

@@ -82,8 +82,7 @@ fn driven(
     ensures { IfOk result (λ verdict. IsDriveReport (placed_shape placed.now) store.now most (verdict_shape verdict)) }
 {
     let code = code_of(alloc, placed)?;
-    let source = &placed.source;
-    let mut world = World::start(alloc, &code, &source.hosts, 0, store)?;
+    let mut world = World::start(alloc, &code, placed.hosts(), 0, store)?;
     let driven = drive(&code, &mut world, most)?;
     let text = drive_text(alloc, &code, driven.made, &world)?;
     Ok(Verdict::Print {

@@ -61,8 +61,7 @@ fn due_for_loaded(
     let script = read_script(alloc, name, &code, events)?;
     let bad = script.bad();
     let store = script.start();
-    let source = &placed.source;
-    let first = World::start(alloc, &code, &source.hosts, bad, store)?;
+    let first = World::start(alloc, &code, placed.hosts(), bad, store)?;
     let last = events_happen(alloc, name, &code, first, script.events())?;
     let text = replay_text(alloc, &code, &last)?;
     Ok(Verdict::Print {

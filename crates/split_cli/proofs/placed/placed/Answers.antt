@@ -10,10 +10,11 @@ invariant_of-result c =
     let source = c.source.inside in
     let labelled = labelled_of source.checked in
     let needs_are = rw c.principals.ensures.principals at c.in_ok-needs.ensures in
-    let allowed = c.placement_laws.ensures.allowed labelled c.in_ok-needs.needs source.hosts _ _ c.in-Ok.ensures.placed in
-    let has = c.placement_laws.ensures.hosts labelled c.in_ok-needs.needs source.hosts _ _ c.in-Ok.ensures.placed in
+    let needs = c.in_ok-needs.needs in
+    let allowed = c.placement_laws.ensures.allowed labelled needs source.hosts _ _ c.in-Ok.ensures.placed in
+    let has = c.placement_laws.ensures.hosts labelled needs source.hosts _ _ c.in-Ok.ensures.placed in
     rw (← c.source.view_is) (record {
-      each = a_host_each source.hosts.principals source.checked c.in_ok-needs.needs source.hosts _ needs_are allowed;
+      each = a_host_each source.hosts.principals source.checked needs source.hosts _ needs_are allowed;
       splittable = splittable (record { file = source.hosts; tree = program_tree source.checked.program }) _
           c.source.invariant.read c.principals.ensures.sound c.source.invariant.short has;
     })

@@ -1,13 +1,10 @@
-use Rattle.std.proofs.Common.{◌≡◌, ◌∙◌, [], ◌∷◌, ap, inl, refl}
-use Rattle.host_decl.specs.Hosts.{HostsShape}
+use Rattle.std.proofs.Common.{[], ◌∷◌, inl, refl}
 use Rattle.net_world.specs.Fits.{world_of}
-use Rattle.net_world.specs.World.{world_at_start}
 use Rattle.split_cli.specs.Commands.{Replay}
 use Rattle.split_cli.specs.Due.{DueForBytes}
-use Rattle.split_cli.specs.PlacedShapes.{PlacedModel, placed_shape}
+use Rattle.split_cli.specs.PlacedShapes.{placed_shape}
 use Rattle.split_cli.specs.PlacedSources.{PlacedSources}
 use Rattle.split_cli.specs.Replay.{ScriptRead, EventsHappen, DueForReplay}
-use Rattle.split_cli.specs.SourceShapes.{SourceModel}
 use Rattle.split_cli.specs.Stages.{given, stopped}
 use Rattle.split_cli.proofs.DriveDue.{code_hosts}
 use Rattle.split_cli.proofs.ReplayDue.{script_of_program, events_of_program, script_stops, events_stop}
@@ -17,22 +14,14 @@ use Rattle.split_cli.proofs.commands.replay.due_for_loaded.Goals as goal
 
 pub start-requires : goal.start-requires
 start-requires c =
-    rw (ap (λ (source : SourceModel). source.hosts) c.source.view_is
-    ∙ ap (λ (placed : PlacedModel). placed.source.hosts) c.placed.view_is)
-    (code_hosts (placed_shape c.in_ok-placed.placed) c.in_ok-code.code c.in_ok-code.ensures)
+    rw c.hosts.ensures (code_hosts (placed_shape c.in_ok-placed.placed) c.in_ok-code.code c.in_ok-code.ensures)
 
 pub events_happen-requires-clause-own : goal.events_happen-requires-clause-own
 events_happen-requires-clause-own c =
     let placed = placed_shape c.in_ok-placed.placed in
-    let hosts : c.source.inside.hosts ≡ placed.source.file =
-    ap (λ (source : SourceModel). source.hosts) c.source.view_is
-    ∙ ap (λ (placed : PlacedModel). placed.source.hosts) c.placed.view_is in
-    let start = c.in_ok-first.ensures.start
-    ∙ ap (λ (file : HostsShape). world_at_start c.in_ok-code.code file.hosts c.bad-bad.result c.start-store.result.now)
-    hosts in
     own_in_first c.fits_laws.ensures.own_at_start c.in_ok-code.code placed.source.file.hosts _ _ c.in_ok-script.script
     (world_of c.in_ok-first.first) c.events.result.now
-    (code_hosts placed c.in_ok-code.code c.in_ok-code.ensures) start c.bad-bad.ensures
+    (code_hosts placed c.in_ok-code.code c.in_ok-code.ensures) (rw c.hosts.ensures at c.in_ok-first.ensures.start) c.bad-bad.ensures
     c.events.ensures c.in_ok-script.ensures.own
 
 pub returns-in_err-placed : goal.returns-in_err-placed
@@ -71,12 +60,6 @@ pub returns-in_err-last : goal.returns-in_err-last
 returns-in_err-last c = λ names others p h e loaded_p loaded_h loaded_e.
     let placed = placed_shape c.in_ok-placed.placed in
     let said = c.in_ok-script.script in
-    let hosts : c.source.inside.hosts ≡ placed.source.file =
-    ap (λ (source : SourceModel). source.hosts) c.source.view_is
-    ∙ ap (λ (placed : PlacedModel). placed.source.hosts) c.placed.view_is in
-    let start = c.in_ok-first.ensures.start
-    ∙ ap (λ (file : HostsShape). world_at_start c.in_ok-code.code file.hosts c.bad-bad.result c.start-store.result.now)
-    hosts in
     due_handed_on (DueForBytes (Replay names others c.args.name.now) (p ∷ h ∷ e ∷ [])) c.in_err-last.field-0.0
     c.from_residual-in_err-last.result c.from_residual-in_err-last.ensures
     (stops_weaker
@@ -90,7 +73,7 @@ returns-in_err-last c = λ names others p h e loaded_p loaded_h loaded_e.
           (script_of_program c.args.name.now e placed c.in_ok-code.code (given said) c.in_ok-code.ensures
           (c.in_ok-script.ensures.read e loaded_e))
           (events_of_program c.args.name.now placed c.in_ok-code.code said (world_of c.in_ok-first.first) _ _ _
-          (stopped verdict) c.in_ok-code.ensures start c.bad-bad.ensures c.start-store.ensures
+          (stopped verdict) c.in_ok-code.ensures (rw c.hosts.ensures at c.in_ok-first.ensures.start) c.bad-bad.ensures c.start-store.ensures
           c.events.ensures stops),
     ))
     c.in_err-last.ensures.happen)
@@ -104,12 +87,6 @@ pub returns : goal.returns
 returns c = λ names others p h e loaded_p loaded_h loaded_e.
     let placed = placed_shape c.in_ok-placed.placed in
     let said = c.in_ok-script.script in
-    let hosts : c.source.inside.hosts ≡ placed.source.file =
-    ap (λ (source : SourceModel). source.hosts) c.source.view_is
-    ∙ ap (λ (placed : PlacedModel). placed.source.hosts) c.placed.view_is in
-    let start = c.in_ok-first.ensures.start
-    ∙ ap (λ (file : HostsShape). world_at_start c.in_ok-code.code file.hosts c.bad-bad.result c.start-store.result.now)
-    hosts in
     inl (
       placed,
       c.in_ok-placed.ensures p h loaded_p loaded_h,
@@ -118,7 +95,7 @@ returns c = λ names others p h e loaded_p loaded_h loaded_e.
           (script_of_program c.args.name.now e placed c.in_ok-code.code (given said) c.in_ok-code.ensures
           (c.in_ok-script.ensures.read e loaded_e))
           (events_of_program c.args.name.now placed c.in_ok-code.code said (world_of c.in_ok-first.first) _ _ _
-          (given (world_of c.in_ok-last.last)) c.in_ok-code.ensures start c.bad-bad.ensures
+          (given (world_of c.in_ok-last.last)) c.in_ok-code.ensures (rw c.hosts.ensures at c.in_ok-first.ensures.start) c.bad-bad.ensures
           c.start-store.ensures c.events.ensures c.in_ok-last.ensures.happen)
           c.in_ok-text.ensures,
     )
