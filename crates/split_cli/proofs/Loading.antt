@@ -6,7 +6,7 @@ use Rattle.std.specs.Prelude.{take}
 use Rattle.std.specs.List.{AllZip}
 use Rattle.split_cli.specs.declared.load.Asked.{Asked}
 use Rattle.split_cli.specs.declared.load.Loaded.{Loaded}
-use Rattle.split_cli.specs.Loads.{FilesChange, Told, counted_by}
+use Rattle.split_cli.specs.Loads.{FilesChange, AreKept, Told, counted_by}
 use Rattle.split_cli.proofs.Stops.{GivesAsked}
 
 -- a value with the fact
@@ -28,5 +28,4 @@ pub record HaveLoaded
   pub given_are : AllZip (GivesAsked change.held) (take count asked) given
   pub loads : change.loads_after ≡ counted_by count change.loads_before
   pub faults : change.faults_after ≡ change.faults_before
-  pub held : change.held_after ≡ change.held
-  pub saves : change.saves_after ≡ change.saves_before
+  pub kept : AreKept change

@@ -4,7 +4,7 @@ ghost use Rattle.std.specs.Prelude.{◌≡◌, ◌≤◌, ◌+◌, length, map, 
 ghost use Rattle.std.specs.List.{AllZip};
 ghost use Rattle.js_base.specs.Counts.{counted};
 ghost use Rattle.split_cli.specs.Loading.{Gives, IsStopOf, LoadStops, StopCounts, StopsWith, StopsLoading};
-ghost use Rattle.split_cli.specs.Loads.{counted_by, files_change};
+ghost use Rattle.split_cli.specs.Loads.{AreKept, counted_by, files_change};
 
 use crate::stop::{Stop, stopped};
 use crate::verdict::Verdict;
@@ -49,8 +49,7 @@ pub fn load_all<F: Files>(
     ensures loads { OnOk result (F.loads files.new ≡ counted_by (length asked.now) (F.loads files.old)) }
     ensures faults { OnOk result (F.faults files.new ≡ F.faults files.old) }
     ensures few { F.loads files.new ≤ F.loads files.old + length asked.now }
-    ensures saves { F.saves files.new ≡ F.saves files.old }
-    ensures held { F.held files.new ≡ F.held files.old }
+    ensures kept { AreKept (files_change F.Files files.old files.new) }
 {
     let mut all = Vec::new(alloc);
     for one in asked {

@@ -10,7 +10,7 @@ ghost use Rattle.split_cli.specs.Commands as command;
 ghost use Rattle.split_cli.specs.Asked.{command_shape};
 ghost use Rattle.split_cli.specs.Due.{Due, IsDue, IsDueForCommand};
 ghost use Rattle.split_cli.specs.Faithful.{PutsDriven, PutsFaithfully};
-ghost use Rattle.split_cli.specs.Loads.{files_change};
+ghost use Rattle.split_cli.specs.Loads.{AreKept, files_change};
 ghost use Rattle.split_cli.specs.Verdicts.{Print, verdict_shape, no_memory_line};
 
 use crate::commands::check::due_for_check;
@@ -118,8 +118,6 @@ fn answered<F: Files, S: Sink, E: Sink>(
         map string_bytes words.now ≡ command.words_of asked →
         F.loads files.new ≤ F.loads files.old + length (command.files_of asked) }
     ensures no_loads { command.HaveNoForm (map string_bytes words.now) → F.loads files.new ≡ F.loads files.old }
-    ensures saves { F.saves files.new ≡ F.saves files.old }
-    ensures held { F.held files.new ≡ F.held files.old }
 {
     match due(alloc, words, files) {
         Ok(Verdict::Print { status, text }) => {
@@ -143,8 +141,7 @@ fn due<F: Files>(alloc: Global, words: &[String], files: &mut F) -> Result<Verdi
         map string_bytes words.now ≡ command.words_of asked →
         F.loads files.new ≤ F.loads files.old + length (command.files_of asked) }
     ensures no_loads { command.HaveNoForm (map string_bytes words.now) → F.loads files.new ≡ F.loads files.old }
-    ensures saves { F.saves files.new ≡ F.saves files.old }
-    ensures held { F.held files.new ≡ F.held files.old }
+    ensures kept { AreKept (files_change F.Files files.old files.new) }
 {
     match command_of(words) {
         Some(asked) => due_for(alloc, &asked, files),
@@ -163,8 +160,7 @@ fn due_for<F: Files>(
         (files_change F.Files files.old files.new)
         (verdict_shape verdict)) }
     ensures loads { F.loads files.new ≤ F.loads files.old + length (command.files_of (command_shape asked.now)) }
-    ensures saves { F.saves files.new ≡ F.saves files.old }
-    ensures held { F.held files.new ≡ F.held files.old }
+    ensures kept { AreKept (files_change F.Files files.old files.new) }
 {
     let due = match asked {
         Command::Check { program, hosts } => due_for_check(alloc, program, hosts, files),

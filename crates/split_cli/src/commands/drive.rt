@@ -8,7 +8,7 @@ ghost use Rattle.split_cli.specs.Commands.{IsStepCount};
 ghost use Rattle.split_cli.specs.Drive.{IsDriveReport};
 ghost use Rattle.split_cli.specs.Due.{DueForBytes, IsDueForCommand};
 ghost use Rattle.split_cli.specs.Loading.{EndsIn, IsLoaded};
-ghost use Rattle.split_cli.specs.Loads.{files_change};
+ghost use Rattle.split_cli.specs.Loads.{AreKept, files_change};
 ghost use Rattle.split_cli.specs.PlacedShapes.{placed_shape};
 ghost use Rattle.split_cli.specs.Verdicts.{verdict_shape};
 
@@ -39,8 +39,7 @@ pub fn due_for_drive<F: Files>(
     ensures due { EndsIn (IsDueForCommand (command.Drive program.now hosts.now start.now events)
         (files_change F.Files files.old files.new)) result }
     ensures loads { F.loads files.new ≤ F.loads files.old + 3 }
-    ensures saves { F.saves files.new ≡ F.saves files.old }
-    ensures held { F.held files.new ≡ F.held files.old }
+    ensures kept { AreKept (files_change F.Files files.old files.new) }
 {
     let asked = [program_file(program), host_file(hosts), script_file(start)];
     let loaded = load_all(alloc, files, &asked)?;

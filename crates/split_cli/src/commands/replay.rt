@@ -5,7 +5,7 @@ ghost use Rattle.js_base.specs.declared.limits.TheConstants.{PROGRAM_BYTES, HOST
 ghost use Rattle.split_cli.specs.Commands as command;
 ghost use Rattle.split_cli.specs.Due.{DueForBytes, IsDueForCommand};
 ghost use Rattle.split_cli.specs.Loading.{EndsIn, IsLoaded};
-ghost use Rattle.split_cli.specs.Loads.{files_change};
+ghost use Rattle.split_cli.specs.Loads.{AreKept, files_change};
 
 use crate::commands::{host_file, program_file, script_file};
 use crate::load::{Loaded, load_all};
@@ -31,8 +31,7 @@ pub fn due_for_replay<F: Files>(
     ensures due { EndsIn (IsDueForCommand (command.Replay program.now hosts.now events.now)
         (files_change F.Files files.old files.new)) result }
     ensures loads { F.loads files.new ≤ F.loads files.old + 3 }
-    ensures saves { F.saves files.new ≡ F.saves files.old }
-    ensures held { F.held files.new ≡ F.held files.old }
+    ensures kept { AreKept (files_change F.Files files.old files.new) }
 {
     let asked = [program_file(program), host_file(hosts), script_file(events)];
     let loaded = load_all(alloc, files, &asked)?;

@@ -7,7 +7,7 @@ ghost use Rattle.jif_tree.specs.Trees.{field_tree};
 ghost use Rattle.split_cli.specs.Commands as command;
 ghost use Rattle.split_cli.specs.Due.{DueForBytes, IsDueForCommand};
 ghost use Rattle.split_cli.specs.Loading.{EndsIn, IsLoaded};
-ghost use Rattle.split_cli.specs.Loads.{files_change};
+ghost use Rattle.split_cli.specs.Loads.{AreKept, files_change};
 ghost use Rattle.split_cli.specs.PlainRun.{IsRunReport, end_line, end_status, run_report, store_lines};
 ghost use Rattle.split_cli.specs.Text.{line_text, lines_text};
 ghost use Rattle.split_cli.specs.Verdicts.{verdict_shape};
@@ -37,8 +37,7 @@ pub fn due_for_run<F: Files>(
     ensures due { EndsIn (IsDueForCommand (command.Run program.now hosts.now start.now steps)
         (files_change F.Files files.old files.new)) result }
     ensures loads { F.loads files.new ≤ F.loads files.old + 3 }
-    ensures saves { F.saves files.new ≡ F.saves files.old }
-    ensures held { F.held files.new ≡ F.held files.old }
+    ensures kept { AreKept (files_change F.Files files.old files.new) }
 {
     let asked = [program_file(program), host_file(hosts), script_file(start)];
     let loaded = load_all(alloc, files, &asked)?;

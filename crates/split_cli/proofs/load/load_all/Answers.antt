@@ -17,7 +17,7 @@ returns-in-Err-clause-stopped g c =
     (name_at c.args.asked.now c.loop-one.one-index _ (omega arith))
     (held_in_front _ c.args.asked.now c.loop-one.one-index c.loop-one.all.items c.loop-one.invariant.given_are)
     c.loop-one.invariant.loads c.loop-one.invariant.faults c.load.ensures.loads
-    (rw c.loop-one.invariant.held at c.in-Err.ensures.loaded) c.in-Err.ensures.faults is)
+    (rw c.loop-one.invariant.kept.held at c.in-Err.ensures.loaded) c.in-Err.ensures.faults is)
     c.due_at_stop.ensures
 
 pub returns-in-Err-clause-few : goal.returns-in-Err-clause-few
@@ -28,11 +28,13 @@ pub loop-one-preserved : goal.loop-one-preserved
 loop-one-preserved g c = record {
   given_are = rw c.in_ok-push-in-Ok.ensures.items (one_more_given _ c.args.asked.now c.loop-one.one-index _
       c.loop-one.all.items c.in-Ok.loaded (omega arith) c.loop-one.invariant.given_are
-      (rw c.loop-one.invariant.held at c.in-Ok.ensures.loaded));
+      (rw c.loop-one.invariant.kept.held at c.in-Ok.ensures.loaded));
   loads = rw add-one (c.load.ensures.loads ∙ ap counted c.loop-one.invariant.loads);
   faults = c.in-Ok.ensures.faults ∙ c.loop-one.invariant.faults;
-  held = c.load.ensures.held ∙ c.loop-one.invariant.held;
-  saves = c.load.ensures.saves ∙ c.loop-one.invariant.saves;
+  kept = record {
+    saves = c.load.ensures.saves ∙ c.loop-one.invariant.kept.saves;
+    held = c.load.ensures.held ∙ c.loop-one.invariant.kept.held;
+  };
 }
 
 pub returns-clause-few : goal.returns-clause-few
