@@ -1,0 +1,3 @@
+pub mod SeeingHosts
+pub mod SeenPlaces
+pub mod SeenWorlds

@@ -1,0 +1,94 @@
+//! Laws of what misbehaving hosts may see. The calls do nothing: their contracts are the laws.
+
+ghost use Rattle.std.specs.Prelude.{◌≡◌, ◌↔◌, ℕ, Bool, true, false, Some, IsTrue, slice_get};
+ghost use Rattle.js_base.specs.declared.ids.HostId.{HostId};
+ghost use Rattle.js_base.specs.declared.ids.FieldId.{FieldId};
+ghost use Rattle.label_lattice.specs.declared.label.Label.{Label};
+ghost use Rattle.host_decl.specs.Hosts.{HostsShape};
+ghost use Rattle.host_code.specs.declared.code.Entry.{Entry};
+ghost use Rattle.host_code.specs.declared.instruction.Instr.{Instr};
+ghost use Rattle.host_code.specs.Code.{CodeShape, CodeFieldShape, instruction_at, field_at};
+ghost use Rattle.host_code.specs.Thread.{ThreadShape};
+ghost use Rattle.host_core.specs.Host as host_state;
+ghost use Rattle.event_text.specs.declared.event.Event.TheVariants.{Take, Turn};
+ghost use Rattle.net_world.specs.Flying.{Flight};
+ghost use Rattle.net_world.specs.Secret.{IsReadable, IsSecret};
+ghost use Rattle.net_world.specs.World.{WorldShape, state_at};
+ghost use Rattle.need_labels.specs.Labelled.{Labelled};
+ghost use Rattle.need_labels.specs.Needs.{NeedsShape};
+ghost use Rattle.need_labels.specs.Plan.{PlanShape};
+ghost use Rattle.split_rules.specs.Allowed.{IsAllowed};
+ghost use Rattle.split_rules.specs.Asking.{AreGranted};
+ghost use Rattle.split_rules.specs.Held.{IsHeld};
+ghost use Rattle.split_rules.specs.SplitCode.{split_code};
+ghost use Rattle.split_rules.specs.Splittable.{IsSplittable};
+ghost use Rattle.split_shades.specs.Flows.{AreResultsLabelled};
+ghost use Rattle.split_shades.specs.Shades.{EntryShade};
+ghost use Rattle.split_shades.specs.ShadedCode.{Shades, IsShadedCode, AreKnownInCode};
+ghost use Rattle.split_shades.specs.Shading.{Scene};
+ghost use Rattle.split_shades.specs.Sites.{ReleasesNothing, scene_of};
+ghost use Rattle.seen_world.specs.Eyes.{Eyes, AreEyes, Watches, sees_at, is_open, is_deep, is_hidden, sees_level, Names};
+
+/// Which labels misbehaving hosts may see.
+pub fn eye_laws()
+    // Shaded code has a test of labels for each set of misbehaving hosts, which tells those that one of them may see.
+    ensures eyes { (scene : Scene) (code : CodeShape) (shades : Shades) (bad : HostId → Bool) →
+        IsShadedCode scene code shades → AreKnownInCode scene.basis scene.planned code → AreGranted code →
+        (sees : Label → Bool)
+        × AreEyes (record { scene = scene; code = code; shades = shades; bad = bad; sees = sees }) }
+    // So has the code of each program that was checked, placed and split.
+    ensures split { (labelled : Labelled) (needs : NeedsShape) (hosts : HostsShape) (plan : PlanShape)
+        (may_release : Bool) (bad : HostId → Bool) →
+        IsSplittable labelled hosts plan → IsAllowed labelled needs hosts plan → IsHeld labelled needs hosts plan →
+        AreResultsLabelled labelled.program → (may_release ≡ false → ReleasesNothing labelled.program) →
+        (shades : Shades) × (sees : Label → Bool) × AreEyes (record {
+          scene = scene_of labelled needs hosts plan may_release;
+          code = split_code labelled needs hosts plan;
+          shades = shades;
+          bad = bad;
+          sees = sees;
+        }) }
+    // The test tells which labels are readable in a world in which the same hosts misbehave.
+    ensures readable { (eyes : Eyes) (world : WorldShape) (label : ℕ) →
+        AreEyes eyes → Watches eyes world →
+        (IsTrue (sees_at eyes label) ↔ IsReadable eyes.code world label) }
+    // A turn is secret just where the test says so of the program label at the place of the thread.
+    ensures turns { (eyes : Eyes) (world : WorldShape) (host : HostId) (state : host_state.HostShape)
+        (thread : ThreadShape) (there : Instr) →
+        AreEyes eyes → Watches eyes world → state_at world host ≡ Some state → state.me ≡ host →
+        state.running ≡ Some thread → instruction_at eyes.code host thread.at ≡ Some there →
+        ((is_open eyes host thread.at ≡ false) ↔ IsSecret eyes.code world (Turn host)) }
+    // A take is secret just where the test says so of the label of the message.
+    ensures takes { (eyes : Eyes) (world : WorldShape) (from to : HostId) (place : ℕ) (flight : Flight) →
+        AreEyes eyes → Watches eyes world → slice_get (world.flying from to) place ≡ Some flight →
+        ((sees_at eyes flight.label ≡ false) ↔ IsSecret eyes.code world (Take from to place)) }
+{}
+
+/// What follows at the places of code from what misbehaving hosts may see.
+pub fn place_laws()
+    // Who may see an instruction may see its block.
+    ensures block { (eyes : Eyes) (host : HostId) (place : ℕ) (there : Instr) →
+        AreEyes eyes → instruction_at eyes.code host place ≡ Some there → is_open eyes host place ≡ true →
+        is_deep eyes host place ≡ false }
+    // Who may see the entry whose token is held there may see the block.
+    ensures level { (eyes : Eyes) (host : HostId) (place : ℕ) (there : Instr) →
+        AreEyes eyes → instruction_at eyes.code host place ≡ Some there →
+        sees_level eyes (eyes.shades.at host place).level ≡ true → is_deep eyes host place ≡ false }
+    // Who may see an entry may see the block where it stands, whose token is held there, and who pushes it.
+    ensures entries { (eyes : Eyes) (number : ℕ) (entry : Entry) (it : EntryShade) →
+        AreEyes eyes → slice_get eyes.code.entries number ≡ Some entry →
+        slice_get eyes.shades.entries number ≡ Some it → eyes.sees it.label ≡ true →
+        (eyes.sees it.block ≡ true) × (sees_level eyes it.level ≡ true) × (is_hidden eyes number ≡ false) }
+    // A misbehaving host may see its own entries.
+    ensures own_entries { (eyes : Eyes) (number : ℕ) (entry : Entry) (it : EntryShade) →
+        AreEyes eyes → slice_get eyes.code.entries number ≡ Some entry →
+        slice_get eyes.shades.entries number ≡ Some it → eyes.bad entry.host ≡ true → eyes.sees it.label ≡ true }
+    // It may see its own fields.
+    ensures own_fields { (eyes : Eyes) (field : FieldId) (there : CodeFieldShape) →
+        AreEyes eyes → field_at eyes.code field ≡ Some there → eyes.bad there.host ≡ true →
+        sees_at eyes there.label ≡ true }
+    // An instruction that names a misbehaving host, or one of its fields, may be seen.
+    ensures named { (eyes : Eyes) (host on : HostId) (place : ℕ) (there : Instr) →
+        AreEyes eyes → instruction_at eyes.code host place ≡ Some there → Names eyes.code there.op on →
+        eyes.bad on ≡ true → is_open eyes host place ≡ true }
+{}
