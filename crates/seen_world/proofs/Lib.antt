@@ -1,3 +1,5 @@
 pub mod SeeingHosts
 pub mod SeenPlaces
 pub mod SeenWorlds
+pub mod SecretTurns
+pub mod PointsAtStart

@@ -1,6 +1,6 @@
 -- A code has finitely many hosts, and so there is a test of the labels that the misbehaving ones may see.
-use Rattle.std.proofs.Common.{◌≡◌, ◌∙◌, ℕ, zero, suc, ◌<◌, ◌≤◌, inl, inr, Bool, true, false, List, [], ◌∷◌, length, arith}
-use Rattle.std.proofs.Common.{Option, Some, None, refl, sym, subst}
+use Rattle.std.proofs.Common.{◌≡◌, ◌∙◌, ℕ, zero, suc, ◌<◌, ◌≤◌, inl, inr, Bool, true, false, List, [], ◌∷◌, length}
+use Rattle.std.proofs.Common.{arith, Option, Some, None, refl, sym, subst}
 use Rattle.std.specs.Prelude.{slice_get}
 use Rattle.std.specs.Option.{option_map}
 use Rattle.std.proofs.lemmas.Bool.{cases_Bool, cases_lt, false≢true}
@@ -14,7 +14,7 @@ use Rattle.entry_check.specs.Checks.{MaySee, label_of_host}
 use Rattle.split_rules.specs.Asking.{AreGranted}
 use Rattle.split_shades.specs.ShadedCode.{Shades, IsShadedCode, AreKnownInCode}
 use Rattle.split_shades.specs.Shading.{Scene}
-use Rattle.seen_world.specs.Eyes.{AreEyes}
+use Rattle.seen_world.specs.Eyes.{AreEyes, IsBegun}
 
 -- ---- one label
 
@@ -100,9 +100,9 @@ may_see_below lower upper (Some host) flows sees =
 
 pub has_eyes : (scene : Scene) (code : CodeShape) (shades : Shades) (bad : HostId → Bool) →
     IsShadedCode scene code shades → AreKnownInCode scene.basis scene.planned code → AreGranted code →
-    (sees : Label → Bool)
+    IsBegun scene code → (sees : Label → Bool)
     × AreEyes (record { scene = scene; code = code; shades = shades; bad = bad; sees = sees })
-has_eyes scene code shades bad shaded known granted =
+has_eyes scene code shades bad shaded known granted begins =
     let decided : (label : Label) → Decided (IsSeen code bad label) = is_seen code bad in
     let sees : Label → Bool = λ label. test_of (decided label) in (
       sees,
@@ -110,6 +110,7 @@ has_eyes scene code shades bad shaded known granted =
         shaded = shaded;
         known = known;
         granted = granted;
+        begins = begins;
         below = λ lower upper flows seen.
             let some : IsSeen code bad upper = told (decided upper) seen in
             tells (decided lower)

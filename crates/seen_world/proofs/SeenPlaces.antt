@@ -136,9 +136,12 @@ named_of eyes are host place (op.Send x to) law on named bad =
 named_of eyes are host place (op.Pass x to) law on named bad =
     let label : Label = label_of eyes.scene.basis.labelled x in
     are.below (eyes.shades.at host place).pc label law.1.1.2 (told_on eyes are to on label named law.1.1.3 bad)
-named_of eyes are host place (op.Ask there to) law on named bad = told_on eyes are to on (eyes.shades.at host place).pc named law.1.4 bad
-named_of eyes are host place (op.Go there to) law on named bad = told_on eyes are to on (eyes.shades.at host place).pc named law.4 bad
-named_of eyes are host place (op.Call there to) law on named bad = told_on eyes are to on (eyes.shades.at host place).pc named law.4 bad
+named_of eyes are host place (op.Ask there to) law on named bad =
+    told_on eyes are to on (eyes.shades.at host place).pc named law.1.4 bad
+named_of eyes are host place (op.Go there to) law on named bad =
+    told_on eyes are to on (eyes.shades.at host place).pc named law.4 bad
+named_of eyes are host place (op.Call there to) law on named bad =
+    told_on eyes are to on (eyes.shades.at host place).pc named law.4 bad
 named_of eyes are host place (op.Let x value) law on named bad = absurd named
 named_of eyes are host place (op.Frame site) law on named bad = absurd named
 named_of eyes are host place (op.Arg x value) law on named bad = absurd named

@@ -46,7 +46,8 @@ split_has_eyes labelled needs hosts plan may_release bad splittable allowed held
     let shaded = split_is_shaded labelled needs hosts plan may_release splittable allowed held results releases in
     let eyes = has_eyes (scene_of labelled needs hosts plan may_release) (split_code labelled needs hosts plan)
     shaded.0 bad shaded.1 (split_is_known labelled needs hosts plan splittable allowed held)
-    (split_is_granted labelled needs hosts plan splittable allowed held) in
+    (split_is_granted labelled needs hosts plan splittable allowed held)
+    (splittable.numbered.main.0, splittable.numbered.main.1, refl) in
     (shaded.0, eyes.0, eyes.1)
 
 -- ---- labels
@@ -96,7 +97,10 @@ unread eyes world label are watch = (
 -- ---- events
 
 some_and : {X : Type 0} (P : X → Type 0) (o : Option X) (x : X) → o ≡ Some x → P x ↔ IsSomeAnd o P
-some_and P o x is = (λ holds. subst (λ one. IsSomeAnd one P) (sym is) holds, λ holds. subst (λ one. IsSomeAnd one P) is holds)
+some_and P o x is = (
+  λ holds. subst (λ one. IsSomeAnd one P) (sym is) holds,
+  λ holds. subst (λ one. IsSomeAnd one P) is holds,
+)
 
 pub take_secret : (eyes : Eyes) (world : WorldShape) (from to : HostId) (place : ℕ) (flight : Flight) →
     AreEyes eyes → Watches eyes world → slice_get (world.flying from to) place ≡ Some flight →

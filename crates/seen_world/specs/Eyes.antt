@@ -1,8 +1,9 @@
 -- What misbehaving hosts may see of a split program.
-use Rattle.std.specs.Prelude.{◌≡◌, ℕ, Bool, true, false, not, Option, Some, None, IsSomeAnd, slice_get}
+use Rattle.std.specs.Prelude.{◌≡◌, ℕ, suc, Bool, true, false, not, Option, Some, None, IsSomeAnd, slice_get}
 use Rattle.js_base.specs.declared.ids.HostId.{HostId}
 use Rattle.label_lattice.specs.declared.label.Label.{Label}
 use Rattle.label_lattice.specs.Label.{ConfFlows}
+use Rattle.jif_tree.specs.Trees.{MethodTree}
 use Rattle.host_code.specs.declared.instruction.Op.{Op}
 use Rattle.host_code.specs.declared.instruction.Op.TheVariants as op
 use Rattle.host_code.specs.Code.{CodeShape, field_at}
@@ -13,6 +14,13 @@ use Rattle.split_rules.specs.Positions.{Level}
 use Rattle.split_shades.specs.Shades.{EntryShade, level_entry}
 use Rattle.split_shades.specs.ShadedCode.{Shades, IsShadedCode, AreKnownInCode}
 use Rattle.split_shades.specs.Shading.{Scene}
+
+-- the program starts where the body of `main` begins
+abbrev pub IsBegun : Scene → CodeShape → Type 0
+IsBegun scene code =
+    let program = scene.basis.labelled.program in
+    (tree : MethodTree) × (slice_get program.methods program.main.0 ≡ Some tree)
+    × (code.main.0 ≡ suc program.main.0)
 
 -- code with its shades, which hosts misbehave, and a test of labels
 pub record Eyes : Type 0 where
@@ -28,6 +36,7 @@ pub record AreEyes (eyes : Eyes) : Type 0 where
   pub shaded : IsShadedCode eyes.scene eyes.code eyes.shades
   pub known : AreKnownInCode eyes.scene.basis eyes.scene.planned eyes.code
   pub granted : AreGranted eyes.code
+  pub begins : IsBegun eyes.scene eyes.code
   pub below : (lower upper : Label) → ConfFlows lower upper → eyes.sees upper ≡ true → eyes.sees lower ≡ true
   pub host : (host : HostId) (label : Label) → eyes.bad host ≡ true →
       MaySee (Some label) (label_of_host eyes.code host) → eyes.sees label ≡ true

@@ -1,1 +1,2 @@
 pub mod Eyes
+pub mod Points

@@ -1,19 +1,23 @@
 //! Laws of what misbehaving hosts may see. The calls do nothing: their contracts are the laws.
 
-ghost use Rattle.std.specs.Prelude.{◌≡◌, ◌↔◌, ℕ, Bool, true, false, Some, IsTrue, slice_get};
+ghost use Rattle.std.specs.Prelude.{◌≡◌, ◌↔◌, ℕ, Bool, ℤ, true, false, List, Some, IfSome, IsTrue, slice_get};
 ghost use Rattle.js_base.specs.declared.ids.HostId.{HostId};
 ghost use Rattle.js_base.specs.declared.ids.FieldId.{FieldId};
 ghost use Rattle.label_lattice.specs.declared.label.Label.{Label};
 ghost use Rattle.host_decl.specs.Hosts.{HostsShape};
+ghost use Rattle.host_decl.specs.Hosts as declared_hosts;
 ghost use Rattle.host_code.specs.declared.code.Entry.{Entry};
 ghost use Rattle.host_code.specs.declared.instruction.Instr.{Instr};
 ghost use Rattle.host_code.specs.Code.{CodeShape, CodeFieldShape, instruction_at, field_at};
+ghost use Rattle.host_code.specs.Sound.{IsSoundCode};
 ghost use Rattle.host_code.specs.Thread.{ThreadShape};
 ghost use Rattle.host_core.specs.Host as host_state;
+ghost use Rattle.host_core.specs.Turn.{IsTurn};
 ghost use Rattle.event_text.specs.declared.event.Event.TheVariants.{Take, Turn};
 ghost use Rattle.net_world.specs.Flying.{Flight};
 ghost use Rattle.net_world.specs.Secret.{IsReadable, IsSecret};
-ghost use Rattle.net_world.specs.World.{WorldShape, state_at};
+ghost use Rattle.net_world.specs.World.{WorldShape, state_at, world_at_start, IsStep};
+ghost use Rattle.net_world.specs.Fits.{ShapeFits};
 ghost use Rattle.need_labels.specs.Labelled.{Labelled};
 ghost use Rattle.need_labels.specs.Needs.{NeedsShape};
 ghost use Rattle.need_labels.specs.Plan.{PlanShape};
@@ -27,13 +31,16 @@ ghost use Rattle.split_shades.specs.Shades.{EntryShade};
 ghost use Rattle.split_shades.specs.ShadedCode.{Shades, IsShadedCode, AreKnownInCode};
 ghost use Rattle.split_shades.specs.Shading.{Scene};
 ghost use Rattle.split_shades.specs.Sites.{ReleasesNothing, scene_of};
-ghost use Rattle.seen_world.specs.Eyes.{Eyes, AreEyes, Watches, sees_at, is_open, is_deep, is_hidden, sees_level, Names};
+ghost use Rattle.seen_world.specs.Eyes.{Eyes, AreEyes, IsBegun, Watches, sees_at, is_open, is_deep, is_hidden};
+ghost use Rattle.seen_world.specs.Eyes.{sees_level, Names};
+ghost use Rattle.seen_world.specs.Points.{RunsWell, HostsKeep};
 
 /// Which labels misbehaving hosts may see.
 pub fn eye_laws()
     // Shaded code has a test of labels for each set of misbehaving hosts, which tells those that one of them may see.
     ensures eyes { (scene : Scene) (code : CodeShape) (shades : Shades) (bad : HostId → Bool) →
         IsShadedCode scene code shades → AreKnownInCode scene.basis scene.planned code → AreGranted code →
+        IsBegun scene code →
         (sees : Label → Bool)
         × AreEyes (record { scene = scene; code = code; shades = shades; bad = bad; sees = sees }) }
     // So has the code of each program that was checked, placed and split.
@@ -91,4 +98,21 @@ pub fn place_laws()
     ensures named { (eyes : Eyes) (host on : HostId) (place : ℕ) (there : Instr) →
         AreEyes eyes → instruction_at eyes.code host place ≡ Some there → Names eyes.code there.op on →
         eyes.bad on ≡ true → is_open eyes host place ≡ true }
+{}
+
+/// What holds of the thread that runs on each host, and of the entries on its stack.
+pub fn point_laws()
+    // It holds before the first event.
+    ensures start { (eyes : Eyes) (rows : List declared_hosts.HostShape) (bad : ℕ) (store : List (List ℤ)) →
+        AreEyes eyes → IsSoundCode eyes.code → Watches eyes (world_at_start eyes.code rows bad store) →
+        HostsKeep eyes (world_at_start eyes.code rows bad store) }
+    // Where it holds, a secret turn sends no misbehaving host anything.
+    ensures silent { (eyes : Eyes) (world after : WorldShape) (host : HostId) →
+        AreEyes eyes → Watches eyes world → ShapeFits eyes.code world → HostsKeep eyes world →
+        IsStep eyes.code world (Turn host) after → IsSecret eyes.code world (Turn host) → after.sent ≡ world.sent }
+    // To whom it sends obeys.
+    ensures told { (eyes : Eyes) (state : host_state.HostShape) (thread : ThreadShape) (outcome : host_state.Outcome) →
+        AreEyes eyes → state.running ≡ Some thread → RunsWell eyes state.me thread →
+        is_open eyes state.me thread.at ≡ false → IsTurn eyes.code state outcome →
+        IfSome outcome.sent (λ sent. eyes.bad sent.0 ≡ false) }
 {}

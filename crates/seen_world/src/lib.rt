@@ -3,4 +3,4 @@
 
 mod laws;
 
-pub use laws::{eye_laws, place_laws};
+pub use laws::{eye_laws, place_laws, point_laws};

@@ -1,0 +1,6 @@
+use Rattle.seen_world.proofs.PointsAtStart.{starts_keep}
+use Rattle.seen_world.proofs.SecretTurns.{secret_told, secret_silent}
+use Rattle.seen_world.proofs.laws.point_laws.Goals as goal
+
+pub returns : goal.returns
+returns c = record { start = starts_keep; silent = secret_silent; told = secret_told }

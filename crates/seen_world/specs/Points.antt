@@ -1,0 +1,67 @@
+-- What holds of the token at each place, of each thread that runs, and of each entry on a stack, so that no misbehaving
+-- host is told what it may not see.
+use Rattle.std.specs.Prelude.{◌≡◌, ◌≢◌, true, false, length, All, Some, IfSome, IsSomeAnd, slice_get, ⊤}
+use Rattle.js_base.specs.declared.ids.HostId.{HostId}
+use Rattle.capability.specs.declared.token.Token.{Token}
+use Rattle.ics_stack.specs.declared.stack.StackEntry.{StackEntry}
+use Rattle.host_code.specs.Code.{halt, entry_at}
+use Rattle.host_code.specs.Thread.{ThreadShape}
+use Rattle.host_core.specs.Host.{HostShape}
+use Rattle.net_world.specs.World.{WorldShape, state_at}
+use Rattle.split_rules.specs.Positions.{Level, body, under}
+use Rattle.split_shades.specs.Shades.{Shade, EntryShade}
+use Rattle.seen_world.specs.Eyes.{Eyes, is_hidden, sees_level}
+
+-- ---- tokens
+
+-- the token of this level, where it is that of an entry, is one of the entry and of its host
+abbrev pub IsOfLevel : Eyes → Level → Token → Type 0
+IsOfLevel eyes (body method) token = ⊤
+IsOfLevel eyes (under number) token =
+    (token.entry.0 ≡ number) × IsSomeAnd (entry_at eyes.code token.entry) (λ there. there.host ≡ token.host)
+
+-- Where no misbehaving host may see the label of a level, the token of the level is one of an obeying host.
+abbrev pub IsTokenOf : Eyes → Level → Token → Type 0
+IsTokenOf eyes level token =
+    sees_level eyes level ≡ false → (eyes.bad token.host ≡ false) × IsOfLevel eyes level token
+
+-- an obeying host made the token for an entry that was pushed where no misbehaving host may see it
+abbrev pub IsHiddenToken : Eyes → Token → Type 0
+IsHiddenToken eyes token = (eyes.bad token.host ≡ false) × (is_hidden eyes token.entry.0 ≡ true)
+
+-- The token may be held at a place. Where the instruction there may be seen, it is no hidden one.
+abbrev pub MayHold : Eyes → Shade → Token → Type 0
+MayHold eyes here token =
+    IsTokenOf eyes here.level token × (eyes.sees here.pc ≡ true → ¬ IsHiddenToken eyes token)
+
+-- ---- threads and entries
+
+-- A thread that runs has the temporaries of its place. It has made no frame but between the frame of a call and the
+-- entering of the method.
+pub record RunsWell (eyes : Eyes) (host : HostId) (thread : ThreadShape) : Type 0 where
+  pub temps : length thread.temporaries ≡ length (eyes.shades.at host thread.at).temps
+  pub frames : (eyes.shades.at host thread.at).calls ≡ false → thread.new_frame ≡ thread.frame
+  pub holds : IfSome thread.held (MayHold eyes (eyes.shades.at host thread.at))
+
+-- An entry on the stack of a host stands there, with a token of its own, and keeps the token that was held where it was
+-- pushed. Where it is not hidden, its block may be seen, and it keeps no hidden token. The entry that ends the program
+-- belongs to no block.
+pub record StandsWell (eyes : Eyes) (host : HostId) (entry : StackEntry) : Type 0 where
+  pub shade : EntryShade
+  pub is : slice_get eyes.shades.entries entry.entry.0 ≡ Some shade
+  pub token_host : entry.token.host ≡ host
+  pub token_entry : entry.token.entry ≡ entry.entry
+  pub on_host : IsSomeAnd (entry_at eyes.code entry.entry) (λ there. there.host ≡ host)
+  pub block : is_hidden eyes entry.entry.0 ≡ false → entry.entry ≢ halt → eyes.sees shade.block ≡ true
+  pub kept : entry.entry ≢ halt → IsTokenOf eyes shade.level entry.kept
+  pub open_kept : is_hidden eyes entry.entry.0 ≡ false → ¬ IsHiddenToken eyes entry.kept
+
+-- the thread that runs on a host, and the entries on its stack
+pub record HostKeeps (eyes : Eyes) (host : HostId) (state : HostShape) : Type 0 where
+  pub running : IfSome state.running (RunsWell eyes host)
+  pub entries : All (StandsWell eyes host) state.entries
+
+-- those of each obeying host
+abbrev pub HostsKeep : Eyes → WorldShape → Type 0
+HostsKeep eyes world = (host : HostId) (state : HostShape) → state_at world host ≡ Some state →
+    HostKeeps eyes host state
