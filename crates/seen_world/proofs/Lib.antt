@@ -3,3 +3,4 @@ pub mod SeenPlaces
 pub mod SeenWorlds
 pub mod SecretTurns
 pub mod PointsAtStart
+pub mod TurnsKept

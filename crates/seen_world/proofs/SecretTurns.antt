@@ -149,7 +149,7 @@ unguarded eyes host place (op.Go entry on) law gives = absurd gives
 unguarded eyes host place (op.Call entry on) law gives = absurd gives
 unguarded eyes host place (op.Branch guard target) law gives = absurd gives
 
-held_by : {X : Type 0} (P Q : X → Type 0) (o : Option X) → ((x : X) → P x → Q x) → IfSome o P → IfSome o Q
+pub held_by : {X : Type 0} (P Q : X → Type 0) (o : Option X) → ((x : X) → P x → Q x) → IfSome o P → IfSome o Q
 held_by P Q None each some = tt
 held_by P Q (Some x) each some = each x some
 

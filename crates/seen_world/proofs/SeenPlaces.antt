@@ -37,7 +37,7 @@ level_seen eyes level label is =
 
 -- ---- instructions
 
-under_seen : (eyes : Eyes) → AreEyes eyes → (guard : Option ℕ) (block pc : Label) → IsUnderBlock guard block pc →
+pub under_seen : (eyes : Eyes) → AreEyes eyes → (guard : Option ℕ) (block pc : Label) → IsUnderBlock guard block pc →
     eyes.sees pc ≡ true → eyes.sees block ≡ true
 under_seen eyes are None block pc same seen = ap eyes.sees (sym same) ∙ seen
 under_seen eyes are (Some guard) block pc flows seen = are.below block pc flows seen

@@ -29,10 +29,10 @@ IsTokenOf eyes level token =
 abbrev pub IsHiddenToken : Eyes → Token → Type 0
 IsHiddenToken eyes token = (eyes.bad token.host ≡ false) × (is_hidden eyes token.entry.0 ≡ true)
 
--- The token may be held at a place. Where the instruction there may be seen, it is no hidden one.
+-- The token may be held at a place. Where the block there may be seen, it is no hidden one.
 abbrev pub MayHold : Eyes → Shade → Token → Type 0
 MayHold eyes here token =
-    IsTokenOf eyes here.level token × (eyes.sees here.pc ≡ true → ¬ IsHiddenToken eyes token)
+    IsTokenOf eyes here.level token × (eyes.sees here.block ≡ true → ¬ IsHiddenToken eyes token)
 
 -- ---- threads and entries
 
@@ -44,8 +44,8 @@ pub record RunsWell (eyes : Eyes) (host : HostId) (thread : ThreadShape) : Type 
   pub holds : IfSome thread.held (MayHold eyes (eyes.shades.at host thread.at))
 
 -- An entry on the stack of a host stands there, with a token of its own, and keeps the token that was held where it was
--- pushed. Where it is not hidden, its block may be seen, and it keeps no hidden token. The entry that ends the program
--- belongs to no block.
+-- pushed. Where it is not hidden, its block may be seen. Where its block may be seen, it keeps no hidden token. The entry
+-- that ends the program belongs to no block.
 pub record StandsWell (eyes : Eyes) (host : HostId) (entry : StackEntry) : Type 0 where
   pub shade : EntryShade
   pub is : slice_get eyes.shades.entries entry.entry.0 ≡ Some shade
@@ -54,7 +54,7 @@ pub record StandsWell (eyes : Eyes) (host : HostId) (entry : StackEntry) : Type 
   pub on_host : IsSomeAnd (entry_at eyes.code entry.entry) (λ there. there.host ≡ host)
   pub block : is_hidden eyes entry.entry.0 ≡ false → entry.entry ≢ halt → eyes.sees shade.block ≡ true
   pub kept : entry.entry ≢ halt → IsTokenOf eyes shade.level entry.kept
-  pub open_kept : is_hidden eyes entry.entry.0 ≡ false → ¬ IsHiddenToken eyes entry.kept
+  pub open_kept : eyes.sees shade.block ≡ true → ¬ IsHiddenToken eyes entry.kept
 
 -- the thread that runs on a host, and the entries on its stack
 pub record HostKeeps (eyes : Eyes) (host : HostId) (state : HostShape) : Type 0 where

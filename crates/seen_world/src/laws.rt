@@ -11,6 +11,7 @@ ghost use Rattle.host_code.specs.declared.instruction.Instr.{Instr};
 ghost use Rattle.host_code.specs.Code.{CodeShape, CodeFieldShape, instruction_at, field_at};
 ghost use Rattle.host_code.specs.Sound.{IsSoundCode};
 ghost use Rattle.host_code.specs.Thread.{ThreadShape};
+ghost use Rattle.host_core.specs.Fits.{StateFits};
 ghost use Rattle.host_core.specs.Host as host_state;
 ghost use Rattle.host_core.specs.Turn.{IsTurn};
 ghost use Rattle.event_text.specs.declared.event.Event.TheVariants.{Take, Turn};
@@ -33,7 +34,7 @@ ghost use Rattle.split_shades.specs.Shading.{Scene};
 ghost use Rattle.split_shades.specs.Sites.{ReleasesNothing, scene_of};
 ghost use Rattle.seen_world.specs.Eyes.{Eyes, AreEyes, IsBegun, Watches, sees_at, is_open, is_deep, is_hidden};
 ghost use Rattle.seen_world.specs.Eyes.{sees_level, Names};
-ghost use Rattle.seen_world.specs.Points.{RunsWell, HostsKeep};
+ghost use Rattle.seen_world.specs.Points.{RunsWell, HostKeeps, HostsKeep};
 
 /// Which labels misbehaving hosts may see.
 pub fn eye_laws()
@@ -106,6 +107,10 @@ pub fn point_laws()
     ensures start { (eyes : Eyes) (rows : List declared_hosts.HostShape) (bad : ℕ) (store : List (List ℤ)) →
         AreEyes eyes → IsSoundCode eyes.code → Watches eyes (world_at_start eyes.code rows bad store) →
         HostsKeep eyes (world_at_start eyes.code rows bad store) }
+    // A turn of any instruction keeps it on its host.
+    ensures turned { (eyes : Eyes) (state : host_state.HostShape) (outcome : host_state.Outcome) →
+        AreEyes eyes → IsSoundCode eyes.code → StateFits eyes.code state → eyes.bad state.me ≡ false →
+        HostKeeps eyes state.me state → IsTurn eyes.code state outcome → HostKeeps eyes state.me outcome.state }
     // Where it holds, a secret turn sends no misbehaving host anything.
     ensures silent { (eyes : Eyes) (world after : WorldShape) (host : HostId) →
         AreEyes eyes → Watches eyes world → ShapeFits eyes.code world → HostsKeep eyes world →
