@@ -17,7 +17,7 @@ use Rattle.net_world.specs.World.{given, hosts_before, is_absent, world_at_start
 use Rattle.split_shades.specs.Shading.{method_shade, halt_shade}
 use Rattle.split_shades.specs.Shades.{Meets, ahead_of}
 use Rattle.seen_world.specs.Eyes.{Eyes, AreEyes, Watches, is_hidden}
-use Rattle.seen_world.specs.Points.{RunsWell, StandsWell, HostKeeps, HostsKeep}
+use Rattle.seen_world.specs.Points.{RunsWell, WaitsWell, StandsWell, HostKeeps, HostsKeep}
 
 -- ---- hosts
 
@@ -43,7 +43,7 @@ started_as code store bad number (row ∷ rows) (suc i) me state at is =
     started_as code store bad (number + 1) rows i me state (omega arith) is
 
 -- a host with a state obeys
-present_obeys : {X : Type 0} (o : Option (Option X)) (x : X) → given o ≡ Some x → is_absent o ≡ false
+pub present_obeys : {X : Type 0} (o : Option (Option X)) (x : X) → given o ≡ Some x → is_absent o ≡ false
 present_obeys None x is = absurd (cc)
 present_obeys (Some None) x is = absurd (cc)
 present_obeys (Some (Some y)) x is = refl
@@ -115,6 +115,7 @@ root_keeps : (eyes : Eyes) (store : List (List ℤ)) (key : List ℕ) (host : Ho
 root_keeps eyes store key host None are obeys is on halts = absurd on
 root_keeps eyes store key host (Some entry) are obeys is on halts = record {
   running = main_runs eyes store key host entry are obeys on is;
+  waiting = All-nil (WaitsWell eyes host);
   entries = one_entry (StandsWell eyes host) _ (halt_stands eyes store key host are halts);
 }
 
@@ -137,7 +138,7 @@ host_keeps eyes store key host true are sound obeys at =
     first_of None host same on = absurd on
     first_of (Some there) host same on = on.0 ∙ same
 host_keeps eyes store key host false are sound obeys at =
-    record { running = tt; entries = All-nil (StandsWell eyes host) }
+    record { running = tt; waiting = All-nil (WaitsWell eyes host); entries = All-nil (StandsWell eyes host) }
 
 pub starts_keep : (eyes : Eyes) (rows : List declared_hosts.HostShape) (bad : ℕ) (store : List (List ℤ)) →
     AreEyes eyes → IsSoundCode eyes.code → Watches eyes (world_at_start eyes.code rows bad store) →

@@ -1,7 +1,7 @@
--- Each turn keeps what holds of the thread that runs and of the entries on the stack.
+-- Each turn keeps what holds of the threads of its host and of the entries on its stack.
 use Rattle.std.proofs.Common.{◌≡◌, ◌≢◌, ◌∙◌, ℕ, zero, suc, ◌+◌, Bool, true, false, List, [], ◌∷◌, ◌++◌, length, int_eq}
-use Rattle.std.proofs.Common.{arith, Option, Some, None, refl, ap, sym, subst}
-use Rattle.std.specs.Prelude.{◌==◌, if◌then◌else◌, not, pos, ℤ, IfSome, IsSomeAnd, All, slice_get}
+use Rattle.std.proofs.Common.{arith, Option, Some, None, inl, inr, refl, ap, sym, subst}
+use Rattle.std.specs.Prelude.{◌==◌, if◌then◌else◌, not, pos, ℤ, IfSome, IsSomeAnd, All, slice_get, slice_set}
 use Rattle.std.proofs.lemmas.Bool.{false≢true, true≢false}
 use Rattle.std.proofs.lemmas.Bool.Decides.{nat_tests}
 use Rattle.js_base.specs.declared.ids.HostId.{HostId}
@@ -19,18 +19,25 @@ use Rattle.host_code.specs.declared.instruction.Op.{Op}
 use Rattle.host_code.specs.declared.instruction.Op.TheVariants as op
 use Rattle.host_code.specs.Code.{CodeFieldShape, halt, part_of, instruction_at, field_at, entry_at}
 use Rattle.host_code.specs.Sound.{IsSoundCode, IsEntryOn, OperationFits, temporaries_at}
-use Rattle.host_code.specs.Thread.{ThreadShape}
+use Rattle.host_code.specs.Thread.{ThreadShape, Awaited}
+use Rattle.host_code.specs.Thread.Awaited.{value_of_field, acknowledgement, token_of_entry}
 use Rattle.host_core.specs.Fits.{StateFits}
 use Rattle.host_core.specs.Host.{HostShape, Outcome, with_running, after_clearing, after_step, value_in_thread}
-use Rattle.host_core.specs.Host.{with_temporary, new_token, after_pop}
-use Rattle.host_core.specs.Host.{after_entering}
+use Rattle.host_core.specs.Host.{with_temporary, with_token, new_token, after_pop, after_entering, after_asking}
+use Rattle.host_core.specs.Host.{next_request}
 use Rattle.host_core.specs.Turn.{IsTurnOf, IsTurn, IsRunning, after_operation, after_read, after_put, after_go}
 use Rattle.host_core.specs.Turn.{after_ask, after_own_push, after_own_call, after_return, after_back, with_thread}
+use Rattle.event_text.specs.declared.event.Event.TheVariants.{Turn}
+use Rattle.net_world.specs.Fits.{ShapeFits, IsStateOf}
+use Rattle.net_world.specs.World.{WorldShape, state_at, IsStep}
+use Rattle.net_world.proofs.Moved.{Moved, either}
+use Rattle.net_world.proofs.StepLaws.{turn_puts}
 use Rattle.split_shades.specs.ShadedCode.{IsShadedOp}
 use Rattle.split_shades.specs.Shades.{Shade, EntryShade, Ahead, Meets, ahead_of}
 use Rattle.split_shades.specs.Shading.{IsUnderBlock, Divides, Names, PushesAt, Pushes, Enters, behind}
-use Rattle.seen_world.specs.Eyes.{Eyes, AreEyes, is_hidden}
-use Rattle.seen_world.specs.Points.{IsTokenOf, MayHold, RunsWell, StandsWell, HostKeeps}
+use Rattle.seen_world.specs.Eyes.{Eyes, AreEyes, Watches, is_hidden}
+use Rattle.seen_world.specs.Points.{IsTokenOf, MayHold, RunsWell, WaitsWell, StandsWell, HostKeeps, HostsKeep}
+use Rattle.seen_world.proofs.PointsAtStart.{present_obeys}
 use Rattle.seen_world.proofs.SecretTurns.{held_by}
 use Rattle.seen_world.proofs.SeenPlaces.{under_seen}
 
@@ -86,6 +93,19 @@ clears eyes host thread calls next well meets is frames =
     (ap (λ (it : Ahead). length it.temps) (sym is))
     (λ no. frames (ap (λ (it : Ahead). it.calls) (sym is) ∙ no)) refl
 
+-- behind a part of a statement for which nothing was read
+steps : (eyes : Eyes) (host : HostId) (thread : ThreadShape) (calls : Bool) (next : Ahead) →
+    RunsWell eyes host thread → (eyes.shades.at host thread.at).temps ≡ [] →
+    Meets next (eyes.shades.at host (suc thread.at)) → next ≡ behind (eyes.shades.at host thread.at) calls →
+    (calls ≡ false → thread.new_frame ≡ thread.frame) → RunsWell eyes host (after_step thread)
+steps eyes host thread calls next well plain meets is frames =
+    let here = eyes.shades.at host thread.at in
+    goes_on eyes host thread (after_step thread) next well (meets_next eyes host thread.at next meets)
+    (ap (λ (it : Ahead). it.level) is)
+    (same_more eyes next.block here.block (ap (λ (it : Ahead). it.block) is))
+    (well.temps ∙ ap length plain ∙ ap (λ (it : Ahead). length it.temps) (sym is))
+    (λ no. frames (ap (λ (it : Ahead). it.calls) (sym is) ∙ no)) refl
+
 -- ---- what is left
 
 abbrev Kept : Eyes → HostShape → Outcome → Type 0
@@ -96,8 +116,27 @@ either_kept : (eyes : Eyes) (host : HostShape) (b : Bool) (one other : Outcome) 
 either_kept eyes host true one other first second = first
 either_kept eyes host false one other first second = second
 
+-- what holds of the entries and of the threads that wait
 abbrev Stand : Eyes → HostShape → Type 0
-Stand eyes host = All (StandsWell eyes host.me) host.entries
+Stand eyes host = All (StandsWell eyes host.me) host.entries × All (WaitsWell eyes host.me) host.waiting
+
+one_more : {X : Type 0} (P : X → Type 0) (xs : List X) (x : X) → All P xs → P x → All P (xs ++ x ∷ [])
+one_more P [] x all here zero d lt = here
+one_more P [] x all here (suc k) d lt = absurd (omega arith)
+one_more P (y ∷ xs) x all here zero d lt = all 0 d (omega arith)
+one_more P (y ∷ xs) x all here (suc k) d lt =
+    one_more P xs x (λ j e less. all (suc j) e (omega arith)) here k d (omega arith)
+
+asked_kept : (eyes : Eyes) (host : HostShape) (at : ℕ) (later : ThreadShape) (awaited : Awaited) (asked : HostId) →
+    Stand eyes host →
+    WaitsWell eyes host.me
+    (record { thread = later; awaited = awaited; request = next_request host at; asked = asked }) →
+    HostKeeps eyes host.me (after_asking host at later awaited asked)
+asked_kept eyes host at later awaited asked stand waits = record {
+  running = tt;
+  waiting = one_more (WaitsWell eyes host.me) host.waiting _ stand.1 waits;
+  entries = stand.0;
+}
 
 -- ---- fields
 
@@ -105,7 +144,7 @@ read_kept : (eyes : Eyes) (host : HostShape) (thread : ThreadShape) (field : Fie
     Stand eyes host → RunsWell eyes host.me thread →
     IsShadedOp eyes.scene eyes.shades host.me thread.at (op.Read field index) → (found : Option CodeFieldShape) →
     Kept eyes host (after_read host thread field index found)
-read_kept eyes host thread field index stand well law None = record { running = well; entries = stand }
+read_kept eyes host thread field index stand well law None = record { running = well; waiting = stand.1; entries = stand.0 }
 read_kept eyes host thread field index stand well law (Some there) =
     let here = eyes.shades.at host.me thread.at in
     let goes = law.1.goes in
@@ -116,8 +155,8 @@ read_kept eyes host thread field index stand well law (Some there) =
     (same_more eyes next.block here.block (ap (λ (it : Ahead). it.block) goes))
     (one_longer thread.temporaries here.temps value _ well.temps ∙ ap (λ (it : Ahead). length it.temps) (sym goes))
     (λ no. well.frames (ap (λ (it : Ahead). it.calls) (sym goes) ∙ no)) refl in
-    either_kept eyes host (there.host.0 == host.me.0) _ _ (record { running = more _; entries = stand })
-    (record { running = tt; entries = stand })
+    either_kept eyes host (there.host.0 == host.me.0) _ _ (record { running = more _; waiting = stand.1; entries = stand.0 })
+    (asked_kept eyes host thread.at (after_step thread) value_of_field there.host stand more)
   where
     one_longer : {X Y : Type 0} (xs : List X) (ys : List Y) (x : X) (y : Y) → length xs ≡ length ys →
         length (xs ++ x ∷ []) ≡ length (ys ++ y ∷ [])
@@ -131,12 +170,15 @@ put_kept : (eyes : Eyes) (host : HostShape) (thread : ThreadShape) (field : Fiel
     Stand eyes host → RunsWell eyes host.me thread →
     IsShadedOp eyes.scene eyes.shades host.me thread.at (op.Put field index value) →
     (found : Option CodeFieldShape) → Kept eyes host (after_put host thread field index value found)
-put_kept eyes host thread field index value stand well law None = record { running = well; entries = stand }
+put_kept eyes host thread field index value stand well law None = record { running = well; waiting = stand.1; entries = stand.0 }
 put_kept eyes host thread field index value stand well law (Some there) =
     either_kept eyes host (there.host.0 == host.me.0) _ _ (record {
       running = clears eyes host.me thread false law.0 well law.2 law.1.3 (λ no. well.frames law.1.0);
-      entries = stand;
-    }) (record { running = tt; entries = stand })
+      waiting = stand.1;
+      entries = stand.0;
+    })
+    (asked_kept eyes host thread.at (after_clearing thread) acknowledgement there.host stand
+    (clears eyes host.me thread false law.0 well law.2 law.1.3 (λ no. well.frames law.1.0)))
 
 -- ---- branches
 
@@ -187,11 +229,13 @@ branch_kept eyes are host thread guard target stand well below next other calls 
     either_kept eyes host b (with_thread host (record later { at = target })) (with_thread host later) (record {
       running = goes_on eyes host.me thread (record later { at = target }) other well lands both.1.level both.1.block
           (ap length (sym both.1.temps)) (λ no. well.frames calls) refl;
-      entries = stand;
+      waiting = stand.1;
+      entries = stand.0;
     }) (record {
       running = goes_on eyes host.me thread later next well (meets_next eyes host.me thread.at next meets)
           both.0.level both.0.block (ap length (sym both.0.temps)) (λ no. well.frames calls) refl;
-      entries = stand;
+      waiting = stand.1;
+      entries = stand.0;
     })
 
 -- ---- pushes
@@ -263,7 +307,7 @@ push_kept : (eyes : Eyes) → AreEyes eyes → (host : HostShape) (thread : Thre
     Meets next (eyes.shades.at host.me (suc thread.at)) → thread.held ≡ held →
     Kept eyes host (after_own_push host thread entry held)
 push_kept eyes are host thread entry None obeys stand well below on next plain pushed meets is =
-    record { running = well; entries = stand }
+    record { running = well; waiting = stand.1; entries = stand.0 }
 push_kept eyes are host thread entry (Some held) obeys stand well below on next plain pushed meets is =
     let here = eyes.shades.at host.me thread.at in
     let there = eyes.shades.at host.me (thread.at + 1) in
@@ -296,7 +340,8 @@ push_kept eyes are host thread entry (Some held) obeys stand well below on next 
             ap eyes.sees names.block ∙ seen_block (shown_is (eyes.sees here.pc) (sym hidden ∙ shown));
         kept = λ other. subst (λ level. IsTokenOf eyes level held) (sym names.level) held_well.0;
         open_kept = λ shown. held_well.1 (ap eyes.sees (sym names.block) ∙ shown);
-      }) stand;
+      }) stand.0;
+      waiting = stand.1;
     }
   where
     shown_is : (b : Bool) → not b ≡ false → b ≡ true
@@ -326,36 +371,49 @@ own_call_kept eyes are host thread entry (Some there) is on stand well plain ent
       running = goes_on eyes host.me thread (record thread { at = there.at; frame = thread.new_frame }) (ahead_of it)
           well meets (enters.level ∙ sym enters.is_level) (are.below here.block it.block enters.below)
           (well.temps ∙ ap length plain) (λ no. refl) refl;
-      entries = stand;
+      waiting = stand.1;
+      entries = stand.0;
     }
 
 go_kept : (eyes : Eyes) (host : HostShape) (thread : ThreadShape) (frame : FrameId) (entry : EntryId) (on : HostId)
     (held : Option Token) → Stand eyes host → RunsWell eyes host.me thread →
     Kept eyes host (after_go host thread frame entry on held)
-go_kept eyes host thread frame entry on None stand well = record { running = well; entries = stand }
-go_kept eyes host thread frame entry on (Some held) stand well = record { running = tt; entries = stand }
+go_kept eyes host thread frame entry on None stand well = record { running = well; waiting = stand.1; entries = stand.0 }
+go_kept eyes host thread frame entry on (Some held) stand well = record { running = tt; waiting = stand.1; entries = stand.0 }
 
 ask_kept : (eyes : Eyes) (host : HostShape) (thread : ThreadShape) (entry : EntryId) (on : HostId)
-    (held : Option Token) → Stand eyes host → RunsWell eyes host.me thread →
+    (held : Option Token) → Stand eyes host → RunsWell eyes host.me thread → (next : Ahead) →
+    (eyes.shades.at host.me thread.at).temps ≡ [] → (eyes.shades.at host.me thread.at).calls ≡ false →
+    next.temps ≡ [] → Meets next (eyes.shades.at host.me (suc thread.at)) →
     Kept eyes host (after_ask host thread entry on held)
-ask_kept eyes host thread entry on None stand well = record { running = well; entries = stand }
-ask_kept eyes host thread entry on (Some held) stand well = record { running = tt; entries = stand }
+ask_kept eyes host thread entry on None stand well next plain calls temps meets =
+    record { running = well; waiting = stand.1; entries = stand.0 }
+ask_kept eyes host thread entry on (Some held) stand well next plain calls temps meets =
+    let met : Meets next (eyes.shades.at host.me (thread.at + 1)) =
+    meets_next eyes host.me thread.at next meets in
+    asked_kept eyes host thread.at (with_token None (after_step thread)) token_of_entry on stand
+    (λ token holds. record {
+      temps = well.temps ∙ ap length plain ∙ ap length (sym temps) ∙ ap length (sym met.temps);
+      frames = λ no. well.frames calls;
+      holds = holds;
+    })
 
 -- ---- results and tokens that are given back
 
 return_kept : (eyes : Eyes) (host : HostShape) (thread : ThreadShape) (x : VarId) (value : List Node)
     (held : Option Token) (passes : Bool) → Stand eyes host → RunsWell eyes host.me thread →
     RunsWell eyes host.me (after_clearing thread) → Kept eyes host (after_return host thread x value held passes)
-return_kept eyes host thread x value None passes stand well later = record { running = well; entries = stand }
+return_kept eyes host thread x value None passes stand well later = record { running = well; waiting = stand.1; entries = stand.0 }
 return_kept eyes host thread x value (Some token) passes stand well later =
-    either_kept eyes host (token.host.0 == host.me.0) _ _ (record { running = later; entries = stand })
-    (either_kept eyes host passes _ _ (record { running = tt; entries = stand })
-    (record { running = later; entries = stand }))
+    either_kept eyes host (token.host.0 == host.me.0) _ _ (record { running = later; waiting = stand.1; entries = stand.0 })
+    (either_kept eyes host passes _ _
+    (asked_kept eyes host thread.at (after_clearing thread) acknowledgement token.host stand later)
+    (record { running = later; waiting = stand.1; entries = stand.0 }))
 
 popped_kept : (eyes : Eyes) → AreEyes eyes → (host : HostShape) (top : StackEntry) (found : Option Entry) →
     entry_at eyes.code top.entry ≡ found → top.entry.0 ≢ 0 → Stand eyes host → StandsWell eyes host.me top →
     HostKeeps eyes host.me (after_entering host found top.frame top.kept)
-popped_kept eyes are host top None is other stand well = record { running = tt; entries = stand }
+popped_kept eyes are host top None is other stand well = record { running = tt; waiting = stand.1; entries = stand.0 }
 popped_kept eyes are host top (Some there) is other stand well =
     let it = well.shade in
     let on : there.host ≡ host.me = subst (λ one. IsSomeAnd one (λ entry. entry.host ≡ host.me)) is well.on_host in
@@ -372,7 +430,8 @@ popped_kept eyes are host top (Some there) is other stand well =
           λ seen. well.open_kept (ap eyes.sees (sym meets.block) ∙ seen),
         );
       };
-      entries = stand;
+      waiting = stand.1;
+      entries = stand.0;
     }
   where
     stands_at : (number : ℕ) → number ≢ 0 → (there : Entry) (it : EntryShade) →
@@ -384,7 +443,7 @@ popped_kept eyes are host top (Some there) is other stand well =
 pop_kept : (eyes : Eyes) → AreEyes eyes → (host : HostShape) (entries : List StackEntry) →
     All (StandsWell eyes host.me) entries → Stand eyes host →
     HostKeeps eyes host.me (after_pop eyes.code (with_running host None) entries)
-pop_kept eyes are host [] all stand = record { running = tt; entries = stand }
+pop_kept eyes are host [] all stand = record { running = tt; waiting = stand.1; entries = stand.0 }
 pop_kept eyes are host (top ∷ below) all stand =
     by (top.entry.0 == halt.0) refl
   where
@@ -396,23 +455,23 @@ pop_kept eyes are host (top ∷ below) all stand =
         then record (record (with_running host None) { entries = below }) { running = None; halted = true }
         else after_entering (record (with_running host None) { entries = below }) (entry_at eyes.code top.entry)
         top.frame top.kept)
-    by true is = record { running = tt; entries = rest }
+    by true is = record { running = tt; waiting = stand.1; entries = rest }
     by false is =
         let other : top.entry.0 ≢ 0 = grind (arith, nat_tests) in
         popped_kept eyes are (record (with_running host None) { entries = below }) top
-        (entry_at eyes.code top.entry) refl other rest (all 0 top (omega arith))
+        (entry_at eyes.code top.entry) refl other (rest, stand.1) (all 0 top (omega arith))
 
 back_kept : (eyes : Eyes) → AreEyes eyes → (host : HostShape) (thread : ThreadShape) (held : Option Token)
     (passes : Bool) → Stand eyes host → RunsWell eyes host.me thread →
     Kept eyes host (after_back eyes.code host thread held passes)
-back_kept eyes are host thread None passes stand well = record { running = well; entries = stand }
+back_kept eyes are host thread None passes stand well = record { running = well; waiting = stand.1; entries = stand.0 }
 back_kept eyes are host thread (Some token) passes stand well =
-    either_kept eyes host (token.host.0 == host.me.0) _ _ (here passes) (record { running = tt; entries = stand })
+    either_kept eyes host (token.host.0 == host.me.0) _ _ (here passes) (record { running = tt; waiting = stand.1; entries = stand.0 })
   where
     here : (b : Bool) → HostKeeps eyes host.me (if b then after_pop eyes.code (with_running host None) host.entries
         else (record (with_running host None) { ignored = host.ignored + 1 }))
-    here true = pop_kept eyes are host host.entries stand stand
-    here false = record { running = tt; entries = stand }
+    here true = pop_kept eyes are host host.entries stand.0 stand
+    here false = record { running = tt; waiting = stand.1; entries = stand.0 }
 
 -- ---- all instructions
 
@@ -425,12 +484,14 @@ operation_kept eyes are host thread (op.Read field index) passes count obeys sta
     read_kept eyes host thread field index stand well law (field_at eyes.code field)
 operation_kept eyes are host thread (op.Let x value) passes count obeys stand well below law fits = record {
   running = clears eyes host.me thread false law.0 well law.2 law.1.3 (λ no. well.frames law.1.0);
-  entries = stand;
+  waiting = stand.1;
+  entries = stand.0;
 }
 operation_kept eyes are host thread (op.Put field index value) passes count obeys stand well below law fits =
     put_kept eyes host thread field index value stand well law (field_at eyes.code field)
 operation_kept eyes are host thread (op.Send x on) passes count obeys stand well below law fits =
-    record { running = tt; entries = stand }
+    asked_kept eyes host thread.at (after_step thread) acknowledgement on stand
+    (steps eyes host.me thread false law.0 well law.1.1.0.0 law.2 law.1.2 (λ no. well.frames law.1.0))
 operation_kept eyes are host thread (op.Frame site) passes count obeys stand well below law fits =
     let here = eyes.shades.at host.me thread.at in
     let next = law.0 in
@@ -441,20 +502,24 @@ operation_kept eyes are host thread (op.Frame site) passes count obeys stand wel
           (same_more eyes next.block here.block (ap (λ (it : Ahead). it.block) is))
           (well.temps ∙ ap length law.1.2.0 ∙ ap (λ (it : Ahead). length it.temps) (sym is))
           (λ no. absurd (false≢true (sym no ∙ ap (λ (it : Ahead). it.calls) is))) refl;
-      entries = stand;
+      waiting = stand.1;
+      entries = stand.0;
     }
 operation_kept eyes are host thread (op.Arg x value) passes count obeys stand well below law fits = record {
   running = clears eyes host.me thread true law.0 well law.2 law.1.3 (λ no. absurd (true≢false no));
-  entries = stand;
+  waiting = stand.1;
+  entries = stand.0;
 }
 operation_kept eyes are host thread (op.Pass x on) passes count obeys stand well below law fits =
-    record { running = tt; entries = stand }
+    asked_kept eyes host thread.at (after_step thread) acknowledgement on stand
+    (steps eyes host.me thread true law.0 well law.1.1.0.0 law.2 law.1.2 (λ no. absurd (true≢false no)))
 operation_kept eyes are host thread (op.Push entry) passes count obeys stand well below law fits =
     let here = eyes.shades.at host.me thread.at in
     push_kept eyes are host thread entry thread.held obeys stand well below fits law.0 law.1.0.0
     (pushed_by eyes host.me here entry.0 law.0 here.calls refl below law.1.1) law.2 refl
 operation_kept eyes are host thread (op.Ask entry on) passes count obeys stand well below law fits =
-    ask_kept eyes host thread entry on thread.held stand well
+    ask_kept eyes host thread entry on thread.held stand well law.0 law.1.0.0 law.1.1
+    (ap (λ (it : Ahead). it.temps) law.1.3.1) law.2
 operation_kept eyes are host thread (op.Go entry on) passes count obeys stand well below law fits =
     go_kept eyes host thread thread.frame entry on thread.held stand well
 operation_kept eyes are host thread (op.Call entry on) passes count obeys stand well below law fits =
@@ -488,7 +553,7 @@ running_kept : (eyes : Eyes) → AreEyes eyes → IsSoundCode eyes.code → (sta
     instruction_at eyes.code state.me thread.at ≡ found →
     IsRunning eyes.code (with_running state None) thread found outcome → Kept eyes state outcome
 running_kept eyes are sound state thread outcome fits obeys stand well None is runs =
-    subst (Kept eyes state) runs (record { running = well; entries = stand })
+    subst (Kept eyes state) runs (record { running = well; waiting = stand.1; entries = stand.0 })
 running_kept eyes are sound state thread outcome fits obeys stand well (Some there) is runs =
     let shaded = are.shaded.instructions state.me thread.at there is in
     let operation = ((sound.parts state.me fits.me).instructions thread.at there is).operation in
@@ -503,7 +568,11 @@ turn_of_kept : (eyes : Eyes) → AreEyes eyes → IsSoundCode eyes.code → (sta
     IsTurnOf eyes.code state running outcome → Kept eyes state outcome
 turn_of_kept eyes are sound state outcome fits obeys stand None is well turns =
     subst (Kept eyes state) turns
-    (record { running = subst (λ one. IfSome one (RunsWell eyes state.me)) (sym is) tt; entries = stand })
+    (record {
+      running = subst (λ one. IfSome one (RunsWell eyes state.me)) (sym is) tt;
+      waiting = stand.1;
+      entries = stand.0;
+    })
 turn_of_kept eyes are sound state outcome fits obeys stand (Some thread) is well turns =
     running_kept eyes are sound state thread outcome fits obeys stand well
     (instruction_at eyes.code state.me thread.at) refl turns
@@ -512,4 +581,36 @@ pub turn_keeps : (eyes : Eyes) (state : HostShape) (outcome : Outcome) → AreEy
     StateFits eyes.code state → eyes.bad state.me ≡ false → HostKeeps eyes state.me state →
     IsTurn eyes.code state outcome → HostKeeps eyes state.me outcome.state
 turn_keeps eyes state outcome are sound fits obeys keeps turns =
-    turn_of_kept eyes are sound state outcome fits obeys keeps.entries state.running refl keeps.running turns
+    turn_of_kept eyes are sound state outcome fits obeys (keeps.entries, keeps.waiting) state.running refl keeps.running turns
+
+-- ---- worlds
+
+-- a step of one host leaves the others as they are
+hosts_kept : (eyes : Eyes) (world after : WorldShape) (host : HostId) (old state : HostShape) → HostsKeep eyes world →
+    state_at world host ≡ Some old → after.hosts ≡ slice_set world.hosts host.0 (Some state) →
+    HostKeeps eyes host state → HostsKeep eyes after
+hosts_kept eyes world after host old state keep obeys puts keeps other there is =
+    let moved : Moved world host state after.flying after = record { hosts = puts; flying = refl } in
+    elim (either world after host old state after.flying obeys moved other there is) [
+      | inl mover ↦
+          subst (λ (h : HostId). HostKeeps eyes h there) (sym mover.same)
+          (subst (HostKeeps eyes host) (sym mover.is) keeps)
+      | inr apart ↦ keep other there apart.obeys
+    ]
+
+pub turned_world : (eyes : Eyes) (world after : WorldShape) (host : HostId) → AreEyes eyes → IsSoundCode eyes.code →
+    Watches eyes world → ShapeFits eyes.code world → HostsKeep eyes world → IsStep eyes.code world (Turn host) after →
+    HostsKeep eyes after
+turned_world eyes world after host are sound watch fits keep step =
+    let state = step.state in
+    let fit : IsStateOf eyes.code host state =
+    subst (λ one. IfSome one (IsStateOf eyes.code host)) step.obeys (fits.states host) in
+    let obeys : eyes.bad host ≡ false =
+    sym (watch host) ∙ present_obeys (slice_get world.hosts host.0) state step.obeys in
+    let kept : HostKeeps eyes state.me step.outcome.state =
+    turn_keeps eyes state step.outcome are sound fit.fits
+    (subst (λ (me : HostId). eyes.bad me ≡ false) (sym fit.me) obeys)
+    (subst (λ (me : HostId). HostKeeps eyes me state) (sym fit.me) (keep host state step.obeys)) step.turns in
+    hosts_kept eyes world after host state step.outcome.state keep step.obeys
+    (turn_puts eyes.code world after host step)
+    (subst (λ (me : HostId). HostKeeps eyes me step.outcome.state) fit.me kept)

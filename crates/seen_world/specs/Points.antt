@@ -1,12 +1,13 @@
--- What holds of the token at each place, of each thread that runs, and of each entry on a stack, so that no misbehaving
+-- What holds of the token at each place, of each thread, and of each entry on a stack, so that no misbehaving
 -- host is told what it may not see.
-use Rattle.std.specs.Prelude.{◌≡◌, ◌≢◌, true, false, length, All, Some, IfSome, IsSomeAnd, slice_get, ⊤}
+use Rattle.std.specs.Prelude.{◌≡◌, ◌≢◌, ℤ, true, false, length, All, Some, IfSome, IsSomeAnd, slice_get, ⊤}
 use Rattle.js_base.specs.declared.ids.HostId.{HostId}
 use Rattle.capability.specs.declared.token.Token.{Token}
 use Rattle.ics_stack.specs.declared.stack.StackEntry.{StackEntry}
 use Rattle.host_code.specs.Code.{halt, entry_at}
-use Rattle.host_code.specs.Thread.{ThreadShape}
-use Rattle.host_core.specs.Host.{HostShape}
+use Rattle.host_code.specs.Thread.{ThreadShape, WaitingShape, Awaited}
+use Rattle.host_code.specs.Thread.Awaited.{value_of_field, acknowledgement, token_of_entry}
+use Rattle.host_core.specs.Host.{HostShape, with_temporary, with_token}
 use Rattle.net_world.specs.World.{WorldShape, state_at}
 use Rattle.split_rules.specs.Positions.{Level, body, under}
 use Rattle.split_shades.specs.Shades.{Shade, EntryShade}
@@ -43,9 +44,19 @@ pub record RunsWell (eyes : Eyes) (host : HostId) (thread : ThreadShape) : Type 
   pub frames : (eyes.shades.at host thread.at).calls ≡ false → thread.new_frame ≡ thread.frame
   pub holds : IfSome thread.held (MayHold eyes (eyes.shades.at host thread.at))
 
+-- A thread that waits runs so once it has the answer. The token that it is given may be held where it goes on.
+abbrev pub WaitsWell : Eyes → HostId → WaitingShape → Type 0
+WaitsWell eyes host waiting = after waiting.awaited
+  where
+    after : Awaited → Type 0
+    after value_of_field = (value : ℤ) → RunsWell eyes host (with_temporary value waiting.thread)
+    after acknowledgement = RunsWell eyes host waiting.thread
+    after token_of_entry = (token : Token) → MayHold eyes (eyes.shades.at host waiting.thread.at) token →
+        RunsWell eyes host (with_token (Some token) waiting.thread)
+
 -- An entry on the stack of a host stands there, with a token of its own, and keeps the token that was held where it was
--- pushed. Where it is not hidden, its block may be seen. Where its block may be seen, it keeps no hidden token. The entry
--- that ends the program belongs to no block.
+-- pushed. Where it is not hidden, its block may be seen. Where its block may be seen, it keeps no hidden token. The
+-- entry that ends the program belongs to no block.
 pub record StandsWell (eyes : Eyes) (host : HostId) (entry : StackEntry) : Type 0 where
   pub shade : EntryShade
   pub is : slice_get eyes.shades.entries entry.entry.0 ≡ Some shade
@@ -56,9 +67,10 @@ pub record StandsWell (eyes : Eyes) (host : HostId) (entry : StackEntry) : Type 
   pub kept : entry.entry ≢ halt → IsTokenOf eyes shade.level entry.kept
   pub open_kept : eyes.sees shade.block ≡ true → ¬ IsHiddenToken eyes entry.kept
 
--- the thread that runs on a host, and the entries on its stack
+-- the threads of a host, and the entries on its stack
 pub record HostKeeps (eyes : Eyes) (host : HostId) (state : HostShape) : Type 0 where
   pub running : IfSome state.running (RunsWell eyes host)
+  pub waiting : All (WaitsWell eyes host) state.waiting
   pub entries : All (StandsWell eyes host) state.entries
 
 -- those of each obeying host

@@ -101,14 +101,18 @@ pub fn place_laws()
         eyes.bad on ≡ true → is_open eyes host place ≡ true }
 {}
 
-/// What holds of the thread that runs on each host, and of the entries on its stack.
+/// What holds of the threads of each host, and of the entries on its stack.
 pub fn point_laws()
     // It holds before the first event.
     ensures start { (eyes : Eyes) (rows : List declared_hosts.HostShape) (bad : ℕ) (store : List (List ℤ)) →
         AreEyes eyes → IsSoundCode eyes.code → Watches eyes (world_at_start eyes.code rows bad store) →
         HostsKeep eyes (world_at_start eyes.code rows bad store) }
-    // A turn of any instruction keeps it on its host.
-    ensures turned { (eyes : Eyes) (state : host_state.HostShape) (outcome : host_state.Outcome) →
+    // A turn of a host keeps it, whatever instruction it runs.
+    ensures turned { (eyes : Eyes) (world after : WorldShape) (host : HostId) →
+        AreEyes eyes → IsSoundCode eyes.code → Watches eyes world → ShapeFits eyes.code world →
+        HostsKeep eyes world → IsStep eyes.code world (Turn host) after → HostsKeep eyes after }
+    // So it is kept on the host itself.
+    ensures kept_by_turn { (eyes : Eyes) (state : host_state.HostShape) (outcome : host_state.Outcome) →
         AreEyes eyes → IsSoundCode eyes.code → StateFits eyes.code state → eyes.bad state.me ≡ false →
         HostKeeps eyes state.me state → IsTurn eyes.code state outcome → HostKeeps eyes state.me outcome.state }
     // Where it holds, a secret turn sends no misbehaving host anything.

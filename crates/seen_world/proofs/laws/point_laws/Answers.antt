@@ -1,12 +1,13 @@
 use Rattle.seen_world.proofs.PointsAtStart.{starts_keep}
 use Rattle.seen_world.proofs.SecretTurns.{secret_told, secret_silent}
-use Rattle.seen_world.proofs.TurnsKept.{turn_keeps}
+use Rattle.seen_world.proofs.TurnsKept.{turn_keeps, turned_world}
 use Rattle.seen_world.proofs.laws.point_laws.Goals as goal
 
 pub returns : goal.returns
 returns c = record {
   start = starts_keep;
-  turned = turn_keeps;
+  turned = turned_world;
+  kept_by_turn = turn_keeps;
   silent = secret_silent;
   told = secret_told;
 }
