@@ -4,3 +4,4 @@ pub mod SeenWorlds
 pub mod SecretTurns
 pub mod PointsAtStart
 pub mod TurnsKept
+pub mod TakesKept

@@ -36,7 +36,7 @@ use Rattle.split_shades.specs.ShadedCode.{IsShadedOp}
 use Rattle.split_shades.specs.Shades.{Shade, EntryShade, Ahead, Meets, ahead_of}
 use Rattle.split_shades.specs.Shading.{IsUnderBlock, Divides, Names, PushesAt, Pushes, Enters, behind}
 use Rattle.seen_world.specs.Eyes.{Eyes, AreEyes, Watches, is_hidden}
-use Rattle.seen_world.specs.Points.{IsTokenOf, MayHold, RunsWell, WaitsWell, StandsWell, HostKeeps, HostsKeep}
+use Rattle.seen_world.specs.Points.{MayEnterWith, IsTokenOf, MayHold, RunsWell, WaitsWell, StandsWell, HostKeeps, HostsKeep}
 use Rattle.seen_world.proofs.PointsAtStart.{present_obeys}
 use Rattle.seen_world.proofs.SecretTurns.{held_by}
 use Rattle.seen_world.proofs.SeenPlaces.{under_seen}
@@ -117,7 +117,7 @@ either_kept eyes host true one other first second = first
 either_kept eyes host false one other first second = second
 
 -- what holds of the entries and of the threads that wait
-abbrev Stand : Eyes → HostShape → Type 0
+abbrev pub Stand : Eyes → HostShape → Type 0
 Stand eyes host = All (StandsWell eyes host.me) host.entries × All (WaitsWell eyes host.me) host.waiting
 
 one_more : {X : Type 0} (P : X → Type 0) (xs : List X) (x : X) → All P xs → P x → All P (xs ++ x ∷ [])
@@ -144,7 +144,8 @@ read_kept : (eyes : Eyes) (host : HostShape) (thread : ThreadShape) (field : Fie
     Stand eyes host → RunsWell eyes host.me thread →
     IsShadedOp eyes.scene eyes.shades host.me thread.at (op.Read field index) → (found : Option CodeFieldShape) →
     Kept eyes host (after_read host thread field index found)
-read_kept eyes host thread field index stand well law None = record { running = well; waiting = stand.1; entries = stand.0 }
+read_kept eyes host thread field index stand well law None =
+    record { running = well; waiting = stand.1; entries = stand.0 }
 read_kept eyes host thread field index stand well law (Some there) =
     let here = eyes.shades.at host.me thread.at in
     let goes = law.1.goes in
@@ -155,8 +156,9 @@ read_kept eyes host thread field index stand well law (Some there) =
     (same_more eyes next.block here.block (ap (λ (it : Ahead). it.block) goes))
     (one_longer thread.temporaries here.temps value _ well.temps ∙ ap (λ (it : Ahead). length it.temps) (sym goes))
     (λ no. well.frames (ap (λ (it : Ahead). it.calls) (sym goes) ∙ no)) refl in
-    either_kept eyes host (there.host.0 == host.me.0) _ _ (record { running = more _; waiting = stand.1; entries = stand.0 })
-    (asked_kept eyes host thread.at (after_step thread) value_of_field there.host stand more)
+    either_kept eyes host (there.host.0 == host.me.0) _ _
+    (record { running = more _; waiting = stand.1; entries = stand.0 })
+    (asked_kept eyes host thread.at (after_step thread) value_of_field there.host stand (refl, more))
   where
     one_longer : {X Y : Type 0} (xs : List X) (ys : List Y) (x : X) (y : Y) → length xs ≡ length ys →
         length (xs ++ x ∷ []) ≡ length (ys ++ y ∷ [])
@@ -170,7 +172,8 @@ put_kept : (eyes : Eyes) (host : HostShape) (thread : ThreadShape) (field : Fiel
     Stand eyes host → RunsWell eyes host.me thread →
     IsShadedOp eyes.scene eyes.shades host.me thread.at (op.Put field index value) →
     (found : Option CodeFieldShape) → Kept eyes host (after_put host thread field index value found)
-put_kept eyes host thread field index value stand well law None = record { running = well; waiting = stand.1; entries = stand.0 }
+put_kept eyes host thread field index value stand well law None =
+    record { running = well; waiting = stand.1; entries = stand.0 }
 put_kept eyes host thread field index value stand well law (Some there) =
     either_kept eyes host (there.host.0 == host.me.0) _ _ (record {
       running = clears eyes host.me thread false law.0 well law.2 law.1.3 (λ no. well.frames law.1.0);
@@ -178,7 +181,7 @@ put_kept eyes host thread field index value stand well law (Some there) =
       entries = stand.0;
     })
     (asked_kept eyes host thread.at (after_clearing thread) acknowledgement there.host stand
-    (clears eyes host.me thread false law.0 well law.2 law.1.3 (λ no. well.frames law.1.0)))
+    (refl, clears eyes host.me thread false law.0 well law.2 law.1.3 (λ no. well.frames law.1.0)))
 
 -- ---- branches
 
@@ -294,7 +297,7 @@ hidden_is : (eyes : Eyes) (here : Shade) (number : ℕ) → Names eyes.shades.en
     is_hidden eyes number ≡ not (eyes.sees here.pc)
 hidden_is eyes here number names = rw (names.is, names.pushed) refl
 
-more_entries : {X : Type 0} (P : X → Type 0) (x : X) (xs : List X) → P x → All P xs → All P (x ∷ xs)
+pub more_entries : {X : Type 0} (P : X → Type 0) (x : X) (xs : List X) → P x → All P xs → All P (x ∷ xs)
 more_entries P x xs here rest zero d lt = here
 more_entries P x xs here rest (suc k) d lt = rest k d (omega arith)
 
@@ -378,8 +381,10 @@ own_call_kept eyes are host thread entry (Some there) is on stand well plain ent
 go_kept : (eyes : Eyes) (host : HostShape) (thread : ThreadShape) (frame : FrameId) (entry : EntryId) (on : HostId)
     (held : Option Token) → Stand eyes host → RunsWell eyes host.me thread →
     Kept eyes host (after_go host thread frame entry on held)
-go_kept eyes host thread frame entry on None stand well = record { running = well; waiting = stand.1; entries = stand.0 }
-go_kept eyes host thread frame entry on (Some held) stand well = record { running = tt; waiting = stand.1; entries = stand.0 }
+go_kept eyes host thread frame entry on None stand well =
+    record { running = well; waiting = stand.1; entries = stand.0 }
+go_kept eyes host thread frame entry on (Some held) stand well =
+    record { running = tt; waiting = stand.1; entries = stand.0 }
 
 ask_kept : (eyes : Eyes) (host : HostShape) (thread : ThreadShape) (entry : EntryId) (on : HostId)
     (held : Option Token) → Stand eyes host → RunsWell eyes host.me thread → (next : Ahead) →
@@ -391,43 +396,46 @@ ask_kept eyes host thread entry on None stand well next plain calls temps meets 
 ask_kept eyes host thread entry on (Some held) stand well next plain calls temps meets =
     let met : Meets next (eyes.shades.at host.me (thread.at + 1)) =
     meets_next eyes host.me thread.at next meets in
-    asked_kept eyes host thread.at (with_token None (after_step thread)) token_of_entry on stand
-    (λ token holds. record {
-      temps = well.temps ∙ ap length plain ∙ ap length (sym temps) ∙ ap length (sym met.temps);
-      frames = λ no. well.frames calls;
-      holds = holds;
-    })
+    asked_kept eyes host thread.at (with_token None (after_step thread)) token_of_entry on stand (
+      refl,
+      λ token holds. record {
+        temps = well.temps ∙ ap length plain ∙ ap length (sym temps) ∙ ap length (sym met.temps);
+        frames = λ no. well.frames calls;
+        holds = holds;
+      },
+    )
 
 -- ---- results and tokens that are given back
 
 return_kept : (eyes : Eyes) (host : HostShape) (thread : ThreadShape) (x : VarId) (value : List Node)
     (held : Option Token) (passes : Bool) → Stand eyes host → RunsWell eyes host.me thread →
     RunsWell eyes host.me (after_clearing thread) → Kept eyes host (after_return host thread x value held passes)
-return_kept eyes host thread x value None passes stand well later = record { running = well; waiting = stand.1; entries = stand.0 }
+return_kept eyes host thread x value None passes stand well later =
+    record { running = well; waiting = stand.1; entries = stand.0 }
 return_kept eyes host thread x value (Some token) passes stand well later =
-    either_kept eyes host (token.host.0 == host.me.0) _ _ (record { running = later; waiting = stand.1; entries = stand.0 })
+    either_kept eyes host (token.host.0 == host.me.0) _ _
+    (record { running = later; waiting = stand.1; entries = stand.0 })
     (either_kept eyes host passes _ _
-    (asked_kept eyes host thread.at (after_clearing thread) acknowledgement token.host stand later)
+    (asked_kept eyes host thread.at (after_clearing thread) acknowledgement token.host stand (refl, later))
     (record { running = later; waiting = stand.1; entries = stand.0 }))
 
-popped_kept : (eyes : Eyes) → AreEyes eyes → (host : HostShape) (top : StackEntry) (found : Option Entry) →
-    entry_at eyes.code top.entry ≡ found → top.entry.0 ≢ 0 → Stand eyes host → StandsWell eyes host.me top →
-    HostKeeps eyes host.me (after_entering host found top.frame top.kept)
-popped_kept eyes are host top None is other stand well = record { running = tt; waiting = stand.1; entries = stand.0 }
-popped_kept eyes are host top (Some there) is other stand well =
-    let it = well.shade in
-    let on : there.host ≡ host.me = subst (λ one. IsSomeAnd one (λ entry. entry.host ≡ host.me)) is well.on_host in
+-- a thread starts at an entry of the host, with a token that may be held there
+pub entered_kept : (eyes : Eyes) → AreEyes eyes → (host : HostShape) (entry : EntryId) (frame : FrameId) (token : Token)
+    (found : Option Entry) → entry_at eyes.code entry ≡ found → entry.0 ≢ 0 →
+    IsSomeAnd found (λ there. there.host ≡ host.me) → MayEnterWith eyes entry token → Stand eyes host →
+    HostKeeps eyes host.me (after_entering host found frame token)
+entered_kept eyes are host entry frame token None is other on may stand = absurd on
+entered_kept eyes are host entry frame token (Some there) is other on may stand =
+    let it = may.shade in
     let meets : Meets (ahead_of it) (eyes.shades.at host.me there.at) =
-    subst (λ h. Meets (ahead_of it) (eyes.shades.at h there.at)) on
-    (stands_at top.entry.0 other there it is well.is) in
-    let apart : top.entry ≢ halt = λ same. other (ap (λ (entry : EntryId). entry.0) same) in
+    subst (λ h. Meets (ahead_of it) (eyes.shades.at h there.at)) on (stands_at entry.0 other there it is may.is) in
     record {
       running = record {
         temps = ap length (sym meets.temps);
         frames = λ no. refl;
         holds = (
-          subst (λ level. IsTokenOf eyes level top.kept) (sym meets.level) (well.kept apart),
-          λ seen. well.open_kept (ap eyes.sees (sym meets.block) ∙ seen),
+          subst (λ level. IsTokenOf eyes level token) (sym meets.level) may.level,
+          λ seen. may.shown (ap eyes.sees (sym meets.block) ∙ seen),
         );
       };
       waiting = stand.1;
@@ -440,7 +448,15 @@ popped_kept eyes are host top (Some there) is other stand well =
     stands_at zero other there it is also = absurd (other refl)
     stands_at (suc number) other there it is also = are.shaded.stands number there it is also
 
-pop_kept : (eyes : Eyes) → AreEyes eyes → (host : HostShape) (entries : List StackEntry) →
+popped_kept : (eyes : Eyes) → AreEyes eyes → (host : HostShape) (top : StackEntry) → top.entry.0 ≢ 0 →
+    Stand eyes host → StandsWell eyes host.me top →
+    HostKeeps eyes host.me (after_entering host (entry_at eyes.code top.entry) top.frame top.kept)
+popped_kept eyes are host top other stand well =
+    let apart : top.entry ≢ halt = λ same. other (ap (λ (entry : EntryId). entry.0) same) in
+    entered_kept eyes are host top.entry top.frame top.kept (entry_at eyes.code top.entry) refl other well.on_host
+    (record { shade = well.shade; is = well.is; level = well.kept apart; shown = well.open_kept }) stand
+
+pub pop_kept : (eyes : Eyes) → AreEyes eyes → (host : HostShape) (entries : List StackEntry) →
     All (StandsWell eyes host.me) entries → Stand eyes host →
     HostKeeps eyes host.me (after_pop eyes.code (with_running host None) entries)
 pop_kept eyes are host [] all stand = record { running = tt; waiting = stand.1; entries = stand.0 }
@@ -458,15 +474,15 @@ pop_kept eyes are host (top ∷ below) all stand =
     by true is = record { running = tt; waiting = stand.1; entries = rest }
     by false is =
         let other : top.entry.0 ≢ 0 = grind (arith, nat_tests) in
-        popped_kept eyes are (record (with_running host None) { entries = below }) top
-        (entry_at eyes.code top.entry) refl other (rest, stand.1) (all 0 top (omega arith))
+        popped_kept eyes are (record (with_running host None) { entries = below }) top other (rest, stand.1) (all 0 top (omega arith))
 
 back_kept : (eyes : Eyes) → AreEyes eyes → (host : HostShape) (thread : ThreadShape) (held : Option Token)
     (passes : Bool) → Stand eyes host → RunsWell eyes host.me thread →
     Kept eyes host (after_back eyes.code host thread held passes)
 back_kept eyes are host thread None passes stand well = record { running = well; waiting = stand.1; entries = stand.0 }
 back_kept eyes are host thread (Some token) passes stand well =
-    either_kept eyes host (token.host.0 == host.me.0) _ _ (here passes) (record { running = tt; waiting = stand.1; entries = stand.0 })
+    either_kept eyes host (token.host.0 == host.me.0) _ _ (here passes)
+    (record { running = tt; waiting = stand.1; entries = stand.0 })
   where
     here : (b : Bool) → HostKeeps eyes host.me (if b then after_pop eyes.code (with_running host None) host.entries
         else (record (with_running host None) { ignored = host.ignored + 1 }))
@@ -491,7 +507,7 @@ operation_kept eyes are host thread (op.Put field index value) passes count obey
     put_kept eyes host thread field index value stand well law (field_at eyes.code field)
 operation_kept eyes are host thread (op.Send x on) passes count obeys stand well below law fits =
     asked_kept eyes host thread.at (after_step thread) acknowledgement on stand
-    (steps eyes host.me thread false law.0 well law.1.1.0.0 law.2 law.1.2 (λ no. well.frames law.1.0))
+    (refl, steps eyes host.me thread false law.0 well law.1.1.0.0 law.2 law.1.2 (λ no. well.frames law.1.0))
 operation_kept eyes are host thread (op.Frame site) passes count obeys stand well below law fits =
     let here = eyes.shades.at host.me thread.at in
     let next = law.0 in
@@ -512,7 +528,7 @@ operation_kept eyes are host thread (op.Arg x value) passes count obeys stand we
 }
 operation_kept eyes are host thread (op.Pass x on) passes count obeys stand well below law fits =
     asked_kept eyes host thread.at (after_step thread) acknowledgement on stand
-    (steps eyes host.me thread true law.0 well law.1.1.0.0 law.2 law.1.2 (λ no. absurd (true≢false no)))
+    (refl, steps eyes host.me thread true law.0 well law.1.1.0.0 law.2 law.1.2 (λ no. absurd (true≢false no)))
 operation_kept eyes are host thread (op.Push entry) passes count obeys stand well below law fits =
     let here = eyes.shades.at host.me thread.at in
     push_kept eyes are host thread entry thread.held obeys stand well below fits law.0 law.1.0.0
@@ -581,12 +597,13 @@ pub turn_keeps : (eyes : Eyes) (state : HostShape) (outcome : Outcome) → AreEy
     StateFits eyes.code state → eyes.bad state.me ≡ false → HostKeeps eyes state.me state →
     IsTurn eyes.code state outcome → HostKeeps eyes state.me outcome.state
 turn_keeps eyes state outcome are sound fits obeys keeps turns =
-    turn_of_kept eyes are sound state outcome fits obeys (keeps.entries, keeps.waiting) state.running refl keeps.running turns
+    turn_of_kept eyes are sound state outcome fits obeys (keeps.entries, keeps.waiting)
+    state.running refl keeps.running turns
 
 -- ---- worlds
 
 -- a step of one host leaves the others as they are
-hosts_kept : (eyes : Eyes) (world after : WorldShape) (host : HostId) (old state : HostShape) → HostsKeep eyes world →
+pub hosts_kept : (eyes : Eyes) (world after : WorldShape) (host : HostId) (old state : HostShape) → HostsKeep eyes world →
     state_at world host ≡ Some old → after.hosts ≡ slice_set world.hosts host.0 (Some state) →
     HostKeeps eyes host state → HostsKeep eyes after
 hosts_kept eyes world after host old state keep obeys puts keeps other there is =

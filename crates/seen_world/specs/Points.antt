@@ -1,9 +1,12 @@
 -- What holds of the token at each place, of each thread, and of each entry on a stack, so that no misbehaving
 -- host is told what it may not see.
-use Rattle.std.specs.Prelude.{◌≡◌, ◌≢◌, ℤ, true, false, length, All, Some, IfSome, IsSomeAnd, slice_get, ⊤}
+use Rattle.std.specs.Prelude.{◌≡◌, ◌≢◌, ◌+◌, ℤ, true, false, length, All, Some, IfSome, IsSomeAnd, slice_get, ⊤}
 use Rattle.js_base.specs.declared.ids.HostId.{HostId}
 use Rattle.capability.specs.declared.token.Token.{Token}
 use Rattle.ics_stack.specs.declared.stack.StackEntry.{StackEntry}
+use Rattle.js_base.specs.declared.ids.EntryId.{EntryId}
+use Rattle.host_code.specs.declared.message.Message.{Message}
+use Rattle.host_code.specs.declared.message.Message.TheVariants as message
 use Rattle.host_code.specs.Code.{halt, entry_at}
 use Rattle.host_code.specs.Thread.{ThreadShape, WaitingShape, Awaited}
 use Rattle.host_code.specs.Thread.Awaited.{value_of_field, acknowledgement, token_of_entry}
@@ -44,15 +47,17 @@ pub record RunsWell (eyes : Eyes) (host : HostId) (thread : ThreadShape) : Type 
   pub frames : (eyes.shades.at host thread.at).calls ≡ false → thread.new_frame ≡ thread.frame
   pub holds : IfSome thread.held (MayHold eyes (eyes.shades.at host thread.at))
 
--- A thread that waits runs so once it has the answer. The token that it is given may be held where it goes on.
+-- A thread runs so once it has such an answer. The token that it is given may be held where it goes on.
+abbrev pub AnsweredWell : Eyes → HostId → ThreadShape → Awaited → Type 0
+AnsweredWell eyes host thread value_of_field = (value : ℤ) → RunsWell eyes host (with_temporary value thread)
+AnsweredWell eyes host thread acknowledgement = RunsWell eyes host thread
+AnsweredWell eyes host thread token_of_entry = (token : Token) →
+    MayHold eyes (eyes.shades.at host thread.at) token → RunsWell eyes host (with_token (Some token) thread)
+
+-- A thread that waits goes on behind the instruction that asked.
 abbrev pub WaitsWell : Eyes → HostId → WaitingShape → Type 0
-WaitsWell eyes host waiting = after waiting.awaited
-  where
-    after : Awaited → Type 0
-    after value_of_field = (value : ℤ) → RunsWell eyes host (with_temporary value waiting.thread)
-    after acknowledgement = RunsWell eyes host waiting.thread
-    after token_of_entry = (token : Token) → MayHold eyes (eyes.shades.at host waiting.thread.at) token →
-        RunsWell eyes host (with_token (Some token) waiting.thread)
+WaitsWell eyes host waiting =
+    (waiting.thread.at ≡ waiting.request.at + 1) × AnsweredWell eyes host waiting.thread waiting.awaited
 
 -- An entry on the stack of a host stands there, with a token of its own, and keeps the token that was held where it was
 -- pushed. Where it is not hidden, its block may be seen. Where its block may be seen, it keeps no hidden token. The
@@ -77,3 +82,22 @@ pub record HostKeeps (eyes : Eyes) (host : HostId) (state : HostShape) : Type 0 
 abbrev pub HostsKeep : Eyes → WorldShape → Type 0
 HostsKeep eyes world = (host : HostId) (state : HostShape) → state_at world host ≡ Some state →
     HostKeeps eyes host state
+
+-- ---- messages
+
+-- a token may be held where an entry stands
+pub record MayEnterWith (eyes : Eyes) (entry : EntryId) (token : Token) : Type 0 where
+  pub shade : EntryShade
+  pub is : slice_get eyes.shades.entries entry.0 ≡ Some shade
+  pub level : IsTokenOf eyes shade.level token
+  pub shown : eyes.sees shade.block ≡ true → ¬ IsHiddenToken eyes token
+
+-- What is carried by a message that a host takes. An entry that is pushed on request stands in a block that may be seen,
+-- if it is not hidden. A token that is given may be held behind the instruction that asked for it.
+abbrev pub CarriesWell : Eyes → HostId → Message → Type 0
+CarriesWell eyes to (message.Sync request frame entry token) =
+    (may : MayEnterWith eyes entry token)
+    × (is_hidden eyes entry.0 ≡ false → eyes.sees may.shade.block ≡ true)
+CarriesWell eyes to (message.Rgoto frame entry token) = MayEnterWith eyes entry token
+CarriesWell eyes to (message.Token request token) = MayHold eyes (eyes.shades.at to (request.at + 1)) token
+CarriesWell eyes to other = ⊤

@@ -1,6 +1,6 @@
 //! Laws of what misbehaving hosts may see. The calls do nothing: their contracts are the laws.
 
-ghost use Rattle.std.specs.Prelude.{◌≡◌, ◌↔◌, ℕ, Bool, ℤ, true, false, List, Some, IfSome, IsTrue, slice_get};
+ghost use Rattle.std.specs.Prelude.{◌≡◌, ◌↔◌, ℕ, Bool, ℤ, true, false, List, Some, None, IfSome, IsTrue, slice_get};
 ghost use Rattle.js_base.specs.declared.ids.HostId.{HostId};
 ghost use Rattle.js_base.specs.declared.ids.FieldId.{FieldId};
 ghost use Rattle.label_lattice.specs.declared.label.Label.{Label};
@@ -13,7 +13,9 @@ ghost use Rattle.host_code.specs.Sound.{IsSoundCode};
 ghost use Rattle.host_code.specs.Thread.{ThreadShape};
 ghost use Rattle.host_core.specs.Fits.{StateFits};
 ghost use Rattle.host_core.specs.Host as host_state;
+ghost use Rattle.host_core.specs.Taking.{IsTaking};
 ghost use Rattle.host_core.specs.Turn.{IsTurn};
+ghost use Rattle.host_code.specs.declared.message.Message.{Message};
 ghost use Rattle.event_text.specs.declared.event.Event.TheVariants.{Take, Turn};
 ghost use Rattle.net_world.specs.Flying.{Flight};
 ghost use Rattle.net_world.specs.Secret.{IsReadable, IsSecret};
@@ -34,7 +36,7 @@ ghost use Rattle.split_shades.specs.Shading.{Scene};
 ghost use Rattle.split_shades.specs.Sites.{ReleasesNothing, scene_of};
 ghost use Rattle.seen_world.specs.Eyes.{Eyes, AreEyes, IsBegun, Watches, sees_at, is_open, is_deep, is_hidden};
 ghost use Rattle.seen_world.specs.Eyes.{sees_level, Names};
-ghost use Rattle.seen_world.specs.Points.{RunsWell, HostKeeps, HostsKeep};
+ghost use Rattle.seen_world.specs.Points.{RunsWell, HostKeeps, HostsKeep, CarriesWell};
 
 /// Which labels misbehaving hosts may see.
 pub fn eye_laws()
@@ -115,6 +117,11 @@ pub fn point_laws()
     ensures kept_by_turn { (eyes : Eyes) (state : host_state.HostShape) (outcome : host_state.Outcome) →
         AreEyes eyes → IsSoundCode eyes.code → StateFits eyes.code state → eyes.bad state.me ≡ false →
         HostKeeps eyes state.me state → IsTurn eyes.code state outcome → HostKeeps eyes state.me outcome.state }
+    // A message that a host takes keeps it, whoever sends it, where the token in it may be held where it comes to.
+    ensures kept_by_take { (eyes : Eyes) (state : host_state.HostShape) (from : HostId) (said : Message)
+        (outcome : host_state.Outcome) →
+        AreEyes eyes → HostKeeps eyes state.me state → state.running ≡ None → CarriesWell eyes state.me said →
+        IsTaking eyes.code state from said outcome → HostKeeps eyes state.me outcome.state }
     // Where it holds, a secret turn sends no misbehaving host anything.
     ensures silent { (eyes : Eyes) (world after : WorldShape) (host : HostId) →
         AreEyes eyes → Watches eyes world → ShapeFits eyes.code world → HostsKeep eyes world →
