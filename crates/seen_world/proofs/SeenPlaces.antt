@@ -20,7 +20,7 @@ use Rattle.split_shades.specs.ShadedCode.{IsShadedOp}
 use Rattle.split_shades.specs.Shading.{IsUnderBlock, IsLevelOf, IsEntryShade}
 use Rattle.seen_world.specs.Eyes.{Eyes, AreEyes, sees_at, is_open, is_deep, is_hidden, sees_level, Names}
 
-some_is : {X : Type 0} {one other : X} → Some one ≡ Some other → one ≡ other
+pub some_is : {X : Type 0} {one other : X} → Some one ≡ Some other → one ≡ other
 some_is is = cc
 
 -- ---- labels

@@ -24,9 +24,15 @@ use Rattle.host_core.specs.Awaiting.{awaits, is_same_answer}
 use Rattle.host_core.specs.Host.{HostShape, Outcome, with_running, with_temporary, with_token}
 use Rattle.host_core.specs.Host.{after_pop}
 use Rattle.host_core.specs.Taking.{IsTaking, Passes, after_passing, after_taking, after_answer, place_of_awaiting}
+use Rattle.event_text.specs.declared.event.Event.TheVariants.{Take}
+use Rattle.net_world.specs.Fits.{ShapeFits, IsStateOf}
+use Rattle.net_world.specs.Flying.{Flight}
+use Rattle.net_world.specs.World.{WorldShape, IsStep}
+use Rattle.net_world.proofs.StepLaws.{take_puts}
 use Rattle.seen_world.specs.Eyes.{Eyes, AreEyes}
-use Rattle.seen_world.specs.Points.{AnsweredWell, RunsWell, WaitsWell, StandsWell, HostKeeps, CarriesWell, MayHold}
-use Rattle.seen_world.proofs.TurnsKept.{more_entries, entered_kept, pop_kept}
+use Rattle.seen_world.specs.Points.{AnsweredWell, RunsWell, WaitsWell, StandsWell, HostKeeps, HostsKeep, CarriesWell, MayHold}
+use Rattle.seen_world.proofs.TurnsKept.{more_entries, entered_kept, pop_kept, hosts_kept}
+use Rattle.seen_world.proofs.SeenPlaces.{some_is}
 
 -- ---- answers
 
@@ -166,17 +172,38 @@ passing_kept eyes are host from (message.Token request token) keeps rests carrie
     (subst (λ n. MayHold eyes (eyes.shades.at host.me n) token) goes carries))
 
 either_passes : (eyes : Eyes) → AreEyes eyes → (host : HostShape) (from : HostId) (m : Message) (passes : Bool) →
-    HostKeeps eyes host.me host → host.running ≡ None → CarriesWell eyes host.me m →
-    (IsTrue passes → Passes eyes.code host from m) →
+    HostKeeps eyes host.me host → host.running ≡ None →
+    (Passes eyes.code host from m → CarriesWell eyes host.me m) → (IsTrue passes → Passes eyes.code host from m) →
     HostKeeps eyes host.me (after_taking eyes.code host from m passes).state
 either_passes eyes are host from m true keeps rests carries passes =
-    passing_kept eyes are host from m keeps rests carries (passes refl)
+    passing_kept eyes are host from m keeps rests (carries (passes refl)) (passes refl)
 either_passes eyes are host from m false keeps rests carries passes =
     record { running = keeps.running; waiting = keeps.waiting; entries = keeps.entries }
 
 pub take_keeps : (eyes : Eyes) (state : HostShape) (from : HostId) (said : Message) (outcome : Outcome) →
-    AreEyes eyes → HostKeeps eyes state.me state → state.running ≡ None → CarriesWell eyes state.me said →
+    AreEyes eyes → HostKeeps eyes state.me state → state.running ≡ None →
+    (Passes eyes.code state from said → CarriesWell eyes state.me said) →
     IsTaking eyes.code state from said outcome → HostKeeps eyes state.me outcome.state
 take_keeps eyes state from said outcome are keeps rests carries takes =
     subst (λ (it : Outcome). HostKeeps eyes state.me it.state) takes.2
     (either_passes eyes are state from said takes.0 keeps rests carries takes.1.0)
+
+pub taken_world : (eyes : Eyes) (world after : WorldShape) (from to : HostId) (place : ℕ) (flight : Flight) →
+    AreEyes eyes → ShapeFits eyes.code world → HostsKeep eyes world →
+    slice_get (world.flying from to) place ≡ Some flight → CarriesWell eyes to flight.message →
+    IsStep eyes.code world (Take from to place) after → HostsKeep eyes after
+taken_world eyes world after from to place flight are fits keep there carries step =
+    let state = step.state in
+    let fit : IsStateOf eyes.code to state =
+    subst (λ one. IfSome one (IsStateOf eyes.code to)) step.obeys (fits.states to) in
+    let same : flight ≡ step.flight = some_is (sym there ∙ step.there) in
+    let carried : CarriesWell eyes state.me step.flight.message =
+    subst (λ (me : HostId). CarriesWell eyes me step.flight.message) (sym fit.me)
+    (subst (λ (one : Flight). CarriesWell eyes to one.message) same carries) in
+    let kept : HostKeeps eyes state.me step.outcome.state =
+    take_keeps eyes state from step.flight.message step.outcome are
+    (subst (λ (me : HostId). HostKeeps eyes me state) (sym fit.me) (keep to state step.obeys)) step.rests
+    (λ passes. carried) step.takes in
+    hosts_kept eyes world after to state step.outcome.state keep step.obeys
+    (take_puts eyes.code world after from to place step)
+    (subst (λ (me : HostId). HostKeeps eyes me step.outcome.state) fit.me kept)

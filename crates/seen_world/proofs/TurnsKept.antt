@@ -36,7 +36,8 @@ use Rattle.split_shades.specs.ShadedCode.{IsShadedOp}
 use Rattle.split_shades.specs.Shades.{Shade, EntryShade, Ahead, Meets, ahead_of}
 use Rattle.split_shades.specs.Shading.{IsUnderBlock, Divides, Names, PushesAt, Pushes, Enters, behind}
 use Rattle.seen_world.specs.Eyes.{Eyes, AreEyes, Watches, is_hidden}
-use Rattle.seen_world.specs.Points.{MayEnterWith, IsTokenOf, MayHold, RunsWell, WaitsWell, StandsWell, HostKeeps, HostsKeep}
+use Rattle.seen_world.specs.Points.{MayEnterWith, IsTokenOf, MayHold, RunsWell, WaitsWell}
+use Rattle.seen_world.specs.Points.{StandsWell, HostKeeps, HostsKeep}
 use Rattle.seen_world.proofs.PointsAtStart.{present_obeys}
 use Rattle.seen_world.proofs.SecretTurns.{held_by}
 use Rattle.seen_world.proofs.SeenPlaces.{under_seen}
@@ -474,7 +475,8 @@ pop_kept eyes are host (top ∷ below) all stand =
     by true is = record { running = tt; waiting = stand.1; entries = rest }
     by false is =
         let other : top.entry.0 ≢ 0 = grind (arith, nat_tests) in
-        popped_kept eyes are (record (with_running host None) { entries = below }) top other (rest, stand.1) (all 0 top (omega arith))
+        popped_kept eyes are (record (with_running host None) { entries = below }) top other
+        (rest, stand.1) (all 0 top (omega arith))
 
 back_kept : (eyes : Eyes) → AreEyes eyes → (host : HostShape) (thread : ThreadShape) (held : Option Token)
     (passes : Bool) → Stand eyes host → RunsWell eyes host.me thread →
@@ -603,7 +605,8 @@ turn_keeps eyes state outcome are sound fits obeys keeps turns =
 -- ---- worlds
 
 -- a step of one host leaves the others as they are
-pub hosts_kept : (eyes : Eyes) (world after : WorldShape) (host : HostId) (old state : HostShape) → HostsKeep eyes world →
+pub hosts_kept : (eyes : Eyes) (world after : WorldShape) (host : HostId) (old state : HostShape) →
+    HostsKeep eyes world →
     state_at world host ≡ Some old → after.hosts ≡ slice_set world.hosts host.0 (Some state) →
     HostKeeps eyes host state → HostsKeep eyes after
 hosts_kept eyes world after host old state keep obeys puts keeps other there is =

@@ -92,8 +92,8 @@ pub record MayEnterWith (eyes : Eyes) (entry : EntryId) (token : Token) : Type 0
   pub level : IsTokenOf eyes shade.level token
   pub shown : eyes.sees shade.block ≡ true → ¬ IsHiddenToken eyes token
 
--- What is carried by a message that a host takes. An entry that is pushed on request stands in a block that may be seen,
--- if it is not hidden. A token that is given may be held behind the instruction that asked for it.
+-- What is carried by a message that a host takes. An entry that is pushed on request stands in a block that may be
+-- seen, if it is not hidden. A token that is given may be held behind the instruction that asked for it.
 abbrev pub CarriesWell : Eyes → HostId → Message → Type 0
 CarriesWell eyes to (message.Sync request frame entry token) =
     (may : MayEnterWith eyes entry token)

@@ -13,7 +13,7 @@ ghost use Rattle.host_code.specs.Sound.{IsSoundCode};
 ghost use Rattle.host_code.specs.Thread.{ThreadShape};
 ghost use Rattle.host_core.specs.Fits.{StateFits};
 ghost use Rattle.host_core.specs.Host as host_state;
-ghost use Rattle.host_core.specs.Taking.{IsTaking};
+ghost use Rattle.host_core.specs.Taking.{IsTaking, Passes};
 ghost use Rattle.host_core.specs.Turn.{IsTurn};
 ghost use Rattle.host_code.specs.declared.message.Message.{Message};
 ghost use Rattle.event_text.specs.declared.event.Event.TheVariants.{Take, Turn};
@@ -117,10 +117,16 @@ pub fn point_laws()
     ensures kept_by_turn { (eyes : Eyes) (state : host_state.HostShape) (outcome : host_state.Outcome) →
         AreEyes eyes → IsSoundCode eyes.code → StateFits eyes.code state → eyes.bad state.me ≡ false →
         HostKeeps eyes state.me state → IsTurn eyes.code state outcome → HostKeeps eyes state.me outcome.state }
-    // A message that a host takes keeps it, whoever sends it, where the token in it may be held where it comes to.
+    // The taking of a message in flight keeps it, where the token in the message may be held where it comes to.
+    ensures taken { (eyes : Eyes) (world after : WorldShape) (from to : HostId) (place : ℕ) (flight : Flight) →
+        AreEyes eyes → ShapeFits eyes.code world → HostsKeep eyes world →
+        slice_get (world.flying from to) place ≡ Some flight → CarriesWell eyes to flight.message →
+        IsStep eyes.code world (Take from to place) after → HostsKeep eyes after }
+    // So it is kept on the host itself, whoever sent the message. Of one that fails its check nothing is asked.
     ensures kept_by_take { (eyes : Eyes) (state : host_state.HostShape) (from : HostId) (said : Message)
         (outcome : host_state.Outcome) →
-        AreEyes eyes → HostKeeps eyes state.me state → state.running ≡ None → CarriesWell eyes state.me said →
+        AreEyes eyes → HostKeeps eyes state.me state → state.running ≡ None →
+        (Passes eyes.code state from said → CarriesWell eyes state.me said) →
         IsTaking eyes.code state from said outcome → HostKeeps eyes state.me outcome.state }
     // Where it holds, a secret turn sends no misbehaving host anything.
     ensures silent { (eyes : Eyes) (world after : WorldShape) (host : HostId) →
