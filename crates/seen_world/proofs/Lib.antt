@@ -5,3 +5,4 @@ pub mod SecretTurns
 pub mod PointsAtStart
 pub mod TurnsKept
 pub mod TakesKept
+pub mod SentWell

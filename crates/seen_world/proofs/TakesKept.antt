@@ -30,7 +30,8 @@ use Rattle.net_world.specs.Flying.{Flight}
 use Rattle.net_world.specs.World.{WorldShape, IsStep}
 use Rattle.net_world.proofs.StepLaws.{take_puts}
 use Rattle.seen_world.specs.Eyes.{Eyes, AreEyes}
-use Rattle.seen_world.specs.Points.{AnsweredWell, RunsWell, WaitsWell, StandsWell, HostKeeps, HostsKeep, CarriesWell, MayHold}
+use Rattle.seen_world.specs.Points.{AnsweredWell, RunsWell, WaitsWell, StandsWell, HostKeeps}
+use Rattle.seen_world.specs.Points.{HostsKeep, CarriesWell, MayHold}
 use Rattle.seen_world.proofs.TurnsKept.{more_entries, entered_kept, pop_kept, hosts_kept}
 use Rattle.seen_world.proofs.SeenPlaces.{some_is}
 

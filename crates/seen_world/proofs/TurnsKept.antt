@@ -298,6 +298,18 @@ hidden_is : (eyes : Eyes) (here : Shade) (number : ℕ) → Names eyes.shades.en
     is_hidden eyes number ≡ not (eyes.sees here.pc)
 hidden_is eyes here number names = rw (names.is, names.pushed) refl
 
+shown_is : (b : Bool) → not b ≡ false → b ≡ true
+shown_is true is = refl
+shown_is false is = absurd (false≢true (sym is))
+
+-- the block of an entry that is pushed where it may be seen may be seen
+pub block_shown : (eyes : Eyes) → AreEyes eyes → (here : Shade) (number : ℕ) →
+    IsUnderBlock here.guard here.block here.pc → (names : Names eyes.shades.entries here number) →
+    is_hidden eyes number ≡ false → eyes.sees names.it.block ≡ true
+block_shown eyes are here number below names shown =
+    ap eyes.sees names.block ∙ under_seen eyes are here.guard here.block here.pc below
+    (shown_is (eyes.sees here.pc) (sym (hidden_is eyes here number names) ∙ shown))
+
 pub more_entries : {X : Type 0} (P : X → Type 0) (x : X) (xs : List X) → P x → All P xs → All P (x ∷ xs)
 more_entries P x xs here rest zero d lt = here
 more_entries P x xs here rest (suc k) d lt = rest k d (omega arith)
@@ -319,8 +331,6 @@ push_kept eyes are host thread entry (Some held) obeys stand well below on next 
     let names = pushed.names in
     let token : Token = new_token host entry thread.frame in
     let hidden : is_hidden eyes entry.0 ≡ not (eyes.sees here.pc) = hidden_is eyes here entry.0 names in
-    let seen_block : eyes.sees here.pc ≡ true → eyes.sees here.block ≡ true =
-    under_seen eyes are here.guard here.block here.pc below in
     let held_well : MayHold eyes here held = subst (λ one. IfSome one (MayHold eyes here)) is well.holds in
     record {
       running = record {
@@ -340,17 +350,12 @@ push_kept eyes are host thread entry (Some held) obeys stand well below on next 
         token_host = refl;
         token_entry = refl;
         on_host = on.1;
-        block = λ shown other.
-            ap eyes.sees names.block ∙ seen_block (shown_is (eyes.sees here.pc) (sym hidden ∙ shown));
+        block = λ shown other. block_shown eyes are here entry.0 below names shown;
         kept = λ other. subst (λ level. IsTokenOf eyes level held) (sym names.level) held_well.0;
         open_kept = λ shown. held_well.1 (ap eyes.sees (sym names.block) ∙ shown);
       }) stand.0;
       waiting = stand.1;
     }
-  where
-    shown_is : (b : Bool) → not b ≡ false → b ≡ true
-    shown_is true is = refl
-    shown_is false is = absurd (false≢true (sym is))
 
 -- ---- calls
 

@@ -128,6 +128,11 @@ pub fn point_laws()
         AreEyes eyes → HostKeeps eyes state.me state → state.running ≡ None →
         (Passes eyes.code state from said → CarriesWell eyes state.me said) →
         IsTaking eyes.code state from said outcome → HostKeeps eyes state.me outcome.state }
+    // The token in what a turn sends may be held where it comes to.
+    ensures carried { (eyes : Eyes) (state : host_state.HostShape) (thread : ThreadShape)
+        (outcome : host_state.Outcome) →
+        AreEyes eyes → state.running ≡ Some thread → RunsWell eyes state.me thread →
+        IsTurn eyes.code state outcome → IfSome outcome.sent (λ sent. CarriesWell eyes sent.0 sent.1) }
     // Where it holds, a secret turn sends no misbehaving host anything.
     ensures silent { (eyes : Eyes) (world after : WorldShape) (host : HostId) →
         AreEyes eyes → Watches eyes world → ShapeFits eyes.code world → HostsKeep eyes world →

@@ -1,5 +1,6 @@
 use Rattle.seen_world.proofs.PointsAtStart.{starts_keep}
 use Rattle.seen_world.proofs.SecretTurns.{secret_told, secret_silent}
+use Rattle.seen_world.proofs.SentWell.{turn_carries}
 use Rattle.seen_world.proofs.TakesKept.{take_keeps, taken_world}
 use Rattle.seen_world.proofs.TurnsKept.{turn_keeps, turned_world}
 use Rattle.seen_world.proofs.laws.point_laws.Goals as goal
@@ -9,6 +10,7 @@ returns c = record {
   start = starts_keep;
   turned = turned_world;
   kept_by_turn = turn_keeps;
+  carried = turn_carries;
   taken = taken_world;
   kept_by_take = take_keeps;
   silent = secret_silent;
