@@ -36,7 +36,7 @@ use Rattle.split_shades.specs.ShadedCode.{IsShadedOp}
 use Rattle.split_shades.specs.Shades.{Shade, EntryShade, Ahead, Meets, ahead_of}
 use Rattle.split_shades.specs.Shading.{IsUnderBlock, Divides, Names, PushesAt, Pushes, Enters, behind}
 use Rattle.seen_world.specs.Eyes.{Eyes, AreEyes, Watches, is_hidden}
-use Rattle.seen_world.specs.Points.{MayEnterWith, IsTokenOf, MayHold, RunsWell, WaitsWell}
+use Rattle.seen_world.specs.Points.{MayEnterWith, IsTokenOf, MayHold, RunsWell, IsAt, WaitsWell}
 use Rattle.seen_world.specs.Points.{StandsWell, HostKeeps, HostsKeep}
 use Rattle.seen_world.proofs.PointsAtStart.{present_obeys}
 use Rattle.seen_world.proofs.SecretTurns.{held_by}
@@ -141,13 +141,19 @@ asked_kept eyes host at later awaited asked stand waits = record {
 
 -- ---- fields
 
+named_host : (eyes : Eyes) (field : FieldId) (there : CodeFieldShape) → field_at eyes.code field ≡ Some there →
+    IsSomeAnd (field_at eyes.code field) (λ (one : CodeFieldShape). one.host ≡ there.host)
+named_host eyes field there is =
+    subst (λ found. IsSomeAnd found (λ (one : CodeFieldShape). one.host ≡ there.host)) (sym is) refl
+
 read_kept : (eyes : Eyes) (host : HostShape) (thread : ThreadShape) (field : FieldId) (index : List Node) →
     Stand eyes host → RunsWell eyes host.me thread →
-    IsShadedOp eyes.scene eyes.shades host.me thread.at (op.Read field index) → (found : Option CodeFieldShape) →
-    Kept eyes host (after_read host thread field index found)
-read_kept eyes host thread field index stand well law None =
+    IsShadedOp eyes.scene eyes.shades host.me thread.at (op.Read field index) →
+    IsAt eyes host.me thread.at (op.Read field index) → (found : Option CodeFieldShape) →
+    field_at eyes.code field ≡ found → Kept eyes host (after_read host thread field index found)
+read_kept eyes host thread field index stand well law at None is =
     record { running = well; waiting = stand.1; entries = stand.0 }
-read_kept eyes host thread field index stand well law (Some there) =
+read_kept eyes host thread field index stand well law at (Some there) is =
     let here = eyes.shades.at host.me thread.at in
     let goes = law.1.goes in
     let next = law.0 in
@@ -159,7 +165,8 @@ read_kept eyes host thread field index stand well law (Some there) =
     (λ no. well.frames (ap (λ (it : Ahead). it.calls) (sym goes) ∙ no)) refl in
     either_kept eyes host (there.host.0 == host.me.0) _ _
     (record { running = more _; waiting = stand.1; entries = stand.0 })
-    (asked_kept eyes host thread.at (after_step thread) value_of_field there.host stand (refl, more))
+    (asked_kept eyes host thread.at (after_step thread) value_of_field there.host stand
+    (refl, more, op.Read field index, at, (refl, named_host eyes field there is)))
   where
     one_longer : {X Y : Type 0} (xs : List X) (ys : List Y) (x : X) (y : Y) → length xs ≡ length ys →
         length (xs ++ x ∷ []) ≡ length (ys ++ y ∷ [])
@@ -172,17 +179,19 @@ read_kept eyes host thread field index stand well law (Some there) =
 put_kept : (eyes : Eyes) (host : HostShape) (thread : ThreadShape) (field : FieldId) (index value : List Node) →
     Stand eyes host → RunsWell eyes host.me thread →
     IsShadedOp eyes.scene eyes.shades host.me thread.at (op.Put field index value) →
-    (found : Option CodeFieldShape) → Kept eyes host (after_put host thread field index value found)
-put_kept eyes host thread field index value stand well law None =
+    IsAt eyes host.me thread.at (op.Put field index value) → (found : Option CodeFieldShape) →
+    field_at eyes.code field ≡ found → Kept eyes host (after_put host thread field index value found)
+put_kept eyes host thread field index value stand well law at None is =
     record { running = well; waiting = stand.1; entries = stand.0 }
-put_kept eyes host thread field index value stand well law (Some there) =
+put_kept eyes host thread field index value stand well law at (Some there) is =
     either_kept eyes host (there.host.0 == host.me.0) _ _ (record {
       running = clears eyes host.me thread false law.0 well law.2 law.1.3 (λ no. well.frames law.1.0);
       waiting = stand.1;
       entries = stand.0;
     })
     (asked_kept eyes host thread.at (after_clearing thread) acknowledgement there.host stand
-    (refl, clears eyes host.me thread false law.0 well law.2 law.1.3 (λ no. well.frames law.1.0)))
+    (refl, clears eyes host.me thread false law.0 well law.2 law.1.3 (λ no. well.frames law.1.0),
+    op.Put field index value, at, (refl, named_host eyes field there is)))
 
 -- ---- branches
 
@@ -396,10 +405,10 @@ ask_kept : (eyes : Eyes) (host : HostShape) (thread : ThreadShape) (entry : Entr
     (held : Option Token) → Stand eyes host → RunsWell eyes host.me thread → (next : Ahead) →
     (eyes.shades.at host.me thread.at).temps ≡ [] → (eyes.shades.at host.me thread.at).calls ≡ false →
     next.temps ≡ [] → Meets next (eyes.shades.at host.me (suc thread.at)) →
-    Kept eyes host (after_ask host thread entry on held)
-ask_kept eyes host thread entry on None stand well next plain calls temps meets =
+    IsAt eyes host.me thread.at (op.Ask entry on) → Kept eyes host (after_ask host thread entry on held)
+ask_kept eyes host thread entry on None stand well next plain calls temps meets at =
     record { running = well; waiting = stand.1; entries = stand.0 }
-ask_kept eyes host thread entry on (Some held) stand well next plain calls temps meets =
+ask_kept eyes host thread entry on (Some held) stand well next plain calls temps meets at =
     let met : Meets next (eyes.shades.at host.me (thread.at + 1)) =
     meets_next eyes host.me thread.at next meets in
     asked_kept eyes host thread.at (with_token None (after_step thread)) token_of_entry on stand (
@@ -409,20 +418,25 @@ ask_kept eyes host thread entry on (Some held) stand well next plain calls temps
         frames = λ no. well.frames calls;
         holds = holds;
       },
+      op.Ask entry on,
+      at,
+      (refl, refl),
     )
 
 -- ---- results and tokens that are given back
 
 return_kept : (eyes : Eyes) (host : HostShape) (thread : ThreadShape) (x : VarId) (value : List Node)
     (held : Option Token) (passes : Bool) → Stand eyes host → RunsWell eyes host.me thread →
-    RunsWell eyes host.me (after_clearing thread) → Kept eyes host (after_return host thread x value held passes)
-return_kept eyes host thread x value None passes stand well later =
+    RunsWell eyes host.me (after_clearing thread) → IsAt eyes host.me thread.at (op.Ret x value) →
+    Kept eyes host (after_return host thread x value held passes)
+return_kept eyes host thread x value None passes stand well later at =
     record { running = well; waiting = stand.1; entries = stand.0 }
-return_kept eyes host thread x value (Some token) passes stand well later =
+return_kept eyes host thread x value (Some token) passes stand well later at =
     either_kept eyes host (token.host.0 == host.me.0) _ _
     (record { running = later; waiting = stand.1; entries = stand.0 })
     (either_kept eyes host passes _ _
-    (asked_kept eyes host thread.at (after_clearing thread) acknowledgement token.host stand (refl, later))
+    (asked_kept eyes host thread.at (after_clearing thread) acknowledgement token.host stand
+    (refl, later, op.Ret x value, at, refl))
     (record { running = later; waiting = stand.1; entries = stand.0 }))
 
 -- a thread starts at an entry of the host, with a token that may be held there
@@ -502,20 +516,22 @@ operation_kept : (eyes : Eyes) → AreEyes eyes → (host : HostShape) (thread :
     (count : ℕ) → eyes.bad host.me ≡ false → Stand eyes host → RunsWell eyes host.me thread →
     IsUnderBlock (eyes.shades.at host.me thread.at).guard (eyes.shades.at host.me thread.at).block
     (eyes.shades.at host.me thread.at).pc → IsShadedOp eyes.scene eyes.shades host.me thread.at it →
-    OperationFits eyes.code host.me count it → Kept eyes host (after_operation eyes.code host thread it passes)
-operation_kept eyes are host thread (op.Read field index) passes count obeys stand well below law fits =
-    read_kept eyes host thread field index stand well law (field_at eyes.code field)
-operation_kept eyes are host thread (op.Let x value) passes count obeys stand well below law fits = record {
+    OperationFits eyes.code host.me count it → IsAt eyes host.me thread.at it →
+    Kept eyes host (after_operation eyes.code host thread it passes)
+operation_kept eyes are host thread (op.Read field index) passes count obeys stand well below law fits at =
+    read_kept eyes host thread field index stand well law at (field_at eyes.code field) refl
+operation_kept eyes are host thread (op.Let x value) passes count obeys stand well below law fits at = record {
   running = clears eyes host.me thread false law.0 well law.2 law.1.3 (λ no. well.frames law.1.0);
   waiting = stand.1;
   entries = stand.0;
 }
-operation_kept eyes are host thread (op.Put field index value) passes count obeys stand well below law fits =
-    put_kept eyes host thread field index value stand well law (field_at eyes.code field)
-operation_kept eyes are host thread (op.Send x on) passes count obeys stand well below law fits =
+operation_kept eyes are host thread (op.Put field index value) passes count obeys stand well below law fits at =
+    put_kept eyes host thread field index value stand well law at (field_at eyes.code field) refl
+operation_kept eyes are host thread (op.Send x on) passes count obeys stand well below law fits at =
     asked_kept eyes host thread.at (after_step thread) acknowledgement on stand
-    (refl, steps eyes host.me thread false law.0 well law.1.1.0.0 law.2 law.1.2 (λ no. well.frames law.1.0))
-operation_kept eyes are host thread (op.Frame site) passes count obeys stand well below law fits =
+    (refl, steps eyes host.me thread false law.0 well law.1.1.0.0 law.2 law.1.2 (λ no. well.frames law.1.0),
+    op.Send x on, at, (refl, refl))
+operation_kept eyes are host thread (op.Frame site) passes count obeys stand well below law fits at =
     let here = eyes.shades.at host.me thread.at in
     let next = law.0 in
     let is : next ≡ behind here true = law.1.4 in
@@ -528,24 +544,25 @@ operation_kept eyes are host thread (op.Frame site) passes count obeys stand wel
       waiting = stand.1;
       entries = stand.0;
     }
-operation_kept eyes are host thread (op.Arg x value) passes count obeys stand well below law fits = record {
+operation_kept eyes are host thread (op.Arg x value) passes count obeys stand well below law fits at = record {
   running = clears eyes host.me thread true law.0 well law.2 law.1.3 (λ no. absurd (true≢false no));
   waiting = stand.1;
   entries = stand.0;
 }
-operation_kept eyes are host thread (op.Pass x on) passes count obeys stand well below law fits =
+operation_kept eyes are host thread (op.Pass x on) passes count obeys stand well below law fits at =
     asked_kept eyes host thread.at (after_step thread) acknowledgement on stand
-    (refl, steps eyes host.me thread true law.0 well law.1.1.0.0 law.2 law.1.2 (λ no. absurd (true≢false no)))
-operation_kept eyes are host thread (op.Push entry) passes count obeys stand well below law fits =
+    (refl, steps eyes host.me thread true law.0 well law.1.1.0.0 law.2 law.1.2 (λ no. absurd (true≢false no)),
+    op.Pass x on, at, (refl, refl))
+operation_kept eyes are host thread (op.Push entry) passes count obeys stand well below law fits at =
     let here = eyes.shades.at host.me thread.at in
     push_kept eyes are host thread entry thread.held obeys stand well below fits law.0 law.1.0.0
     (pushed_by eyes host.me here entry.0 law.0 here.calls refl below law.1.1) law.2 refl
-operation_kept eyes are host thread (op.Ask entry on) passes count obeys stand well below law fits =
+operation_kept eyes are host thread (op.Ask entry on) passes count obeys stand well below law fits at =
     ask_kept eyes host thread entry on thread.held stand well law.0 law.1.0.0 law.1.1
-    (ap (λ (it : Ahead). it.temps) law.1.3.1) law.2
-operation_kept eyes are host thread (op.Go entry on) passes count obeys stand well below law fits =
+    (ap (λ (it : Ahead). it.temps) law.1.3.1) law.2 at
+operation_kept eyes are host thread (op.Go entry on) passes count obeys stand well below law fits at =
     go_kept eyes host thread thread.frame entry on thread.held stand well
-operation_kept eyes are host thread (op.Call entry on) passes count obeys stand well below law fits =
+operation_kept eyes are host thread (op.Call entry on) passes count obeys stand well below law fits at =
     by (on.0 == host.me.0) refl
   where
     make : ℕ → HostId
@@ -561,12 +578,12 @@ operation_kept eyes are host thread (op.Call entry on) passes count obeys stand 
         fits.0.1 in
         own_call_kept eyes are host thread entry (entry_at eyes.code entry) refl there stand well law.0.0 law.3
     by false is = go_kept eyes host thread thread.new_frame entry on thread.held stand well
-operation_kept eyes are host thread (op.Ret x value) passes count obeys stand well below law fits =
+operation_kept eyes are host thread (op.Ret x value) passes count obeys stand well below law fits at =
     return_kept eyes host thread x value thread.held passes stand well
-    (clears eyes host.me thread false law.0 well law.2 law.1.3 (λ no. well.frames law.1.0))
-operation_kept eyes are host thread op.Back passes count obeys stand well below law fits =
+    (clears eyes host.me thread false law.0 well law.2 law.1.3 (λ no. well.frames law.1.0)) at
+operation_kept eyes are host thread op.Back passes count obeys stand well below law fits at =
     back_kept eyes are host thread thread.held passes stand well
-operation_kept eyes are host thread (op.Branch guard target) passes count obeys stand well below law fits =
+operation_kept eyes are host thread (op.Branch guard target) passes count obeys stand well below law fits at =
     branch_kept eyes are host thread guard target stand well below law.0 law.1 law.2 law.3 law.4 law.5
     (int_eq (value_in_thread host thread guard) (pos 0))
 
@@ -583,7 +600,7 @@ running_kept eyes are sound state thread outcome fits obeys stand well (Some the
     subst (Kept eyes state) runs.2
     (operation_kept eyes are (with_running state None) thread there.op runs.0
     (temporaries_at eyes.code.entries state.me (part_of eyes.code state.me) thread.at) obeys stand well
-    shaded.is_shade.under_block shaded.law operation)
+    shaded.is_shade.under_block shaded.law operation (there, is, refl))
 
 turn_of_kept : (eyes : Eyes) → AreEyes eyes → IsSoundCode eyes.code → (state : HostShape) (outcome : Outcome) →
     StateFits eyes.code state → eyes.bad state.me ≡ false → Stand eyes state → (running : Option ThreadShape) →

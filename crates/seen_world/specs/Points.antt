@@ -1,20 +1,23 @@
 -- What holds of the token at each place, of each thread, and of each entry on a stack, so that no misbehaving
 -- host is told what it may not see.
-use Rattle.std.specs.Prelude.{◌≡◌, ◌≢◌, ◌+◌, ℤ, true, false, length, All, Some, IfSome, IsSomeAnd, slice_get, ⊤}
+use Rattle.std.specs.Prelude.{◌≡◌, ◌≢◌, ℕ, ◌+◌, ℤ, true, false, length, All, Some, IfSome, IsSomeAnd, slice_get, ⊤}
 use Rattle.js_base.specs.declared.ids.HostId.{HostId}
 use Rattle.capability.specs.declared.token.Token.{Token}
 use Rattle.ics_stack.specs.declared.stack.StackEntry.{StackEntry}
 use Rattle.js_base.specs.declared.ids.EntryId.{EntryId}
 use Rattle.host_code.specs.declared.message.Message.{Message}
 use Rattle.host_code.specs.declared.message.Message.TheVariants as message
-use Rattle.host_code.specs.Code.{halt, entry_at}
+use Rattle.host_code.specs.declared.instruction.Instr.{Instr}
+use Rattle.host_code.specs.declared.instruction.Op.{Op}
+use Rattle.host_code.specs.declared.instruction.Op.TheVariants as op
+use Rattle.host_code.specs.Code.{CodeShape, halt, instruction_at, entry_at}
 use Rattle.host_code.specs.Thread.{ThreadShape, WaitingShape, Awaited}
 use Rattle.host_code.specs.Thread.Awaited.{value_of_field, acknowledgement, token_of_entry}
 use Rattle.host_core.specs.Host.{HostShape, with_temporary, with_token}
 use Rattle.net_world.specs.World.{WorldShape, state_at}
 use Rattle.split_rules.specs.Positions.{Level, body, under}
 use Rattle.split_shades.specs.Shades.{Shade, EntryShade}
-use Rattle.seen_world.specs.Eyes.{Eyes, is_hidden, sees_level}
+use Rattle.seen_world.specs.Eyes.{Eyes, is_hidden, sees_level, Names}
 
 -- ---- tokens
 
@@ -54,10 +57,30 @@ AnsweredWell eyes host thread acknowledgement = RunsWell eyes host thread
 AnsweredWell eyes host thread token_of_entry = (token : Token) →
     MayHold eyes (eyes.shades.at host thread.at) token → RunsWell eyes host (with_token (Some token) thread)
 
+-- this is the instruction at a place
+abbrev pub IsAt : Eyes → HostId → ℕ → Op → Type 0
+IsAt eyes host place it =
+    (there : Instr) × (instruction_at eyes.code host place ≡ Some there) × (there.op ≡ it)
+
+-- The instruction asks this host for such an answer. A result is given to the host of the token, which it does not name.
+abbrev pub AsksFor : CodeShape → Op → Awaited → HostId → Type 0
+AsksFor code (op.Read field index) awaited on = (awaited ≡ value_of_field) × Names code (op.Read field index) on
+AsksFor code (op.Put field index value) awaited on =
+    (awaited ≡ acknowledgement) × Names code (op.Put field index value) on
+AsksFor code (op.Send x to) awaited on = (awaited ≡ acknowledgement) × (to ≡ on)
+AsksFor code (op.Pass x to) awaited on = (awaited ≡ acknowledgement) × (to ≡ on)
+AsksFor code (op.Ask there to) awaited on = (awaited ≡ token_of_entry) × (to ≡ on)
+AsksFor code (op.Ret x value) awaited on = awaited ≡ acknowledgement
+AsksFor code other awaited on = ⊥
+
 -- A thread that waits goes on behind the instruction that asked.
 abbrev pub WaitsWell : Eyes → HostId → WaitingShape → Type 0
 WaitsWell eyes host waiting =
-    (waiting.thread.at ≡ waiting.request.at + 1) × AnsweredWell eyes host waiting.thread waiting.awaited
+    (waiting.thread.at ≡ waiting.request.at + 1)
+    × AnsweredWell eyes host waiting.thread waiting.awaited
+    × (it : Op)
+    × IsAt eyes host waiting.request.at it
+    × AsksFor eyes.code it waiting.awaited waiting.asked
 
 -- An entry on the stack of a host stands there, with a token of its own, and keeps the token that was held where it was
 -- pushed. Where it is not hidden, its block may be seen. Where its block may be seen, it keeps no hidden token. The
