@@ -21,7 +21,7 @@ use Rattle.split_shades.specs.ShadedCode.{IsShadedOp}
 use Rattle.split_shades.specs.Shades.{Shade}
 use Rattle.split_shades.specs.Shading.{IsUnderBlock, Names, HandsOn, Enters}
 use Rattle.seen_world.specs.Eyes.{Eyes, AreEyes}
-use Rattle.seen_world.specs.Points.{IsTokenOf, MayHold, MayEnterWith, RunsWell, CarriesWell}
+use Rattle.seen_world.specs.Points.{IsTokenOf, MayHold, MayEnterWith, RunsWell, IsAt, FliesWell}
 use Rattle.seen_world.proofs.SecretTurns.{held_by}
 use Rattle.seen_world.proofs.TurnsKept.{block_shown}
 
@@ -56,113 +56,115 @@ entered_with eyes are here entry token enters holds = record {
 
 -- ---- messages
 
-abbrev Carried : Eyes → Outcome → Type 0
-Carried eyes outcome = IfSome outcome.sent (λ sent. CarriesWell eyes sent.0 sent.1)
+abbrev Carried : Eyes → HostId → Outcome → Type 0
+Carried eyes me outcome = IfSome outcome.sent (λ sent. FliesWell eyes me sent.0 sent.1)
 
-either_carried : (eyes : Eyes) (b : Bool) (one other : Outcome) → Carried eyes one → Carried eyes other →
-    Carried eyes (if b then one else other)
-either_carried eyes true one other first second = first
-either_carried eyes false one other first second = second
+either_carried : (eyes : Eyes) (me : HostId) (b : Bool) (one other : Outcome) → Carried eyes me one →
+    Carried eyes me other → Carried eyes me (if b then one else other)
+either_carried eyes me true one other first second = first
+either_carried eyes me false one other first second = second
 
 read_carried : (eyes : Eyes) (host : HostShape) (thread : ThreadShape) (field : FieldId) (index : List Node)
-    (found : Option CodeFieldShape) → Carried eyes (after_read host thread field index found)
+    (found : Option CodeFieldShape) → Carried eyes host.me (after_read host thread field index found)
 read_carried eyes host thread field index None = tt
 read_carried eyes host thread field index (Some there) =
-    either_carried eyes (there.host.0 == host.me.0) _ _ tt tt
+    either_carried eyes host.me (there.host.0 == host.me.0) _ _ tt (tt, tt)
 
 put_carried : (eyes : Eyes) (host : HostShape) (thread : ThreadShape) (field : FieldId) (index value : List Node)
-    (found : Option CodeFieldShape) → Carried eyes (after_put host thread field index value found)
+    (found : Option CodeFieldShape) → Carried eyes host.me (after_put host thread field index value found)
 put_carried eyes host thread field index value None = tt
 put_carried eyes host thread field index value (Some there) =
-    either_carried eyes (there.host.0 == host.me.0) _ _ tt tt
+    either_carried eyes host.me (there.host.0 == host.me.0) _ _ tt (tt, tt)
 
 push_carried : (eyes : Eyes) (host : HostShape) (thread : ThreadShape) (entry : EntryId) (held : Option Token) →
-    Carried eyes (after_own_push host thread entry held)
+    Carried eyes host.me (after_own_push host thread entry held)
 push_carried eyes host thread entry None = tt
 push_carried eyes host thread entry (Some token) = tt
 
 ask_carried : (eyes : Eyes) → AreEyes eyes → (host : HostShape) (thread : ThreadShape) (entry : EntryId) (on : HostId)
     (held : Option Token) (here : Shade) → IsUnderBlock here.guard here.block here.pc →
     Names eyes.shades.entries here entry.0 → IfSome held (MayHold eyes here) →
-    Carried eyes (after_ask host thread entry on held)
+    IsAt eyes host.me thread.at (op.Ask entry on) → Carried eyes host.me (after_ask host thread entry on held)
 unfolding kept_with
-ask_carried eyes are host thread entry on None here below names holds = tt
-ask_carried eyes are host thread entry on (Some token) here below names holds =
-    (kept_with eyes here entry token names holds, block_shown eyes are here entry.0 below names)
+ask_carried eyes are host thread entry on None here below names holds at = tt
+ask_carried eyes are host thread entry on (Some token) here below names holds at =
+    (at, (kept_with eyes here entry token names holds, block_shown eyes are here entry.0 below names))
 
 go_carried : (eyes : Eyes) (host : HostShape) (thread : ThreadShape) (frame : FrameId) (entry : EntryId) (on : HostId)
     (held : Option Token) → IfSome held (MayEnterWith eyes entry) →
-    Carried eyes (after_go host thread frame entry on held)
+    Carried eyes host.me (after_go host thread frame entry on held)
 go_carried eyes host thread frame entry on None may = tt
-go_carried eyes host thread frame entry on (Some token) may = may
+go_carried eyes host thread frame entry on (Some token) may = (tt, may)
 
 own_call_carried : (eyes : Eyes) (host : HostShape) (thread : ThreadShape) (found : Option Entry) →
-    Carried eyes (after_own_call host thread found)
+    Carried eyes host.me (after_own_call host thread found)
 own_call_carried eyes host thread None = tt
 own_call_carried eyes host thread (Some there) = tt
 
 return_carried : (eyes : Eyes) (host : HostShape) (thread : ThreadShape) (x : VarId) (value : List Node)
-    (held : Option Token) (passes : Bool) → Carried eyes (after_return host thread x value held passes)
+    (held : Option Token) (passes : Bool) → Carried eyes host.me (after_return host thread x value held passes)
 return_carried eyes host thread x value None passes = tt
 return_carried eyes host thread x value (Some token) passes =
-    either_carried eyes (token.host.0 == host.me.0) _ _ tt (either_carried eyes passes _ _ tt tt)
+    either_carried eyes host.me (token.host.0 == host.me.0) _ _ tt
+    (either_carried eyes host.me passes _ _ (tt, tt) tt)
 
 back_carried : (eyes : Eyes) (host : HostShape) (thread : ThreadShape) (held : Option Token) (passes : Bool) →
-    Carried eyes (after_back eyes.code host thread held passes)
+    Carried eyes host.me (after_back eyes.code host thread held passes)
 back_carried eyes host thread None passes = tt
-back_carried eyes host thread (Some token) passes = either_carried eyes (token.host.0 == host.me.0) _ _ tt tt
+back_carried eyes host thread (Some token) passes = either_carried eyes host.me (token.host.0 == host.me.0) _ _ tt (tt, tt)
 
 operation_carried : (eyes : Eyes) → AreEyes eyes → (host : HostShape) (thread : ThreadShape) (it : Op)
     (passes : Bool) → RunsWell eyes host.me thread →
     IsUnderBlock (eyes.shades.at host.me thread.at).guard (eyes.shades.at host.me thread.at).block
     (eyes.shades.at host.me thread.at).pc → IsShadedOp eyes.scene eyes.shades host.me thread.at it →
-    Carried eyes (after_operation eyes.code host thread it passes)
-operation_carried eyes are host thread (op.Read field index) passes well below law =
+    IsAt eyes host.me thread.at it → Carried eyes host.me (after_operation eyes.code host thread it passes)
+operation_carried eyes are host thread (op.Read field index) passes well below law at =
     read_carried eyes host thread field index (field_at eyes.code field)
-operation_carried eyes are host thread (op.Let x value) passes well below law = tt
-operation_carried eyes are host thread (op.Put field index value) passes well below law =
+operation_carried eyes are host thread (op.Let x value) passes well below law at = tt
+operation_carried eyes are host thread (op.Put field index value) passes well below law at =
     put_carried eyes host thread field index value (field_at eyes.code field)
-operation_carried eyes are host thread (op.Send x on) passes well below law = tt
-operation_carried eyes are host thread (op.Frame site) passes well below law = tt
-operation_carried eyes are host thread (op.Arg x value) passes well below law = tt
-operation_carried eyes are host thread (op.Pass x on) passes well below law = tt
-operation_carried eyes are host thread (op.Push entry) passes well below law =
+operation_carried eyes are host thread (op.Send x on) passes well below law at = (tt, tt)
+operation_carried eyes are host thread (op.Frame site) passes well below law at = tt
+operation_carried eyes are host thread (op.Arg x value) passes well below law at = tt
+operation_carried eyes are host thread (op.Pass x on) passes well below law at = (tt, tt)
+operation_carried eyes are host thread (op.Push entry) passes well below law at =
     push_carried eyes host thread entry thread.held
-operation_carried eyes are host thread (op.Ask entry on) passes well below law =
+operation_carried eyes are host thread (op.Ask entry on) passes well below law at =
     ask_carried eyes are host thread entry on thread.held (eyes.shades.at host.me thread.at) below law.1.3.0 well.holds
-operation_carried eyes are host thread (op.Go entry on) passes well below law =
+    at
+operation_carried eyes are host thread (op.Go entry on) passes well below law at =
     let here = eyes.shades.at host.me thread.at in
     go_carried eyes host thread thread.frame entry on thread.held
     (held_by (MayHold eyes here) (MayEnterWith eyes entry) thread.held
     (λ token holds. handed_on eyes here entry token law.3 holds) well.holds)
-operation_carried eyes are host thread (op.Call entry on) passes well below law =
+operation_carried eyes are host thread (op.Call entry on) passes well below law at =
     let here = eyes.shades.at host.me thread.at in
-    either_carried eyes (on.0 == host.me.0) _ _ (own_call_carried eyes host thread (entry_at eyes.code entry))
+    either_carried eyes host.me (on.0 == host.me.0) _ _ (own_call_carried eyes host thread (entry_at eyes.code entry))
     (go_carried eyes host thread thread.new_frame entry on thread.held
     (held_by (MayHold eyes here) (MayEnterWith eyes entry) thread.held
     (λ token holds. entered_with eyes are here entry token law.3 holds) well.holds))
-operation_carried eyes are host thread (op.Ret x value) passes well below law =
+operation_carried eyes are host thread (op.Ret x value) passes well below law at =
     return_carried eyes host thread x value thread.held passes
-operation_carried eyes are host thread op.Back passes well below law = back_carried eyes host thread thread.held passes
-operation_carried eyes are host thread (op.Branch guard target) passes well below law =
+operation_carried eyes are host thread op.Back passes well below law at = back_carried eyes host thread thread.held passes
+operation_carried eyes are host thread (op.Branch guard target) passes well below law at =
     let later : ThreadShape = after_clearing thread in
-    either_carried eyes (int_eq (value_in_thread host thread guard) (pos 0))
+    either_carried eyes host.me (int_eq (value_in_thread host thread guard) (pos 0))
     (with_thread host (record later { at = target })) (with_thread host later) tt tt
 
 running_carried : (eyes : Eyes) → AreEyes eyes → (state : HostShape) (thread : ThreadShape) (outcome : Outcome) →
     RunsWell eyes state.me thread → (found : Option Instr) →
     instruction_at eyes.code state.me thread.at ≡ found →
-    IsRunning eyes.code (with_running state None) thread found outcome → Carried eyes outcome
-running_carried eyes are state thread outcome well None is runs = subst (Carried eyes) runs tt
+    IsRunning eyes.code (with_running state None) thread found outcome → Carried eyes state.me outcome
+running_carried eyes are state thread outcome well None is runs = subst (Carried eyes state.me) runs tt
 running_carried eyes are state thread outcome well (Some there) is runs =
     let shaded = are.shaded.instructions state.me thread.at there is in
-    subst (Carried eyes) runs.2
+    subst (Carried eyes state.me) runs.2
     (operation_carried eyes are (with_running state None) thread there.op runs.0 well shaded.is_shade.under_block
-    shaded.law)
+    shaded.law (there, is, refl))
 
 pub turn_carries : (eyes : Eyes) (state : HostShape) (thread : ThreadShape) (outcome : Outcome) → AreEyes eyes →
     state.running ≡ Some thread → RunsWell eyes state.me thread → IsTurn eyes.code state outcome →
-    IfSome outcome.sent (λ sent. CarriesWell eyes sent.0 sent.1)
+    IfSome outcome.sent (λ sent. FliesWell eyes state.me sent.0 sent.1)
 turn_carries eyes state thread outcome are is well turns =
     running_carried eyes are state thread outcome well (instruction_at eyes.code state.me thread.at) refl
     (subst (λ running. IsTurnOf eyes.code state running outcome) is turns)

@@ -124,3 +124,12 @@ CarriesWell eyes to (message.Sync request frame entry token) =
 CarriesWell eyes to (message.Rgoto frame entry token) = MayEnterWith eyes entry token
 CarriesWell eyes to (message.Token request token) = MayHold eyes (eyes.shades.at to (request.at + 1)) token
 CarriesWell eyes to other = ⊤
+
+-- A push is asked for by an instruction of the sender.
+abbrev pub IsAskedBy : Eyes → HostId → HostId → Message → Type 0
+IsAskedBy eyes from to (message.Sync request frame entry token) = IsAt eyes from request.at (op.Ask entry to)
+IsAskedBy eyes from to other = ⊤
+
+-- what holds of a message from an obeying host to another host
+abbrev pub FliesWell : Eyes → HostId → HostId → Message → Type 0
+FliesWell eyes from to said = IsAskedBy eyes from to said × CarriesWell eyes to said

@@ -36,7 +36,7 @@ ghost use Rattle.split_shades.specs.Shading.{Scene};
 ghost use Rattle.split_shades.specs.Sites.{ReleasesNothing, scene_of};
 ghost use Rattle.seen_world.specs.Eyes.{Eyes, AreEyes, IsBegun, Watches, sees_at, is_open, is_deep, is_hidden};
 ghost use Rattle.seen_world.specs.Eyes.{sees_level, Names};
-ghost use Rattle.seen_world.specs.Points.{RunsWell, HostKeeps, HostsKeep, CarriesWell};
+ghost use Rattle.seen_world.specs.Points.{RunsWell, HostKeeps, HostsKeep, CarriesWell, FliesWell};
 
 /// Which labels misbehaving hosts may see.
 pub fn eye_laws()
@@ -128,11 +128,11 @@ pub fn point_laws()
         AreEyes eyes → HostKeeps eyes state.me state → state.running ≡ None →
         (Passes eyes.code state from said → CarriesWell eyes state.me said) →
         IsTaking eyes.code state from said outcome → HostKeeps eyes state.me outcome.state }
-    // The token in what a turn sends may be held where it comes to.
+    // The token in what a turn sends may be held where it comes to, and an instruction of the host asks for each push.
     ensures carried { (eyes : Eyes) (state : host_state.HostShape) (thread : ThreadShape)
         (outcome : host_state.Outcome) →
         AreEyes eyes → state.running ≡ Some thread → RunsWell eyes state.me thread →
-        IsTurn eyes.code state outcome → IfSome outcome.sent (λ sent. CarriesWell eyes sent.0 sent.1) }
+        IsTurn eyes.code state outcome → IfSome outcome.sent (λ sent. FliesWell eyes state.me sent.0 sent.1) }
     // Where it holds, a secret turn sends no misbehaving host anything.
     ensures silent { (eyes : Eyes) (world after : WorldShape) (host : HostId) →
         AreEyes eyes → Watches eyes world → ShapeFits eyes.code world → HostsKeep eyes world →
