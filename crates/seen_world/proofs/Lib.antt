@@ -6,3 +6,5 @@ pub mod PointsAtStart
 pub mod TurnsKept
 pub mod TakesKept
 pub mod SentWell
+pub mod Answered
+pub mod TokensTold

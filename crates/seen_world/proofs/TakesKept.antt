@@ -37,14 +37,14 @@ use Rattle.seen_world.proofs.SeenPlaces.{some_is}
 
 -- ---- answers
 
-waits_at : (eyes : Eyes) (host : HostShape) (place : ℕ) (waiting : WaitingShape) → HostKeeps eyes host.me host →
+pub waits_at : (eyes : Eyes) (host : HostShape) (place : ℕ) (waiting : WaitingShape) → HostKeeps eyes host.me host →
     slice_get host.waiting place ≡ Some waiting → WaitsWell eyes host.me waiting
 waits_at eyes host place waiting keeps at =
     subst (WaitsWell eyes host.me) (get_or_from_slice_get host.waiting place waiting waiting at)
     (All-get_or (WaitsWell eyes host.me) host.waiting place waiting
     (slice_get_within host.waiting place waiting at) keeps.waiting)
 
-awaits_at : (host : HostShape) (awaited : Awaited) (request : RequestId) (from : HostId) (place : ℕ)
+pub awaits_at : (host : HostShape) (awaited : Awaited) (request : RequestId) (from : HostId) (place : ℕ)
     (waiting : WaitingShape) → place_of_awaiting host awaited request from ≡ Some place →
     slice_get host.waiting place ≡ Some waiting → awaits awaited request from waiting ≡ true
 awaits_at host awaited request from place waiting is at =
@@ -93,7 +93,7 @@ with_given eyes host thread value_of_field request from token same well holds = 
 with_given eyes host thread acknowledgement request from token same well holds = absurd (false≢true same)
 with_given eyes host thread token_of_entry request from token same well holds = well token holds
 
-same_place : (kind : Bool) (waits asked count : ℕ) (other from : Bool) →
+pub same_place : (kind : Bool) (waits asked count : ℕ) (other from : Bool) →
     ((kind && (waits == asked && other)) && from) ≡ true → waits ≡ asked
 same_place true waits asked count true true same = grind (arith, nat_tests)
 same_place true waits asked count true false same = grind (arith, nat_tests)
@@ -108,7 +108,7 @@ apart_of entry apart same = apart (ap make same)
     make : ℕ → EntryId
     make n = record { 0 = n }
 
-on_me : (eyes : Eyes) (me from : HostId) (entry : EntryId) →
+pub on_me : (eyes : Eyes) (me from : HostId) (entry : EntryId) →
     MayEnter eyes.code me entry (label_of_host eyes.code from) →
     IsSomeAnd (entry_at eyes.code entry) (λ there. there.host ≡ me)
 on_me eyes me from entry may = of (entry_at eyes.code entry) may.1

@@ -45,7 +45,7 @@ use Rattle.seen_world.proofs.SeenPlaces.{under_seen}
 -- ---- a thread that goes on
 
 -- it may be that what follows is seen only where this is
-abbrev NoMore : Eyes → Label → Label → Type 0
+abbrev pub NoMore : Eyes → Label → Label → Type 0
 NoMore eyes label other = eyes.sees label ≡ true → eyes.sees other ≡ true
 
 same_more : (eyes : Eyes) (label other : Label) → label ≡ other → NoMore eyes label other
@@ -76,7 +76,7 @@ goes_on eyes host thread later next well meets level block temps frames same =
     }
 
 -- the next place
-meets_next : (eyes : Eyes) (host : HostId) (place : ℕ) (next : Ahead) → Meets next (eyes.shades.at host (suc place)) →
+pub meets_next : (eyes : Eyes) (host : HostId) (place : ℕ) (next : Ahead) → Meets next (eyes.shades.at host (suc place)) →
     Meets next (eyes.shades.at host (place + 1))
 meets_next eyes host place next meets =
     subst (λ n. Meets next (eyes.shades.at host n)) (let same : suc place ≡ place + 1 = omega arith in same) meets
@@ -254,15 +254,15 @@ branch_kept eyes are host thread guard target stand well below next other calls 
 -- ---- pushes
 
 -- behind a push its token may be held, and is hidden only where the push is
-record Pushed (eyes : Eyes) (here : Shade) (number : ℕ) (next : Ahead) : Type 0 where
-  names : Names eyes.shades.entries here number
-  level : (token : Token) → eyes.bad token.host ≡ false → (token.entry.0 ≡ number) →
+pub record Pushed (eyes : Eyes) (here : Shade) (number : ℕ) (next : Ahead) : Type 0 where
+  pub names : Names eyes.shades.entries here number
+  pub level : (token : Token) → eyes.bad token.host ≡ false → (token.entry.0 ≡ number) →
       IsSomeAnd (entry_at eyes.code token.entry) (λ entry. entry.host ≡ token.host) → IsTokenOf eyes next.level token
-  block : NoMore eyes next.block here.pc
-  temps : next.temps ≡ []
-  calls : next.calls ≡ false → here.calls ≡ false
+  pub block : NoMore eyes next.block here.pc
+  pub temps : next.temps ≡ []
+  pub calls : next.calls ≡ false → here.calls ≡ false
 
-pushed_at : (eyes : Eyes) (here : Shade) (number : ℕ) (next : Ahead) (guard : Option ℕ) →
+pub pushed_at : (eyes : Eyes) (here : Shade) (number : ℕ) (next : Ahead) (guard : Option ℕ) →
     IsUnderBlock guard here.block here.pc → here.calls ≡ false →
     PushesAt guard eyes.shades.entries here number next → Pushed eyes here number next
 pushed_at eyes here number next None below calls pushes = record {
@@ -303,7 +303,7 @@ pushed_by eyes me here number next true calls below pushes =
     }
 
 -- an entry is hidden just where the instruction is that pushes it
-hidden_is : (eyes : Eyes) (here : Shade) (number : ℕ) → Names eyes.shades.entries here number →
+pub hidden_is : (eyes : Eyes) (here : Shade) (number : ℕ) → Names eyes.shades.entries here number →
     is_hidden eyes number ≡ not (eyes.sees here.pc)
 hidden_is eyes here number names = rw (names.is, names.pushed) refl
 
@@ -318,6 +318,18 @@ pub block_shown : (eyes : Eyes) → AreEyes eyes → (here : Shade) (number : �
 block_shown eyes are here number below names shown =
     ap eyes.sees names.block ∙ under_seen eyes are here.guard here.block here.pc below
     (shown_is (eyes.sees here.pc) (sym (hidden_is eyes here number names) ∙ shown))
+
+-- the token of an entry that was pushed may be held behind the push
+pub pushed_holds : (eyes : Eyes) (here later : Shade) (token : Token) (next : Ahead) →
+    Pushed eyes here token.entry.0 next → Meets next later → eyes.bad token.host ≡ false →
+    IsSomeAnd (entry_at eyes.code token.entry) (λ entry. entry.host ≡ token.host) → MayHold eyes later token
+pushed_holds eyes here later token next pushed meets obeys on = (
+  subst (λ level. IsTokenOf eyes level token) (sym meets.level) (pushed.level token obeys refl on),
+  λ seen one.
+      let open_here : eyes.sees here.pc ≡ true = pushed.block (ap eyes.sees (sym meets.block) ∙ seen) in
+      let hidden = hidden_is eyes here token.entry.0 pushed.names in
+      false≢true (sym (hidden ∙ ap not open_here) ∙ one.1),
+)
 
 pub more_entries : {X : Type 0} (P : X → Type 0) (x : X) (xs : List X) → P x → All P xs → All P (x ∷ xs)
 more_entries P x xs here rest zero d lt = here
@@ -339,19 +351,12 @@ push_kept eyes are host thread entry (Some held) obeys stand well below on next 
     let met : Meets next there = meets_next eyes host.me thread.at next meets in
     let names = pushed.names in
     let token : Token = new_token host entry thread.frame in
-    let hidden : is_hidden eyes entry.0 ≡ not (eyes.sees here.pc) = hidden_is eyes here entry.0 names in
     let held_well : MayHold eyes here held = subst (λ one. IfSome one (MayHold eyes here)) is well.holds in
     record {
       running = record {
         temps = well.temps ∙ ap length plain ∙ ap length (sym pushed.temps) ∙ ap length (sym met.temps);
         frames = λ no. well.frames (pushed.calls (sym met.calls ∙ no));
-        holds = (
-          subst (λ level. IsTokenOf eyes level token) (sym met.level) (pushed.level token obeys refl on.1),
-          λ seen one.
-              let open_here : eyes.sees here.pc ≡ true =
-              pushed.block (ap eyes.sees (sym met.block) ∙ seen) in
-              false≢true (sym (hidden ∙ ap not open_here) ∙ one.1),
-        );
+        holds = pushed_holds eyes here there token next pushed met obeys on.1;
       };
       entries = more_entries (StandsWell eyes host.me) _ host.entries (record {
         shade = names.it;

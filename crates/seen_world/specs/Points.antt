@@ -14,6 +14,7 @@ use Rattle.host_code.specs.Code.{CodeShape, halt, instruction_at, entry_at}
 use Rattle.host_code.specs.Thread.{ThreadShape, WaitingShape, Awaited}
 use Rattle.host_code.specs.Thread.Awaited.{value_of_field, acknowledgement, token_of_entry}
 use Rattle.host_core.specs.Host.{HostShape, with_temporary, with_token}
+use Rattle.net_world.specs.Told.{token_in}
 use Rattle.net_world.specs.World.{WorldShape, state_at}
 use Rattle.split_rules.specs.Positions.{Level, body, under}
 use Rattle.split_shades.specs.Shades.{Shade, EntryShade}
@@ -133,3 +134,7 @@ IsAskedBy eyes from to other = ⊤
 -- what holds of a message from an obeying host to another host
 abbrev pub FliesWell : Eyes → HostId → HostId → Message → Type 0
 FliesWell eyes from to said = IsAskedBy eyes from to said × CarriesWell eyes to said
+
+-- no hidden token is in a message
+abbrev pub ShowsNoHidden : Eyes → Message → Type 0
+ShowsNoHidden eyes said = IfSome (token_in said) (λ token. ¬ IsHiddenToken eyes token)

@@ -36,7 +36,8 @@ ghost use Rattle.split_shades.specs.Shading.{Scene};
 ghost use Rattle.split_shades.specs.Sites.{ReleasesNothing, scene_of};
 ghost use Rattle.seen_world.specs.Eyes.{Eyes, AreEyes, IsBegun, Watches, sees_at, is_open, is_deep, is_hidden};
 ghost use Rattle.seen_world.specs.Eyes.{sees_level, Names};
-ghost use Rattle.seen_world.specs.Points.{RunsWell, HostKeeps, HostsKeep, CarriesWell, FliesWell};
+ghost use Rattle.seen_world.specs.Points.{RunsWell, HostKeeps, HostsKeep, CarriesWell, IsAskedBy, FliesWell};
+ghost use Rattle.seen_world.specs.Points.{ShowsNoHidden};
 
 /// Which labels misbehaving hosts may see.
 pub fn eye_laws()
@@ -133,6 +134,28 @@ pub fn point_laws()
         (outcome : host_state.Outcome) →
         AreEyes eyes → state.running ≡ Some thread → RunsWell eyes state.me thread →
         IsTurn eyes.code state outcome → IfSome outcome.sent (λ sent. FliesWell eyes state.me sent.0 sent.1) }
+    // So may that in what a host answers, which goes to whoever sent the message.
+    ensures answered { (eyes : Eyes) (state : host_state.HostShape) (from : HostId) (said : Message)
+        (outcome : host_state.Outcome) →
+        AreEyes eyes → eyes.bad state.me ≡ false → IsAskedBy eyes from state.me said →
+        IsTaking eyes.code state from said outcome →
+        IfSome outcome.sent (λ sent. (sent.0 ≡ from) × FliesWell eyes state.me sent.0 sent.1) }
+    // So may that in a message of a misbehaving host which passes its check, where it is not hidden.
+    ensures made { (eyes : Eyes) (state : host_state.HostShape) (from : HostId) (said : Message) →
+        AreEyes eyes → IsSoundCode eyes.code → StateFits eyes.code state → eyes.bad from ≡ true →
+        HostKeeps eyes state.me state → ShowsNoHidden eyes said → Passes eyes.code state from said →
+        CarriesWell eyes state.me said }
+    // What is answered to a misbehaving host has no hidden token.
+    ensures answered_openly { (eyes : Eyes) (state : host_state.HostShape) (from : HostId) (said : Message)
+        (outcome : host_state.Outcome) →
+        AreEyes eyes → eyes.bad from ≡ true → IsTaking eyes.code state from said outcome →
+        IfSome outcome.sent (λ sent. ShowsNoHidden eyes sent.1) }
+    // Nor has what a turn sends to one.
+    ensures told_openly { (eyes : Eyes) (state : host_state.HostShape) (thread : ThreadShape)
+        (outcome : host_state.Outcome) →
+        AreEyes eyes → state.running ≡ Some thread → RunsWell eyes state.me thread →
+        IsTurn eyes.code state outcome →
+        IfSome outcome.sent (λ sent. eyes.bad sent.0 ≡ true → ShowsNoHidden eyes sent.1) }
     // Where it holds, a secret turn sends no misbehaving host anything.
     ensures silent { (eyes : Eyes) (world after : WorldShape) (host : HostId) →
         AreEyes eyes → Watches eyes world → ShapeFits eyes.code world → HostsKeep eyes world →

@@ -1,7 +1,9 @@
+use Rattle.seen_world.proofs.Answered.{answer_carries, made_carries, answer_shows}
 use Rattle.seen_world.proofs.PointsAtStart.{starts_keep}
 use Rattle.seen_world.proofs.SecretTurns.{secret_told, secret_silent}
 use Rattle.seen_world.proofs.SentWell.{turn_carries}
 use Rattle.seen_world.proofs.TakesKept.{take_keeps, taken_world}
+use Rattle.seen_world.proofs.TokensTold.{turn_shows}
 use Rattle.seen_world.proofs.TurnsKept.{turn_keeps, turned_world}
 use Rattle.seen_world.proofs.laws.point_laws.Goals as goal
 
@@ -13,6 +15,10 @@ returns c = record {
   carried = turn_carries;
   taken = taken_world;
   kept_by_take = take_keeps;
+  answered = answer_carries;
+  made = made_carries;
+  answered_openly = answer_shows;
+  told_openly = turn_shows;
   silent = secret_silent;
   told = secret_told;
 }
