@@ -8,3 +8,5 @@ pub mod TakesKept
 pub mod SentWell
 pub mod Answered
 pub mod TokensTold
+pub mod FlightsKept
+pub mod PointsKept

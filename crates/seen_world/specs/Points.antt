@@ -15,7 +15,7 @@ use Rattle.host_code.specs.Thread.{ThreadShape, WaitingShape, Awaited}
 use Rattle.host_code.specs.Thread.Awaited.{value_of_field, acknowledgement, token_of_entry}
 use Rattle.host_core.specs.Host.{HostShape, with_temporary, with_token}
 use Rattle.net_world.specs.Told.{token_in}
-use Rattle.net_world.specs.World.{WorldShape, state_at}
+use Rattle.net_world.specs.World.{WorldShape, state_at, tokens_sent}
 use Rattle.split_rules.specs.Positions.{Level, body, under}
 use Rattle.split_shades.specs.Shades.{Shade, EntryShade}
 use Rattle.seen_world.specs.Eyes.{Eyes, is_hidden, sees_level, Names}
@@ -138,3 +138,13 @@ FliesWell eyes from to said = IsAskedBy eyes from to said × CarriesWell eyes to
 -- no hidden token is in a message
 abbrev pub ShowsNoHidden : Eyes → Message → Type 0
 ShowsNoHidden eyes said = IfSome (token_in said) (λ token. ¬ IsHiddenToken eyes token)
+
+-- ---- worlds
+
+-- What holds of a world, whatever misbehaving hosts sent. What is in flight was sent by obeying hosts, and misbehaving
+-- hosts were sent no hidden token.
+pub record PointsHold (eyes : Eyes) (world : WorldShape) : Type 0 where
+  pub hosts : HostsKeep eyes world
+  pub flying : (from to : HostId) →
+      All (λ flight. (eyes.bad from ≡ false) × FliesWell eyes from to flight.message) (world.flying from to)
+  pub told : All (λ token. ¬ IsHiddenToken eyes token) (tokens_sent world)

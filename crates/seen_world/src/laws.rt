@@ -16,6 +16,7 @@ ghost use Rattle.host_core.specs.Host as host_state;
 ghost use Rattle.host_core.specs.Taking.{IsTaking, Passes};
 ghost use Rattle.host_core.specs.Turn.{IsTurn};
 ghost use Rattle.host_code.specs.declared.message.Message.{Message};
+ghost use Rattle.event_text.specs.declared.event.Event.{Event};
 ghost use Rattle.event_text.specs.declared.event.Event.TheVariants.{Take, Turn};
 ghost use Rattle.net_world.specs.Flying.{Flight};
 ghost use Rattle.net_world.specs.Secret.{IsReadable, IsSecret};
@@ -34,10 +35,11 @@ ghost use Rattle.split_shades.specs.Shades.{EntryShade};
 ghost use Rattle.split_shades.specs.ShadedCode.{Shades, IsShadedCode, AreKnownInCode};
 ghost use Rattle.split_shades.specs.Shading.{Scene};
 ghost use Rattle.split_shades.specs.Sites.{ReleasesNothing, scene_of};
+ghost use Rattle.token_laws.specs.Reached.{IsReached};
 ghost use Rattle.seen_world.specs.Eyes.{Eyes, AreEyes, IsBegun, Watches, sees_at, is_open, is_deep, is_hidden};
 ghost use Rattle.seen_world.specs.Eyes.{sees_level, Names};
 ghost use Rattle.seen_world.specs.Points.{RunsWell, HostKeeps, HostsKeep, CarriesWell, IsAskedBy, FliesWell};
-ghost use Rattle.seen_world.specs.Points.{ShowsNoHidden};
+ghost use Rattle.seen_world.specs.Points.{ShowsNoHidden, PointsHold};
 
 /// Which labels misbehaving hosts may see.
 pub fn eye_laws()
@@ -106,6 +108,12 @@ pub fn place_laws()
 
 /// What holds of the threads of each host, and of the entries on its stack.
 pub fn point_laws()
+    // It holds of every world that events lead to, with what else holds of messages in flight and of what misbehaving
+    // hosts were sent.
+    ensures kept { (eyes : Eyes) (rows : List declared_hosts.HostShape) (bad : ℕ) (store : List (List ℤ))
+        (events : List Event) (world : WorldShape) →
+        AreEyes eyes → Watches eyes (world_at_start eyes.code rows bad store) →
+        IsReached eyes.code rows bad store events world → Watches eyes world × PointsHold eyes world }
     // It holds before the first event.
     ensures start { (eyes : Eyes) (rows : List declared_hosts.HostShape) (bad : ℕ) (store : List (List ℤ)) →
         AreEyes eyes → IsSoundCode eyes.code → Watches eyes (world_at_start eyes.code rows bad store) →

@@ -1,5 +1,6 @@
 use Rattle.seen_world.proofs.Answered.{answer_carries, made_carries, answer_shows}
 use Rattle.seen_world.proofs.PointsAtStart.{starts_keep}
+use Rattle.seen_world.proofs.PointsKept.{points_kept}
 use Rattle.seen_world.proofs.SecretTurns.{secret_told, secret_silent}
 use Rattle.seen_world.proofs.SentWell.{turn_carries}
 use Rattle.seen_world.proofs.TakesKept.{take_keeps, taken_world}
@@ -9,6 +10,7 @@ use Rattle.seen_world.proofs.laws.point_laws.Goals as goal
 
 pub returns : goal.returns
 returns c = record {
+  kept = points_kept;
   start = starts_keep;
   turned = turned_world;
   kept_by_turn = turn_keeps;

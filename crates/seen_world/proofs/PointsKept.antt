@@ -1,0 +1,196 @@
+-- Every event keeps what holds of a world.
+use Rattle.std.proofs.Common.{◌≡◌, ◌∙◌, ℕ, ℤ, true, false, List, arith, Option, Some, None, refl, ap, sym, subst}
+use Rattle.std.specs.Prelude.{IfSome, IsSome, All, ⊤}
+use Rattle.std.proofs.lemmas.Bool.{false≢true}
+use Rattle.js_base.specs.declared.ids.HostId.{HostId}
+use Rattle.capability.specs.declared.token.Token.{Token}
+use Rattle.host_decl.specs.Hosts as declared_hosts
+use Rattle.host_code.specs.declared.message.Message.{Message}
+use Rattle.host_code.specs.Sound.{IsSoundCode}
+use Rattle.host_code.specs.Thread.{ThreadShape}
+use Rattle.host_core.specs.Host.{HostShape, Outcome}
+use Rattle.host_core.specs.Turn.{label_of_turn}
+use Rattle.event_text.specs.declared.event.Event.{Event}
+use Rattle.event_text.specs.declared.event.Event.TheVariants.{Take, Turn, Act}
+use Rattle.event_text.specs.declared.event.BadMessage.{BadMessage}
+use Rattle.net_world.specs.Fits.{ShapeFits, IsStateOf, OwnTokenIn, HasOwnToken}
+use Rattle.net_world.specs.Flying.{Flight}
+use Rattle.net_world.specs.World.{WorldShape, IsStep, IsTakeStep, IsTurnStep, IsActStep, state_at, world_at_start}
+use Rattle.net_world.specs.World.{with_state, without_flight, tokens_sent, misbehaves}
+use Rattle.net_world.proofs.Moved.{moved_acted}
+use Rattle.net_world.proofs.StepLaws.{absent_set, act_puts, same_misbehave}
+use Rattle.std.specs.Prelude.{slice_get}
+use Rattle.token_laws.specs.Reached.{IsReached}
+use Rattle.token_laws.proofs.HeldLaws.{all_at}
+use Rattle.token_laws.proofs.Walks.{reached}
+use Rattle.seen_world.specs.Eyes.{Eyes, AreEyes, Watches}
+use Rattle.seen_world.specs.Points.{IsHiddenToken, RunsWell, HostKeeps, IsAskedBy, FliesWell, ShowsNoHidden}
+use Rattle.seen_world.specs.Points.{PointsHold}
+use Rattle.seen_world.proofs.Answered.{answer_carries, made_carries, answer_shows}
+use Rattle.seen_world.proofs.FlightsKept.{FlyAs, fly_without, fly_sent, tell_shown, send_shown, made_shown}
+use Rattle.seen_world.proofs.PointsAtStart.{starts_keep, present_obeys}
+use Rattle.seen_world.proofs.SecretTurns.{held_by}
+use Rattle.seen_world.proofs.SentWell.{turn_carries}
+use Rattle.seen_world.proofs.TakesKept.{take_keeps, taken_world}
+use Rattle.seen_world.proofs.TokensTold.{turn_shows}
+use Rattle.seen_world.proofs.TurnsKept.{hosts_kept, turned_world}
+
+abbrev Flies : Eyes → HostId → HostId → Message → Type 0
+Flies eyes from to said = (eyes.bad from ≡ false) × FliesWell eyes from to said
+
+abbrev IsShown : Eyes → Token → Type 0
+IsShown eyes token = ¬ IsHiddenToken eyes token
+
+-- ---- the host of an event
+
+-- it obeys, and its state keeps what holds of hosts
+record Own (eyes : Eyes) (world : WorldShape) (host : HostId) (state : HostShape) : Type 0 where
+  fit : IsStateOf eyes.code host state
+  obeys : eyes.bad state.me ≡ false
+  keeps : HostKeeps eyes state.me state
+
+own_state : (eyes : Eyes) (world : WorldShape) (host : HostId) (state : HostShape) → Watches eyes world →
+    ShapeFits eyes.code world → PointsHold eyes world → state_at world host ≡ Some state → Own eyes world host state
+own_state eyes world host state watch fits points there =
+    let fit : IsStateOf eyes.code host state =
+    subst (λ one. IfSome one (IsStateOf eyes.code host)) there (fits.states host) in
+    let obeys : eyes.bad host ≡ false = sym (watch host) ∙ present_obeys (slice_get world.hosts host.0) state there in
+    record {
+      fit = fit;
+      obeys = ap eyes.bad fit.me ∙ obeys;
+      keeps = subst (λ (me : HostId). HostKeeps eyes me state) (sym fit.me) (points.hosts host state there);
+    }
+
+-- who misbehaves after the step of a host did before
+bad_before : (eyes : Eyes) (world : WorldShape) (host other : HostId) (old state : HostShape) → Watches eyes world →
+    state_at world host ≡ Some old → misbehaves (with_state world host state) other ≡ true →
+    eyes.bad other ≡ true
+bad_before eyes world host other old state watch there bad =
+    sym (watch other) ∙ sym (absent_set world.hosts host.0 other.0 old state there) ∙ bad
+
+-- ---- turns
+
+thread_of : (running : Option ThreadShape) → IsSome running → (thread : ThreadShape) × (running ≡ Some thread)
+thread_of None is = absurd (false≢true is)
+thread_of (Some thread) is = (thread, refl)
+
+turn_points : (eyes : Eyes) (world after : WorldShape) (host : HostId) → AreEyes eyes → IsSoundCode eyes.code →
+    Watches eyes world → ShapeFits eyes.code world → PointsHold eyes world → IsTurnStep eyes.code world host after →
+    PointsHold eyes after
+turn_points eyes world after host are sound watch fits points step =
+    let state = step.state in
+    let sent = step.outcome.sent in
+    let own = own_state eyes world host state watch fits points step.obeys in
+    let thread = thread_of state.running step.runs in
+    let runs : RunsWell eyes state.me thread.0 =
+    subst (λ one. IfSome one (RunsWell eyes state.me)) thread.1 own.keeps.running in
+    let carries : IfSome sent (λ it. Flies eyes host it.0 it.1) =
+    subst (λ (me : HostId). IfSome sent (λ it. Flies eyes me it.0 it.1)) own.fit.me
+    (held_by (λ it. FliesWell eyes state.me it.0 it.1) (λ it. Flies eyes state.me it.0 it.1) sent
+    (λ it flies. (own.obeys, flies)) (turn_carries eyes state thread.0 step.outcome are thread.1 runs step.turns)) in
+    let moved = with_state world host step.outcome.state in
+    let shows : IfSome sent (λ it. misbehaves moved it.0 ≡ true → ShowsNoHidden eyes it.1) =
+    held_by (λ it. eyes.bad it.0 ≡ true → ShowsNoHidden eyes it.1)
+    (λ it. misbehaves moved it.0 ≡ true → ShowsNoHidden eyes it.1) sent
+    (λ it shown bad. shown (bad_before eyes world host it.0 state step.outcome.state watch step.obeys bad))
+    (turn_shows eyes state thread.0 step.outcome are thread.1 runs step.turns) in
+    record {
+      hosts = turned_world eyes world after host are sound watch fits points.hosts step;
+      flying = subst (λ (w : WorldShape). FlyAs (Flies eyes) w.flying) step.leaves
+          (fly_sent (Flies eyes) moved host (label_of_turn eyes.code state) sent points.flying carries);
+      told = subst (λ (w : WorldShape). All (IsShown eyes) (tokens_sent w)) step.leaves
+          (send_shown (IsShown eyes) moved host (label_of_turn eyes.code state) sent points.told shows);
+    }
+
+-- ---- takes
+
+take_points : (eyes : Eyes) (world after : WorldShape) (from to : HostId) (place : ℕ) → AreEyes eyes →
+    Watches eyes world → ShapeFits eyes.code world → PointsHold eyes world →
+    IsTakeStep eyes.code world from to place after → PointsHold eyes after
+take_points eyes world after from to place are watch fits points step =
+    let state = step.state in
+    let said = step.flight.message in
+    let sent = step.outcome.sent in
+    let own = own_state eyes world to state watch fits points step.obeys in
+    let flies : Flies eyes from to said =
+    all_at (λ (f : Flight). Flies eyes from to f.message) (world.flying from to) place step.flight
+    (points.flying from to) step.there in
+    let answers : IfSome sent (λ it. (it.0 ≡ from) × FliesWell eyes state.me it.0 it.1) =
+    answer_carries eyes state from said step.outcome are own.obeys
+    (subst (λ (me : HostId). IsAskedBy eyes from me said) (sym own.fit.me) flies.1.0) step.takes in
+    let carries : IfSome sent (λ it. Flies eyes to it.0 it.1) =
+    subst (λ (me : HostId). IfSome sent (λ it. Flies eyes me it.0 it.1)) own.fit.me
+    (held_by (λ it. (it.0 ≡ from) × FliesWell eyes state.me it.0 it.1) (λ it. Flies eyes state.me it.0 it.1) sent
+    (λ it answer. (own.obeys, answer.1)) answers) in
+    let left = without_flight world from to place in
+    let moved = with_state left to step.outcome.state in
+    let shows : IfSome sent (λ it. misbehaves moved it.0 ≡ true → ShowsNoHidden eyes it.1) =
+    held_by (λ it. (it.0 ≡ from) × FliesWell eyes state.me it.0 it.1)
+    (λ it. misbehaves moved it.0 ≡ true → ShowsNoHidden eyes it.1) sent
+    (λ it answer bad. absurd (false≢true (sym flies.0 ∙ ap eyes.bad (sym answer.0)
+    ∙ bad_before eyes world to it.0 state step.outcome.state watch step.obeys bad))) answers in
+    record {
+      hosts = taken_world eyes world after from to place step.flight are fits points.hosts step.there flies.1.1 step;
+      flying = subst (λ (w : WorldShape). FlyAs (Flies eyes) w.flying) step.leaves
+          (fly_sent (Flies eyes) moved to (Some step.flight.label) sent
+          (fly_without (Flies eyes) world from to place points.flying) carries);
+      told = subst (λ (w : WorldShape). All (IsShown eyes) (tokens_sent w)) step.leaves
+          (send_shown (IsShown eyes) moved to (Some step.flight.label) sent points.told shows);
+    }
+
+-- ---- acts
+
+act_points : (eyes : Eyes) (world after : WorldShape) (from to : HostId) (made : BadMessage) → AreEyes eyes →
+    IsSoundCode eyes.code → Watches eyes world → ShapeFits eyes.code world → OwnTokenIn world made →
+    PointsHold eyes world → IsActStep eyes.code world from to made after → PointsHold eyes after
+act_points eyes world after from to made are sound watch fits its points step =
+    let state = step.state in
+    let own = own_state eyes world to state watch fits points step.obeys in
+    let bad : eyes.bad from ≡ true = sym (watch from) ∙ step.bad in
+    let shows : ShowsNoHidden eyes step.message =
+    made_shown (IsShown eyes) world made step.message points.told
+    (λ token is one. false≢true (sym one.0 ∙ sym (watch token.host) ∙ is)) its step.makes in
+    let kept : HostKeeps eyes state.me step.outcome.state =
+    take_keeps eyes state from step.message step.outcome are own.keeps step.rests
+    (λ passes. made_carries eyes state from step.message are sound own.fit.fits bad own.keeps shows passes)
+    step.takes in
+    let moved = with_state world to step.outcome.state in
+    record {
+      hosts = hosts_kept eyes world after to state step.outcome.state points.hosts step.obeys
+          (act_puts eyes.code world after from to made step)
+          (subst (λ (me : HostId). HostKeeps eyes me step.outcome.state) own.fit.me kept);
+      flying = subst (FlyAs (Flies eyes)) (sym (moved_acted world to step.outcome after step.leaves).flying)
+          points.flying;
+      told = subst (λ (w : WorldShape). All (IsShown eyes) (tokens_sent w)) step.leaves
+          (tell_shown (IsShown eyes) moved to step.outcome.sent points.told
+          (answer_shows eyes state from step.message step.outcome are bad step.takes));
+    }
+
+-- ---- all events
+
+event_points : (eyes : Eyes) (world after : WorldShape) (event : Event) → AreEyes eyes → IsSoundCode eyes.code →
+    Watches eyes world → ShapeFits eyes.code world → HasOwnToken world event → PointsHold eyes world →
+    IsStep eyes.code world event after → PointsHold eyes after
+event_points eyes world after (Take from to place) are sound watch fits its points step =
+    take_points eyes world after from to place are watch fits points step
+event_points eyes world after (Turn host) are sound watch fits its points step =
+    turn_points eyes world after host are sound watch fits points step
+event_points eyes world after (Act from to made) are sound watch fits its points step =
+    act_points eyes world after from to made are sound watch fits its points step
+
+pub points_kept : (eyes : Eyes) (rows : List declared_hosts.HostShape) (bad : ℕ) (store : List (List ℤ))
+    (events : List Event) (world : WorldShape) → AreEyes eyes →
+    Watches eyes (world_at_start eyes.code rows bad store) → IsReached eyes.code rows bad store events world →
+    Watches eyes world × PointsHold eyes world
+points_kept eyes rows bad store events world are watch reach =
+    (reached eyes.code rows bad store events world (λ event. ⊤) (λ w. Watches eyes w × PointsHold eyes w) reach
+    (λ k d lt. tt)
+    (λ w after event fits own q step holds. (
+      λ host. same_misbehave eyes.code w after event host step ∙ holds.0 host,
+      event_points eyes w after event are reach.sound holds.0 fits own holds.1 step,
+    ))
+    (watch, record {
+      hosts = starts_keep eyes rows bad store are reach.sound watch;
+      flying = λ from to k d lt. absurd (omega arith);
+      told = λ k d lt. absurd (omega arith);
+    })).1
