@@ -15,21 +15,22 @@ use Rattle.event_text.specs.declared.event.Event.TheVariants.{Take, Turn, Act}
 use Rattle.event_text.specs.declared.event.BadMessage.{BadMessage}
 use Rattle.net_world.specs.Fits.{ShapeFits, IsStateOf, OwnTokenIn, HasOwnToken}
 use Rattle.net_world.specs.Flying.{Flight}
+use Rattle.net_world.specs.Secret.{IsSecret}
 use Rattle.net_world.specs.World.{WorldShape, IsStep, IsTakeStep, IsTurnStep, IsActStep, state_at, world_at_start}
-use Rattle.net_world.specs.World.{with_state, without_flight, tokens_sent, misbehaves}
+use Rattle.net_world.specs.World.{with_state, without_flight, letter_of, tokens_sent, misbehaves}
 use Rattle.net_world.proofs.Moved.{moved_acted}
 use Rattle.net_world.proofs.StepLaws.{absent_set, act_puts, same_misbehave}
 use Rattle.std.specs.Prelude.{slice_get}
 use Rattle.token_laws.specs.Reached.{IsReached}
 use Rattle.token_laws.proofs.HeldLaws.{all_at}
-use Rattle.token_laws.proofs.Walks.{reached}
+use Rattle.token_laws.proofs.Walks.{reached, fits_there}
 use Rattle.seen_world.specs.Eyes.{Eyes, AreEyes, Watches}
 use Rattle.seen_world.specs.Points.{IsHiddenToken, RunsWell, HostKeeps, IsAskedBy, FliesWell, ShowsNoHidden}
 use Rattle.seen_world.specs.Points.{PointsHold}
 use Rattle.seen_world.proofs.Answered.{answer_carries, made_carries, answer_shows}
 use Rattle.seen_world.proofs.FlightsKept.{FlyAs, fly_without, fly_sent, tell_shown, send_shown, made_shown}
 use Rattle.seen_world.proofs.PointsAtStart.{starts_keep, present_obeys}
-use Rattle.seen_world.proofs.SecretTurns.{held_by}
+use Rattle.seen_world.proofs.SecretTurns.{held_by, sent_kept, letter_obeys, secret_silent}
 use Rattle.seen_world.proofs.SentWell.{turn_carries}
 use Rattle.seen_world.proofs.TakesKept.{take_keeps, taken_world}
 use Rattle.seen_world.proofs.TokensTold.{turn_shows}
@@ -104,31 +105,48 @@ turn_points eyes world after host are sound watch fits points step =
 
 -- ---- takes
 
+-- the answer goes to whoever sent the message, who obeys
+record Answers (eyes : Eyes) (world : WorldShape) (from to : HostId) (place : ℕ) (after : WorldShape)
+    (step : IsTakeStep eyes.code world from to place after) : Type 0 where
+  flies : Flies eyes from to step.flight.message
+  own : Own eyes world to step.state
+  sent : IfSome step.outcome.sent (λ it. (it.0 ≡ from) × FliesWell eyes step.state.me it.0 it.1)
+
+answers_of : (eyes : Eyes) (world after : WorldShape) (from to : HostId) (place : ℕ) → AreEyes eyes →
+    Watches eyes world → ShapeFits eyes.code world → PointsHold eyes world →
+    (step : IsTakeStep eyes.code world from to place after) → Answers eyes world from to place after step
+answers_of eyes world after from to place are watch fits points step =
+    let own = own_state eyes world to step.state watch fits points step.obeys in
+    let flies : Flies eyes from to step.flight.message =
+    all_at (λ (f : Flight). Flies eyes from to f.message) (world.flying from to) place step.flight
+    (points.flying from to) step.there in
+    record {
+      flies = flies;
+      own = own;
+      sent = answer_carries eyes step.state from step.flight.message step.outcome are own.obeys
+          (subst (λ (me : HostId). IsAskedBy eyes from me step.flight.message) (sym own.fit.me) flies.1.0) step.takes;
+    }
+
 take_points : (eyes : Eyes) (world after : WorldShape) (from to : HostId) (place : ℕ) → AreEyes eyes →
     Watches eyes world → ShapeFits eyes.code world → PointsHold eyes world →
     IsTakeStep eyes.code world from to place after → PointsHold eyes after
 take_points eyes world after from to place are watch fits points step =
     let state = step.state in
-    let said = step.flight.message in
     let sent = step.outcome.sent in
-    let own = own_state eyes world to state watch fits points step.obeys in
-    let flies : Flies eyes from to said =
-    all_at (λ (f : Flight). Flies eyes from to f.message) (world.flying from to) place step.flight
-    (points.flying from to) step.there in
-    let answers : IfSome sent (λ it. (it.0 ≡ from) × FliesWell eyes state.me it.0 it.1) =
-    answer_carries eyes state from said step.outcome are own.obeys
-    (subst (λ (me : HostId). IsAskedBy eyes from me said) (sym own.fit.me) flies.1.0) step.takes in
+    let answers = answers_of eyes world after from to place are watch fits points step in
+    let own = answers.own in
+    let flies = answers.flies in
     let carries : IfSome sent (λ it. Flies eyes to it.0 it.1) =
     subst (λ (me : HostId). IfSome sent (λ it. Flies eyes me it.0 it.1)) own.fit.me
     (held_by (λ it. (it.0 ≡ from) × FliesWell eyes state.me it.0 it.1) (λ it. Flies eyes state.me it.0 it.1) sent
-    (λ it answer. (own.obeys, answer.1)) answers) in
+    (λ it answer. (own.obeys, answer.1)) answers.sent) in
     let left = without_flight world from to place in
     let moved = with_state left to step.outcome.state in
     let shows : IfSome sent (λ it. misbehaves moved it.0 ≡ true → ShowsNoHidden eyes it.1) =
     held_by (λ it. (it.0 ≡ from) × FliesWell eyes state.me it.0 it.1)
     (λ it. misbehaves moved it.0 ≡ true → ShowsNoHidden eyes it.1) sent
     (λ it answer bad. absurd (false≢true (sym flies.0 ∙ ap eyes.bad (sym answer.0)
-    ∙ bad_before eyes world to it.0 state step.outcome.state watch step.obeys bad))) answers in
+    ∙ bad_before eyes world to it.0 state step.outcome.state watch step.obeys bad))) answers.sent in
     record {
       hosts = taken_world eyes world after from to place step.flight are fits points.hosts step.there flies.1.1 step;
       flying = subst (λ (w : WorldShape). FlyAs (Flies eyes) w.flying) step.leaves
@@ -137,6 +155,22 @@ take_points eyes world after from to place are watch fits points step =
       told = subst (λ (w : WorldShape). All (IsShown eyes) (tokens_sent w)) step.leaves
           (send_shown (IsShown eyes) moved to (Some step.flight.label) sent points.told shows);
     }
+
+pub take_silent : (eyes : Eyes) (world after : WorldShape) (from to : HostId) (place : ℕ) → AreEyes eyes →
+    Watches eyes world → ShapeFits eyes.code world → PointsHold eyes world →
+    IsStep eyes.code world (Take from to place) after → after.sent ≡ world.sent
+take_silent eyes world after from to place are watch fits points step =
+    let state = step.state in
+    let sent = step.outcome.sent in
+    let answers = answers_of eyes world after from to place are watch fits points step in
+    let left = without_flight world from to place in
+    let good : HostId → Type 0 = λ on. misbehaves (with_state left to step.outcome.state) on ≡ false in
+    ap (λ (it : WorldShape). it.sent) (sym step.leaves)
+    ∙ sent_kept left to step.outcome.state (letter_of (Some step.flight.label) sent)
+    (letter_obeys good (Some step.flight.label) sent
+    (held_by (λ it. (it.0 ≡ from) × FliesWell eyes state.me it.0 it.1) (λ it. good it.0) sent
+    (λ it answer. absent_set world.hosts to.0 it.0.0 state step.outcome.state step.obeys ∙ watch it.0
+    ∙ ap eyes.bad answer.0 ∙ answers.flies.0) answers.sent))
 
 -- ---- acts
 
@@ -194,3 +228,23 @@ points_kept eyes rows bad store events world are watch reach =
       flying = λ from to k d lt. absurd (omega arith);
       told = λ k d lt. absurd (omega arith);
     })).1
+
+-- ---- secret events
+
+event_silent : (eyes : Eyes) (world after : WorldShape) (event : Event) → AreEyes eyes → Watches eyes world →
+    ShapeFits eyes.code world → PointsHold eyes world → IsStep eyes.code world event after →
+    IsSecret eyes.code world event → after.sent ≡ world.sent
+event_silent eyes world after (Take from to place) are watch fits points step secret =
+    take_silent eyes world after from to place are watch fits points step
+event_silent eyes world after (Turn host) are watch fits points step secret =
+    secret_silent eyes world after host are watch fits points.hosts step secret
+event_silent eyes world after (Act from to made) are watch fits points step secret = absurd secret
+
+pub secret_events : (eyes : Eyes) (rows : List declared_hosts.HostShape) (bad : ℕ) (store : List (List ℤ))
+    (events : List Event) (world after : WorldShape) (event : Event) → AreEyes eyes →
+    Watches eyes (world_at_start eyes.code rows bad store) → IsReached eyes.code rows bad store events world →
+    IsStep eyes.code world event after → IsSecret eyes.code world event → after.sent ≡ world.sent
+secret_events eyes rows bad store events world after event are watch reach step secret =
+    let holds = points_kept eyes rows bad store events world are watch reach in
+    event_silent eyes world after event are holds.0 (fits_there eyes.code rows bad store events world reach) holds.1
+    step secret

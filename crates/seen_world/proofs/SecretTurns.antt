@@ -198,13 +198,13 @@ secret_told eyes state thread outcome are is well hidden turns =
 
 -- ---- worlds
 
-sent_kept : (world : WorldShape) (host : HostId) (state : HostShape) (letter : Option Letter) →
+pub sent_kept : (world : WorldShape) (host : HostId) (state : HostShape) (letter : Option Letter) →
     IfSome letter (λ it. misbehaves (with_state world host state) it.to ≡ false) →
     (after_sending (with_state world host state) host letter).sent ≡ world.sent
 sent_kept world host state None obeys = refl
 sent_kept world host state (Some letter) obeys = rw obeys refl
 
-letter_obeys : (obeys : HostId → Type 0) (label : Option ℕ) (sent : Option (HostId × Message)) →
+pub letter_obeys : (obeys : HostId → Type 0) (label : Option ℕ) (sent : Option (HostId × Message)) →
     IfSome sent (λ it. obeys it.0) → IfSome (letter_of label sent) (λ it. obeys it.to)
 letter_obeys obeys None sent all = tt
 letter_obeys obeys (Some label) None all = tt

@@ -168,7 +168,17 @@ pub fn point_laws()
     ensures silent { (eyes : Eyes) (world after : WorldShape) (host : HostId) →
         AreEyes eyes → Watches eyes world → ShapeFits eyes.code world → HostsKeep eyes world →
         IsStep eyes.code world (Turn host) after → IsSecret eyes.code world (Turn host) → after.sent ≡ world.sent }
-    // To whom it sends obeys.
+    // The taking of a message in flight sends them nothing, secret or not.
+    ensures taken_silently { (eyes : Eyes) (world after : WorldShape) (from to : HostId) (place : ℕ) →
+        AreEyes eyes → Watches eyes world → ShapeFits eyes.code world → PointsHold eyes world →
+        IsStep eyes.code world (Take from to place) after → after.sent ≡ world.sent }
+    // So no secret event of a world that events lead to sends them anything.
+    ensures secretly { (eyes : Eyes) (rows : List declared_hosts.HostShape) (bad : ℕ) (store : List (List ℤ))
+        (events : List Event) (world after : WorldShape) (event : Event) →
+        AreEyes eyes → Watches eyes (world_at_start eyes.code rows bad store) →
+        IsReached eyes.code rows bad store events world → IsStep eyes.code world event after →
+        IsSecret eyes.code world event → after.sent ≡ world.sent }
+    // To whom a secret turn sends obeys.
     ensures told { (eyes : Eyes) (state : host_state.HostShape) (thread : ThreadShape) (outcome : host_state.Outcome) →
         AreEyes eyes → state.running ≡ Some thread → RunsWell eyes state.me thread →
         is_open eyes state.me thread.at ≡ false → IsTurn eyes.code state outcome →

@@ -1,6 +1,6 @@
 use Rattle.seen_world.proofs.Answered.{answer_carries, made_carries, answer_shows}
 use Rattle.seen_world.proofs.PointsAtStart.{starts_keep}
-use Rattle.seen_world.proofs.PointsKept.{points_kept}
+use Rattle.seen_world.proofs.PointsKept.{points_kept, take_silent, secret_events}
 use Rattle.seen_world.proofs.SecretTurns.{secret_told, secret_silent}
 use Rattle.seen_world.proofs.SentWell.{turn_carries}
 use Rattle.seen_world.proofs.TakesKept.{take_keeps, taken_world}
@@ -22,5 +22,7 @@ returns c = record {
   answered_openly = answer_shows;
   told_openly = turn_shows;
   silent = secret_silent;
+  taken_silently = take_silent;
+  secretly = secret_events;
   told = secret_told;
 }
