@@ -1,6 +1,6 @@
 -- What a host answers to a message that it takes, and what a misbehaving host can make it take.
 use Rattle.std.proofs.Common.{◌≡◌, ◌∙◌, ℕ, ◌+◌, Bool, true, false, List, [], ◌∷◌, arith, Option, Some, None}
-use Rattle.std.proofs.Common.{get_or, suc, refl, ap, sym, subst}
+use Rattle.std.proofs.Common.{get_or, refl, ap, sym, subst}
 use Rattle.std.specs.Prelude.{◌==◌, ◌&&◌, IfSome, IsSome, IsSomeAnd, IsTrue, position, slice_get}
 use Rattle.std.proofs.lemmas.Bool.{false≢true}
 use Rattle.std.proofs.lemmas.Bool.Decides.{nat_tests}
@@ -8,7 +8,6 @@ use Rattle.std.proofs.lemmas.Option.{slice_get-get_or}
 use Rattle.std.proofs.lemmas.List.Quantifiers.{position-Some}
 use Rattle.js_base.specs.declared.ids.HostId.{HostId}
 use Rattle.js_base.specs.declared.ids.EntryId.{EntryId}
-use Rattle.js_base.specs.declared.ids.FrameId.{FrameId}
 use Rattle.label_lattice.specs.declared.label.Label.{Label}
 use Rattle.capability.specs.declared.token.Token.{Token}
 use Rattle.host_code.specs.declared.code.Entry.{Entry}

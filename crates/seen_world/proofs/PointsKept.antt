@@ -8,7 +8,7 @@ use Rattle.host_decl.specs.Hosts as declared_hosts
 use Rattle.host_code.specs.declared.message.Message.{Message}
 use Rattle.host_code.specs.Sound.{IsSoundCode}
 use Rattle.host_code.specs.Thread.{ThreadShape}
-use Rattle.host_core.specs.Host.{HostShape, Outcome}
+use Rattle.host_core.specs.Host.{HostShape}
 use Rattle.host_core.specs.Turn.{label_of_turn}
 use Rattle.event_text.specs.declared.event.Event.{Event}
 use Rattle.event_text.specs.declared.event.Event.TheVariants.{Take, Turn, Act}
@@ -222,12 +222,14 @@ points_kept eyes rows bad store events world are watch reach =
     (λ w after event fits own q step holds. (
       λ host. same_misbehave eyes.code w after event host step ∙ holds.0 host,
       event_points eyes w after event are reach.sound holds.0 fits own holds.1 step,
-    ))
-    (watch, record {
-      hosts = starts_keep eyes rows bad store are reach.sound watch;
-      flying = λ from to k d lt. absurd (omega arith);
-      told = λ k d lt. absurd (omega arith);
-    })).1
+    )) (
+      watch,
+      record {
+        hosts = starts_keep eyes rows bad store are reach.sound watch;
+        flying = λ from to k d lt. absurd (omega arith);
+        told = λ k d lt. absurd (omega arith);
+      },
+    )).1
 
 -- ---- secret events
 

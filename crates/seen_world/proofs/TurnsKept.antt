@@ -189,9 +189,13 @@ put_kept eyes host thread field index value stand well law at (Some there) is =
       waiting = stand.1;
       entries = stand.0;
     })
-    (asked_kept eyes host thread.at (after_clearing thread) acknowledgement there.host stand
-    (refl, clears eyes host.me thread false law.0 well law.2 law.1.3 (λ no. well.frames law.1.0),
-    op.Put field index value, at, (refl, named_host eyes field there is)))
+    (asked_kept eyes host thread.at (after_clearing thread) acknowledgement there.host stand (
+      refl,
+      clears eyes host.me thread false law.0 well law.2 law.1.3 (λ no. well.frames law.1.0),
+      op.Put field index value,
+      at,
+      (refl, named_host eyes field there is),
+    ))
 
 -- ---- branches
 
@@ -533,9 +537,13 @@ operation_kept eyes are host thread (op.Let x value) passes count obeys stand we
 operation_kept eyes are host thread (op.Put field index value) passes count obeys stand well below law fits at =
     put_kept eyes host thread field index value stand well law at (field_at eyes.code field) refl
 operation_kept eyes are host thread (op.Send x on) passes count obeys stand well below law fits at =
-    asked_kept eyes host thread.at (after_step thread) acknowledgement on stand
-    (refl, steps eyes host.me thread false law.0 well law.1.1.0.0 law.2 law.1.2 (λ no. well.frames law.1.0),
-    op.Send x on, at, (refl, refl))
+    asked_kept eyes host thread.at (after_step thread) acknowledgement on stand (
+      refl,
+      steps eyes host.me thread false law.0 well law.1.1.0.0 law.2 law.1.2 (λ no. well.frames law.1.0),
+      op.Send x on,
+      at,
+      (refl, refl),
+    )
 operation_kept eyes are host thread (op.Frame site) passes count obeys stand well below law fits at =
     let here = eyes.shades.at host.me thread.at in
     let next = law.0 in
@@ -555,9 +563,13 @@ operation_kept eyes are host thread (op.Arg x value) passes count obeys stand we
   entries = stand.0;
 }
 operation_kept eyes are host thread (op.Pass x on) passes count obeys stand well below law fits at =
-    asked_kept eyes host thread.at (after_step thread) acknowledgement on stand
-    (refl, steps eyes host.me thread true law.0 well law.1.1.0.0 law.2 law.1.2 (λ no. absurd (true≢false no)),
-    op.Pass x on, at, (refl, refl))
+    asked_kept eyes host thread.at (after_step thread) acknowledgement on stand (
+      refl,
+      steps eyes host.me thread true law.0 well law.1.1.0.0 law.2 law.1.2 (λ no. absurd (true≢false no)),
+      op.Pass x on,
+      at,
+      (refl, refl),
+    )
 operation_kept eyes are host thread (op.Push entry) passes count obeys stand well below law fits at =
     let here = eyes.shades.at host.me thread.at in
     push_kept eyes are host thread entry thread.held obeys stand well below fits law.0 law.1.0.0
