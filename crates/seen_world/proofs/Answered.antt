@@ -1,13 +1,15 @@
 -- What a host answers to a message that it takes, and what a misbehaving host can make it take.
 use Rattle.std.proofs.Common.{◌≡◌, ◌∙◌, ℕ, ◌+◌, Bool, true, false, List, [], ◌∷◌, arith, Option, Some, None}
-use Rattle.std.proofs.Common.{get_or, refl, ap, sym, subst}
-use Rattle.std.specs.Prelude.{◌==◌, ◌&&◌, IfSome, IsSome, IsSomeAnd, IsTrue, position, slice_get}
+use Rattle.std.proofs.Common.{get_or, inl, inr, refl, ap, sym, subst}
+use Rattle.std.specs.Prelude.{◌⊎◌, ◌==◌, ◌&&◌, IfSome, IsSome, IsSomeAnd, IsTrue, position, slice_get}
 use Rattle.std.proofs.lemmas.Bool.{false≢true}
 use Rattle.std.proofs.lemmas.Bool.Decides.{nat_tests}
 use Rattle.std.proofs.lemmas.Option.{slice_get-get_or}
 use Rattle.std.proofs.lemmas.List.Quantifiers.{position-Some}
 use Rattle.js_base.specs.declared.ids.HostId.{HostId}
 use Rattle.js_base.specs.declared.ids.EntryId.{EntryId}
+use Rattle.js_base.specs.declared.ids.VarId.{VarId}
+use Rattle.host_code.specs.declared.code_expr.Node.{Node}
 use Rattle.label_lattice.specs.declared.label.Label.{Label}
 use Rattle.capability.specs.declared.token.Token.{Token}
 use Rattle.host_code.specs.declared.code.Entry.{Entry}
@@ -30,7 +32,7 @@ use Rattle.split_shades.specs.Shades.{EntryShade, Ahead, Meets}
 use Rattle.split_shades.specs.Shading.{IsUnderBlock, PushesAt}
 use Rattle.split_rules.specs.Positions.{under}
 use Rattle.seen_world.specs.Eyes.{Eyes, AreEyes, is_hidden, sees_level}
-use Rattle.seen_world.specs.Points.{IsTokenOf, IsHiddenToken, MayHold, MayEnterWith, IsAt, AsksFor, HostKeeps}
+use Rattle.seen_world.specs.Points.{IsTokenOf, IsHiddenToken, MayHold, MayEnterWith, IsAt, AsksFor, AsksAt, HostKeeps}
 use Rattle.seen_world.specs.Points.{CarriesWell, IsAskedBy, FliesWell, ShowsNoHidden}
 use Rattle.seen_world.proofs.SeenPlaces.{entry_seen, own_entry}
 use Rattle.seen_world.proofs.TakesKept.{on_me, waits_at, same_place}
@@ -75,17 +77,29 @@ given_well eyes are from place on token at obeys stands =
 
 -- ---- answers
 
+-- a variable that is sent is acknowledged
+forward_asked : (eyes : Eyes) (from to : HostId) (place : ℕ) (x : VarId) →
+    IsAt eyes from place (op.Send x to)
+    ⊎ (IsAt eyes from place (op.Pass x to) ⊎ ((given : List Node) × IsAt eyes from place (op.Ret x given))) →
+    AsksAt eyes from place acknowledgement to
+forward_asked eyes from to place x (inl at) = (op.Send x to, at, (refl, refl))
+forward_asked eyes from to place x (inr (inl at)) = (op.Pass x to, at, (refl, refl))
+forward_asked eyes from to place x (inr (inr gives)) = (op.Ret x gives.0, gives.1, refl)
+
 passing_carries : (eyes : Eyes) → AreEyes eyes → (host : HostShape) (from : HostId) (said : Message) →
     eyes.bad host.me ≡ false → IsAskedBy eyes from host.me said → Passes eyes.code host from said →
     IfSome (after_passing eyes.code host from said).sent (λ sent.
     (sent.0 ≡ from) × FliesWell eyes host.me sent.0 sent.1)
-passing_carries eyes are host from (message.Get request field index) obeys asked passes = (refl, (tt, tt))
-passing_carries eyes are host from (message.Set request field index value) obeys asked passes = (refl, (tt, tt))
-passing_carries eyes are host from (message.Forward request frame x value) obeys asked passes = (refl, (tt, tt))
+passing_carries eyes are host from (message.Get request field index) obeys asked passes =
+    (refl, ((op.Read field asked.0, asked.1, (refl, asked.2)), tt))
+passing_carries eyes are host from (message.Set request field index value) obeys asked passes =
+    (refl, ((op.Put field asked.0 asked.1, asked.2, (refl, asked.3)), tt))
+passing_carries eyes are host from (message.Forward request frame x value) obeys asked passes =
+    (refl, (forward_asked eyes from host.me request.at x asked, tt))
 passing_carries eyes are host from (message.Sync request frame entry token) obeys asked passes = (
   refl,
   (
-    tt,
+    (op.Ask entry host.me, asked, (refl, refl)),
     given_well eyes are from request.at host.me (new_token host entry frame) asked obeys
         (on_me eyes host.me from entry passes),
   ),
@@ -260,7 +274,7 @@ made_carries eyes state from (message.Token request token) are sound fits bad ke
     waiting_at (awaits token_of_entry request from) state.waiting (place_of_awaiting state token_of_entry request from)
     refl passes in
     let well = waits_at eyes state found.1 found.0 keeps found.2 in
-    answers_well eyes are sound state from found.0 request.at request.count token fits bad found.3 well.2 well.3 well.4
+    answers_well eyes are sound state from found.0 request.at request.count token fits bad found.3 well.2.0 well.2.1 well.2.2
     shows
 
 -- ---- what misbehaving hosts are answered

@@ -1,5 +1,5 @@
 -- The token in what a turn sends may be held where it comes to.
-use Rattle.std.proofs.Common.{◌≡◌, ◌∙◌, Bool, true, false, List, int_eq, Option, Some, None, refl, ap, sym, subst}
+use Rattle.std.proofs.Common.{◌≡◌, ◌∙◌, Bool, true, false, List, int_eq, Option, Some, None, inl, inr, refl, ap, sym, subst}
 use Rattle.std.specs.Prelude.{◌==◌, if◌then◌else◌, pos, IfSome}
 use Rattle.js_base.specs.declared.ids.HostId.{HostId}
 use Rattle.js_base.specs.declared.ids.FieldId.{FieldId}
@@ -23,7 +23,7 @@ use Rattle.split_shades.specs.Shading.{IsUnderBlock, Names, HandsOn, Enters}
 use Rattle.seen_world.specs.Eyes.{Eyes, AreEyes}
 use Rattle.seen_world.specs.Points.{IsTokenOf, MayHold, MayEnterWith, RunsWell, IsAt, FliesWell}
 use Rattle.seen_world.proofs.SecretTurns.{held_by}
-use Rattle.seen_world.proofs.TurnsKept.{block_shown}
+use Rattle.seen_world.proofs.TurnsKept.{block_shown, named_host}
 
 -- ---- tokens
 
@@ -64,17 +64,20 @@ either_carried : (eyes : Eyes) (me : HostId) (b : Bool) (one other : Outcome) �
 either_carried eyes me true one other first second = first
 either_carried eyes me false one other first second = second
 
-read_carried : (eyes : Eyes) (host : HostShape) (thread : ThreadShape) (field : FieldId) (index : List Node)
-    (found : Option CodeFieldShape) → Carried eyes host.me (after_read host thread field index found)
-read_carried eyes host thread field index None = tt
-read_carried eyes host thread field index (Some there) =
-    either_carried eyes host.me (there.host.0 == host.me.0) _ _ tt (tt, tt)
+read_carried : (eyes : Eyes) (host : HostShape) (thread : ThreadShape) (field : FieldId) (index : List Node) →
+    IsAt eyes host.me thread.at (op.Read field index) → (found : Option CodeFieldShape) → field_at eyes.code field ≡ found →
+    Carried eyes host.me (after_read host thread field index found)
+read_carried eyes host thread field index at None is = tt
+read_carried eyes host thread field index at (Some there) is =
+    either_carried eyes host.me (there.host.0 == host.me.0) _ _ tt ((index, at, named_host eyes field there is), tt)
 
-put_carried : (eyes : Eyes) (host : HostShape) (thread : ThreadShape) (field : FieldId) (index value : List Node)
-    (found : Option CodeFieldShape) → Carried eyes host.me (after_put host thread field index value found)
-put_carried eyes host thread field index value None = tt
-put_carried eyes host thread field index value (Some there) =
-    either_carried eyes host.me (there.host.0 == host.me.0) _ _ tt (tt, tt)
+put_carried : (eyes : Eyes) (host : HostShape) (thread : ThreadShape) (field : FieldId) (index value : List Node) →
+    IsAt eyes host.me thread.at (op.Put field index value) → (found : Option CodeFieldShape) → field_at eyes.code field ≡ found →
+    Carried eyes host.me (after_put host thread field index value found)
+put_carried eyes host thread field index value at None is = tt
+put_carried eyes host thread field index value at (Some there) is =
+    either_carried eyes host.me (there.host.0 == host.me.0) _ _ tt
+    ((index, value, at, named_host eyes field there is), tt)
 
 push_carried : (eyes : Eyes) (host : HostShape) (thread : ThreadShape) (entry : EntryId) (held : Option Token) →
     Carried eyes host.me (after_own_push host thread entry held)
@@ -102,11 +105,12 @@ own_call_carried eyes host thread None = tt
 own_call_carried eyes host thread (Some there) = tt
 
 return_carried : (eyes : Eyes) (host : HostShape) (thread : ThreadShape) (x : VarId) (value : List Node)
-    (held : Option Token) (passes : Bool) → Carried eyes host.me (after_return host thread x value held passes)
-return_carried eyes host thread x value None passes = tt
-return_carried eyes host thread x value (Some token) passes =
+    (held : Option Token) (passes : Bool) → IsAt eyes host.me thread.at (op.Ret x value) →
+    Carried eyes host.me (after_return host thread x value held passes)
+return_carried eyes host thread x value None passes at = tt
+return_carried eyes host thread x value (Some token) passes at =
     either_carried eyes host.me (token.host.0 == host.me.0) _ _ tt
-    (either_carried eyes host.me passes _ _ (tt, tt) tt)
+    (either_carried eyes host.me passes _ _ (inr (inr (value, at)), tt) tt)
 
 back_carried : (eyes : Eyes) (host : HostShape) (thread : ThreadShape) (held : Option Token) (passes : Bool) →
     Carried eyes host.me (after_back eyes.code host thread held passes)
@@ -119,14 +123,14 @@ operation_carried : (eyes : Eyes) → AreEyes eyes → (host : HostShape) (threa
     (eyes.shades.at host.me thread.at).pc → IsShadedOp eyes.scene eyes.shades host.me thread.at it →
     IsAt eyes host.me thread.at it → Carried eyes host.me (after_operation eyes.code host thread it passes)
 operation_carried eyes are host thread (op.Read field index) passes well below law at =
-    read_carried eyes host thread field index (field_at eyes.code field)
+    read_carried eyes host thread field index at (field_at eyes.code field) refl
 operation_carried eyes are host thread (op.Let x value) passes well below law at = tt
 operation_carried eyes are host thread (op.Put field index value) passes well below law at =
-    put_carried eyes host thread field index value (field_at eyes.code field)
-operation_carried eyes are host thread (op.Send x on) passes well below law at = (tt, tt)
+    put_carried eyes host thread field index value at (field_at eyes.code field) refl
+operation_carried eyes are host thread (op.Send x on) passes well below law at = (inl at, tt)
 operation_carried eyes are host thread (op.Frame site) passes well below law at = tt
 operation_carried eyes are host thread (op.Arg x value) passes well below law at = tt
-operation_carried eyes are host thread (op.Pass x on) passes well below law at = (tt, tt)
+operation_carried eyes are host thread (op.Pass x on) passes well below law at = (inr (inl at), tt)
 operation_carried eyes are host thread (op.Push entry) passes well below law at =
     push_carried eyes host thread entry thread.held
 operation_carried eyes are host thread (op.Ask entry on) passes well below law at =
@@ -144,7 +148,7 @@ operation_carried eyes are host thread (op.Call entry on) passes well below law 
     (held_by (MayHold eyes here) (MayEnterWith eyes entry) thread.held
     (λ token holds. entered_with eyes are here entry token law.3 holds) well.holds))
 operation_carried eyes are host thread (op.Ret x value) passes well below law at =
-    return_carried eyes host thread x value thread.held passes
+    return_carried eyes host thread x value thread.held passes at
 operation_carried eyes are host thread op.Back passes well below law at = back_carried eyes host thread thread.held passes
 operation_carried eyes are host thread (op.Branch guard target) passes well below law at =
     let later : ThreadShape = after_clearing thread in

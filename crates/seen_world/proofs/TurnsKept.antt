@@ -141,7 +141,7 @@ asked_kept eyes host at later awaited asked stand waits = record {
 
 -- ---- fields
 
-named_host : (eyes : Eyes) (field : FieldId) (there : CodeFieldShape) → field_at eyes.code field ≡ Some there →
+pub named_host : (eyes : Eyes) (field : FieldId) (there : CodeFieldShape) → field_at eyes.code field ≡ Some there →
     IsSomeAnd (field_at eyes.code field) (λ (one : CodeFieldShape). one.host ≡ there.host)
 named_host eyes field there is =
     subst (λ found. IsSomeAnd found (λ (one : CodeFieldShape). one.host ≡ there.host)) (sym is) refl
@@ -166,7 +166,7 @@ read_kept eyes host thread field index stand well law at (Some there) is =
     either_kept eyes host (there.host.0 == host.me.0) _ _
     (record { running = more _; waiting = stand.1; entries = stand.0 })
     (asked_kept eyes host thread.at (after_step thread) value_of_field there.host stand
-    (refl, more, op.Read field index, at, (refl, named_host eyes field there is)))
+    (refl, more, (op.Read field index, at, (refl, named_host eyes field there is))))
   where
     one_longer : {X Y : Type 0} (xs : List X) (ys : List Y) (x : X) (y : Y) → length xs ≡ length ys →
         length (xs ++ x ∷ []) ≡ length (ys ++ y ∷ [])
@@ -192,9 +192,7 @@ put_kept eyes host thread field index value stand well law at (Some there) is =
     (asked_kept eyes host thread.at (after_clearing thread) acknowledgement there.host stand (
       refl,
       clears eyes host.me thread false law.0 well law.2 law.1.3 (λ no. well.frames law.1.0),
-      op.Put field index value,
-      at,
-      (refl, named_host eyes field there is),
+      (op.Put field index value, at, (refl, named_host eyes field there is)),
     ))
 
 -- ---- branches
@@ -427,9 +425,7 @@ ask_kept eyes host thread entry on (Some held) stand well next plain calls temps
         frames = λ no. well.frames calls;
         holds = holds;
       },
-      op.Ask entry on,
-      at,
-      (refl, refl),
+      (op.Ask entry on, at, (refl, refl)),
     )
 
 -- ---- results and tokens that are given back
@@ -445,7 +441,7 @@ return_kept eyes host thread x value (Some token) passes stand well later at =
     (record { running = later; waiting = stand.1; entries = stand.0 })
     (either_kept eyes host passes _ _
     (asked_kept eyes host thread.at (after_clearing thread) acknowledgement token.host stand
-    (refl, later, op.Ret x value, at, refl))
+    (refl, later, (op.Ret x value, at, refl)))
     (record { running = later; waiting = stand.1; entries = stand.0 }))
 
 -- a thread starts at an entry of the host, with a token that may be held there
@@ -540,9 +536,7 @@ operation_kept eyes are host thread (op.Send x on) passes count obeys stand well
     asked_kept eyes host thread.at (after_step thread) acknowledgement on stand (
       refl,
       steps eyes host.me thread false law.0 well law.1.1.0.0 law.2 law.1.2 (λ no. well.frames law.1.0),
-      op.Send x on,
-      at,
-      (refl, refl),
+      (op.Send x on, at, (refl, refl)),
     )
 operation_kept eyes are host thread (op.Frame site) passes count obeys stand well below law fits at =
     let here = eyes.shades.at host.me thread.at in
@@ -566,9 +560,7 @@ operation_kept eyes are host thread (op.Pass x on) passes count obeys stand well
     asked_kept eyes host thread.at (after_step thread) acknowledgement on stand (
       refl,
       steps eyes host.me thread true law.0 well law.1.1.0.0 law.2 law.1.2 (λ no. absurd (true≢false no)),
-      op.Pass x on,
-      at,
-      (refl, refl),
+      (op.Pass x on, at, (refl, refl)),
     )
 operation_kept eyes are host thread (op.Push entry) passes count obeys stand well below law fits at =
     let here = eyes.shades.at host.me thread.at in

@@ -1,12 +1,14 @@
 -- What holds of the token at each place, of each thread, and of each entry on a stack, so that no misbehaving
 -- host is told what it may not see.
-use Rattle.std.specs.Prelude.{◌≡◌, ◌≢◌, ℕ, ◌+◌, ℤ, true, false, length, All, Some, IfSome, IsSomeAnd, slice_get, ⊤}
+use Rattle.std.specs.Prelude.{◌≡◌, ◌≢◌, ◌⊎◌, ℕ, ◌+◌, ℤ, true, false, List, length, All, Some, IfSome, IsSomeAnd}
+use Rattle.std.specs.Prelude.{slice_get, ⊤}
 use Rattle.js_base.specs.declared.ids.HostId.{HostId}
 use Rattle.capability.specs.declared.token.Token.{Token}
 use Rattle.ics_stack.specs.declared.stack.StackEntry.{StackEntry}
 use Rattle.js_base.specs.declared.ids.EntryId.{EntryId}
 use Rattle.host_code.specs.declared.message.Message.{Message}
 use Rattle.host_code.specs.declared.message.Message.TheVariants as message
+use Rattle.host_code.specs.declared.code_expr.Node.{Node}
 use Rattle.host_code.specs.declared.instruction.Instr.{Instr}
 use Rattle.host_code.specs.declared.instruction.Op.{Op}
 use Rattle.host_code.specs.declared.instruction.Op.TheVariants as op
@@ -74,14 +76,16 @@ AsksFor code (op.Ask there to) awaited on = (awaited ≡ token_of_entry) × (to 
 AsksFor code (op.Ret x value) awaited on = awaited ≡ acknowledgement
 AsksFor code other awaited on = ⊥
 
+-- the instruction at a place of a host asks another for such an answer
+abbrev pub AsksAt : Eyes → HostId → ℕ → Awaited → HostId → Type 0
+AsksAt eyes host place awaited on = (it : Op) × IsAt eyes host place it × AsksFor eyes.code it awaited on
+
 -- A thread that waits goes on behind the instruction that asked.
 abbrev pub WaitsWell : Eyes → HostId → WaitingShape → Type 0
 WaitsWell eyes host waiting =
     (waiting.thread.at ≡ waiting.request.at + 1)
     × AnsweredWell eyes host waiting.thread waiting.awaited
-    × (it : Op)
-    × IsAt eyes host waiting.request.at it
-    × AsksFor eyes.code it waiting.awaited waiting.asked
+    × AsksAt eyes host waiting.request.at waiting.awaited waiting.asked
 
 -- An entry on the stack of a host stands there, with a token of its own, and keeps the token that was held where it was
 -- pushed. Where it is not hidden, its block may be seen. Where its block may be seen, it keeps no hidden token. The
@@ -126,9 +130,22 @@ CarriesWell eyes to (message.Rgoto frame entry token) = MayEnterWith eyes entry 
 CarriesWell eyes to (message.Token request token) = MayHold eyes (eyes.shades.at to (request.at + 1)) token
 CarriesWell eyes to other = ⊤
 
--- A push is asked for by an instruction of the sender.
+-- A request names the instruction of its sender that sends it, for this field, variable or entry. An answer names an
+-- instruction that asks its sender for such an answer.
 abbrev pub IsAskedBy : Eyes → HostId → HostId → Message → Type 0
+IsAskedBy eyes from to (message.Get request field index) =
+    (at : List Node) × IsAt eyes from request.at (op.Read field at) × Names eyes.code (op.Read field at) to
+IsAskedBy eyes from to (message.Set request field index value) =
+    (at : List Node) × (written : List Node) × IsAt eyes from request.at (op.Put field at written)
+    × Names eyes.code (op.Put field at written) to
+IsAskedBy eyes from to (message.Forward request frame x value) =
+    IsAt eyes from request.at (op.Send x to)
+    ⊎ (IsAt eyes from request.at (op.Pass x to)
+    ⊎ ((given : List Node) × IsAt eyes from request.at (op.Ret x given)))
 IsAskedBy eyes from to (message.Sync request frame entry token) = IsAt eyes from request.at (op.Ask entry to)
+IsAskedBy eyes from to (message.Value request value) = AsksAt eyes to request.at value_of_field from
+IsAskedBy eyes from to (message.Ack request) = AsksAt eyes to request.at acknowledgement from
+IsAskedBy eyes from to (message.Token request token) = AsksAt eyes to request.at token_of_entry from
 IsAskedBy eyes from to other = ⊤
 
 -- what holds of a message from an obeying host to another host

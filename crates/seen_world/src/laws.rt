@@ -137,12 +137,12 @@ pub fn point_laws()
         AreEyes eyes → HostKeeps eyes state.me state → state.running ≡ None →
         (Passes eyes.code state from said → CarriesWell eyes state.me said) →
         IsTaking eyes.code state from said outcome → HostKeeps eyes state.me outcome.state }
-    // The token in what a turn sends may be held where it comes to, and an instruction of the host asks for each push.
+    // The token in what a turn sends may be held where it comes to, and a request names the instruction that sends it.
     ensures carried { (eyes : Eyes) (state : host_state.HostShape) (thread : ThreadShape)
         (outcome : host_state.Outcome) →
         AreEyes eyes → state.running ≡ Some thread → RunsWell eyes state.me thread →
         IsTurn eyes.code state outcome → IfSome outcome.sent (λ sent. FliesWell eyes state.me sent.0 sent.1) }
-    // So may that in what a host answers, which goes to whoever sent the message.
+    // So may that in what a host answers, which goes to whoever sent the message and names what asked for it.
     ensures answered { (eyes : Eyes) (state : host_state.HostShape) (from : HostId) (said : Message)
         (outcome : host_state.Outcome) →
         AreEyes eyes → eyes.bad state.me ≡ false → IsAskedBy eyes from state.me said →
