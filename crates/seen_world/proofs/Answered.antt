@@ -1,9 +1,8 @@
 -- What a host answers to a message that it takes, and what a misbehaving host can make it take.
-use Rattle.std.proofs.Common.{◌≡◌, ◌∙◌, ℕ, ◌+◌, Bool, true, false, List, [], ◌∷◌, arith, Option, Some, None}
+use Rattle.std.proofs.Common.{◌≡◌, ◌∙◌, ℕ, ◌+◌, Bool, true, false, List, [], ◌∷◌, Option, Some, None}
 use Rattle.std.proofs.Common.{get_or, inl, inr, refl, ap, sym, subst}
 use Rattle.std.specs.Prelude.{◌⊎◌, ◌==◌, ◌&&◌, IfSome, IsSome, IsSomeAnd, IsTrue, position, slice_get}
 use Rattle.std.proofs.lemmas.Bool.{false≢true}
-use Rattle.std.proofs.lemmas.Bool.Decides.{nat_tests}
 use Rattle.std.proofs.lemmas.Option.{slice_get-get_or}
 use Rattle.std.proofs.lemmas.List.Quantifiers.{position-Some}
 use Rattle.js_base.specs.declared.ids.HostId.{HostId}
@@ -31,6 +30,7 @@ use Rattle.split_shades.specs.ShadedCode.{IsShadedOp}
 use Rattle.split_shades.specs.Shades.{EntryShade, Ahead, Meets}
 use Rattle.split_shades.specs.Shading.{IsUnderBlock, PushesAt}
 use Rattle.split_rules.specs.Positions.{under}
+use Rattle.token_laws.proofs.Tests.{parts_same, number_same}
 use Rattle.seen_world.specs.Eyes.{Eyes, AreEyes, is_hidden, sees_level}
 use Rattle.seen_world.specs.Points.{IsTokenOf, IsHiddenToken, MayHold, MayEnterWith, IsAt, AsksFor, AsksAt, HostKeeps}
 use Rattle.seen_world.specs.Points.{CarriesWell, IsAskedBy, FliesWell, ShowsNoHidden}
@@ -228,10 +228,6 @@ same_awaited value_of_field request from same = absurd (false≢true same)
 same_awaited acknowledgement request from same = absurd (false≢true same)
 same_awaited token_of_entry request from same = refl
 
-same_asked : (others : Bool) (asked from : ℕ) → (others && asked == from) ≡ true → asked ≡ from
-same_asked true asked from same = grind (arith, nat_tests)
-same_asked false asked from same = absurd (false≢true same)
-
 answers_well : (eyes : Eyes) → AreEyes eyes → IsSoundCode eyes.code → (host : HostShape) (from : HostId)
     (waiting : WaitingShape) (place count : ℕ) (token : Token) → StateFits eyes.code host → eyes.bad from ≡ true →
     awaits token_of_entry (record { at = place; count = count }) from waiting ≡ true →
@@ -241,7 +237,7 @@ answers_well eyes are sound host from waiting place count token fits bad same it
     let there : waiting.request.at ≡ place =
     same_place (is_same_answer waiting.awaited token_of_entry) waiting.request.at place 0
     (waiting.request.count == count) (waiting.asked.0 == from.0) same in
-    let on : waiting.asked ≡ from = same_id waiting.asked from (same_asked _ waiting.asked.0 from.0 same) in
+    let on : waiting.asked ≡ from = same_id waiting.asked from (number_same waiting.asked.0 from.0 (parts_same _ _ same).1) in
     let asked =
     asked_at eyes host.me waiting.request.at it waiting.awaited waiting.asked
     (same_awaited waiting.awaited _ _ same) at asks in
