@@ -237,7 +237,8 @@ answers_well eyes are sound host from waiting place count token fits bad same it
     let there : waiting.request.at ≡ place =
     same_place (is_same_answer waiting.awaited token_of_entry) waiting.request.at place 0
     (waiting.request.count == count) (waiting.asked.0 == from.0) same in
-    let on : waiting.asked ≡ from = same_id waiting.asked from (number_same waiting.asked.0 from.0 (parts_same _ _ same).1) in
+    let on : waiting.asked ≡ from =
+    same_id waiting.asked from (number_same waiting.asked.0 from.0 (parts_same _ _ same).1) in
     let asked =
     asked_at eyes host.me waiting.request.at it waiting.awaited waiting.asked
     (same_awaited waiting.awaited _ _ same) at asks in
@@ -270,7 +271,8 @@ made_carries eyes state from (message.Token request token) are sound fits bad ke
     waiting_at (awaits token_of_entry request from) state.waiting (place_of_awaiting state token_of_entry request from)
     refl passes in
     let well = waits_at eyes state found.1 found.0 keeps found.2 in
-    answers_well eyes are sound state from found.0 request.at request.count token fits bad found.3 well.2.0 well.2.1 well.2.2
+    answers_well eyes are sound state from found.0 request.at request.count token fits bad found.3 well.2.0 well.2.1
+    well.2.2
     shows
 
 -- ---- what misbehaving hosts are answered

@@ -1,5 +1,6 @@
 -- The token in what a turn sends may be held where it comes to.
-use Rattle.std.proofs.Common.{◌≡◌, ◌∙◌, Bool, true, false, List, int_eq, Option, Some, None, inl, inr, refl, ap, sym, subst}
+use Rattle.std.proofs.Common.{◌≡◌, ◌∙◌, Bool, true, false, List, int_eq, Option, Some, None, inl, inr, refl, ap, sym}
+use Rattle.std.proofs.Common.{subst}
 use Rattle.std.specs.Prelude.{◌==◌, if◌then◌else◌, pos, IfSome}
 use Rattle.js_base.specs.declared.ids.HostId.{HostId}
 use Rattle.js_base.specs.declared.ids.FieldId.{FieldId}
@@ -65,14 +66,16 @@ either_carried eyes me true one other first second = first
 either_carried eyes me false one other first second = second
 
 read_carried : (eyes : Eyes) (host : HostShape) (thread : ThreadShape) (field : FieldId) (index : List Node) →
-    IsAt eyes host.me thread.at (op.Read field index) → (found : Option CodeFieldShape) → field_at eyes.code field ≡ found →
+    IsAt eyes host.me thread.at (op.Read field index) → (found : Option CodeFieldShape) →
+    field_at eyes.code field ≡ found →
     Carried eyes host.me (after_read host thread field index found)
 read_carried eyes host thread field index at None is = tt
 read_carried eyes host thread field index at (Some there) is =
     either_carried eyes host.me (there.host.0 == host.me.0) _ _ tt ((index, at, named_host eyes field there is), tt)
 
 put_carried : (eyes : Eyes) (host : HostShape) (thread : ThreadShape) (field : FieldId) (index value : List Node) →
-    IsAt eyes host.me thread.at (op.Put field index value) → (found : Option CodeFieldShape) → field_at eyes.code field ≡ found →
+    IsAt eyes host.me thread.at (op.Put field index value) → (found : Option CodeFieldShape) →
+    field_at eyes.code field ≡ found →
     Carried eyes host.me (after_put host thread field index value found)
 put_carried eyes host thread field index value at None is = tt
 put_carried eyes host thread field index value at (Some there) is =
@@ -115,7 +118,8 @@ return_carried eyes host thread x value (Some token) passes at =
 back_carried : (eyes : Eyes) (host : HostShape) (thread : ThreadShape) (held : Option Token) (passes : Bool) →
     Carried eyes host.me (after_back eyes.code host thread held passes)
 back_carried eyes host thread None passes = tt
-back_carried eyes host thread (Some token) passes = either_carried eyes host.me (token.host.0 == host.me.0) _ _ tt (tt, tt)
+back_carried eyes host thread (Some token) passes =
+    either_carried eyes host.me (token.host.0 == host.me.0) _ _ tt (tt, tt)
 
 operation_carried : (eyes : Eyes) → AreEyes eyes → (host : HostShape) (thread : ThreadShape) (it : Op)
     (passes : Bool) → RunsWell eyes host.me thread →
@@ -149,7 +153,8 @@ operation_carried eyes are host thread (op.Call entry on) passes well below law 
     (λ token holds. entered_with eyes are here entry token law.3 holds) well.holds))
 operation_carried eyes are host thread (op.Ret x value) passes well below law at =
     return_carried eyes host thread x value thread.held passes at
-operation_carried eyes are host thread op.Back passes well below law at = back_carried eyes host thread thread.held passes
+operation_carried eyes are host thread op.Back passes well below law at =
+    back_carried eyes host thread thread.held passes
 operation_carried eyes are host thread (op.Branch guard target) passes well below law at =
     let later : ThreadShape = after_clearing thread in
     either_carried eyes host.me (int_eq (value_in_thread host thread guard) (pos 0))

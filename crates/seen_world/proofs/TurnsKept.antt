@@ -76,7 +76,8 @@ goes_on eyes host thread later next well meets level block temps frames same =
     }
 
 -- the next place
-pub meets_next : (eyes : Eyes) (host : HostId) (place : ℕ) (next : Ahead) → Meets next (eyes.shades.at host (suc place)) →
+pub meets_next : (eyes : Eyes) (host : HostId) (place : ℕ) (next : Ahead) →
+    Meets next (eyes.shades.at host (suc place)) →
     Meets next (eyes.shades.at host (place + 1))
 meets_next eyes host place next meets =
     subst (λ n. Meets next (eyes.shades.at host n)) (let same : suc place ≡ place + 1 = omega arith in same) meets

@@ -65,7 +65,8 @@ abbrev pub IsAt : Eyes → HostId → ℕ → Op → Type 0
 IsAt eyes host place it =
     (there : Instr) × (instruction_at eyes.code host place ≡ Some there) × (there.op ≡ it)
 
--- The instruction asks this host for such an answer. A result is given to the host of the token, which it does not name.
+-- The instruction asks this host for such an answer. A result is given to the host of the token, which the instruction
+-- does not name.
 abbrev pub AsksFor : CodeShape → Op → Awaited → HostId → Type 0
 AsksFor code (op.Read field index) awaited on = (awaited ≡ value_of_field) × Names code (op.Read field index) on
 AsksFor code (op.Put field index value) awaited on =
