@@ -41,14 +41,14 @@ use Rattle.seen_world.proofs.TurnsKept.{pushed_at, pushed_holds, meets_next}
 -- ---- tokens of entries that are pushed on request
 
 -- what is known of an instruction that asks for a push, and of the place behind it
-record Asking (eyes : Eyes) (host : HostId) (place : ℕ) (number : ℕ) : Type 0 where
-  next : Ahead
-  below : IsUnderBlock None (eyes.shades.at host place).block (eyes.shades.at host place).pc
-  calls : (eyes.shades.at host place).calls ≡ false
-  pushes : PushesAt None eyes.shades.entries (eyes.shades.at host place) number next
-  meets : Meets next (eyes.shades.at host (place + 1))
+pub record Asking (eyes : Eyes) (host : HostId) (place : ℕ) (number : ℕ) : Type 0 where
+  pub next : Ahead
+  pub below : IsUnderBlock None (eyes.shades.at host place).block (eyes.shades.at host place).pc
+  pub calls : (eyes.shades.at host place).calls ≡ false
+  pub pushes : PushesAt None eyes.shades.entries (eyes.shades.at host place) number next
+  pub meets : Meets next (eyes.shades.at host (place + 1))
 
-asking_at : (eyes : Eyes) → AreEyes eyes → (host : HostId) (place : ℕ) (entry : EntryId) (on : HostId) →
+pub asking_at : (eyes : Eyes) → AreEyes eyes → (host : HostId) (place : ℕ) (entry : EntryId) (on : HostId) →
     IsAt eyes host place (op.Ask entry on) → Asking eyes host place entry.0
 asking_at eyes are host place entry on at =
     let here = eyes.shades.at host place in
@@ -111,7 +111,7 @@ passing_carries eyes are host from (message.Ack request) obeys asked passes = tt
 passing_carries eyes are host from (message.Token request token) obeys asked passes = tt
 
 -- what is sent of a message that passes its check, and nothing is sent of another
-taking_sends : (P : HostId × Message → Type 0) (eyes : Eyes) (state : HostShape) (from : HostId) (said : Message)
+pub taking_sends : (P : HostId × Message → Type 0) (eyes : Eyes) (state : HostShape) (from : HostId) (said : Message)
     (passes : Bool) → (IsTrue passes → Passes eyes.code state from said) →
     (Passes eyes.code state from said → IfSome (after_passing eyes.code state from said).sent P) →
     IfSome (after_taking eyes.code state from said passes).sent P

@@ -26,53 +26,55 @@ use Rattle.token_laws.proofs.Tests.{number_same}
 
 -- ---- what is in flight
 
-abbrev pub FlyAs : (HostId → HostId → Message → Type 0) → Flying → Type 0
-FlyAs P flying = (from to : HostId) → All (λ flight. P from to flight.message) (flying from to)
+abbrev pub FlyAs : (HostId → HostId → Flight → Type 0) → Flying → Type 0
+FlyAs P flying = (from to : HostId) → All (P from to) (flying from to)
 
-changed_at : (P : HostId → HostId → Message → Type 0) (flying : Flying) (from to : HostId) (flights : List Flight) →
-    FlyAs P flying → All (λ flight. P from to flight.message) flights → (one other : HostId) (b c : Bool) →
+changed_at : (P : HostId → HostId → Flight → Type 0) (flying : Flying) (from to : HostId) (flights : List Flight) →
+    FlyAs P flying → All (P from to) flights → (one other : HostId) (b c : Bool) →
     (one.0 == from.0) ≡ b → (other.0 == to.0) ≡ c →
-    All (λ flight. P one other flight.message) (if b && c then flights else flying one other)
+    All (P one other) (if b && c then flights else flying one other)
 changed_at P flying from to flights has also one other true true first second =
-    let there : All (λ flight. P one to flight.message) flights =
-    subst (λ (h : HostId). All (λ flight. P h to flight.message) flights)
+    let there : All (P one to) flights =
+    subst (λ (h : HostId). All (P h to) flights)
     (sym (same_id one from (number_same one.0 from.0 first))) also in
-    subst (λ (h : HostId). All (λ flight. P one h flight.message) flights)
+    subst (λ (h : HostId). All (P one h) flights)
     (sym (same_id other to (number_same other.0 to.0 second))) there
 changed_at P flying from to flights has also one other true false first second = has one other
 changed_at P flying from to flights has also one other false c first second = has one other
 
-changed : (P : HostId → HostId → Message → Type 0) (flying : Flying) (from to : HostId) (flights : List Flight) →
-    FlyAs P flying → All (λ flight. P from to flight.message) flights →
+changed : (P : HostId → HostId → Flight → Type 0) (flying : Flying) (from to : HostId) (flights : List Flight) →
+    FlyAs P flying → All (P from to) flights →
     FlyAs P (with_flights flying from to flights)
 changed P flying from to flights has also one other =
     changed_at P flying from to flights has also one other (one.0 == from.0) (other.0 == to.0) refl refl
 
 -- one message was taken out
-pub fly_without : (P : HostId → HostId → Message → Type 0) (world : WorldShape) (from to : HostId) (place : ℕ) →
+pub fly_without : (P : HostId → HostId → Flight → Type 0) (world : WorldShape) (from to : HostId) (place : ℕ) →
     FlyAs P world.flying → FlyAs P (without_flight world from to place).flying
 fly_without P world from to place has =
     changed P world.flying from to (remove (world.flying from to) place) has
-    (all_but (λ (f : Flight). P from to f.message) (world.flying from to) place (has from to))
+    (all_but (P from to) (world.flying from to) place (has from to))
 
-either_flies : (P : HostId → HostId → Message → Type 0) (world : WorldShape) (from : HostId) (letter : Letter)
-    (tells : Bool) → FlyAs P world.flying → P from letter.to letter.message →
+either_flies : (P : HostId → HostId → Flight → Type 0) (world : WorldShape) (from : HostId) (letter : Letter)
+    (tells : Bool) → FlyAs P world.flying → P from letter.to (record { message = letter.message; label = letter.label }) →
     FlyAs P (if tells then after_telling world from (Some (letter.to, letter.message))
     else after_posting world from letter).flying
 either_flies P world from letter true has said = has
 either_flies P world from letter false has said =
     changed P world.flying from letter.to _ has
-    (All-push (λ flight. P from letter.to flight.message) (world.flying from letter.to) _ (has from letter.to) said)
+    (All-push (P from letter.to) (world.flying from letter.to) _ (has from letter.to) said)
 
 -- what is sent is in flight, or told a misbehaving host
-pub fly_sent : (P : HostId → HostId → Message → Type 0) (world : WorldShape) (from : HostId) (label : Option ℕ)
-    (sent : Option (HostId × Message)) → FlyAs P world.flying → IfSome sent (λ it. P from it.0 it.1) →
+pub fly_sent : (P : HostId → HostId → Flight → Type 0) (world : WorldShape) (from : HostId) (label : Option ℕ)
+    (sent : Option (HostId × Message)) → FlyAs P world.flying →
+    ((one : ℕ) → label ≡ Some one →
+    IfSome sent (λ it. P from it.0 (record { message = it.1; label = one }))) →
     FlyAs P (after_sending world from (letter_of label sent)).flying
 fly_sent P world from None sent has said = has
 fly_sent P world from (Some label) None has said = has
 fly_sent P world from (Some label) (Some sent) has said =
     either_flies P world from (record { to = sent.0; message = sent.1; label = label }) (misbehaves world sent.0) has
-    said
+    (said label refl)
 
 -- ---- tokens that were sent
 

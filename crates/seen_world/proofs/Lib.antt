@@ -8,5 +8,6 @@ pub mod TakesKept
 pub mod SentWell
 pub mod Answered
 pub mod TokensTold
+pub mod LabelsSent
 pub mod FlightsKept
 pub mod PointsKept

@@ -5,7 +5,6 @@ use Rattle.std.proofs.lemmas.Bool.{false≢true}
 use Rattle.js_base.specs.declared.ids.HostId.{HostId}
 use Rattle.capability.specs.declared.token.Token.{Token}
 use Rattle.host_decl.specs.Hosts as declared_hosts
-use Rattle.host_code.specs.declared.message.Message.{Message}
 use Rattle.host_code.specs.Sound.{IsSoundCode}
 use Rattle.host_code.specs.Thread.{ThreadShape}
 use Rattle.host_core.specs.Host.{HostShape}
@@ -14,7 +13,6 @@ use Rattle.event_text.specs.declared.event.Event.{Event}
 use Rattle.event_text.specs.declared.event.Event.TheVariants.{Take, Turn, Act}
 use Rattle.event_text.specs.declared.event.BadMessage.{BadMessage}
 use Rattle.net_world.specs.Fits.{ShapeFits, IsStateOf, OwnTokenIn, HasOwnToken}
-use Rattle.net_world.specs.Flying.{Flight}
 use Rattle.net_world.specs.Secret.{IsSecret}
 use Rattle.net_world.specs.World.{WorldShape, IsStep, IsTakeStep, IsTurnStep, IsActStep, state_at, world_at_start}
 use Rattle.net_world.specs.World.{with_state, without_flight, letter_of, tokens_sent, misbehaves}
@@ -26,18 +24,17 @@ use Rattle.token_laws.proofs.HeldLaws.{all_at}
 use Rattle.token_laws.proofs.Walks.{reached, fits_there}
 use Rattle.seen_world.specs.Eyes.{Eyes, AreEyes, Watches}
 use Rattle.seen_world.specs.Points.{IsHiddenToken, RunsWell, HostKeeps, IsAskedBy, FliesWell, ShowsNoHidden}
-use Rattle.seen_world.specs.Points.{PointsHold}
+use Rattle.seen_world.specs.Points.{IsLabelledAs, IsInFlight, PointsHold}
 use Rattle.seen_world.proofs.Answered.{answer_carries, made_carries, answer_shows}
 use Rattle.seen_world.proofs.FlightsKept.{FlyAs, fly_without, fly_sent, tell_shown, send_shown, made_shown}
+use Rattle.seen_world.proofs.LabelsSent.{turn_labelled, answer_labelled, sent_in_flight}
 use Rattle.seen_world.proofs.PointsAtStart.{starts_keep, present_obeys}
+use Rattle.seen_world.proofs.SeenPlaces.{some_is}
 use Rattle.seen_world.proofs.SecretTurns.{held_by, sent_kept, letter_obeys, secret_silent}
 use Rattle.seen_world.proofs.SentWell.{turn_carries}
 use Rattle.seen_world.proofs.TakesKept.{take_keeps, taken_world}
 use Rattle.seen_world.proofs.TokensTold.{turn_shows}
 use Rattle.seen_world.proofs.TurnsKept.{hosts_kept, turned_world}
-
-abbrev Flies : Eyes → HostId → HostId → Message → Type 0
-Flies eyes from to said = (eyes.bad from ≡ false) × FliesWell eyes from to said
 
 abbrev IsShown : Eyes → Token → Type 0
 IsShown eyes token = ¬ IsHiddenToken eyes token
@@ -85,10 +82,14 @@ turn_points eyes world after host are sound watch fits points step =
     let thread = thread_of state.running step.runs in
     let runs : RunsWell eyes state.me thread.0 =
     subst (λ one. IfSome one (RunsWell eyes state.me)) thread.1 own.keeps.running in
-    let carries : IfSome sent (λ it. Flies eyes host it.0 it.1) =
-    subst (λ (me : HostId). IfSome sent (λ it. Flies eyes me it.0 it.1)) own.fit.me
-    (held_by (λ it. FliesWell eyes state.me it.0 it.1) (λ it. Flies eyes state.me it.0 it.1) sent
-    (λ it flies. (own.obeys, flies)) (turn_carries eyes state thread.0 step.outcome are thread.1 runs step.turns)) in
+    let carries : (label : ℕ) → label_of_turn eyes.code state ≡ Some label →
+    IfSome sent (λ it. IsInFlight eyes host it.0 (record { message = it.1; label = label })) =
+    λ label is.
+    subst (λ (me : HostId). IfSome sent (λ it. IsInFlight eyes me it.0 (record { message = it.1; label = label })))
+    own.fit.me
+    (sent_in_flight eyes are state.me label sent own.obeys
+    (turn_carries eyes state thread.0 step.outcome are thread.1 runs step.turns)
+    (turn_labelled eyes state thread.0 step.outcome label are thread.1 runs step.turns is)) in
     let moved = with_state world host step.outcome.state in
     let shows : IfSome sent (λ it. misbehaves moved it.0 ≡ true → ShowsNoHidden eyes it.1) =
     held_by (λ it. eyes.bad it.0 ≡ true → ShowsNoHidden eyes it.1)
@@ -97,8 +98,8 @@ turn_points eyes world after host are sound watch fits points step =
     (turn_shows eyes state thread.0 step.outcome are thread.1 runs step.turns) in
     record {
       hosts = turned_world eyes world after host are sound watch fits points.hosts step;
-      flying = subst (λ (w : WorldShape). FlyAs (Flies eyes) w.flying) step.leaves
-          (fly_sent (Flies eyes) moved host (label_of_turn eyes.code state) sent points.flying carries);
+      flying = subst (λ (w : WorldShape). FlyAs (IsInFlight eyes) w.flying) step.leaves
+          (fly_sent (IsInFlight eyes) moved host (label_of_turn eyes.code state) sent points.flying carries);
       told = subst (λ (w : WorldShape). All (IsShown eyes) (tokens_sent w)) step.leaves
           (send_shown (IsShown eyes) moved host (label_of_turn eyes.code state) sent points.told shows);
     }
@@ -108,7 +109,7 @@ turn_points eyes world after host are sound watch fits points step =
 -- the answer goes to whoever sent the message, who obeys
 record Answers (eyes : Eyes) (world : WorldShape) (from to : HostId) (place : ℕ) (after : WorldShape)
     (step : IsTakeStep eyes.code world from to place after) : Type 0 where
-  flies : Flies eyes from to step.flight.message
+  flies : IsInFlight eyes from to step.flight
   own : Own eyes world to step.state
   sent : IfSome step.outcome.sent (λ it. (it.0 ≡ from) × FliesWell eyes step.state.me it.0 it.1)
 
@@ -117,14 +118,13 @@ answers_of : (eyes : Eyes) (world after : WorldShape) (from to : HostId) (place 
     (step : IsTakeStep eyes.code world from to place after) → Answers eyes world from to place after step
 answers_of eyes world after from to place are watch fits points step =
     let own = own_state eyes world to step.state watch fits points step.obeys in
-    let flies : Flies eyes from to step.flight.message =
-    all_at (λ (f : Flight). Flies eyes from to f.message) (world.flying from to) place step.flight
-    (points.flying from to) step.there in
+    let flies : IsInFlight eyes from to step.flight =
+    all_at (IsInFlight eyes from to) (world.flying from to) place step.flight (points.flying from to) step.there in
     record {
       flies = flies;
       own = own;
       sent = answer_carries eyes step.state from step.flight.message step.outcome are own.obeys
-          (subst (λ (me : HostId). IsAskedBy eyes from me step.flight.message) (sym own.fit.me) flies.1.0) step.takes;
+          (subst (λ (me : HostId). IsAskedBy eyes from me step.flight.message) (sym own.fit.me) flies.well.0) step.takes;
     }
 
 take_points : (eyes : Eyes) (world after : WorldShape) (from to : HostId) (place : ℕ) → AreEyes eyes →
@@ -136,22 +136,32 @@ take_points eyes world after from to place are watch fits points step =
     let answers = answers_of eyes world after from to place are watch fits points step in
     let own = answers.own in
     let flies = answers.flies in
-    let carries : IfSome sent (λ it. Flies eyes to it.0 it.1) =
-    subst (λ (me : HostId). IfSome sent (λ it. Flies eyes me it.0 it.1)) own.fit.me
-    (held_by (λ it. (it.0 ≡ from) × FliesWell eyes state.me it.0 it.1) (λ it. Flies eyes state.me it.0 it.1) sent
-    (λ it answer. (own.obeys, answer.1)) answers.sent) in
+    let carried : IfSome sent (λ it. FliesWell eyes state.me it.0 it.1) =
+    held_by (λ it. (it.0 ≡ from) × FliesWell eyes state.me it.0 it.1) (λ it. FliesWell eyes state.me it.0 it.1) sent
+    (λ it answer. answer.1) answers.sent in
+    let carries : (label : ℕ) → Some step.flight.label ≡ Some label →
+    IfSome sent (λ it. IsInFlight eyes to it.0 (record { message = it.1; label = label })) =
+    λ label is.
+    subst (λ (l : ℕ). IfSome sent (λ it. IsInFlight eyes to it.0 (record { message = it.1; label = l })))
+    (some_is is)
+    (subst (λ (me : HostId).
+    IfSome sent (λ it. IsInFlight eyes me it.0 (record { message = it.1; label = step.flight.label }))) own.fit.me
+    (sent_in_flight eyes are state.me step.flight.label sent own.obeys carried
+    (answer_labelled eyes state from step.flight.message step.outcome step.flight.label
+    (subst (λ (me : HostId). IsLabelledAs eyes from me step.flight.message step.flight.label) (sym own.fit.me)
+    flies.labelled) (λ sees. (flies.shows sees).1) step.takes))) in
     let left = without_flight world from to place in
     let moved = with_state left to step.outcome.state in
     let shows : IfSome sent (λ it. misbehaves moved it.0 ≡ true → ShowsNoHidden eyes it.1) =
     held_by (λ it. (it.0 ≡ from) × FliesWell eyes state.me it.0 it.1)
     (λ it. misbehaves moved it.0 ≡ true → ShowsNoHidden eyes it.1) sent
-    (λ it answer bad. absurd (false≢true (sym flies.0 ∙ ap eyes.bad (sym answer.0)
+    (λ it answer bad. absurd (false≢true (sym flies.obeys ∙ ap eyes.bad (sym answer.0)
     ∙ bad_before eyes world to it.0 state step.outcome.state watch step.obeys bad))) answers.sent in
     record {
-      hosts = taken_world eyes world after from to place step.flight are fits points.hosts step.there flies.1.1 step;
-      flying = subst (λ (w : WorldShape). FlyAs (Flies eyes) w.flying) step.leaves
-          (fly_sent (Flies eyes) moved to (Some step.flight.label) sent
-          (fly_without (Flies eyes) world from to place points.flying) carries);
+      hosts = taken_world eyes world after from to place step.flight are fits points.hosts step.there flies.well.1 step;
+      flying = subst (λ (w : WorldShape). FlyAs (IsInFlight eyes) w.flying) step.leaves
+          (fly_sent (IsInFlight eyes) moved to (Some step.flight.label) sent
+          (fly_without (IsInFlight eyes) world from to place points.flying) carries);
       told = subst (λ (w : WorldShape). All (IsShown eyes) (tokens_sent w)) step.leaves
           (send_shown (IsShown eyes) moved to (Some step.flight.label) sent points.told shows);
     }
@@ -170,7 +180,7 @@ take_silent eyes world after from to place are watch fits points step =
     (letter_obeys good (Some step.flight.label) sent
     (held_by (λ it. (it.0 ≡ from) × FliesWell eyes state.me it.0 it.1) (λ it. good it.0) sent
     (λ it answer. absent_set world.hosts to.0 it.0.0 state step.outcome.state step.obeys ∙ watch it.0
-    ∙ ap eyes.bad answer.0 ∙ answers.flies.0) answers.sent))
+    ∙ ap eyes.bad answer.0 ∙ answers.flies.obeys) answers.sent))
 
 -- ---- acts
 
@@ -193,7 +203,7 @@ act_points eyes world after from to made are sound watch fits its points step =
       hosts = hosts_kept eyes world after to state step.outcome.state points.hosts step.obeys
           (act_puts eyes.code world after from to made step)
           (subst (λ (me : HostId). HostKeeps eyes me step.outcome.state) own.fit.me kept);
-      flying = subst (FlyAs (Flies eyes)) (sym (moved_acted world to step.outcome after step.leaves).flying)
+      flying = subst (FlyAs (IsInFlight eyes)) (sym (moved_acted world to step.outcome after step.leaves).flying)
           points.flying;
       told = subst (λ (w : WorldShape). All (IsShown eyes) (tokens_sent w)) step.leaves
           (tell_shown (IsShown eyes) moved to step.outcome.sent points.told

@@ -101,7 +101,7 @@ operation_token P code host thread (op.Branch guard target) passes is =
     either_token P (int_eq (value_in_thread host thread guard) (pos 0))
     (with_thread host (record later { at = target })) (with_thread host later) tt tt
 
-running_token : (P : Token → Type 0) (code : CodeShape) (state : HostShape) (thread : ThreadShape)
+pub running_token : (P : Token → Type 0) (code : CodeShape) (state : HostShape) (thread : ThreadShape)
     (outcome : Outcome) → (found : Option Instr) → IfSome thread.held P →
     IsRunning code (with_running state None) thread found outcome → TokenIs P outcome
 running_token P code state thread outcome None is runs = subst (TokenIs P) runs tt
@@ -121,7 +121,7 @@ by_token eyes None shows = tt
 by_token eyes (Some it) shows = λ bad. shows
 
 -- where the instruction may be seen its thread holds no hidden token
-holds_open : (eyes : Eyes) → AreEyes eyes → (state : HostShape) (thread : ThreadShape) (there : Instr) →
+pub holds_open : (eyes : Eyes) → AreEyes eyes → (state : HostShape) (thread : ThreadShape) (there : Instr) →
     instruction_at eyes.code state.me thread.at ≡ Some there → RunsWell eyes state.me thread →
     is_open eyes state.me thread.at ≡ true → IfSome thread.held (λ token. ¬ IsHiddenToken eyes token)
 holds_open eyes are state thread there is well seen =

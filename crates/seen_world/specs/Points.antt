@@ -16,11 +16,12 @@ use Rattle.host_code.specs.Code.{CodeShape, halt, instruction_at, entry_at}
 use Rattle.host_code.specs.Thread.{ThreadShape, WaitingShape, Awaited}
 use Rattle.host_code.specs.Thread.Awaited.{value_of_field, acknowledgement, token_of_entry}
 use Rattle.host_core.specs.Host.{HostShape, with_temporary, with_token}
+use Rattle.net_world.specs.Flying.{Flight}
 use Rattle.net_world.specs.Told.{token_in}
 use Rattle.net_world.specs.World.{WorldShape, state_at, tokens_sent}
 use Rattle.split_rules.specs.Positions.{Level, body, under}
 use Rattle.split_shades.specs.Shades.{Shade, EntryShade}
-use Rattle.seen_world.specs.Eyes.{Eyes, is_hidden, sees_level, Names}
+use Rattle.seen_world.specs.Eyes.{Eyes, is_hidden, sees_at, sees_level, Names}
 
 -- ---- tokens
 
@@ -157,12 +158,43 @@ FliesWell eyes from to said = IsAskedBy eyes from to said × CarriesWell eyes to
 abbrev pub ShowsNoHidden : Eyes → Message → Type 0
 ShowsNoHidden eyes said = IfSome (token_in said) (λ token. ¬ IsHiddenToken eyes token)
 
+-- a message asks for the push of no hidden entry
+abbrev pub AsksForNoHidden : Eyes → Message → Type 0
+AsksForNoHidden eyes (message.Sync request frame entry token) = is_hidden eyes entry.0 ≡ false
+AsksForNoHidden eyes other = ⊤
+
+-- ---- messages in flight
+
+-- the instruction at a place of a host has this label
+abbrev pub HasLabelAt : Eyes → HostId → ℕ → ℕ → Type 0
+HasLabelAt eyes host place label =
+    (there : Instr) × (instruction_at eyes.code host place ≡ Some there) × (there.label ≡ label)
+
+-- A message carries the label of the instruction that it names, a request that of one of its sender, and an answer that
+-- of one of the host that it comes to. A message that hands control over names none.
+abbrev pub IsLabelledAs : Eyes → HostId → HostId → Message → ℕ → Type 0
+IsLabelledAs eyes from to (message.Get request field index) label = HasLabelAt eyes from request.at label
+IsLabelledAs eyes from to (message.Set request field index value) label = HasLabelAt eyes from request.at label
+IsLabelledAs eyes from to (message.Forward request frame x value) label = HasLabelAt eyes from request.at label
+IsLabelledAs eyes from to (message.Sync request frame entry token) label = HasLabelAt eyes from request.at label
+IsLabelledAs eyes from to (message.Value request value) label = HasLabelAt eyes to request.at label
+IsLabelledAs eyes from to (message.Ack request) label = HasLabelAt eyes to request.at label
+IsLabelledAs eyes from to (message.Token request token) label = HasLabelAt eyes to request.at label
+IsLabelledAs eyes from to other label = ⊤
+
+-- An obeying host sent what is in flight. Where the label that it carries may be seen, nothing in it is hidden.
+pub record IsInFlight (eyes : Eyes) (from to : HostId) (flight : Flight) : Type 0 where
+  pub obeys : eyes.bad from ≡ false
+  pub well : FliesWell eyes from to flight.message
+  pub labelled : IsLabelledAs eyes from to flight.message flight.label
+  pub shows : sees_at eyes flight.label ≡ true →
+      ShowsNoHidden eyes flight.message × AsksForNoHidden eyes flight.message
+
 -- ---- worlds
 
 -- What holds of a world, whatever misbehaving hosts sent. What is in flight was sent by obeying hosts, and misbehaving
 -- hosts were sent no hidden token.
 pub record PointsHold (eyes : Eyes) (world : WorldShape) : Type 0 where
   pub hosts : HostsKeep eyes world
-  pub flying : (from to : HostId) →
-      All (λ flight. (eyes.bad from ≡ false) × FliesWell eyes from to flight.message) (world.flying from to)
+  pub flying : (from to : HostId) → All (IsInFlight eyes from to) (world.flying from to)
   pub told : All (λ token. ¬ IsHiddenToken eyes token) (tokens_sent world)

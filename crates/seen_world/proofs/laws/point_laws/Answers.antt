@@ -1,4 +1,5 @@
 use Rattle.seen_world.proofs.Answered.{answer_carries, made_carries, answer_shows}
+use Rattle.seen_world.proofs.LabelsSent.{turn_labelled, answer_labelled}
 use Rattle.seen_world.proofs.PointsAtStart.{starts_keep}
 use Rattle.seen_world.proofs.PointsKept.{points_kept, take_silent, secret_events}
 use Rattle.seen_world.proofs.SecretTurns.{secret_told, secret_silent}
@@ -19,6 +20,8 @@ returns c = record {
   kept_by_take = take_keeps;
   answered = answer_carries;
   made = made_carries;
+  labelled = turn_labelled;
+  answer_labelled = answer_labelled;
   answered_openly = answer_shows;
   told_openly = turn_shows;
   silent = secret_silent;
