@@ -56,7 +56,8 @@ fly_without P world from to place has =
     (all_but (P from to) (world.flying from to) place (has from to))
 
 either_flies : (P : HostId → HostId → Flight → Type 0) (world : WorldShape) (from : HostId) (letter : Letter)
-    (tells : Bool) → FlyAs P world.flying → P from letter.to (record { message = letter.message; label = letter.label }) →
+    (tells : Bool) → FlyAs P world.flying →
+    P from letter.to (record { message = letter.message; label = letter.label }) →
     FlyAs P (if tells then after_telling world from (Some (letter.to, letter.message))
     else after_posting world from letter).flying
 either_flies P world from letter true has said = has

@@ -26,7 +26,7 @@ use Rattle.host_core.specs.Turn.{after_ask, after_own_push, after_own_call, afte
 use Rattle.host_core.specs.Turn.{label_of_thread, label_of_turn}
 use Rattle.seen_world.specs.Eyes.{Eyes, AreEyes, sees_at, is_open}
 use Rattle.seen_world.specs.Points.{RunsWell, IsAskedBy, FliesWell, IsHiddenToken, ShowsNoHidden, AsksForNoHidden}
-use Rattle.seen_world.specs.Points.{HasLabelAt, IsLabelledAs, IsInFlight}
+use Rattle.seen_world.specs.Points.{HasLabelAt, IsLabelledAs, IsGrantedTo, IsInFlight}
 use Rattle.seen_world.proofs.Answered.{asking_at, taking_sends}
 use Rattle.seen_world.proofs.TokensTold.{holds_open, running_token}
 use Rattle.seen_world.proofs.TurnsKept.{hidden_is}
@@ -230,13 +230,15 @@ answer_labelled eyes state from said outcome label has shows takes =
 -- what is sent is well in flight
 pub sent_in_flight : (eyes : Eyes) → AreEyes eyes → (from : HostId) (label : ℕ) (sent : Option (HostId × Message)) →
     eyes.bad from ≡ false → IfSome sent (λ it. FliesWell eyes from it.0 it.1) →
+    IfSome sent (λ it. IsGrantedTo eyes from it.0 it.1) →
     IfSome sent (λ it. IsLabelledAs eyes from it.0 it.1 label
     × (sees_at eyes label ≡ true → ShowsNoHidden eyes it.1)) →
     IfSome sent (λ it. IsInFlight eyes from it.0 (record { message = it.1; label = label }))
-sent_in_flight eyes are from label None obeys well has = tt
-sent_in_flight eyes are from label (Some it) obeys well has = record {
+sent_in_flight eyes are from label None obeys well granted has = tt
+sent_in_flight eyes are from label (Some it) obeys well granted has = record {
   obeys = obeys;
   well = well;
+  granted = granted;
   labelled = has.0;
   shows = λ sees. (has.1 sees, asks_openly eyes are from it.0 it.1 label well.0 has.0 sees);
 }

@@ -9,5 +9,6 @@ pub mod SentWell
 pub mod Answered
 pub mod TokensTold
 pub mod LabelsSent
+pub mod Granted
 pub mod FlightsKept
 pub mod PointsKept

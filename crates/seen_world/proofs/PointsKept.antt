@@ -8,11 +8,13 @@ use Rattle.host_decl.specs.Hosts as declared_hosts
 use Rattle.host_code.specs.Sound.{IsSoundCode}
 use Rattle.host_code.specs.Thread.{ThreadShape}
 use Rattle.host_core.specs.Host.{HostShape}
+use Rattle.host_core.specs.Taking.{Passes}
 use Rattle.host_core.specs.Turn.{label_of_turn}
 use Rattle.event_text.specs.declared.event.Event.{Event}
 use Rattle.event_text.specs.declared.event.Event.TheVariants.{Take, Turn, Act}
 use Rattle.event_text.specs.declared.event.BadMessage.{BadMessage}
 use Rattle.net_world.specs.Fits.{ShapeFits, IsStateOf, OwnTokenIn, HasOwnToken}
+use Rattle.net_world.specs.Flying.{Flight}
 use Rattle.net_world.specs.Secret.{IsSecret}
 use Rattle.net_world.specs.World.{WorldShape, IsStep, IsTakeStep, IsTurnStep, IsActStep, state_at, world_at_start}
 use Rattle.net_world.specs.World.{with_state, without_flight, letter_of, tokens_sent, misbehaves}
@@ -24,9 +26,10 @@ use Rattle.token_laws.proofs.HeldLaws.{all_at}
 use Rattle.token_laws.proofs.Walks.{reached, fits_there}
 use Rattle.seen_world.specs.Eyes.{Eyes, AreEyes, Watches}
 use Rattle.seen_world.specs.Points.{IsHiddenToken, RunsWell, HostKeeps, IsAskedBy, FliesWell, ShowsNoHidden}
-use Rattle.seen_world.specs.Points.{IsLabelledAs, IsInFlight, PointsHold}
+use Rattle.seen_world.specs.Points.{IsLabelledAs, IsRequest, IsGrantedTo, IsInFlight, PointsHold}
 use Rattle.seen_world.proofs.Answered.{answer_carries, made_carries, answer_shows}
 use Rattle.seen_world.proofs.FlightsKept.{FlyAs, fly_without, fly_sent, tell_shown, send_shown, made_shown}
+use Rattle.seen_world.proofs.Granted.{turn_granted, answer_granted, granted_passes}
 use Rattle.seen_world.proofs.LabelsSent.{turn_labelled, answer_labelled, sent_in_flight}
 use Rattle.seen_world.proofs.PointsAtStart.{starts_keep, present_obeys}
 use Rattle.seen_world.proofs.SeenPlaces.{some_is}
@@ -89,6 +92,7 @@ turn_points eyes world after host are sound watch fits points step =
     own.fit.me
     (sent_in_flight eyes are state.me label sent own.obeys
     (turn_carries eyes state thread.0 step.outcome are thread.1 runs step.turns)
+    (turn_granted eyes state thread.0 step.outcome are thread.1 step.turns)
     (turn_labelled eyes state thread.0 step.outcome label are thread.1 runs step.turns is)) in
     let moved = with_state world host step.outcome.state in
     let shows : IfSome sent (λ it. misbehaves moved it.0 ≡ true → ShowsNoHidden eyes it.1) =
@@ -124,7 +128,8 @@ answers_of eyes world after from to place are watch fits points step =
       flies = flies;
       own = own;
       sent = answer_carries eyes step.state from step.flight.message step.outcome are own.obeys
-          (subst (λ (me : HostId). IsAskedBy eyes from me step.flight.message) (sym own.fit.me) flies.well.0) step.takes;
+          (subst (λ (me : HostId). IsAskedBy eyes from me step.flight.message) (sym own.fit.me) flies.well.0)
+          step.takes;
     }
 
 take_points : (eyes : Eyes) (world after : WorldShape) (from to : HostId) (place : ℕ) → AreEyes eyes →
@@ -147,6 +152,7 @@ take_points eyes world after from to place are watch fits points step =
     (subst (λ (me : HostId).
     IfSome sent (λ it. IsInFlight eyes me it.0 (record { message = it.1; label = step.flight.label }))) own.fit.me
     (sent_in_flight eyes are state.me step.flight.label sent own.obeys carried
+    (answer_granted eyes state from step.flight.message step.outcome step.takes)
     (answer_labelled eyes state from step.flight.message step.outcome step.flight.label
     (subst (λ (me : HostId). IsLabelledAs eyes from me step.flight.message step.flight.label) (sym own.fit.me)
     flies.labelled) (λ sees. (flies.shows sees).1) step.takes))) in
@@ -181,6 +187,19 @@ take_silent eyes world after from to place are watch fits points step =
     (held_by (λ it. (it.0 ≡ from) × FliesWell eyes state.me it.0 it.1) (λ it. good it.0) sent
     (λ it answer. absent_set world.hosts to.0 it.0.0 state step.outcome.state step.obeys ∙ watch it.0
     ∙ ap eyes.bad answer.0 ∙ answers.flies.obeys) answers.sent))
+
+-- a request in flight passes its check
+pub request_passes : (eyes : Eyes) (world : WorldShape) (from to : HostId) (place : ℕ) (flight : Flight)
+    (state : HostShape) → ShapeFits eyes.code world → PointsHold eyes world →
+    slice_get (world.flying from to) place ≡ Some flight → state_at world to ≡ Some state →
+    IsRequest flight.message → Passes eyes.code state from flight.message
+request_passes eyes world from to place flight state fits points there obeys asks =
+    let fit : IsStateOf eyes.code to state =
+    subst (λ one. IfSome one (IsStateOf eyes.code to)) obeys (fits.states to) in
+    let flies : IsInFlight eyes from to flight =
+    all_at (IsInFlight eyes from to) (world.flying from to) place flight (points.flying from to) there in
+    granted_passes eyes state from flight.message asks
+    (subst (λ (me : HostId). IsGrantedTo eyes from me flight.message) (sym fit.me) flies.granted)
 
 -- ---- acts
 

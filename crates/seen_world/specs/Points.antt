@@ -15,6 +15,8 @@ use Rattle.host_code.specs.declared.instruction.Op.TheVariants as op
 use Rattle.host_code.specs.Code.{CodeShape, halt, instruction_at, entry_at}
 use Rattle.host_code.specs.Thread.{ThreadShape, WaitingShape, Awaited}
 use Rattle.host_code.specs.Thread.Awaited.{value_of_field, acknowledgement, token_of_entry}
+use Rattle.entry_check.specs.declared.ask.Ask.TheVariants as ask
+use Rattle.entry_check.specs.Checks.{May}
 use Rattle.host_core.specs.Host.{HostShape, with_temporary, with_token}
 use Rattle.net_world.specs.Flying.{Flight}
 use Rattle.net_world.specs.Told.{token_in}
@@ -163,7 +165,7 @@ abbrev pub AsksForNoHidden : Eyes → Message → Type 0
 AsksForNoHidden eyes (message.Sync request frame entry token) = is_hidden eyes entry.0 ≡ false
 AsksForNoHidden eyes other = ⊤
 
--- ---- messages in flight
+-- ---- labels of messages
 
 -- the instruction at a place of a host has this label
 abbrev pub HasLabelAt : Eyes → HostId → ℕ → ℕ → Type 0
@@ -182,10 +184,33 @@ IsLabelledAs eyes from to (message.Ack request) label = HasLabelAt eyes to reque
 IsLabelledAs eyes from to (message.Token request token) label = HasLabelAt eyes to request.at label
 IsLabelledAs eyes from to other label = ⊤
 
--- An obeying host sent what is in flight. Where the label that it carries may be seen, nothing in it is hidden.
+-- ---- checks
+
+-- a message whose check looks at nothing but the labels and trust of the code
+abbrev pub IsRequest : Message → Type 0
+IsRequest (message.Get request field index) = ⊤
+IsRequest (message.Set request field index value) = ⊤
+IsRequest (message.Forward request frame x value) = ⊤
+IsRequest (message.Sync request frame entry token) = ⊤
+IsRequest (message.Rgoto frame entry token) = ⊤
+IsRequest other = ⊥
+
+-- the host that a request comes to grants it
+abbrev pub IsGrantedTo : Eyes → HostId → HostId → Message → Type 0
+IsGrantedTo eyes from to (message.Get request field index) = May eyes.code to (ask.Get field) from
+IsGrantedTo eyes from to (message.Set request field index value) = May eyes.code to (ask.Set field) from
+IsGrantedTo eyes from to (message.Forward request frame x value) = May eyes.code to (ask.Forward x) from
+IsGrantedTo eyes from to (message.Sync request frame entry token) = May eyes.code to (ask.Enter entry) from
+IsGrantedTo eyes from to (message.Rgoto frame entry token) = May eyes.code to (ask.Enter entry) from
+IsGrantedTo eyes from to other = ⊤
+
+-- ---- flights
+
+-- An obeying host sent what is in flight, and a request is granted. Where the label that it carries may be seen, nothing in it is hidden.
 pub record IsInFlight (eyes : Eyes) (from to : HostId) (flight : Flight) : Type 0 where
   pub obeys : eyes.bad from ≡ false
   pub well : FliesWell eyes from to flight.message
+  pub granted : IsGrantedTo eyes from to flight.message
   pub labelled : IsLabelledAs eyes from to flight.message flight.label
   pub shows : sees_at eyes flight.label ≡ true →
       ShowsNoHidden eyes flight.message × AsksForNoHidden eyes flight.message

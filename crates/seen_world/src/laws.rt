@@ -39,7 +39,7 @@ ghost use Rattle.token_laws.specs.Reached.{IsReached};
 ghost use Rattle.seen_world.specs.Eyes.{Eyes, AreEyes, IsBegun, Watches, sees_at, is_open, is_deep, is_hidden};
 ghost use Rattle.seen_world.specs.Eyes.{sees_level, Names};
 ghost use Rattle.seen_world.specs.Points.{RunsWell, HostKeeps, HostsKeep, CarriesWell, IsAskedBy, FliesWell};
-ghost use Rattle.seen_world.specs.Points.{ShowsNoHidden, AsksForNoHidden, IsLabelledAs, PointsHold};
+ghost use Rattle.seen_world.specs.Points.{ShowsNoHidden, AsksForNoHidden, IsLabelledAs, IsRequest, IsGrantedTo, PointsHold};
 
 /// Which labels misbehaving hosts may see.
 pub fn eye_laws()
@@ -153,22 +153,33 @@ pub fn point_laws()
         AreEyes eyes → IsSoundCode eyes.code → StateFits eyes.code state → eyes.bad from ≡ true →
         HostKeeps eyes state.me state → ShowsNoHidden eyes said → Passes eyes.code state from said →
         CarriesWell eyes state.me said }
-    // What a turn sends carries the label of the instruction that it names. Where that label may be seen, what is sent has
-    // no hidden token.
+    // What a turn sends carries the label of the instruction that it names. Where that label may be seen, what is sent
+    // has no hidden token.
     ensures labelled { (eyes : Eyes) (state : host_state.HostShape) (thread : ThreadShape)
         (outcome : host_state.Outcome) (label : ℕ) →
         AreEyes eyes → state.running ≡ Some thread → RunsWell eyes state.me thread →
         IsTurn eyes.code state outcome → label_of_turn eyes.code state ≡ Some label →
         IfSome outcome.sent (λ sent. IsLabelledAs eyes state.me sent.0 sent.1 label
         × (sees_at eyes label ≡ true → ShowsNoHidden eyes sent.1)) }
-    // So does an answer to a message that carries its label, and that asks for the push of no hidden entry where the label
-    // may be seen.
+    // So does an answer to a message that carries its label, and that asks for the push of no hidden entry where the
+    // label may be seen.
     ensures answer_labelled { (eyes : Eyes) (state : host_state.HostShape) (from : HostId) (said : Message)
         (outcome : host_state.Outcome) (label : ℕ) →
         IsLabelledAs eyes from state.me said label → (sees_at eyes label ≡ true → AsksForNoHidden eyes said) →
         IsTaking eyes.code state from said outcome →
         IfSome outcome.sent (λ sent. IsLabelledAs eyes state.me sent.0 sent.1 label
         × (sees_at eyes label ≡ true → ShowsNoHidden eyes sent.1)) }
+    // The host that a request comes to, which a turn sends, grants it.
+    ensures granted { (eyes : Eyes) (state : host_state.HostShape) (thread : ThreadShape)
+        (outcome : host_state.Outcome) →
+        AreEyes eyes → state.running ≡ Some thread → IsTurn eyes.code state outcome →
+        IfSome outcome.sent (λ sent. IsGrantedTo eyes state.me sent.0 sent.1) }
+    // So each request in flight passes its check, secret or not, and so does each message that hands control over at an
+    // entry.
+    ensures passes_request { (eyes : Eyes) (world : WorldShape) (from to : HostId) (place : ℕ) (flight : Flight)
+        (state : host_state.HostShape) →
+        ShapeFits eyes.code world → PointsHold eyes world → slice_get (world.flying from to) place ≡ Some flight →
+        state_at world to ≡ Some state → IsRequest flight.message → Passes eyes.code state from flight.message }
     // What is answered to a misbehaving host has no hidden token.
     ensures answered_openly { (eyes : Eyes) (state : host_state.HostShape) (from : HostId) (said : Message)
         (outcome : host_state.Outcome) →

@@ -1,7 +1,8 @@
 use Rattle.seen_world.proofs.Answered.{answer_carries, made_carries, answer_shows}
+use Rattle.seen_world.proofs.Granted.{turn_granted}
 use Rattle.seen_world.proofs.LabelsSent.{turn_labelled, answer_labelled}
 use Rattle.seen_world.proofs.PointsAtStart.{starts_keep}
-use Rattle.seen_world.proofs.PointsKept.{points_kept, take_silent, secret_events}
+use Rattle.seen_world.proofs.PointsKept.{points_kept, request_passes, take_silent, secret_events}
 use Rattle.seen_world.proofs.SecretTurns.{secret_told, secret_silent}
 use Rattle.seen_world.proofs.SentWell.{turn_carries}
 use Rattle.seen_world.proofs.TakesKept.{take_keeps, taken_world}
@@ -22,6 +23,8 @@ returns c = record {
   made = made_carries;
   labelled = turn_labelled;
   answer_labelled = answer_labelled;
+  granted = turn_granted;
+  passes_request = request_passes;
   answered_openly = answer_shows;
   told_openly = turn_shows;
   silent = secret_silent;
