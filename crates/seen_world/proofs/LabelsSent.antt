@@ -123,13 +123,13 @@ operation_labelled eyes host thread label (op.Branch guard target) passes has =
 
 -- ---- labels of places
 
--- who may see the label of an instruction may see the instruction
-label_open : (eyes : Eyes) → AreEyes eyes → (host : HostId) (place label : ℕ) → HasLabelAt eyes host place label →
-    sees_at eyes label ≡ true → is_open eyes host place ≡ true
-label_open eyes are host place label has sees =
+-- the label of an instruction may be seen just where the instruction may
+pub label_same : (eyes : Eyes) → AreEyes eyes → (host : HostId) (place label : ℕ) →
+    HasLabelAt eyes host place label → sees_at eyes label ≡ is_open eyes host place
+label_same eyes are host place label has =
     let same : sees_at eyes has.0.label ≡ is_open eyes host place =
     rw (are.shaded.instructions host place has.0 has.1).label_is refl in
-    sym same ∙ ap (sees_at eyes) has.2 ∙ sees
+    ap (sees_at eyes) (sym has.2) ∙ same
 
 -- a push for which an instruction asks that may be seen is that of no hidden entry
 asks_openly : (eyes : Eyes) → AreEyes eyes → (from to : HostId) (said : Message) (label : ℕ) →
@@ -141,7 +141,7 @@ asks_openly eyes are from to (message.Forward request frame x value) label asked
 asks_openly eyes are from to (message.Sync request frame entry token) label asked has sees =
     let asking = asking_at eyes are from request.at entry to asked in
     hidden_is eyes (eyes.shades.at from request.at) entry.0 asking.pushes.0
-    ∙ ap not (label_open eyes are from request.at label has sees)
+    ∙ ap not (sym (label_same eyes are from request.at label has) ∙ sees)
 asks_openly eyes are from to (message.Rgoto frame entry token) label asked has sees = tt
 asks_openly eyes are from to (message.Lgoto token) label asked has sees = tt
 asks_openly eyes are from to (message.Value request value) label asked has sees = tt
@@ -175,7 +175,7 @@ running_labelled eyes are state thread label outcome well has runs =
     (operation_labelled eyes (with_running state None) thread label has.0.op runs.0 has))
     (shown outcome.sent (λ sees.
     running_token (λ token. ¬ IsHiddenToken eyes token) eyes.code state thread outcome (Some has.0)
-    (holds_open eyes are state thread has.0 has.1 well (label_open eyes are state.me thread.at label has sees)) runs))
+    (holds_open eyes are state thread has.0 has.1 well (sym (label_same eyes are state.me thread.at label has) ∙ sees)) runs))
   where
     shown : (sent : Option (HostId × Message)) →
         (sees_at eyes label ≡ true → IfSome sent (λ it. ShowsNoHidden eyes it.1)) →

@@ -10,5 +10,6 @@ pub mod Answered
 pub mod TokensTold
 pub mod LabelsSent
 pub mod Granted
+pub mod SecretSets
 pub mod FlightsKept
 pub mod PointsKept

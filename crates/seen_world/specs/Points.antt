@@ -12,7 +12,7 @@ use Rattle.host_code.specs.declared.code_expr.Node.{Node}
 use Rattle.host_code.specs.declared.instruction.Instr.{Instr}
 use Rattle.host_code.specs.declared.instruction.Op.{Op}
 use Rattle.host_code.specs.declared.instruction.Op.TheVariants as op
-use Rattle.host_code.specs.Code.{CodeShape, halt, instruction_at, entry_at}
+use Rattle.host_code.specs.Code.{CodeShape, halt, instruction_at, field_at, variable_at, entry_at}
 use Rattle.host_code.specs.Thread.{ThreadShape, WaitingShape, Awaited}
 use Rattle.host_code.specs.Thread.Awaited.{value_of_field, acknowledgement, token_of_entry}
 use Rattle.entry_check.specs.declared.ask.Ask.TheVariants as ask
@@ -206,7 +206,8 @@ IsGrantedTo eyes from to other = ⊤
 
 -- ---- flights
 
--- An obeying host sent what is in flight, and a request is granted. Where the label that it carries may be seen, nothing in it is hidden.
+-- An obeying host sent what is in flight, and a request is granted. Where the label that it carries may be seen, nothing
+-- in it is hidden.
 pub record IsInFlight (eyes : Eyes) (from to : HostId) (flight : Flight) : Type 0 where
   pub obeys : eyes.bad from ≡ false
   pub well : FliesWell eyes from to flight.message
@@ -214,6 +215,14 @@ pub record IsInFlight (eyes : Eyes) (from to : HostId) (flight : Flight) : Type 
   pub labelled : IsLabelledAs eyes from to flight.message flight.label
   pub shows : sees_at eyes flight.label ≡ true →
       ShowsNoHidden eyes flight.message × AsksForNoHidden eyes flight.message
+
+-- the variable or the field that a message sets may not be seen
+abbrev pub SetsHidden : Eyes → Message → Type 0
+SetsHidden eyes (message.Set request field index value) =
+    IfSome (field_at eyes.code field) (λ there. sees_at eyes there.label ≡ false)
+SetsHidden eyes (message.Forward request frame x value) =
+    IfSome (variable_at eyes.code x) (λ there. sees_at eyes there.label ≡ false)
+SetsHidden eyes other = ⊤
 
 -- ---- worlds
 

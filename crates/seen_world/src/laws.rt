@@ -39,7 +39,8 @@ ghost use Rattle.token_laws.specs.Reached.{IsReached};
 ghost use Rattle.seen_world.specs.Eyes.{Eyes, AreEyes, IsBegun, Watches, sees_at, is_open, is_deep, is_hidden};
 ghost use Rattle.seen_world.specs.Eyes.{sees_level, Names};
 ghost use Rattle.seen_world.specs.Points.{RunsWell, HostKeeps, HostsKeep, CarriesWell, IsAskedBy, FliesWell};
-ghost use Rattle.seen_world.specs.Points.{ShowsNoHidden, AsksForNoHidden, IsLabelledAs, IsRequest, IsGrantedTo, PointsHold};
+ghost use Rattle.seen_world.specs.Points.{ShowsNoHidden, AsksForNoHidden, IsLabelledAs, IsRequest, IsGrantedTo};
+ghost use Rattle.seen_world.specs.Points.{SetsHidden, PointsHold};
 
 /// Which labels misbehaving hosts may see.
 pub fn eye_laws()
@@ -180,6 +181,10 @@ pub fn point_laws()
         (state : host_state.HostShape) →
         ShapeFits eyes.code world → PointsHold eyes world → slice_get (world.flying from to) place ≡ Some flight →
         state_at world to ≡ Some state → IsRequest flight.message → Passes eyes.code state from flight.message }
+    // The variable or the field that a message sets may not be seen, where the message carries a label that may not be.
+    ensures sets { (eyes : Eyes) (world : WorldShape) (from to : HostId) (place : ℕ) (flight : Flight) →
+        AreEyes eyes → PointsHold eyes world → slice_get (world.flying from to) place ≡ Some flight →
+        sees_at eyes flight.label ≡ false → SetsHidden eyes flight.message }
     // What is answered to a misbehaving host has no hidden token.
     ensures answered_openly { (eyes : Eyes) (state : host_state.HostShape) (from : HostId) (said : Message)
         (outcome : host_state.Outcome) →

@@ -1,0 +1,98 @@
+-- What a secret message sets may not be seen.
+use Rattle.std.proofs.Common.{◌≡◌, ◌∙◌, ℕ, false, List, Option, Some, None, inl, inr, refl, sym, subst}
+use Rattle.std.specs.Prelude.{◌⊎◌, IfSome, slice_get}
+use Rattle.std.proofs.lemmas.Bool.{cases_Bool, false≢true}
+use Rattle.js_base.specs.declared.ids.HostId.{HostId}
+use Rattle.js_base.specs.declared.ids.FieldId.{FieldId}
+use Rattle.js_base.specs.declared.ids.VarId.{VarId}
+use Rattle.label_lattice.specs.declared.label.Label.{Label}
+use Rattle.label_lattice.specs.Label.{ConfFlows}
+use Rattle.jif_tree.specs.LabelRules.{field_label}
+use Rattle.host_code.specs.declared.code_expr.Node.{Node}
+use Rattle.host_code.specs.declared.instruction.Op.{Op}
+use Rattle.host_code.specs.declared.instruction.Op.TheVariants as op
+use Rattle.host_code.specs.declared.message.Message.{Message}
+use Rattle.host_code.specs.declared.message.Message.TheVariants as message
+use Rattle.host_code.specs.Code.{CodeFieldShape, CodeVariableShape, field_at, variable_at}
+use Rattle.entry_check.specs.Checks.{label_at}
+use Rattle.need_labels.specs.Needs.{label_of}
+use Rattle.net_world.specs.Flying.{Flight}
+use Rattle.net_world.specs.World.{WorldShape}
+use Rattle.split_shades.specs.ShadedCode.{IsShadedOp}
+use Rattle.token_laws.proofs.HeldLaws.{all_at}
+use Rattle.seen_world.specs.Eyes.{Eyes, AreEyes, sees_at}
+use Rattle.seen_world.specs.Points.{IsAt, IsAskedBy, HasLabelAt, IsLabelledAs, SetsHidden, IsInFlight, PointsHold}
+use Rattle.seen_world.proofs.LabelsSent.{label_same}
+
+-- ---- what the program label flows to
+
+shaded_at : (eyes : Eyes) → AreEyes eyes → (host : HostId) (place : ℕ) (it : Op) → IsAt eyes host place it →
+    IsShadedOp eyes.scene eyes.shades host place it
+shaded_at eyes are host place it at =
+    subst (IsShadedOp eyes.scene eyes.shades host place) at.2 (are.shaded.instructions host place at.0 at.1).law
+
+variable_flows : (eyes : Eyes) → AreEyes eyes → (from to : HostId) (place : ℕ) (x : VarId) →
+    IsAt eyes from place (op.Send x to)
+    ⊎ (IsAt eyes from place (op.Pass x to) ⊎ ((given : List Node) × IsAt eyes from place (op.Ret x given))) →
+    ConfFlows (eyes.shades.at from place).pc (label_of eyes.scene.basis.labelled x)
+variable_flows eyes are from to place x (inl at) = (shaded_at eyes are from place (op.Send x to) at).1.1.2
+variable_flows eyes are from to place x (inr (inl at)) = (shaded_at eyes are from place (op.Pass x to) at).1.1.2
+variable_flows eyes are from to place x (inr (inr gives)) =
+    (shaded_at eyes are from place (op.Ret x gives.0) gives.1).1.2.flows.program
+
+-- ---- what is set
+
+unseen : (eyes : Eyes) → AreEyes eyes → (host : HostId) (place label number : ℕ) (kept : Label) →
+    HasLabelAt eyes host place label → sees_at eyes label ≡ false → label_at eyes.code number ≡ Some kept →
+    ConfFlows (eyes.shades.at host place).pc kept → sees_at eyes number ≡ false
+unseen eyes are host place label number kept has hidden is flows =
+    let same : sees_at eyes number ≡ eyes.sees kept = rw is refl in
+    elim (cases_Bool (eyes.sees kept)) [
+      | inl seen ↦
+          absurd (false≢true (sym hidden ∙ label_same eyes are host place label has
+          ∙ are.below (eyes.shades.at host place).pc kept flows seen))
+      | inr not_seen ↦ same ∙ not_seen
+    ]
+
+set_variable : (eyes : Eyes) → AreEyes eyes → (from to : HostId) (place label : ℕ) (x : VarId) →
+    IsAt eyes from place (op.Send x to)
+    ⊎ (IsAt eyes from place (op.Pass x to) ⊎ ((given : List Node) × IsAt eyes from place (op.Ret x given))) →
+    HasLabelAt eyes from place label → sees_at eyes label ≡ false → (found : Option CodeVariableShape) →
+    variable_at eyes.code x ≡ found → IfSome found (λ there. sees_at eyes there.label ≡ false)
+set_variable eyes are from to place label x asked has hidden None is = tt
+set_variable eyes are from to place label x asked has hidden (Some there) is =
+    unseen eyes are from place label there.label (label_of eyes.scene.basis.labelled x) has hidden
+    (are.known.variables x there is) (variable_flows eyes are from to place x asked)
+
+set_field : (eyes : Eyes) → AreEyes eyes → (from : HostId) (place label : ℕ) (field : FieldId)
+    (index written : List Node) → IsAt eyes from place (op.Put field index written) →
+    HasLabelAt eyes from place label → sees_at eyes label ≡ false → (found : Option CodeFieldShape) →
+    field_at eyes.code field ≡ found → IfSome found (λ there. sees_at eyes there.label ≡ false)
+set_field eyes are from place label field index written at has hidden None is = tt
+set_field eyes are from place label field index written at has hidden (Some there) is =
+    unseen eyes are from place label there.label (field_label eyes.scene.basis.labelled.program field) has hidden
+    (are.known.fields field there is).0
+    (shaded_at eyes are from place (op.Put field index written) at).1.2.flows.program
+
+sets_hidden : (eyes : Eyes) → AreEyes eyes → (from to : HostId) (said : Message) (label : ℕ) →
+    IsAskedBy eyes from to said → IsLabelledAs eyes from to said label → sees_at eyes label ≡ false →
+    SetsHidden eyes said
+sets_hidden eyes are from to (message.Get request field index) label asked has hidden = tt
+sets_hidden eyes are from to (message.Set request field index value) label asked has hidden =
+    set_field eyes are from request.at label field asked.0 asked.1 asked.2 has hidden (field_at eyes.code field) refl
+sets_hidden eyes are from to (message.Forward request frame x value) label asked has hidden =
+    set_variable eyes are from to request.at label x asked has hidden (variable_at eyes.code x) refl
+sets_hidden eyes are from to (message.Sync request frame entry token) label asked has hidden = tt
+sets_hidden eyes are from to (message.Rgoto frame entry token) label asked has hidden = tt
+sets_hidden eyes are from to (message.Lgoto token) label asked has hidden = tt
+sets_hidden eyes are from to (message.Value request value) label asked has hidden = tt
+sets_hidden eyes are from to (message.Ack request) label asked has hidden = tt
+sets_hidden eyes are from to (message.Token request token) label asked has hidden = tt
+
+pub flight_sets : (eyes : Eyes) (world : WorldShape) (from to : HostId) (place : ℕ) (flight : Flight) →
+    AreEyes eyes → PointsHold eyes world → slice_get (world.flying from to) place ≡ Some flight →
+    sees_at eyes flight.label ≡ false → SetsHidden eyes flight.message
+flight_sets eyes world from to place flight are points there hidden =
+    let flies : IsInFlight eyes from to flight =
+    all_at (IsInFlight eyes from to) (world.flying from to) place flight (points.flying from to) there in
+    sets_hidden eyes are from to flight.message flight.label flies.well.0 flies.labelled hidden
