@@ -1,7 +1,7 @@
 -- What is sent carries the label of the instruction that it names, and where that may be seen, nothing in it is hidden.
-use Rattle.std.proofs.Common.{◌≡◌, ◌∙◌, ℕ, int_eq, Bool, true, false, List, Option, Some, None, refl, ap, sym}
+use Rattle.std.proofs.Common.{◌≡◌, ◌∙◌, ℕ, int_eq, Bool, true, false, List, Option, Some, None, inl, inr, refl, ap, sym}
 use Rattle.std.proofs.Common.{subst}
-use Rattle.std.specs.Prelude.{◌==◌, if◌then◌else◌, not, pos, IfSome}
+use Rattle.std.specs.Prelude.{◌⊎◌, ◌==◌, if◌then◌else◌, not, pos, IfSome}
 use Rattle.std.specs.Option.{option_and_then}
 use Rattle.std.proofs.lemmas.Bool.{false≢true}
 use Rattle.js_base.specs.declared.ids.HostId.{HostId}
@@ -67,9 +67,11 @@ ask_labelled eyes host thread label entry on None has = tt
 ask_labelled eyes host thread label entry on (Some token) has = has
 
 go_labelled : (eyes : Eyes) (host : HostShape) (thread : ThreadShape) (label : ℕ) (frame : FrameId) (entry : EntryId)
-    (on : HostId) (held : Option Token) → Labelled eyes host.me label (after_go host thread frame entry on held)
-go_labelled eyes host thread label frame entry on None = tt
-go_labelled eyes host thread label frame entry on (Some token) = tt
+    (on : HostId) (held : Option Token) → (has : HasLabelAt eyes host.me thread.at label) →
+    (has.0.op ≡ op.Go entry on) ⊎ (has.0.op ≡ op.Call entry on) →
+    Labelled eyes host.me label (after_go host thread frame entry on held)
+go_labelled eyes host thread label frame entry on None has is = tt
+go_labelled eyes host thread label frame entry on (Some token) has is = (thread.at, has, is)
 
 own_call_labelled : (eyes : Eyes) (host : HostShape) (thread : ThreadShape) (label : ℕ) (found : Option Entry) →
     Labelled eyes host.me label (after_own_call host thread found)
@@ -85,38 +87,39 @@ return_labelled eyes host thread label x value (Some token) passes has =
     (either_labelled eyes host.me label passes _ _ has tt)
 
 back_labelled : (eyes : Eyes) (host : HostShape) (thread : ThreadShape) (label : ℕ) (held : Option Token)
-    (passes : Bool) → Labelled eyes host.me label (after_back eyes.code host thread held passes)
-back_labelled eyes host thread label None passes = tt
-back_labelled eyes host thread label (Some token) passes =
-    either_labelled eyes host.me label (token.host.0 == host.me.0) _ _ tt tt
+    (passes : Bool) → (has : HasLabelAt eyes host.me thread.at label) → has.0.op ≡ op.Back →
+    Labelled eyes host.me label (after_back eyes.code host thread held passes)
+back_labelled eyes host thread label None passes has is = tt
+back_labelled eyes host thread label (Some token) passes has is =
+    either_labelled eyes host.me label (token.host.0 == host.me.0) _ _ tt (thread.at, has, is)
 
 operation_labelled : (eyes : Eyes) (host : HostShape) (thread : ThreadShape) (label : ℕ) (it : Op) (passes : Bool) →
-    HasLabelAt eyes host.me thread.at label →
+    (has : HasLabelAt eyes host.me thread.at label) → has.0.op ≡ it →
     Labelled eyes host.me label (after_operation eyes.code host thread it passes)
-operation_labelled eyes host thread label (op.Read field index) passes has =
+operation_labelled eyes host thread label (op.Read field index) passes has is =
     read_labelled eyes host thread label field index (field_at eyes.code field) has
-operation_labelled eyes host thread label (op.Let x value) passes has = tt
-operation_labelled eyes host thread label (op.Put field index value) passes has =
+operation_labelled eyes host thread label (op.Let x value) passes has is = tt
+operation_labelled eyes host thread label (op.Put field index value) passes has is =
     put_labelled eyes host thread label field index value (field_at eyes.code field) has
-operation_labelled eyes host thread label (op.Send x on) passes has = has
-operation_labelled eyes host thread label (op.Frame site) passes has = tt
-operation_labelled eyes host thread label (op.Arg x value) passes has = tt
-operation_labelled eyes host thread label (op.Pass x on) passes has = has
-operation_labelled eyes host thread label (op.Push entry) passes has =
+operation_labelled eyes host thread label (op.Send x on) passes has is = has
+operation_labelled eyes host thread label (op.Frame site) passes has is = tt
+operation_labelled eyes host thread label (op.Arg x value) passes has is = tt
+operation_labelled eyes host thread label (op.Pass x on) passes has is = has
+operation_labelled eyes host thread label (op.Push entry) passes has is =
     push_labelled eyes host thread label entry thread.held
-operation_labelled eyes host thread label (op.Ask entry on) passes has =
+operation_labelled eyes host thread label (op.Ask entry on) passes has is =
     ask_labelled eyes host thread label entry on thread.held has
-operation_labelled eyes host thread label (op.Go entry on) passes has =
-    go_labelled eyes host thread label thread.frame entry on thread.held
-operation_labelled eyes host thread label (op.Call entry on) passes has =
+operation_labelled eyes host thread label (op.Go entry on) passes has is =
+    go_labelled eyes host thread label thread.frame entry on thread.held has (inl is)
+operation_labelled eyes host thread label (op.Call entry on) passes has is =
     either_labelled eyes host.me label (on.0 == host.me.0) _ _
     (own_call_labelled eyes host thread label (entry_at eyes.code entry))
-    (go_labelled eyes host thread label thread.new_frame entry on thread.held)
-operation_labelled eyes host thread label (op.Ret x value) passes has =
+    (go_labelled eyes host thread label thread.new_frame entry on thread.held has (inr is))
+operation_labelled eyes host thread label (op.Ret x value) passes has is =
     return_labelled eyes host thread label x value thread.held passes has
-operation_labelled eyes host thread label op.Back passes has =
-    back_labelled eyes host thread label thread.held passes
-operation_labelled eyes host thread label (op.Branch guard target) passes has =
+operation_labelled eyes host thread label op.Back passes has is =
+    back_labelled eyes host thread label thread.held passes has is
+operation_labelled eyes host thread label (op.Branch guard target) passes has is =
     let later : ThreadShape = after_clearing thread in
     either_labelled eyes host.me label (int_eq (value_in_thread host thread guard) (pos 0))
     (with_thread host (record later { at = target })) (with_thread host later) tt tt
@@ -172,7 +175,7 @@ running_labelled eyes are state thread label outcome well has runs =
     (λ sent. IsLabelledAs eyes state.me sent.0 sent.1 label
     × (sees_at eyes label ≡ true → ShowsNoHidden eyes sent.1)) outcome.sent (λ sent one other. (one, other))
     (subst (Labelled eyes state.me label) runs.2
-    (operation_labelled eyes (with_running state None) thread label has.0.op runs.0 has))
+    (operation_labelled eyes (with_running state None) thread label has.0.op runs.0 has refl))
     (shown outcome.sent (λ sees.
     running_token (λ token. ¬ IsHiddenToken eyes token) eyes.code state thread outcome (Some has.0)
     (holds_open eyes are state thread has.0 has.1 well (sym (label_same eyes are state.me thread.at label has) ∙ sees)) runs))

@@ -173,16 +173,21 @@ HasLabelAt eyes host place label =
     (there : Instr) × (instruction_at eyes.code host place ≡ Some there) × (there.label ≡ label)
 
 -- A message carries the label of the instruction that it names, a request that of one of its sender, and an answer that
--- of one of the host that it comes to. A message that hands control over names none.
+-- of one of the host that it comes to. A message that hands control over names none, and carries the label of an
+-- instruction of its sender that does so.
 abbrev pub IsLabelledAs : Eyes → HostId → HostId → Message → ℕ → Type 0
 IsLabelledAs eyes from to (message.Get request field index) label = HasLabelAt eyes from request.at label
 IsLabelledAs eyes from to (message.Set request field index value) label = HasLabelAt eyes from request.at label
 IsLabelledAs eyes from to (message.Forward request frame x value) label = HasLabelAt eyes from request.at label
 IsLabelledAs eyes from to (message.Sync request frame entry token) label = HasLabelAt eyes from request.at label
+IsLabelledAs eyes from to (message.Rgoto frame entry token) label =
+    (place : ℕ) × (has : HasLabelAt eyes from place label)
+    × ((has.0.op ≡ op.Go entry to) ⊎ (has.0.op ≡ op.Call entry to))
+IsLabelledAs eyes from to (message.Lgoto token) label =
+    (place : ℕ) × (has : HasLabelAt eyes from place label) × (has.0.op ≡ op.Back)
 IsLabelledAs eyes from to (message.Value request value) label = HasLabelAt eyes to request.at label
 IsLabelledAs eyes from to (message.Ack request) label = HasLabelAt eyes to request.at label
 IsLabelledAs eyes from to (message.Token request token) label = HasLabelAt eyes to request.at label
-IsLabelledAs eyes from to other label = ⊤
 
 -- ---- checks
 
