@@ -1,5 +1,5 @@
 -- The host that a request of an obeying host comes to grants it.
-use Rattle.std.proofs.Common.{arith, ◌≡◌, int_eq, Bool, true, false, List, Option, Some, None, refl, ap, subst}
+use Rattle.std.proofs.Common.{◌≡◌, int_eq, Bool, true, false, List, arith, Option, Some, None, refl, ap, subst}
 use Rattle.std.specs.Prelude.{◌==◌, ◌≢◌, if◌then◌else◌, pos, IfSome, IsSomeAnd}
 use Rattle.std.proofs.lemmas.Bool.Decides.{nat_tests}
 use Rattle.js_base.specs.declared.ids.HostId.{HostId}

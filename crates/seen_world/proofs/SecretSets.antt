@@ -1,8 +1,9 @@
--- What a secret message sets may not be seen.
-use Rattle.std.proofs.Common.{◌≡◌, ◌∙◌, ℕ, false, List, Option, Some, None, inl, inr, refl, sym, subst}
+-- What a secret message sets may not be seen, nor may the block that it enters.
+use Rattle.std.proofs.Common.{◌≡◌, ◌∙◌, ℕ, false, List, Option, Some, None, inl, inr, refl, ap, sym, subst}
 use Rattle.std.specs.Prelude.{◌⊎◌, IfSome, slice_get}
 use Rattle.std.proofs.lemmas.Bool.{cases_Bool, false≢true}
 use Rattle.js_base.specs.declared.ids.HostId.{HostId}
+use Rattle.js_base.specs.declared.ids.EntryId.{EntryId}
 use Rattle.js_base.specs.declared.ids.FieldId.{FieldId}
 use Rattle.js_base.specs.declared.ids.VarId.{VarId}
 use Rattle.label_lattice.specs.declared.label.Label.{Label}
@@ -19,9 +20,11 @@ use Rattle.need_labels.specs.Needs.{label_of}
 use Rattle.net_world.specs.Flying.{Flight}
 use Rattle.net_world.specs.World.{WorldShape}
 use Rattle.split_shades.specs.ShadedCode.{IsShadedOp}
+use Rattle.split_shades.specs.Shading.{IsUnderBlock}
 use Rattle.token_laws.proofs.HeldLaws.{all_at}
 use Rattle.seen_world.specs.Eyes.{Eyes, AreEyes, sees_at}
-use Rattle.seen_world.specs.Points.{IsAt, IsAskedBy, HasLabelAt, IsLabelledAs, SetsHidden, IsInFlight, PointsHold}
+use Rattle.seen_world.specs.Points.{IsAt, IsAskedBy, HasLabelAt, IsLabelledAs, SetsHidden, EntersHidden, IsInFlight}
+use Rattle.seen_world.specs.Points.{IsDeepEntry, PointsHold}
 use Rattle.seen_world.proofs.LabelsSent.{label_same}
 
 -- ---- what the program label flows to
@@ -88,6 +91,68 @@ sets_hidden eyes are from to (message.Lgoto token) label asked has hidden = tt
 sets_hidden eyes are from to (message.Value request value) label asked has hidden = tt
 sets_hidden eyes are from to (message.Ack request) label asked has hidden = tt
 sets_hidden eyes are from to (message.Token request token) label asked has hidden = tt
+
+-- ---- what is entered
+
+-- where an instruction outside of guards may not be seen, its block may not be
+deep_there : (eyes : Eyes) → AreEyes eyes → (host : HostId) (place label : ℕ) → HasLabelAt eyes host place label →
+    sees_at eyes label ≡ false → (eyes.shades.at host place).guard ≡ None →
+    eyes.sees (eyes.shades.at host place).block ≡ false
+deep_there eyes are host place label has hidden plain =
+    let here = eyes.shades.at host place in
+    let same : here.pc ≡ here.block =
+    subst (λ guard. IsUnderBlock guard here.block here.pc) plain
+    (are.shaded.instructions host place has.0 has.1).is_shade.under_block in
+    ap eyes.sees (sym same) ∙ sym (label_same eyes are host place label has) ∙ hidden
+
+ends_hidden : (eyes : Eyes) → AreEyes eyes → (from to : HostId) (place label : ℕ) (entry : EntryId)
+    (has : HasLabelAt eyes from place label) → sees_at eyes label ≡ false →
+    (has.0.op ≡ op.Go entry to) ⊎ (has.0.op ≡ op.Call entry to) → IsDeepEntry eyes entry.0
+ends_hidden eyes are from to place label entry has hidden (inl is) =
+    let law = shaded_at eyes are from place (op.Go entry to) (has.0, has.1, is) in
+    let hands = law.3 in
+    (hands.it, hands.is, ap eyes.sees hands.block ∙ deep_there eyes are from place label has hidden law.2)
+ends_hidden eyes are from to place label entry has hidden (inr is) =
+    let law = shaded_at eyes are from place (op.Call entry to) (has.0, has.1, is) in
+    let enters = law.3 in
+    let here = eyes.shades.at from place in (
+      enters.it,
+      enters.is,
+      elim (cases_Bool (eyes.sees enters.it.block)) [
+        | inl seen ↦
+            absurd (false≢true (sym (deep_there eyes are from place label has hidden law.2)
+            ∙ are.below here.block enters.it.block enters.below seen))
+        | inr not_seen ↦ not_seen
+      ],
+    )
+
+enters_hidden : (eyes : Eyes) → AreEyes eyes → (from to : HostId) (said : Message) (label : ℕ) →
+    IsAskedBy eyes from to said → IsLabelledAs eyes from to said label → sees_at eyes label ≡ false →
+    EntersHidden eyes said
+enters_hidden eyes are from to (message.Get request field index) label asked has hidden = tt
+enters_hidden eyes are from to (message.Set request field index value) label asked has hidden = tt
+enters_hidden eyes are from to (message.Forward request frame x value) label asked has hidden = tt
+enters_hidden eyes are from to (message.Sync request frame entry token) label asked has hidden =
+    let law = shaded_at eyes are from request.at (op.Ask entry to) asked in
+    let names = law.1.3.0 in (
+      names.it,
+      names.is,
+      ap eyes.sees names.block ∙ deep_there eyes are from request.at label has hidden law.1.2,
+    )
+enters_hidden eyes are from to (message.Rgoto frame entry token) label asked has hidden =
+    ends_hidden eyes are from to has.0 label entry has.1 hidden has.2
+enters_hidden eyes are from to (message.Lgoto token) label asked has hidden = tt
+enters_hidden eyes are from to (message.Value request value) label asked has hidden = tt
+enters_hidden eyes are from to (message.Ack request) label asked has hidden = tt
+enters_hidden eyes are from to (message.Token request token) label asked has hidden = tt
+
+pub flight_enters : (eyes : Eyes) (world : WorldShape) (from to : HostId) (place : ℕ) (flight : Flight) →
+    AreEyes eyes → PointsHold eyes world → slice_get (world.flying from to) place ≡ Some flight →
+    sees_at eyes flight.label ≡ false → EntersHidden eyes flight.message
+flight_enters eyes world from to place flight are points there hidden =
+    let flies : IsInFlight eyes from to flight =
+    all_at (IsInFlight eyes from to) (world.flying from to) place flight (points.flying from to) there in
+    enters_hidden eyes are from to flight.message flight.label flies.well.0 flies.labelled hidden
 
 pub flight_sets : (eyes : Eyes) (world : WorldShape) (from to : HostId) (place : ℕ) (flight : Flight) →
     AreEyes eyes → PointsHold eyes world → slice_get (world.flying from to) place ≡ Some flight →

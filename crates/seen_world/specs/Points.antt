@@ -229,6 +229,17 @@ SetsHidden eyes (message.Forward request frame x value) =
     IfSome (variable_at eyes.code x) (λ there. sees_at eyes there.label ≡ false)
 SetsHidden eyes other = ⊤
 
+-- an entry stands in a block that may not be seen
+abbrev pub IsDeepEntry : Eyes → ℕ → Type 0
+IsDeepEntry eyes number =
+    (it : EntryShade) × (slice_get eyes.shades.entries number ≡ Some it) × (eyes.sees it.block ≡ false)
+
+-- the block may not be seen of the entry that a message pushes, or at which it hands control over
+abbrev pub EntersHidden : Eyes → Message → Type 0
+EntersHidden eyes (message.Sync request frame entry token) = IsDeepEntry eyes entry.0
+EntersHidden eyes (message.Rgoto frame entry token) = IsDeepEntry eyes entry.0
+EntersHidden eyes other = ⊤
+
 -- ---- worlds
 
 -- What holds of a world, whatever misbehaving hosts sent. What is in flight was sent by obeying hosts, and misbehaving

@@ -40,7 +40,7 @@ ghost use Rattle.seen_world.specs.Eyes.{Eyes, AreEyes, IsBegun, Watches, sees_at
 ghost use Rattle.seen_world.specs.Eyes.{sees_level, Names};
 ghost use Rattle.seen_world.specs.Points.{RunsWell, HostKeeps, HostsKeep, CarriesWell, IsAskedBy, FliesWell};
 ghost use Rattle.seen_world.specs.Points.{ShowsNoHidden, AsksForNoHidden, IsLabelledAs, IsRequest, IsGrantedTo};
-ghost use Rattle.seen_world.specs.Points.{SetsHidden, PointsHold};
+ghost use Rattle.seen_world.specs.Points.{SetsHidden, EntersHidden, PointsHold};
 
 /// Which labels misbehaving hosts may see.
 pub fn eye_laws()
@@ -185,6 +185,10 @@ pub fn point_laws()
     ensures sets { (eyes : Eyes) (world : WorldShape) (from to : HostId) (place : ℕ) (flight : Flight) →
         AreEyes eyes → PointsHold eyes world → slice_get (world.flying from to) place ≡ Some flight →
         sees_at eyes flight.label ≡ false → SetsHidden eyes flight.message }
+    // Nor may the block of the entry that such a message pushes, or at which it hands control over.
+    ensures enters { (eyes : Eyes) (world : WorldShape) (from to : HostId) (place : ℕ) (flight : Flight) →
+        AreEyes eyes → PointsHold eyes world → slice_get (world.flying from to) place ≡ Some flight →
+        sees_at eyes flight.label ≡ false → EntersHidden eyes flight.message }
     // What is answered to a misbehaving host has no hidden token.
     ensures answered_openly { (eyes : Eyes) (state : host_state.HostShape) (from : HostId) (said : Message)
         (outcome : host_state.Outcome) →
