@@ -178,7 +178,8 @@ running_labelled eyes are state thread label outcome well has runs =
     (operation_labelled eyes (with_running state None) thread label has.0.op runs.0 has refl))
     (shown outcome.sent (λ sees.
     running_token (λ token. ¬ IsHiddenToken eyes token) eyes.code state thread outcome (Some has.0)
-    (holds_open eyes are state thread has.0 has.1 well (sym (label_same eyes are state.me thread.at label has) ∙ sees)) runs))
+    (holds_open eyes are state thread has.0 has.1 well
+    (sym (label_same eyes are state.me thread.at label has) ∙ sees)) runs))
   where
     shown : (sent : Option (HostId × Message)) →
         (sees_at eyes label ≡ true → IfSome sent (λ it. ShowsNoHidden eyes it.1)) →

@@ -211,8 +211,8 @@ IsGrantedTo eyes from to other = ⊤
 
 -- ---- flights
 
--- An obeying host sent what is in flight, and a request is granted. Where the label that it carries may be seen, nothing
--- in it is hidden.
+-- An obeying host sent what is in flight, and a request is granted. Where the label that it carries may be seen,
+-- nothing in it is hidden.
 pub record IsInFlight (eyes : Eyes) (from to : HostId) (flight : Flight) : Type 0 where
   pub obeys : eyes.bad from ≡ false
   pub well : FliesWell eyes from to flight.message
