@@ -282,7 +282,7 @@ result_carried basis planned walked host label statement value own = by walked.s
 -- ---- blocks
 
 -- the label inside a branch does not depend on the method
-inside_same : (basis : Basis) (tree : MethodTree) (pc own : Label) (guard : ExprTree) → own ≡ pc →
+pub inside_same : (basis : Basis) (tree : MethodTree) (pc own : Label) (guard : ExprTree) → own ≡ pc →
     guarded (setting_of basis.principals basis.labelled.program tree) pc (all_labels basis.labelled) guard
     ≡ guarded (basis_setting basis) own (all_labels basis.labelled) guard
 inside_same basis tree pc own guard same =

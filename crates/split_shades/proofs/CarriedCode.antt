@@ -32,7 +32,7 @@ use Rattle.split_rules.specs.Emissions.{Emission, instruction, entry, Counts, co
 use Rattle.split_rules.specs.Held.{IsHeld}
 use Rattle.split_rules.specs.Positions.{IsIn, IsOf, all_statements}
 use Rattle.split_rules.specs.SplitCode.{emitted_on, landed, code_labels, placed_instruction}
-use Rattle.split_rules.specs.SplitCode.{part_on, code_of_emissions, split_code}
+use Rattle.split_rules.specs.SplitCode.{part_on, code_of_emissions}
 use Rattle.split_rules.specs.Splittable.{IsSplittable}
 use Rattle.split_rules.specs.Walk.{lane_on, method_entry, method_emissions, methods_emissions, program_emissions}
 use Rattle.split_rules.proofs.AllowedTyping.{body_of_method, methods_stay}
@@ -46,18 +46,18 @@ use Rattle.split_rules.proofs.SoundInstructions.{mapped}
 use Rattle.split_rules.proofs.SoundParts.{part_is, entry_made}
 use Rattle.split_rules.proofs.ToldCode.{emission_labelled}
 use Rattle.split_shades.specs.Basis.{Basis}
-use Rattle.split_shades.specs.Carried.{CarriesWell, IsCarried, IsBlockOf, AreCarried}
+use Rattle.split_shades.specs.Carried.{CarriesWell, IsCarried, IsBlockOf}
 use Rattle.split_shades.proofs.BasisLabels.{basis_of}
 use Rattle.split_shades.proofs.CarriedBlocks.{BlockKept, block_kept, AllCarried, then_carried, block_carried}
 
 -- ---- methods
 
-abbrev MethodKept : Declared → Labelled → MethodTree → Type 0
+abbrev pub MethodKept : Declared → Labelled → MethodTree → Type 0
 MethodKept principals labelled method =
     BlockKept labelled (setting_of principals labelled.program method) method.begin method.body
 
-methods_kept : (principals : Declared) (labelled : Labelled) (final : VariableLabels) → AreFinal labelled final →
-    (methods : List MethodTree) (labels : VariableLabels) →
+pub methods_kept : (principals : Declared) (labelled : Labelled) (final : VariableLabels) →
+    AreFinal labelled final → (methods : List MethodTree) (labels : VariableLabels) →
     labels_after_methods principals labelled.program labels methods ≡ final →
     AreAllValuesLabelled principals labelled.program labels methods →
     AreLabelsKept labelled (methods_labels principals labelled.program labels methods) →
@@ -74,7 +74,7 @@ methods_kept principals labelled final are (method ∷ methods) labels end value
     )
 
 -- what is in a method is of the program
-in_program : (labelled : Labelled) (method : MethodId) (statements : List BlockTree) →
+pub in_program : (labelled : Labelled) (method : MethodId) (statements : List BlockTree) →
     AllByRecursion (IsIn labelled.program method) statements → AllByRecursion (IsOf labelled.program) statements
 in_program labelled method [] all = tt
 in_program labelled method (statement ∷ others) all = ((method, all.0), in_program labelled method others all.1)
@@ -126,7 +126,7 @@ entries_carried basis planned number (method ∷ methods) there =
 
 -- ---- programs
 
-program_carried : (labelled : Labelled) (needs : NeedsShape) (hosts : HostsShape) (plan : PlanShape) →
+pub program_carried : (labelled : Labelled) (needs : NeedsShape) (hosts : HostsShape) (plan : PlanShape) →
     IsSplittable labelled hosts plan → IsAllowed labelled needs hosts plan → IsHeld labelled needs hosts plan →
     let planned = planned_of labelled needs hosts plan in
     AllCarried (basis_of hosts.principals labelled) planned (program_emissions hosts.principals labelled planned)
@@ -163,8 +163,8 @@ one_carried : (basis : Basis) (planned : PlannedShape) (before : List Emission) 
     (behind : List Emission) → AllCarried basis planned (before ++ one ∷ behind) → IsCarried basis planned one
 one_carried basis planned before one behind all = (all_second (IsCarried basis planned) before (one ∷ behind) all).0
 
-instructions_carried : (basis : Basis) (hosts : HostsShape) (planned : PlannedShape) (emissions : List Emission) →
-    AllCarried basis planned emissions → (me : HostId) (place : ℕ) (there : Instr) →
+pub instructions_carried : (basis : Basis) (hosts : HostsShape) (planned : PlannedShape)
+    (emissions : List Emission) → AllCarried basis planned emissions → (me : HostId) (place : ℕ) (there : Instr) →
     let code = code_of_emissions basis.labelled hosts planned emissions in
     instruction_at code me place ≡ Some there →
     (label : Label) × (label_at code there.label ≡ Some label)
@@ -214,7 +214,7 @@ instructions_carried basis hosts planned emissions all me place there is = by (s
         let as_many = length-range_with_len 0 (length hosts.hosts) in
         within_hosts (omega arith)
 
-entries_there : (basis : Basis) (hosts : HostsShape) (planned : PlannedShape) (emissions : List Emission) →
+pub entries_there : (basis : Basis) (hosts : HostsShape) (planned : PlannedShape) (emissions : List Emission) →
     AllCarried basis planned emissions → (number : ℕ) (there : Entry) →
     let code = code_of_emissions basis.labelled hosts planned emissions in
     slice_get code.entries number ≡ Some there →
@@ -231,17 +231,3 @@ entries_there basis hosts planned emissions all number there is =
     let Q : Entry → Type 0 = λ it. (owner : StmtId) × (label : Label) × (label_at code it.label ≡ Some label)
     × IsBlockOf basis owner label in
     subst Q (sym made.2) (own.0, named.label, label_is, own.1)
-
-pub split_is_carried : (labelled : Labelled) (needs : NeedsShape) (hosts : HostsShape) (plan : PlanShape) →
-    IsSplittable labelled hosts plan → IsAllowed labelled needs hosts plan → IsHeld labelled needs hosts plan →
-    AreCarried (record { principals = hosts.principals; labelled = labelled }) (planned_of labelled needs hosts plan)
-    (split_code labelled needs hosts plan)
-split_is_carried labelled needs hosts plan splittable allowed held =
-    let planned = planned_of labelled needs hosts plan in
-    let basis = basis_of hosts.principals labelled in
-    let emissions = program_emissions hosts.principals labelled planned in
-    let all = program_carried labelled needs hosts plan splittable allowed held in
-    record {
-      instructions = instructions_carried basis hosts planned emissions all;
-      entries = entries_there basis hosts planned emissions all;
-    }

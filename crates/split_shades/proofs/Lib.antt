@@ -17,5 +17,7 @@ pub mod ForwardExits
 pub mod ShadedSplit
 pub mod KnownCode
 pub mod CarriedBlocks
+pub mod NamedBlocks
 pub mod CarriedCode
+pub mod NamedCode
 pub mod WorkedShades

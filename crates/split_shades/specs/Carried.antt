@@ -1,10 +1,10 @@
 -- Which program labels the instructions and the entries of split code carry, and for which statements instructions are.
-use Rattle.std.specs.Prelude.{◌≡◌, ◌⊎◌, ℕ, Some, slice_get, ⊤}
+use Rattle.std.specs.Prelude.{◌≡◌, ◌⊎◌, ℕ, suc, Some, slice_get, ⊤}
 use Rattle.js_base.specs.declared.ids.HostId.{HostId}
 use Rattle.js_base.specs.declared.ids.StmtId.{StmtId}
 use Rattle.label_lattice.specs.declared.label.Label.{Label}
-use Rattle.jif_tree.specs.Trees.{BlockTree, branch, loop, MethodTree}
-use Rattle.jif_tree.specs.LabelRules.{guarded}
+use Rattle.jif_tree.specs.Trees.{BlockTree, branch, loop, call, MethodTree}
+use Rattle.jif_tree.specs.LabelRules.{guarded, begin_label, method_at}
 use Rattle.host_code.specs.declared.code.Entry.{Entry}
 use Rattle.host_code.specs.declared.instruction.Instr.{Instr}
 use Rattle.host_code.specs.declared.instruction.Op.{Op}
@@ -60,13 +60,48 @@ IsCarried basis planned (entry named) = (owner : StmtId) × IsBlockOf basis owne
 IsCarried basis planned (stands host number) = ⊤
 IsCarried basis planned (lands host number) = ⊤
 
+-- ---- entries that are named
+
+-- The entry behind a call has the program label of the call.
+abbrev pub IsBehind : Basis → BlockTree → Label → Type 0
+IsBehind basis (call heading site method arguments into rest) label = label ≡ pc_of basis.labelled heading.id
+IsBehind basis other label = ⊥
+
+-- An entry that is pushed for a block has the program label of the block: a return point, the join of a branch, whose
+-- blocks have the label inside, and the head of a loop. All others are pushed for a call.
+abbrev pub IsPushedFor : Basis → StmtId → Label → Type 0
+IsPushedFor basis statement label =
+    IsBlockOf basis statement label
+    ⊎ ((own : BlockTree) × IsOf basis.labelled.program own × (number_of own ≡ statement) × IsBehind basis own label)
+
+-- Which labels the entries have that an instruction with this program label names. The first argument tells which label
+-- the entry of a number has.
+abbrev pub NamesWell : (ℕ → Label → Type 0) → Basis → Label → StmtId → Op → Type 0
+NamesWell has basis label statement (op.Go there on) = has there.0 label × IsBlockOf basis statement label
+NamesWell has basis label statement (op.Ask there on) = has there.0 label × IsBlockOf basis statement label
+NamesWell has basis label statement (op.Push there) =
+    (own : Label) × has there.0 own × IsPushedFor basis statement own
+NamesWell has basis label statement other = ⊤
+
 -- ---- code
 
+-- the entry of a number has a label
+abbrev pub HasLabel : CodeShape → ℕ → Label → Type 0
+HasLabel code number label =
+    (there : Entry) × (slice_get code.entries number ≡ Some there) × (label_at code there.label ≡ Some label)
+
 -- Each instruction carries the program label of the statement that it is for, which stands on its host, or that of the
--- block, and each entry carries that of a block.
+-- block. Each entry carries that of a block: that of a method the begin label, and one that an instruction names that
+-- of what it is named for.
 pub record AreCarried (basis : Basis) (planned : PlannedShape) (code : CodeShape) : Type 0 where
   pub instructions : (host : HostId) (place : ℕ) (there : Instr) → instruction_at code host place ≡ Some there →
       (label : Label) × (label_at code there.label ≡ Some label)
       × CarriesWell basis planned host label there.statement there.op
   pub entries : (number : ℕ) (there : Entry) → slice_get code.entries number ≡ Some there →
       (owner : StmtId) × (label : Label) × (label_at code there.label ≡ Some label) × IsBlockOf basis owner label
+  pub halts : HasLabel code 0 (begin_label (method_at basis.labelled.program basis.labelled.program.main))
+  pub methods : (place : ℕ) (tree : MethodTree) → slice_get basis.labelled.program.methods place ≡ Some tree →
+      HasLabel code (suc place) tree.begin
+  pub named : (host : HostId) (place : ℕ) (there : Instr) → instruction_at code host place ≡ Some there →
+      (label : Label) × (label_at code there.label ≡ Some label)
+      × NamesWell (HasLabel code) basis label there.statement there.op

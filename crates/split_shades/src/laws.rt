@@ -67,7 +67,8 @@ pub fn shade_laws()
         (shades : Shades) × IsShadedCode (scene_of labelled needs hosts plan false)
         (split_code labelled needs hosts plan) shades × ReleaseNothing (split_code labelled needs hosts plan) shades }
     // Each instruction carries the program label of the statement that it is for, which stands on its host, or that of
-    // a block where the right to go on moves, and each entry carries that of a block.
+    // a block where the right to go on moves. Each entry carries the label of what it is named for: its method, its
+    // block, the blocks inside its branch or loop, or its call.
     ensures carried { (labelled : Labelled) (needs : NeedsShape) (hosts : HostsShape) (plan : PlanShape) →
         IsSplittable labelled hosts plan → IsAllowed labelled needs hosts plan → IsHeld labelled needs hosts plan →
         AreCarried (record { principals = hosts.principals; labelled = labelled })

@@ -1,4 +1,4 @@
-use Rattle.split_shades.proofs.CarriedCode.{split_is_carried}
+use Rattle.split_shades.proofs.NamedCode.{split_is_carried}
 use Rattle.split_shades.proofs.KnownCode.{split_is_known}
 use Rattle.split_shades.proofs.ShadedSplit.{split_is_shaded, split_is_silent}
 use Rattle.split_shades.proofs.laws.shade_laws.Goals as goal

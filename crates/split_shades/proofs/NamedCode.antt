@@ -1,0 +1,313 @@
+-- The entries that the instructions of split code name, and those of its methods, have the program labels of what they
+-- are for.
+use Rattle.std.proofs.Common.{◌≡◌, ◌∙◌, ℕ, suc, ◌+◌, ◌<◌, inl, List, [], ◌∷◌, ◌++◌, map, length, refl, ap, sym, subst}
+use Rattle.std.proofs.Common.{arith, zero, append_assoc}
+use Rattle.std.specs.Prelude.{Option, Some, None, slice_get, unwrap_or}
+use Rattle.std.proofs.lemmas.List.{length-map}
+use Rattle.std.proofs.lemmas.List.FromFn.{length-range_with_len}
+use Rattle.std.specs.List.{range_with_len, AllByRecursion}
+use Rattle.std.proofs.lemmas.Option.{slice_get_within}
+use Rattle.js_base.specs.declared.ids.HostId.{HostId}
+use Rattle.js_base.specs.declared.ids.MethodId.{MethodId}
+use Rattle.js_base.specs.declared.ids.StmtId.{StmtId}
+use Rattle.label_lattice.specs.declared.label.Label.{Label}
+use Rattle.host_decl.specs.Hosts.{HostsShape}
+use Rattle.jif_tree.specs.Trees.{MethodTree}
+use Rattle.jif_tree.specs.LabelRules.{labels_after_methods, declared_labels, begin_label, method_at}
+use Rattle.host_code.specs.declared.instruction.Instr.{Instr}
+use Rattle.host_code.specs.declared.instruction.Op.{Op}
+use Rattle.host_code.specs.declared.instruction.Op.TheVariants as op
+use Rattle.host_code.specs.Code.{CodeShape, instruction_at}
+use Rattle.entry_check.specs.Checks.{label_at}
+use Rattle.need_labels.specs.Labelled.{Labelled}
+use Rattle.need_labels.specs.Needs.{NeedsShape}
+use Rattle.need_labels.specs.Plan.{PlanShape}
+use Rattle.msg_cost.specs.Moves.{PlannedShape, planned_of, home_of}
+use Rattle.split_rules.specs.Allowed.{IsAllowed}
+use Rattle.split_rules.specs.Emissions.{Emission, instruction, entry, Counts, counts_after, counts_with}
+use Rattle.split_rules.specs.Emissions.{one_more_branch, stands, lands, Named}
+use Rattle.split_rules.specs.Held.{IsHeld}
+use Rattle.split_rules.specs.Positions.{all_statements}
+use Rattle.split_rules.specs.SplitCode.{emitted_on, landed, code_labels, placed_instruction, part_on, code_of_emissions}
+use Rattle.split_rules.specs.SplitCode.{split_code, entries_in}
+use Rattle.split_rules.specs.Splittable.{IsSplittable}
+use Rattle.split_rules.specs.Walk.{lane_on, method_entry, method_emissions, methods_emissions, program_emissions}
+use Rattle.split_rules.specs.Walk.{need_of}
+use Rattle.split_rules.proofs.AllowedTyping.{body_of_method}
+use Rattle.split_rules.proofs.BackedLabels.{all_second}
+use Rattle.split_rules.proofs.Fronts.{front_of, front_is}
+use Rattle.split_rules.proofs.Places.{found, found_entry, entries_append}
+use Rattle.split_rules.proofs.SeenPrograms.{labels_kept}
+use Rattle.split_rules.proofs.SoundInstructions.{mapped}
+use Rattle.split_rules.proofs.SoundParts.{part_is, entry_there}
+use Rattle.split_rules.proofs.ToldCode.{emission_labelled}
+use Rattle.split_rules.proofs.CodeItems.{code_entry}
+use Rattle.split_rules.proofs.WalkedMoves.{at_last}
+use Rattle.split_rules.proofs.WalkedCalls.{still_there}
+use Rattle.split_shades.specs.Basis.{Basis}
+use Rattle.split_shades.specs.Carried.{NamesWell, HasLabel, AreCarried}
+use Rattle.split_shades.proofs.BasisLabels.{basis_of}
+use Rattle.split_shades.proofs.CarriedCode.{MethodKept, methods_kept, in_program, program_carried, instructions_carried}
+use Rattle.split_shades.proofs.CarriedCode.{entries_there}
+use Rattle.split_shades.proofs.NamedBlocks.{IsWellNamed, AllNamed, AreTold, AreNamed, then_named, block_named}
+
+-- ---- methods
+
+methods_named : (has : ℕ → Label → Type 0) (basis : Basis) (planned : PlannedShape) (counts : Counts) (number : ℕ)
+    (methods : List MethodTree) →
+    ((place : ℕ) (tree : MethodTree) → slice_get methods place ≡ Some tree →
+    slice_get basis.labelled.program.methods (number + place) ≡ Some tree) →
+    AllByRecursion (MethodKept basis.principals basis.labelled) methods →
+    AreNamed has basis counts (methods_emissions basis.principals basis.labelled planned counts number methods)
+methods_named has basis planned counts number [] there kept = λ told. tt
+methods_named has basis planned counts number (method ∷ methods) there kept =
+    let program = basis.labelled.program in
+    let first = method_emissions basis.principals basis.labelled planned counts number method in
+    let none : number + 0 ≡ number = omega arith in
+    let P : ℕ → Type 0 = λ place. slice_get program.methods place ≡ Some method in
+    let own = subst P none (there 0 method refl) in
+    let id : MethodId = record { 0 = number } in
+    then_named has basis counts first
+    (methods_emissions basis.principals basis.labelled planned (counts_after counts first) (suc number) methods)
+    (λ told. (
+      tt,
+      block_named has basis planned method (record { owner = method.head; pc = method.begin }) method.body
+          (inl (number, method, own, refl, refl)) kept.0
+          (in_program basis.labelled id (all_statements method.body) (body_of_method program id method own)) counts
+          (lane_on (home_of planned method)) told.1,
+    ))
+    (methods_named has basis planned (counts_after counts first) (suc number) methods
+    (λ place tree at.
+    let R : ℕ → Type 0 = λ one. slice_get program.methods one ≡ Some tree in
+    let next : number + suc place ≡ suc number + place = omega arith in
+    subst R next (there (suc place) tree at)) kept.1)
+
+entries_named : (has : ℕ → Label → Type 0) (basis : Basis) (planned : PlannedShape) (methods : List MethodTree) →
+    AllNamed has basis (map (method_entry planned) methods)
+entries_named has basis planned [] = tt
+entries_named has basis planned (method ∷ methods) = (tt, entries_named has basis planned methods)
+
+-- ---- programs
+
+program_named : (has : ℕ → Label → Type 0) (labelled : Labelled) (needs : NeedsShape) (hosts : HostsShape)
+    (plan : PlanShape) →
+    IsSplittable labelled hosts plan → IsAllowed labelled needs hosts plan → IsHeld labelled needs hosts plan →
+    let planned = planned_of labelled needs hosts plan in
+    AreNamed has (basis_of hosts.principals labelled) (record { entries = 0; branches = 0 })
+    (program_emissions hosts.principals labelled planned)
+program_named has labelled needs hosts plan splittable allowed held =
+    let planned = planned_of labelled needs hosts plan in
+    let basis = basis_of hosts.principals labelled in
+    let program = labelled.program in
+    let declared = declared_labels program in
+    let final = labels_after_methods hosts.principals program declared program.methods in
+    let main = splittable.numbered.main in
+    let from_zero : (place : ℕ) (tree : MethodTree) → slice_get program.methods place ≡ Some tree →
+    slice_get program.methods (0 + place) ≡ Some tree =
+    λ place tree is.
+    let none : place ≡ 0 + place = omega arith in
+    let P : ℕ → Type 0 = λ one. slice_get program.methods one ≡ Some tree in
+    subst P none is in
+    let kept = methods_kept hosts.principals labelled final allowed.var_labels program.methods declared refl held.values
+    (labels_kept labelled hosts.principals allowed.statements held.pc) in
+    let front = front_of planned main.0 program.methods in
+    let begun : AllNamed has basis front = (tt, (tt, entries_named has basis planned program.methods)) in
+    let none : Counts = record { entries = 0; branches = 0 } in
+    let P : List Emission → Type 0 = λ list. AreNamed has basis none
+    (list ++ methods_emissions hosts.principals labelled planned (counts_after none list) 0 program.methods) in
+    subst P (sym (front_is labelled planned main.0 main.1))
+    (then_named has basis none front _ (λ told. begun)
+    (methods_named has basis planned (counts_after none front) 0 program.methods from_zero kept))
+
+-- ---- the code
+
+more_entries : (counts : Counts) (what : Op) → (one_more_branch what counts).entries ≡ counts.entries
+more_entries counts (op.Branch guard number) = refl
+more_entries counts other = refl
+
+-- what is told of all entries of a list is told of those of a walk behind these
+told_behind : (has : ℕ → Label → Type 0) (front : List Named) (emissions : List Emission) (counts : Counts) →
+    counts.entries ≡ length front →
+    ((number : ℕ) (named : Named) → slice_get (front ++ entries_in emissions) number ≡ Some named →
+    has number named.label) → AreTold has counts emissions
+told_behind has front [] counts many all = tt
+told_behind has front (instruction one ∷ others) counts many all =
+    (tt, told_behind has front others (counts_with counts (instruction one)) (more_entries counts one.op ∙ many) all)
+told_behind has front (entry named ∷ others) counts many all =
+    let same = append_assoc front (named ∷ []) (entries_in others) in
+    let P : ℕ → Type 0 = λ number. has number named.label in
+    let long : length (front ++ named ∷ []) ≡ suc (length front) = one_longer front named in (
+      subst P (sym many) (all (length front) named (at_last front named (entries_in others))),
+      told_behind has (front ++ named ∷ []) others (counts_with counts (entry named)) (ap suc many ∙ sym long)
+          (λ number one is. all number one (ap (λ list. slice_get list number) (sym same) ∙ is)),
+    )
+  where
+    one_longer : (list : List Named) (one : Named) → length (list ++ one ∷ []) ≡ suc (length list)
+    one_longer [] one = refl
+    one_longer (first ∷ list) one = ap suc (one_longer list one)
+told_behind has front (stands host number ∷ others) counts many all =
+    (tt, told_behind has front others counts many all)
+told_behind has front (lands host number ∷ others) counts many all =
+    (tt, told_behind has front others counts many all)
+
+has_label : (labelled : Labelled) (hosts : HostsShape) (planned : PlannedShape) (emissions : List Emission)
+    (number : ℕ) (named : Named) → slice_get (entries_in emissions) number ≡ Some named →
+    HasLabel (code_of_emissions labelled hosts planned emissions) number named.label
+has_label labelled hosts planned emissions number named is =
+    let labels = code_labels labelled emissions in
+    let so = found_entry emissions number named is in (
+      code_entry labels emissions number named,
+      entry_there labels emissions number named is,
+      emission_labelled labelled hosts planned emissions so.before (entry named) so.behind so.is named.label
+          (inl refl),
+    )
+
+pub instructions_named : (basis : Basis) (hosts : HostsShape) (planned : PlannedShape) (emissions : List Emission) →
+    let code = code_of_emissions basis.labelled hosts planned emissions in
+    AreNamed (HasLabel code) basis (record { entries = 0; branches = 0 }) emissions →
+    (me : HostId) (place : ℕ) (there : Instr) → instruction_at code me place ≡ Some there →
+    (label : Label) × (label_at code there.label ≡ Some label)
+    × NamesWell (HasLabel code) basis label there.statement there.op
+instructions_named basis hosts planned emissions named me place there is = by (slice_get code.parts me.0) refl is
+  where
+    code : CodeShape
+    code = code_of_emissions basis.labelled hosts planned emissions
+
+    labels : List Label
+    labels = code_labels basis.labelled emissions
+
+    has : ℕ → Label → Type 0
+    has = HasLabel (code_of_emissions basis.labelled hosts planned emissions)
+
+    Names : Instr → Type 0
+    Names it = (label : Label) × (label_at code it.label ≡ Some label)
+        × NamesWell has basis label it.statement it.op
+
+    all : AllNamed has basis emissions
+    all = named (told_behind has [] emissions (record { entries = 0; branches = 0 }) refl
+        (has_label basis.labelled hosts planned emissions))
+
+    within_hosts : me.0 < length hosts.hosts → Names there
+    within_hosts within =
+        let part = part_is basis.labelled hosts planned emissions me within in
+        let one = mapped (placed_instruction labels emissions) (emitted_on me emissions) place there
+        (ap (λ list. slice_get list place) (sym part) ∙ is) in
+        let so = found me emissions place one.0 one.1 in
+        let P : List Emission → Type 0 = λ list. AllNamed has basis list in
+        let own = (all_second (IsWellNamed has basis) so.before (instruction one.0 ∷ so.behind)
+        (subst P so.is all)).0 in
+        let label_is = emission_labelled basis.labelled hosts planned emissions so.before (instruction one.0) so.behind
+        so.is one.0.label (inl refl) in
+        subst Names one.2 (
+          one.0.label,
+          label_is,
+          landed_names one.0.host one.0.label one.0.statement one.0.op own,
+        )
+      where
+        landed_names : (on : HostId) (label : Label) (statement : StmtId) (what : Op) →
+            NamesWell has basis label statement what →
+            NamesWell has basis label statement (landed on emissions what)
+        landed_names on label statement (op.Branch guard number) names = names
+        landed_names on label statement other names = names
+
+    by : (part : Option (List Instr)) → slice_get code.parts me.0 ≡ part →
+        slice_get (unwrap_or part []) place ≡ Some there → Names there
+    by None part_is at = absurd (cc)
+    by (Some part) is_part at =
+        let within = slice_get_within code.parts me.0 part is_part in
+        let numbers = range_with_len 0 (length hosts.hosts) in
+        let many = length-map numbers (λ number. part_on labels emissions (record { 0 = number })) in
+        let as_many = length-range_with_len 0 (length hosts.hosts) in
+        within_hosts (omega arith)
+
+pub split_named : (labelled : Labelled) (needs : NeedsShape) (hosts : HostsShape) (plan : PlanShape) →
+    IsSplittable labelled hosts plan → IsAllowed labelled needs hosts plan → IsHeld labelled needs hosts plan →
+    let code = split_code labelled needs hosts plan in
+    (me : HostId) (place : ℕ) (there : Instr) → instruction_at code me place ≡ Some there →
+    (label : Label) × (label_at code there.label ≡ Some label)
+    × NamesWell (HasLabel code) (basis_of hosts.principals labelled) label there.statement there.op
+split_named labelled needs hosts plan splittable allowed held =
+    let planned = planned_of labelled needs hosts plan in
+    instructions_named (basis_of hosts.principals labelled) hosts planned
+    (program_emissions hosts.principals labelled planned)
+    (program_named (HasLabel (split_code labelled needs hosts plan)) labelled needs hosts plan splittable allowed held)
+
+-- ---- the entries of methods
+
+method_label : (planned : PlannedShape) (methods : List MethodTree) (place : ℕ) (tree : MethodTree) →
+    slice_get methods place ≡ Some tree →
+    (named : Named) × (slice_get (entries_in (map (method_entry planned) methods)) place ≡ Some named)
+    × (named.label ≡ tree.begin)
+method_label planned [] place tree is = absurd (cc)
+method_label planned (method ∷ methods) zero tree is =
+    let same : method ≡ tree = cc in (
+      record { host = home_of planned method; label = method.begin; need = need_of planned (method.head ∷ []) },
+      refl,
+      ap (λ one. one.begin) same,
+    )
+method_label planned (method ∷ methods) (suc place) tree is = method_label planned methods place tree is
+
+front_labelled : (labelled : Labelled) (needs : NeedsShape) (hosts : HostsShape) (plan : PlanShape) →
+    IsSplittable labelled hosts plan → (number : ℕ) (named : Named) →
+    let planned = planned_of labelled needs hosts plan in
+    (main : MethodTree) → method_at labelled.program labelled.program.main ≡ Some main →
+    slice_get (entries_in (front_of planned main labelled.program.methods)) number ≡ Some named →
+    HasLabel (split_code labelled needs hosts plan) number named.label
+front_labelled labelled needs hosts plan splittable number named main main_is is =
+    let planned = planned_of labelled needs hosts plan in
+    let front = front_of planned main labelled.program.methods in
+    let none : Counts = record { entries = 0; branches = 0 } in
+    let Q : List Emission → Type 0 = λ list. slice_get (entries_in
+    (list ++ methods_emissions hosts.principals labelled planned (counts_after none list) 0 labelled.program.methods))
+    number ≡ Some named in
+    let rest = methods_emissions hosts.principals labelled planned (counts_after none front) 0
+    labelled.program.methods in
+    has_label labelled hosts planned (program_emissions hosts.principals labelled planned) number named
+    (subst Q (sym (front_is labelled planned main main_is))
+    (ap (λ list. slice_get list number) (entries_append front rest)
+    ∙ still_there (entries_in front) (entries_in rest) number named is))
+
+pub method_named : (labelled : Labelled) (needs : NeedsShape) (hosts : HostsShape) (plan : PlanShape) →
+    IsSplittable labelled hosts plan → (place : ℕ) (tree : MethodTree) →
+    slice_get labelled.program.methods place ≡ Some tree →
+    HasLabel (split_code labelled needs hosts plan) (suc place) tree.begin
+method_named labelled needs hosts plan splittable place tree is =
+    let planned = planned_of labelled needs hosts plan in
+    let main = splittable.numbered.main in
+    let own = method_label planned labelled.program.methods place tree is in
+    let P : Label → Type 0 = λ label. HasLabel (split_code labelled needs hosts plan) (suc place) label in
+    subst P own.2 (front_labelled labelled needs hosts plan splittable (suc place) own.0 main.0 main.1 own.1)
+
+pub halt_named : (labelled : Labelled) (needs : NeedsShape) (hosts : HostsShape) (plan : PlanShape) →
+    IsSplittable labelled hosts plan →
+    HasLabel (split_code labelled needs hosts plan) 0 (begin_label (method_at labelled.program labelled.program.main))
+halt_named labelled needs hosts plan splittable =
+    let planned = planned_of labelled needs hosts plan in
+    let main = splittable.numbered.main in
+    let named : Named = record {
+      host = home_of planned main.0;
+      label = main.0.begin;
+      need = need_of planned (main.0.head ∷ []);
+    } in
+    let P : Label → Type 0 = λ label. HasLabel (split_code labelled needs hosts plan) 0 label in
+    subst P (sym (ap begin_label main.1)) (front_labelled labelled needs hosts plan splittable 0 named main.0 main.1
+    refl)
+
+-- ---- all of it
+
+pub split_is_carried : (labelled : Labelled) (needs : NeedsShape) (hosts : HostsShape) (plan : PlanShape) →
+    IsSplittable labelled hosts plan → IsAllowed labelled needs hosts plan → IsHeld labelled needs hosts plan →
+    AreCarried (record { principals = hosts.principals; labelled = labelled }) (planned_of labelled needs hosts plan)
+    (split_code labelled needs hosts plan)
+split_is_carried labelled needs hosts plan splittable allowed held =
+    let planned = planned_of labelled needs hosts plan in
+    let basis = basis_of hosts.principals labelled in
+    let emissions = program_emissions hosts.principals labelled planned in
+    let all = program_carried labelled needs hosts plan splittable allowed held in
+    record {
+      instructions = instructions_carried basis hosts planned emissions all;
+      entries = entries_there basis hosts planned emissions all;
+      halts = halt_named labelled needs hosts plan splittable;
+      methods = method_named labelled needs hosts plan splittable;
+      named = split_named labelled needs hosts plan splittable allowed held;
+    }
