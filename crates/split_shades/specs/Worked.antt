@@ -53,6 +53,13 @@ scene_on planned = record {
 abbrev pub code_on : PlannedShape → CodeShape
 code_on planned = code_of_emissions (labelled_with planned []) planned.hosts planned (emissions_on planned)
 
+-- the branch with the program labels of the head, of the branch and of what is inside
+abbrev pub branching_basis : Basis
+branching_basis = record {
+  principals = nobody;
+  labelled = record { program = branching.program; var_labels = []; pc = outer ∷ outer ∷ guarding ∷ [] };
+}
+
 -- the labels of the entries, and those of the instructions of a host, by the words of those who trust them
 abbrev pub entry_words : PlannedShape → List ℕ
 entry_words planned = map (λ named. named.label.trust) (entries_in (emissions_on planned))

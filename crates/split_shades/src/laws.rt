@@ -14,16 +14,16 @@ ghost use Rattle.split_rules.specs.WalkStart.{front_emissions};
 ghost use Rattle.split_shades.specs.Flows.{AreResultsLabelled, AllFlow};
 ghost use Rattle.split_shades.specs.Shading.{Known, nowhere, AreShaded, shades_start};
 ghost use Rattle.split_shades.specs.Sites.{ReleasesNothing, scene_of};
-ghost use Rattle.split_shades.specs.Carried.{AreCarried};
+ghost use Rattle.split_shades.specs.Carried.{AreCarried, IsPushedFor};
 ghost use Rattle.split_shades.specs.ShadedCode.{Shades, IsShadedCode, ReleaseNothing, AreKnownInCode};
 ghost use Rattle.split_rules.specs.SplitCode.{split_code};
 ghost use Rattle.split_shades.specs.Shades.{EntryShade, released_by};
 ghost use Rattle.split_shades.specs.Worked.{branching, looping, scene_on, code_on, entry_words, instruction_words};
-ghost use Rattle.split_shades.specs.Worked.{outer};
+ghost use Rattle.split_shades.specs.Worked.{outer, branching_basis};
 ghost use Rattle.split_shades.specs.Worked.{basis_on, telling, read_at, indexed_by, released_field};
 ghost use Rattle.split_shades.specs.Basis.{read_label};
 ghost use Rattle.jif_tree.specs.LabelRules.{field_label};
-ghost use Rattle.split_rules.specs.Worked.{host_id, field_id};
+ghost use Rattle.split_rules.specs.Worked.{host_id, field_id, statement_id};
 ghost use Rattle.host_code.specs.declared.code_expr.Node.TheVariants as node;
 ghost use Rattle.std.specs.Prelude.{◌≡◌, Bool, false, [], ◌∷◌, Some, slice_get};
 
@@ -96,6 +96,8 @@ pub fn worked_laws()
     ensures join { (shades : Shades) (it : EntryShade) →
         IsShadedCode (scene_on branching) (code_on branching) shades → slice_get shades.entries 2 ≡ Some it →
         ¬ (it.pushed ≡ Some it.label) }
+    // What is pushed for a branch, its join or a return point inside, has not the label of the block around it.
+    ensures pushed_inside { ¬ (IsPushedFor branching_basis (statement_id 1) outer) }
     // No head of a loop is pushed under the label of the block around it.
     ensures head { (shades : Shades) (it : EntryShade) →
         IsShadedCode (scene_on looping) (code_on looping) shades → slice_get shades.entries 2 ≡ Some it →

@@ -6,7 +6,7 @@ use Rattle.label_lattice.specs.Lattice.{join_of}
 use Rattle.msg_cost.specs.Moves.{is_trusted_by}
 use Rattle.split_rules.specs.Worked.{host_id}
 use Rattle.split_shades.specs.Worked.{branching, looping, scene_on, code_on}
-use Rattle.split_shades.proofs.WorkedShades.{pushed_under, label_there}
+use Rattle.split_shades.proofs.WorkedShades.{pushed_under, label_there, not_pushed}
 use Rattle.split_shades.proofs.laws.worked_laws.Goals as goal
 
 pub returns-clause-branch_entries : goal.returns-clause-branch_entries
@@ -50,6 +50,9 @@ returns-clause-join c shades it shaded is own =
     let pushed = pushed_under (scene_on branching) shades (host_id 0) 0 2 push.law.0 it is push.law.1.1 in
     let entry = label_there (scene_on branching) (code_on branching) shades shaded 2 _ it refl is in
     apart_words 1 3 refl refl (ap word entry ∙ sym (ap word (push.label_is ∙ sym pushed ∙ own)))
+
+pub returns-clause-pushed_inside : goal.returns-clause-pushed_inside
+returns-clause-pushed_inside c = not_pushed
 
 pub returns-clause-head : goal.returns-clause-head
 unfolding is_trusted_by join_of
