@@ -14,7 +14,7 @@ use Rattle.jif_tree.specs.LabelRules.{method_at, params_of, result_of}
 use Rattle.host_code.specs.declared.instruction.Op.TheVariants as op
 use Rattle.need_labels.specs.Labelled.{pc_of}
 use Rattle.msg_cost.specs.declared.spot.Spot.{Spot}
-use Rattle.msg_cost.specs.Moves.{PlannedShape, is_same, end_of, next_spot, own_statements}
+use Rattle.msg_cost.specs.Moves.{PlannedShape, is_same, end_of, next_spot, own_statements, called_home}
 use Rattle.split_rules.specs.Emissions.{Emission, instruction, entry, stands, lands, Counts, counts_after, counts_with}
 use Rattle.split_rules.specs.Expressions.{Reading, readings_of, reads_in}
 use Rattle.split_rules.specs.Positions.{IsOf, all_statements}
@@ -182,8 +182,10 @@ keeps_named has basis walked host label statement None None = tt
 call_named : (has : ℕ → Label → Type 0) (basis : Basis) (walked : Walked) (counts : Counts) (host : HostId)
     (label : Label) (statement : StmtId) (site : SiteId) (method : MethodId) (arguments : List ExprTree)
     (into : Option VarId) (left : List StmtId) → IsPushedFor basis statement label →
+    NamesWell has basis label statement (op.Call (entry_id (suc method.0)) (called_home walked.planned
+    (method_at walked.labelled.program method))) →
     AreNamed has basis counts (call_emissions walked counts host label statement site method arguments into left)
-call_named has basis walked counts host label statement site method arguments into left pushed told =
+call_named has basis walked counts host label statement site method arguments into left pushed enters told =
     let called = method_at walked.labelled.program method in (
       tt,
       (
@@ -193,7 +195,7 @@ call_named has basis walked counts host label statement site method arguments in
             (arguments_named has basis walked host label statement (params_of called) arguments) (
               (label, told.0, pushed),
               (
-                tt,
+                enters,
                 (
                   tt,
                   keeps_named has basis walked host label statement (result_of called) into,
@@ -354,7 +356,8 @@ block_named has basis planned tree around (call heading site method arguments in
     (move_named has basis walked around counts lane next (heading.id ∷ others) block)
     (call_named has basis walked
     (counts_after counts (move_emissions walked around counts lane next (heading.id ∷ others))) next.host around.pc
-    heading.id site method arguments into (under_token planned next others) pushed)
+    heading.id site method arguments into (under_token planned next others) pushed
+    (call heading site method arguments into done, there.0, refl, refl))
     (block_named has basis planned tree around rest block kept.1 there.1 _ (lane_at counts lane next))
 block_named has basis planned tree around (give_back heading value rest) block kept there counts lane =
     let walked = walked_in basis.principals basis.labelled planned tree in

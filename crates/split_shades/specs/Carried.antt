@@ -2,6 +2,7 @@
 use Rattle.std.specs.Prelude.{◌≡◌, ◌⊎◌, ℕ, suc, Some, slice_get, ⊤}
 use Rattle.js_base.specs.declared.ids.HostId.{HostId}
 use Rattle.js_base.specs.declared.ids.StmtId.{StmtId}
+use Rattle.js_base.specs.declared.ids.EntryId.{EntryId}
 use Rattle.label_lattice.specs.declared.label.Label.{Label}
 use Rattle.jif_tree.specs.Trees.{BlockTree, branch, loop, call, MethodTree}
 use Rattle.jif_tree.specs.LabelRules.{guarded, begin_label, method_at}
@@ -74,6 +75,11 @@ IsPushedFor basis statement label =
     IsBlockOf basis statement label
     ⊎ ((own : BlockTree) × IsOf basis.labelled.program own × (number_of own ≡ statement) × IsBehind basis own label)
 
+-- A call enters its method, whose entry has the number behind that of the method.
+abbrev pub EntersWell : EntryId → BlockTree → Type 0
+EntersWell there (call heading site method arguments into rest) = there.0 ≡ suc method.0
+EntersWell there other = ⊥
+
 -- Which labels the entries have that an instruction with this program label names. The first argument tells which label
 -- the entry of a number has.
 abbrev pub NamesWell : (ℕ → Label → Type 0) → Basis → Label → StmtId → Op → Type 0
@@ -81,6 +87,8 @@ NamesWell has basis label statement (op.Go there on) = has there.0 label × IsBl
 NamesWell has basis label statement (op.Ask there on) = has there.0 label × IsBlockOf basis statement label
 NamesWell has basis label statement (op.Push there) =
     (own : Label) × has there.0 own × IsPushedFor basis statement own
+NamesWell has basis label statement (op.Call there on) =
+    (own : BlockTree) × IsOf basis.labelled.program own × (number_of own ≡ statement) × EntersWell there own
 NamesWell has basis label statement other = ⊤
 
 -- ---- code

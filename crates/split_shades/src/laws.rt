@@ -68,7 +68,7 @@ pub fn shade_laws()
         (split_code labelled needs hosts plan) shades × ReleaseNothing (split_code labelled needs hosts plan) shades }
     // Each instruction carries the program label of the statement that it is for, which stands on its host, or that of
     // a block where the right to go on moves. Each entry carries the label of what it is named for: its method, its
-    // block, the blocks inside its branch or loop, or its call.
+    // block, the blocks inside its branch or loop, or its call. A call enters its method.
     ensures carried { (labelled : Labelled) (needs : NeedsShape) (hosts : HostsShape) (plan : PlanShape) →
         IsSplittable labelled hosts plan → IsAllowed labelled needs hosts plan → IsHeld labelled needs hosts plan →
         AreCarried (record { principals = hosts.principals; labelled = labelled })
