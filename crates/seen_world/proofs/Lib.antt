@@ -1,6 +1,7 @@
 pub mod SeeingHosts
 pub mod SeenPlaces
 pub mod SeenWorlds
+pub mod Sendings
 pub mod SecretTurns
 pub mod PointsAtStart
 pub mod TurnsKept
