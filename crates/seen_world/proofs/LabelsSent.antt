@@ -18,11 +18,11 @@ use Rattle.host_core.specs.Taking.{IsTaking, after_passing}
 use Rattle.host_core.specs.Turn.{IsTurn}
 use Rattle.host_core.specs.Turn.{label_of_thread, label_of_turn}
 use Rattle.seen_world.specs.Eyes.{Eyes, AreEyes, sees_at, is_open}
-use Rattle.seen_world.specs.Points.{RunsWell, IsAskedBy, FliesWell, IsHiddenToken, ShowsNoHidden, AsksForNoHidden}
+use Rattle.seen_world.specs.Points.{RunsWell, IsAskedBy, FliesWell, ShowsNoHidden, AsksForNoHidden}
 use Rattle.seen_world.specs.Points.{HasLabelAt, IsLabelledAs, IsGrantedTo, IsInFlight}
 use Rattle.seen_world.proofs.Answered.{asking_at, taking_sends}
 use Rattle.seen_world.proofs.Sendings.{EachSending, turn_sends, any_held}
-use Rattle.seen_world.proofs.TokensTold.{holds_open, turn_token}
+use Rattle.seen_world.proofs.TokensTold.{open_shows}
 use Rattle.seen_world.proofs.TurnsKept.{hidden_is}
 
 -- ---- what a turn sends
@@ -103,10 +103,8 @@ turn_labelled eyes state thread outcome label are is well turns labels =
     turns (any_held thread.held) (λ there found.
     operation_labelled eyes (λ token. ⊤) (with_running state None) thread label there.op has
     (same has.0 there (sym has.1 ∙ found))))
-    (shown outcome.sent (λ sees.
-    turn_token (λ token. ¬ IsHiddenToken eyes token) eyes.code state thread outcome is turns
-    (holds_open eyes are state thread has.0 has.1 well
-    (sym (label_same eyes are state.me thread.at label has) ∙ sees))))
+    (shown outcome.sent (λ sees. open_shows eyes state thread outcome are is well
+    (sym (label_same eyes are state.me thread.at label has) ∙ sees) turns))
   where
     same : (one other : Instr) → Some one ≡ Some other → one.op ≡ other.op
     same one other alike = cc
