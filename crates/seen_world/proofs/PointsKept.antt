@@ -17,7 +17,7 @@ use Rattle.net_world.specs.Fits.{ShapeFits, IsStateOf, OwnTokenIn, HasOwnToken}
 use Rattle.net_world.specs.Flying.{Flight}
 use Rattle.net_world.specs.Secret.{IsSecret}
 use Rattle.net_world.specs.World.{WorldShape, IsStep, IsTakeStep, IsTurnStep, IsActStep, state_at, world_at_start}
-use Rattle.net_world.specs.World.{with_state, without_flight, letter_of, tokens_sent, misbehaves}
+use Rattle.net_world.specs.World.{with_state, without_flight, tokens_sent, misbehaves}
 use Rattle.net_world.proofs.Moved.{moved_acted}
 use Rattle.net_world.proofs.StepLaws.{absent_set, act_puts, same_misbehave}
 use Rattle.std.specs.Prelude.{slice_get}
@@ -33,7 +33,7 @@ use Rattle.seen_world.proofs.Granted.{turn_granted, answer_granted, granted_pass
 use Rattle.seen_world.proofs.LabelsSent.{turn_labelled, answer_labelled, sent_in_flight}
 use Rattle.seen_world.proofs.PointsAtStart.{starts_keep, present_obeys}
 use Rattle.seen_world.proofs.SeenPlaces.{some_is}
-use Rattle.seen_world.proofs.SecretTurns.{held_by, sent_kept, letter_obeys, secret_silent}
+use Rattle.seen_world.proofs.SecretTurns.{held_by, sent_silent, secret_silent}
 use Rattle.seen_world.proofs.SentWell.{turn_carries}
 use Rattle.seen_world.proofs.TakesKept.{take_keeps, taken_world}
 use Rattle.seen_world.proofs.TokensTold.{turn_shows}
@@ -179,14 +179,11 @@ take_silent eyes world after from to place are watch fits points step =
     let state = step.state in
     let sent = step.outcome.sent in
     let answers = answers_of eyes world after from to place are watch fits points step in
-    let left = without_flight world from to place in
-    let good : HostId → Type 0 = λ on. misbehaves (with_state left to step.outcome.state) on ≡ false in
     ap (λ (it : WorldShape). it.sent) (sym step.leaves)
-    ∙ sent_kept left to step.outcome.state (letter_of (Some step.flight.label) sent)
-    (letter_obeys good (Some step.flight.label) sent
-    (held_by (λ it. (it.0 ≡ from) × FliesWell eyes state.me it.0 it.1) (λ it. good it.0) sent
-    (λ it answer. absent_set world.hosts to.0 it.0.0 state step.outcome.state step.obeys ∙ watch it.0
-    ∙ ap eyes.bad answer.0 ∙ answers.flies.obeys) answers.sent))
+    ∙ sent_silent eyes (without_flight world from to place) to state step.outcome.state (Some step.flight.label) sent
+    watch step.obeys
+    (held_by (λ it. (it.0 ≡ from) × FliesWell eyes state.me it.0 it.1) (λ it. eyes.bad it.0 ≡ false) sent
+    (λ it answer. ap eyes.bad answer.0 ∙ answers.flies.obeys) answers.sent)
 
 -- a request in flight passes its check
 pub request_passes : (eyes : Eyes) (world : WorldShape) (from to : HostId) (place : ℕ) (flight : Flight)

@@ -15,11 +15,10 @@ use Rattle.host_core.specs.Host.{HostShape, Outcome, with_running}
 use Rattle.host_core.specs.Turn.{IsTurn}
 use Rattle.event_text.specs.declared.event.Event.TheVariants.{Turn}
 use Rattle.host_code.specs.declared.message.Message.{Message}
-use Rattle.host_core.specs.Host.{Letter}
 use Rattle.host_core.specs.Turn.{label_of_thread, label_of_turn}
 use Rattle.net_world.specs.Fits.{ShapeFits, IsStateOf}
 use Rattle.net_world.specs.Secret.{IsReadable, IsSecret}
-use Rattle.net_world.specs.World.{WorldShape, misbehaves, with_state, after_sending, letter_of, IsTurnStep}
+use Rattle.net_world.specs.World.{WorldShape, state_at, misbehaves, with_state, after_sending, letter_of, IsTurnStep}
 use Rattle.net_world.specs.World.{IsStep}
 use Rattle.net_world.proofs.StepLaws.{absent_set}
 use Rattle.split_shades.specs.ShadedCode.{IsShadedOp}
@@ -100,17 +99,17 @@ secret_told eyes state thread outcome are runs well hidden turns =
 
 -- ---- worlds
 
-pub sent_kept : (world : WorldShape) (host : HostId) (state : HostShape) (letter : Option Letter) →
-    IfSome letter (λ it. misbehaves (with_state world host state) it.to ≡ false) →
-    (after_sending (with_state world host state) host letter).sent ≡ world.sent
-sent_kept world host state None obeys = refl
-sent_kept world host state (Some letter) obeys = rw obeys refl
-
-pub letter_obeys : (obeys : HostId → Type 0) (label : Option ℕ) (sent : Option (HostId × Message)) →
-    IfSome sent (λ it. obeys it.0) → IfSome (letter_of label sent) (λ it. obeys it.to)
-letter_obeys obeys None sent all = tt
-letter_obeys obeys (Some label) None all = tt
-letter_obeys obeys (Some label) (Some it) all = all
+-- what goes to an obeying host tells no misbehaving one anything
+pub sent_silent : (eyes : Eyes) (world : WorldShape) (host : HostId) (old state : HostShape) (label : Option ℕ)
+    (sent : Option (HostId × Message)) → Watches eyes world → state_at world host ≡ Some old →
+    IfSome sent (λ it. eyes.bad it.0 ≡ false) →
+    (after_sending (with_state world host state) host (letter_of label sent)).sent ≡ world.sent
+sent_silent eyes world host old state None sent watch there obeys = refl
+sent_silent eyes world host old state (Some label) None watch there obeys = refl
+sent_silent eyes world host old state (Some label) (Some it) watch there obeys =
+    let good : misbehaves (with_state world host state) it.0 ≡ false =
+    absent_set world.hosts host.0 it.0.0 old state there ∙ watch it.0 ∙ obeys in
+    rw good refl
 
 -- the instruction of a turn that is secret is there
 secret_there : (code : CodeShape) (P : ℕ → Type 0) (host : HostId) (thread : ThreadShape) (found : Option Instr) →
@@ -146,14 +145,9 @@ turn_silent eyes world after host (Some thread) are watch fits keep step is secr
     let obeys : IfSome step.outcome.sent (λ sent. eyes.bad sent.0 ≡ false) =
     secret_told eyes state thread step.outcome are is (subst (λ me. RunsWell eyes me thread) (sym fit.me) well)
     (subst (λ me. is_open eyes me thread.at ≡ false) (sym fit.me) hidden) step.turns in
-    let same : (on : HostId) → misbehaves (with_state world host step.outcome.state) on ≡ eyes.bad on =
-    λ on. absent_set world.hosts host.0 on.0 step.state step.outcome.state step.obeys ∙ watch on in
-    let good : HostId → Type 0 = λ on. misbehaves (with_state world host step.outcome.state) on ≡ false in
     ap (λ (it : WorldShape). it.sent) (sym step.leaves)
-    ∙ sent_kept world host step.outcome.state (letter_of (label_of_turn eyes.code state) step.outcome.sent)
-    (letter_obeys good (label_of_turn eyes.code state) step.outcome.sent
-    (held_by (λ sent. eyes.bad sent.0 ≡ false) (λ sent. good sent.0) step.outcome.sent
-    (λ sent is_good. same sent.0 ∙ is_good) obeys))
+    ∙ sent_silent eyes world host state step.outcome.state (label_of_turn eyes.code state) step.outcome.sent watch
+    step.obeys obeys
 
 pub secret_silent : (eyes : Eyes) (world after : WorldShape) (host : HostId) → AreEyes eyes → Watches eyes world →
     ShapeFits eyes.code world → HostsKeep eyes world → IsStep eyes.code world (Turn host) after →
