@@ -1,7 +1,7 @@
--- What holds of threads and entries holds before the first event.
+-- What holds of threads and entries holds before the first event, and what an event finds of its host.
 use Rattle.std.proofs.Common.{◌≡◌, ◌∙◌, ℕ, zero, suc, ◌+◌, ℤ, Bool, true, false, List, [], ◌∷◌, length, arith}
 use Rattle.std.proofs.Common.{Option, Some, None, refl, ap, sym, subst}
-use Rattle.std.specs.Prelude.{◌==◌, if◌then◌else◌, slice_get, IsSomeAnd, All}
+use Rattle.std.specs.Prelude.{◌==◌, if◌then◌else◌, slice_get, IfSome, IsSomeAnd, All}
 use Rattle.std.specs.Int.{bit_at}
 use Rattle.std.proofs.lemmas.Bool.{false≢true}
 use Rattle.std.proofs.lemmas.Bool.Decides.{nat_tests}
@@ -13,7 +13,8 @@ use Rattle.host_code.specs.Code.{CodeShape, halt, entry_at}
 use Rattle.host_code.specs.Sound.{IsSoundCode}
 use Rattle.host_core.specs.Host.{HostShape, new_token, after_push, after_entering}
 use Rattle.host_core.specs.Start.{host_at_start, idle_host, root_host, main_frame, last_token}
-use Rattle.net_world.specs.World.{given, hosts_before, is_absent, world_at_start}
+use Rattle.net_world.specs.Fits.{ShapeFits, IsStateOf}
+use Rattle.net_world.specs.World.{WorldShape, state_at, given, hosts_before, is_absent, world_at_start}
 use Rattle.split_shades.specs.Shading.{method_shade, halt_shade}
 use Rattle.split_shades.specs.Shades.{Meets, ahead_of}
 use Rattle.seen_world.specs.Eyes.{Eyes, AreEyes, Watches, is_hidden}
@@ -149,3 +150,23 @@ starts_keep eyes rows bad store are sound watch host state is =
     sym (watch host) ∙ present_obeys (slice_get (hosts_before eyes.code store bad 0 rows) host.0) state is in
     subst (HostKeeps eyes host) begun.1
     (host_keeps eyes store begun.0 host (host.0 == eyes.code.root.0) are sound obeys refl)
+
+-- ---- the host of an event
+
+-- it obeys, and its state keeps what holds of hosts
+pub record Own (eyes : Eyes) (world : WorldShape) (host : HostId) (state : HostShape) : Type 0 where
+  pub fit : IsStateOf eyes.code host state
+  pub obeys : eyes.bad state.me ≡ false
+  pub keeps : HostKeeps eyes state.me state
+
+pub own_state : (eyes : Eyes) (world : WorldShape) (host : HostId) (state : HostShape) → Watches eyes world →
+    ShapeFits eyes.code world → HostsKeep eyes world → state_at world host ≡ Some state → Own eyes world host state
+own_state eyes world host state watch fits keep there =
+    let fit : IsStateOf eyes.code host state =
+    subst (λ one. IfSome one (IsStateOf eyes.code host)) there (fits.states host) in
+    let obeys : eyes.bad host ≡ false = sym (watch host) ∙ present_obeys (slice_get world.hosts host.0) state there in
+    record {
+      fit = fit;
+      obeys = ap eyes.bad fit.me ∙ obeys;
+      keeps = subst (λ (me : HostId). HostKeeps eyes me state) (sym fit.me) (keep host state there);
+    }

@@ -31,7 +31,7 @@ use Rattle.seen_world.proofs.Answered.{answer_carries, made_carries, answer_show
 use Rattle.seen_world.proofs.FlightsKept.{FlyAs, fly_without, fly_sent, tell_shown, send_shown, made_shown}
 use Rattle.seen_world.proofs.Granted.{turn_granted, answer_granted, granted_passes}
 use Rattle.seen_world.proofs.LabelsSent.{turn_labelled, answer_labelled, sent_in_flight}
-use Rattle.seen_world.proofs.PointsAtStart.{starts_keep, present_obeys}
+use Rattle.seen_world.proofs.PointsAtStart.{Own, own_state, starts_keep}
 use Rattle.seen_world.proofs.SeenPlaces.{some_is}
 use Rattle.seen_world.proofs.SecretTurns.{held_by, sent_silent, secret_silent}
 use Rattle.seen_world.proofs.SentWell.{turn_carries}
@@ -41,26 +41,6 @@ use Rattle.seen_world.proofs.TurnsKept.{hosts_kept, turned_world}
 
 abbrev IsShown : Eyes → Token → Type 0
 IsShown eyes token = ¬ IsHiddenToken eyes token
-
--- ---- the host of an event
-
--- it obeys, and its state keeps what holds of hosts
-record Own (eyes : Eyes) (world : WorldShape) (host : HostId) (state : HostShape) : Type 0 where
-  fit : IsStateOf eyes.code host state
-  obeys : eyes.bad state.me ≡ false
-  keeps : HostKeeps eyes state.me state
-
-own_state : (eyes : Eyes) (world : WorldShape) (host : HostId) (state : HostShape) → Watches eyes world →
-    ShapeFits eyes.code world → PointsHold eyes world → state_at world host ≡ Some state → Own eyes world host state
-own_state eyes world host state watch fits points there =
-    let fit : IsStateOf eyes.code host state =
-    subst (λ one. IfSome one (IsStateOf eyes.code host)) there (fits.states host) in
-    let obeys : eyes.bad host ≡ false = sym (watch host) ∙ present_obeys (slice_get world.hosts host.0) state there in
-    record {
-      fit = fit;
-      obeys = ap eyes.bad fit.me ∙ obeys;
-      keeps = subst (λ (me : HostId). HostKeeps eyes me state) (sym fit.me) (points.hosts host state there);
-    }
 
 -- who misbehaves after the step of a host did before
 bad_before : (eyes : Eyes) (world : WorldShape) (host other : HostId) (old state : HostShape) → Watches eyes world →
@@ -81,7 +61,7 @@ turn_points : (eyes : Eyes) (world after : WorldShape) (host : HostId) → AreEy
 turn_points eyes world after host are sound watch fits points step =
     let state = step.state in
     let sent = step.outcome.sent in
-    let own = own_state eyes world host state watch fits points step.obeys in
+    let own = own_state eyes world host state watch fits points.hosts step.obeys in
     let thread = thread_of state.running step.runs in
     let runs : RunsWell eyes state.me thread.0 =
     subst (λ one. IfSome one (RunsWell eyes state.me)) thread.1 own.keeps.running in
@@ -121,7 +101,7 @@ answers_of : (eyes : Eyes) (world after : WorldShape) (from to : HostId) (place 
     Watches eyes world → ShapeFits eyes.code world → PointsHold eyes world →
     (step : IsTakeStep eyes.code world from to place after) → Answers eyes world from to place after step
 answers_of eyes world after from to place are watch fits points step =
-    let own = own_state eyes world to step.state watch fits points step.obeys in
+    let own = own_state eyes world to step.state watch fits points.hosts step.obeys in
     let flies : IsInFlight eyes from to step.flight =
     all_at (IsInFlight eyes from to) (world.flying from to) place step.flight (points.flying from to) step.there in
     record {
@@ -205,7 +185,7 @@ act_points : (eyes : Eyes) (world after : WorldShape) (from to : HostId) (made :
     PointsHold eyes world → IsActStep eyes.code world from to made after → PointsHold eyes after
 act_points eyes world after from to made are sound watch fits its points step =
     let state = step.state in
-    let own = own_state eyes world to state watch fits points step.obeys in
+    let own = own_state eyes world to state watch fits points.hosts step.obeys in
     let bad : eyes.bad from ≡ true = sym (watch from) ∙ step.bad in
     let shows : ShowsNoHidden eyes step.message =
     made_shown (IsShown eyes) world made step.message points.told

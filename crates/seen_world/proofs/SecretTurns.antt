@@ -16,7 +16,7 @@ use Rattle.host_core.specs.Turn.{IsTurn}
 use Rattle.event_text.specs.declared.event.Event.TheVariants.{Turn}
 use Rattle.host_code.specs.declared.message.Message.{Message}
 use Rattle.host_core.specs.Turn.{label_of_thread, label_of_turn}
-use Rattle.net_world.specs.Fits.{ShapeFits, IsStateOf}
+use Rattle.net_world.specs.Fits.{ShapeFits}
 use Rattle.net_world.specs.Secret.{IsReadable, IsSecret}
 use Rattle.net_world.specs.World.{WorldShape, state_at, misbehaves, with_state, after_sending, letter_of, IsTurnStep}
 use Rattle.net_world.specs.World.{IsStep}
@@ -25,6 +25,7 @@ use Rattle.split_shades.specs.ShadedCode.{IsShadedOp}
 use Rattle.split_shades.specs.Shading.{IsUnderBlock}
 use Rattle.seen_world.specs.Eyes.{Eyes, AreEyes, Watches, is_open, is_deep, sees_level, Names}
 use Rattle.seen_world.specs.Points.{RunsWell, MayHold, HostsKeep}
+use Rattle.seen_world.proofs.PointsAtStart.{own_state}
 use Rattle.seen_world.proofs.SeenPlaces.{named_open, block_under}
 use Rattle.seen_world.proofs.Sendings.{EachSending, turn_sends}
 use Rattle.seen_world.proofs.SeenWorlds.{turn_secret}
@@ -128,8 +129,7 @@ turn_silent eyes world after host None are watch fits keep step is secret =
     absurd (false≢true (subst IsSome is step.runs))
 turn_silent eyes world after host (Some thread) are watch fits keep step is secret =
     let state = step.state in
-    let fit : IsStateOf eyes.code host state =
-    subst (λ one. IfSome one (IsStateOf eyes.code host)) step.obeys (fits.states host) in
+    let own = own_state eyes world host state watch fits keep step.obeys in
     let P : ℕ → Type 0 = λ label. ¬ IsReadable eyes.code world label in
     let told : IsSomeAnd (label_of_turn eyes.code state) P =
     subst (λ one. IsSomeAnd one (λ it. IsSomeAnd (label_of_turn eyes.code it) P)) step.obeys secret in
@@ -137,14 +137,13 @@ turn_silent eyes world after host (Some thread) are watch fits keep step is secr
     subst (λ one. IsSomeAnd (label_of_thread eyes.code state.me one) P) is told in
     let there = secret_there eyes.code P state.me thread (instruction_at eyes.code state.me thread.at) refl label in
     let there_is : instruction_at eyes.code host thread.at ≡ Some there.0 =
-    subst (λ me. instruction_at eyes.code me thread.at ≡ Some there.0) fit.me there.1 in
+    subst (λ me. instruction_at eyes.code me thread.at ≡ Some there.0) own.fit.me there.1 in
     let hidden : is_open eyes host thread.at ≡ false =
-    (turn_secret eyes world host state thread there.0 are watch step.obeys fit.me is there_is).1 secret in
-    let well : RunsWell eyes host thread =
-    subst (λ one. IfSome one (RunsWell eyes host)) is (keep host state step.obeys).running in
+    (turn_secret eyes world host state thread there.0 are watch step.obeys own.fit.me is there_is).1 secret in
     let obeys : IfSome step.outcome.sent (λ sent. eyes.bad sent.0 ≡ false) =
-    secret_told eyes state thread step.outcome are is (subst (λ me. RunsWell eyes me thread) (sym fit.me) well)
-    (subst (λ me. is_open eyes me thread.at ≡ false) (sym fit.me) hidden) step.turns in
+    secret_told eyes state thread step.outcome are is
+    (subst (λ one. IfSome one (RunsWell eyes state.me)) is own.keeps.running)
+    (subst (λ me. is_open eyes me thread.at ≡ false) (sym own.fit.me) hidden) step.turns in
     ap (λ (it : WorldShape). it.sent) (sym step.leaves)
     ∙ sent_silent eyes world host state step.outcome.state (label_of_turn eyes.code state) step.outcome.sent watch
     step.obeys obeys

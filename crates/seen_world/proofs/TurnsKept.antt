@@ -28,7 +28,7 @@ use Rattle.host_core.specs.Host.{next_request}
 use Rattle.host_core.specs.Turn.{IsTurnOf, IsTurn, IsRunning, after_operation, after_read, after_put, after_go}
 use Rattle.host_core.specs.Turn.{after_ask, after_own_push, after_own_call, after_return, after_back, with_thread}
 use Rattle.event_text.specs.declared.event.Event.TheVariants.{Turn}
-use Rattle.net_world.specs.Fits.{ShapeFits, IsStateOf}
+use Rattle.net_world.specs.Fits.{ShapeFits}
 use Rattle.net_world.specs.World.{WorldShape, state_at, IsStep}
 use Rattle.net_world.proofs.Moved.{Moved, either}
 use Rattle.net_world.proofs.StepLaws.{turn_puts}
@@ -38,7 +38,7 @@ use Rattle.split_shades.specs.Shading.{IsUnderBlock, Divides, Names, PushesAt, P
 use Rattle.seen_world.specs.Eyes.{Eyes, AreEyes, Watches, is_hidden}
 use Rattle.seen_world.specs.Points.{MayEnterWith, IsTokenOf, MayHold, RunsWell, IsAt, WaitsWell}
 use Rattle.seen_world.specs.Points.{StandsWell, HostKeeps, HostsKeep}
-use Rattle.seen_world.proofs.PointsAtStart.{present_obeys}
+use Rattle.seen_world.proofs.PointsAtStart.{own_state}
 use Rattle.seen_world.proofs.SecretTurns.{held_by}
 use Rattle.seen_world.proofs.SeenPlaces.{under_seen}
 
@@ -655,14 +655,9 @@ pub turned_world : (eyes : Eyes) (world after : WorldShape) (host : HostId) → 
     HostsKeep eyes after
 turned_world eyes world after host are sound watch fits keep step =
     let state = step.state in
-    let fit : IsStateOf eyes.code host state =
-    subst (λ one. IfSome one (IsStateOf eyes.code host)) step.obeys (fits.states host) in
-    let obeys : eyes.bad host ≡ false =
-    sym (watch host) ∙ present_obeys (slice_get world.hosts host.0) state step.obeys in
+    let own = own_state eyes world host state watch fits keep step.obeys in
     let kept : HostKeeps eyes state.me step.outcome.state =
-    turn_keeps eyes state step.outcome are sound fit.fits
-    (subst (λ (me : HostId). eyes.bad me ≡ false) (sym fit.me) obeys)
-    (subst (λ (me : HostId). HostKeeps eyes me state) (sym fit.me) (keep host state step.obeys)) step.turns in
+    turn_keeps eyes state step.outcome are sound own.fit.fits own.obeys own.keeps step.turns in
     hosts_kept eyes world after host state step.outcome.state keep step.obeys
     (turn_puts eyes.code world after host step)
-    (subst (λ (me : HostId). HostKeeps eyes me step.outcome.state) fit.me kept)
+    (subst (λ (me : HostId). HostKeeps eyes me step.outcome.state) own.fit.me kept)
