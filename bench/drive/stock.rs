@@ -3,54 +3,23 @@
 
 mod code;
 mod host;
+mod lent_loop;
 mod message;
 mod sha256;
 mod world;
 
-use code::{A, B, BinOp, Code, CodeField, CodeHost, Entry, EntryId, FieldId, HostId, Instr, Label, Node, Op};
+use code::{A, B, Code, CodeField, CodeHost, Entry, EntryId, FieldId, HostId, Label};
+use lent_loop::{N, S, lent_loop};
 use std::env;
 use std::process::ExitCode;
 use world::World;
-
-/// The counter of the loop, on host A.
-const N: FieldId = FieldId(0);
-
-/// What is added up, on host B.
-const S: FieldId = FieldId(1);
-
-fn number(value: i64) -> Vec<Node> {
-    vec![Node::Number(value)]
-}
-
-fn with(operator: BinOp, second: Node) -> Vec<Node> {
-    vec![Node::Temp(0), second, Node::Binary(operator)]
-}
 
 fn entry(host: HostId, at: u32) -> Entry {
     Entry { host, at, label: 0, need: 0 }
 }
 
-/// The code of `while (n < LIMIT) { s = s + n; n = n + 1; }`, where the first statement of the body is lent to host B.
-/// Entry 2 is the head, 3 the return point, and 4 the segment on B. Fields start with 1 in this world.
+/// The code of the loop, on hosts A and B. Fields start with 1 in this world.
 fn split_loop(rounds: i64) -> Code {
-    let first = vec![
-        Op::Read(N, number(0)),
-        Op::Branch(with(BinOp::Less, Node::Number(rounds)), 8),
-        Op::Push(EntryId(2)),
-        Op::Push(EntryId(3)),
-        Op::Go(EntryId(4), B),
-        Op::Read(N, number(0)),
-        Op::Put(N, number(0), with(BinOp::Add, Node::Number(1))),
-        Op::Back,
-        Op::Back,
-    ];
-    let second = vec![
-        Op::Read(S, number(0)),
-        Op::Read(N, number(0)),
-        Op::Put(S, number(0), with(BinOp::Add, Node::Temp(1))),
-        Op::Back,
-    ];
-    let part = |ops: Vec<Op>| ops.into_iter().map(|op| Instr { label: 0, op }).collect();
     Code {
         hosts: vec![CodeHost { label: Label::empty() }, CodeHost { label: Label::empty() }],
         labels: vec![Label::empty()],
@@ -58,7 +27,7 @@ fn split_loop(rounds: i64) -> Code {
         vars: vec![],
         entries: vec![entry(A, 0), entry(A, 0), entry(A, 0), entry(A, 5), entry(B, 0)],
         sites: vec![],
-        parts: vec![part(first), part(second)],
+        parts: lent_loop(rounds),
         root: A,
         main: EntryId(1),
     }

@@ -3,12 +3,14 @@
 
 mod code;
 mod host;
+mod lent_loop;
 mod message;
 mod script;
 mod sha256;
 mod world;
 
-use code::{A, B, BinOp, Code, CodeField, CodeHost, Entry, EntryId, FieldId, FrameId, HostId, Instr, Label, Node, Op};
+use code::{A, B, Code, CodeField, CodeHost, Entry, EntryId, FieldId, FrameId, HostId, Label};
+use lent_loop::lent_loop;
 use message::{Message, Token};
 use script::{FIELDS, HOSTS, Script, read_script};
 use std::env;
@@ -17,52 +19,18 @@ use std::io::{self, BufWriter, Write};
 use std::process::ExitCode;
 use world::{EventError, World};
 
-/// The counter of the loop, on host T.
-const N: FieldId = FieldId(0);
-
-/// What is added up, on host A.
-const S: FieldId = FieldId(1);
-
 /// The most bytes of a script.
 const SCRIPT_BYTES: usize = 1 << 24;
 
 /// The bit of Alice.
 const ALICE: u64 = 1;
 
-fn number(value: i64) -> Vec<Node> {
-    vec![Node::Number(value)]
-}
-
-fn with(operator: BinOp, second: Node) -> Vec<Node> {
-    vec![Node::Temp(0), second, Node::Binary(operator)]
-}
-
 fn entry(host: HostId, at: u32, need: u64) -> Entry {
     Entry { host, at, label: 0, need }
 }
 
-/// The code of `while (n < 4) { s = s + n; n = n + 1; }`, where the first statement of the body is lent to the second
-/// host. Entry 2 is the head, 3 the return point, and 4 the segment on the second host. Fields start with 1 in this
-/// world.
+/// The code of the loop of four rounds, on hosts T and A. Fields start with 1 in this world.
 fn split_loop() -> Code {
-    let first = vec![
-        Op::Read(N, number(0)),
-        Op::Branch(with(BinOp::Less, Node::Number(4)), 8),
-        Op::Push(EntryId(2)),
-        Op::Push(EntryId(3)),
-        Op::Go(EntryId(4), B),
-        Op::Read(N, number(0)),
-        Op::Put(N, number(0), with(BinOp::Add, Node::Number(1))),
-        Op::Back,
-        Op::Back,
-    ];
-    let second = vec![
-        Op::Read(S, number(0)),
-        Op::Read(N, number(0)),
-        Op::Put(S, number(0), with(BinOp::Add, Node::Temp(1))),
-        Op::Back,
-    ];
-    let part = |ops: Vec<Op>| ops.into_iter().map(|op| Instr { label: 0, op }).collect();
     let trusted = Label::trusted(ALICE);
     let owned = Label::owned(0, ALICE);
     Code {
@@ -78,7 +46,7 @@ fn split_loop() -> Code {
             entry(B, 0, 0),
         ],
         sites: vec![],
-        parts: vec![part(first), part(second)],
+        parts: lent_loop(4),
         root: A,
         main: EntryId(1),
     }
