@@ -2,7 +2,7 @@
 use Rattle.std.proofs.Common.{◌≡◌, ℕ, zero, suc, ◌+◌, ◌*◌, ◌<◌, ◌≤◌, Bool, true, false, not, ◌&&◌, List, [], ◌∷◌, ◌++◌}
 use Rattle.std.proofs.Common.{map, take, length, get_or, Some, slice_get, ◌⊎◌, inl, inr, pos, IsTrue, refl, sym, subst}
 use Rattle.std.proofs.Common.{ap, ◌∙◌, arith, below_more}
-use Rattle.std.proofs.lemmas.Bool.{cases_Bool, false≢true, and_parts}
+use Rattle.std.proofs.lemmas.Bool.{cases_Bool, false≢true, and_parts, and_from}
 use Rattle.std.proofs.lemmas.List.{get_or-map, length-map, length-append, length-take-le, get_or-take, map-append}
 use Rattle.std.proofs.Math.Seq.{take-suc}
 use Rattle.std.proofs.lemmas.List.Folds.{Any-from_list_any}
@@ -84,11 +84,6 @@ ends link = (link.from, link.to)
 abbrev same_ends : Ends → Ends → Bool
 same_ends first second = bytes_eq first.0 second.0 && bytes_eq first.1 second.1
 
-both_true : (one two : Bool) → one ≡ true → two ≡ true → (one && two) ≡ true
-both_true true true one two = refl
-both_true true false one two = two
-both_true false two one also = one
-
 same_is : (first second : Ends) → same_ends first second ≡ true → first ≡ second
 same_is first second same =
     let parts = and_parts (bytes_eq first.0 second.0) (bytes_eq first.1 second.1) same in
@@ -98,7 +93,7 @@ same_is first second same =
 
 same_ends_laws : IsEquivalence same_ends
 same_ends_laws = record {
-  refl = λ x. both_true _ _ (bytes_eq_laws.refl x.0) (bytes_eq_laws.refl x.1);
+  refl = λ x. and_from _ _ (bytes_eq_laws.refl x.0) (bytes_eq_laws.refl x.1);
   symm = λ x y. ap (λ b. b && bytes_eq x.1 y.1) (bytes_eq_laws.symm x.0 y.0)
       ∙ ap (λ b. bytes_eq y.0 x.0 && b) (bytes_eq_laws.symm x.1 y.1);
   congr = λ x y z is. ap (λ w. same_ends w z) (same_is x y is);

@@ -1,7 +1,7 @@
 -- A test that no token passes a limit, which can be computed.
 use Rattle.std.proofs.Common.{◌≡◌, ℕ, zero, suc, ◌+◌, ◌<◌, ◌≤◌, Bool, true, false, List, [], ◌∷◌, length, take, refl}
 use Rattle.std.proofs.Common.{◌&&◌, inl, inr, subst, arith, length-take-le}
-use Rattle.std.proofs.lemmas.Bool.{leb-true}
+use Rattle.std.proofs.lemmas.Bool.{leb-true, and_parts}
 use Rattle.std.proofs.lemmas.List.{take-take}
 use Rattle.std.specs.Prelude.{leb}
 use Rattle.js_base.specs.declared.limits.TheConstants.{FIELDS, METHODS, PARAMETERS, VARIABLES, STATEMENTS}
@@ -30,14 +30,10 @@ abbrev pub are_within : Tally → List Marked → Bool
 are_within t [] = true
 are_within t (token ∷ tokens) = are_below (counts (after_token t token)) && are_within (after_token t token) tokens
 
-both_true : (a b : Bool) → a && b ≡ true → (a ≡ true) × (b ≡ true)
-both_true true b is = (refl, is)
-both_true false b is = absurd (cc)
-
 below_of : (list : List (ℕ × ℕ)) → are_below list ≡ true → Each (λ count. count.0 ≤ count.1) list
 below_of [] is = tt
 below_of (count ∷ others) is =
-    let both = both_true (leb count.0 count.1) (are_below others) is in
+    let both = and_parts (leb count.0 count.1) (are_below others) is in
     (leb-true count.0 count.1 both.0, below_of others both.1)
 
 not_too_many : (t : Tally) → Each (λ count. count.0 ≤ count.1) (counts t) → (what : What) → ¬ HasTooMany what t
@@ -61,12 +57,12 @@ up_to : (t : Tally) (tokens : List Marked) → are_within t tokens ≡ true → 
     IsWithin (after_tokens t (take (m + 1) tokens))
 up_to t [] is m less = absurd (omega (arith, less))
 up_to t (token ∷ tokens) is zero less =
-    within_of (after_token t token) (both_true (are_below (counts (after_token t token)))
+    within_of (after_token t token) (and_parts (are_below (counts (after_token t token)))
     (are_within (after_token t token) tokens) is).0
 up_to t (token ∷ tokens) is (suc m) less =
     let one_more : suc (m + 1) ≡ suc m + 1 = omega arith in
     subst (λ n. IsWithin (after_tokens t (take n (token ∷ tokens)))) one_more
-    (up_to (after_token t token) tokens (both_true (are_below (counts (after_token t token)))
+    (up_to (after_token t token) tokens (and_parts (are_below (counts (after_token t token)))
     (are_within (after_token t token) tokens) is).1 m (omega (arith, less)))
 
 -- the first n tokens pass no limit where the test says so

@@ -5,7 +5,7 @@ use Rattle.std.proofs.Common.{sym, ◌∙◌, subst, arith, rules}
 use Rattle.std.specs.Prelude.{codes}
 use Rattle.std.specs.List.{AllByRecursion, flat_map}
 use Rattle.std.specs.Str.{bytes_eq}
-use Rattle.std.proofs.lemmas.Bool.{false≢true}
+use Rattle.std.proofs.lemmas.Bool.{false≢true, and_parts}
 use Rattle.std.proofs.lemmas.List.{length-append}
 use Rattle.js_base.specs.declared.ids.VarId.{VarId}
 use Rattle.js_base.specs.declared.ids.MethodId.{MethodId}
@@ -189,10 +189,6 @@ methods_in program principals globals first before (method ∷ methods) trees al
 
 -- ---- main
 
-both_true : (a b : Bool) → a && b ≡ true → (a ≡ true) × (b ≡ true)
-both_true true b is = (refl, is)
-both_true false b is = absurd (false≢true is)
-
 not_true : (b : Bool) → not b ≡ true → b ≡ false
 not_true false is = refl
 not_true true is = absurd (false≢true is)
@@ -205,8 +201,8 @@ main_at : (program : ProgramTree) (s : Setting) (head : Place) (first : ℕ) (me
     HasMethod program 0 false (record { 0 = first })
 main_at program s head first method tree is one stands =
     let own : MethodId = record { 0 = first } in
-    let outer = both_true (bytes_eq method.name.text (codes "main")) _ is in
-    let inner = both_true (length method.params == 0) (not (has_result method.result)) outer.1 in
+    let outer = and_parts (bytes_eq method.name.text (codes "main")) _ is in
+    let inner = and_parts (length method.params == 0) (not (has_result method.result)) outer.1 in
     let there = method_there program s head first method tree one stands in
     subst (λ n. HasMethod program n false own) (zero_count (length method.params) inner.0)
     (subst (λ g. HasMethod program (length method.params) g own) (not_true (has_result method.result) inner.1) there)

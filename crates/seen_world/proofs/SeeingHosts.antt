@@ -11,6 +11,7 @@ use Rattle.label_lattice.specs.Label.{ConfFlows}
 use Rattle.label_lattice.proofs.Decisions.{conf_flows}
 use Rattle.host_code.specs.Code.{CodeShape, CodeHostShape}
 use Rattle.entry_check.specs.Checks.{MaySee, label_of_host}
+use Rattle.net_world.proofs.Decisions.{some_below}
 use Rattle.split_rules.specs.Asking.{AreGranted}
 use Rattle.split_shades.specs.ShadedCode.{Shades, IsShadedCode, AreKnownInCode}
 use Rattle.split_shades.specs.Shading.{Scene}
@@ -42,22 +43,6 @@ no_host : (hosts : List CodeHostShape) (n : ℕ) → length hosts ≤ n → slic
 no_host [] n all = refl
 no_host (host ∷ hosts) zero all = absurd (omega arith)
 no_host (host ∷ hosts) (suc n) all = no_host hosts n (omega arith)
-
--- some host below a number sees the label
-some_below : (n : ℕ) (P : ℕ → Type 0) → ((k : ℕ) → Decided (P k)) → Decided ((k : ℕ) × (k < n) × P k)
-some_below zero P each = inr (λ some. absurd (omega (arith, some.1)))
-some_below (suc n) P each = elim (each n) [
-  | inl here ↦ inl (n, omega arith, here)
-  | inr not ↦ elim (some_below n P each) [
-    | inl some ↦ inl (some.0, omega (arith, some.1), some.2)
-    | inr none ↦ inr (λ some. elim (cases_lt some.0 n) [
-      | inl less ↦ none (some.0, less, some.2)
-      | inr more ↦ (
-          let same : some.0 ≡ n = omega (arith, some.1, more) in
-          not (subst P same some.2))
-    ])
-  ]
-]
 
 within : (code : CodeShape) (label : Label) (host : HostId) → MaySee (Some label) (label_of_host code host) →
     host.0 < length code.hosts

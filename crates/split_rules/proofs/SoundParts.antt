@@ -6,6 +6,7 @@ use Rattle.std.specs.Prelude.{unwrap_or}
 use Rattle.std.specs.List.{range_with_len}
 use Rattle.std.proofs.lemmas.List.{length-map}
 use Rattle.std.proofs.lemmas.List.Folds.{Any-from_list_any}
+use Rattle.std.proofs.lemmas.Bool.{and_parts}
 use Rattle.std.proofs.lemmas.Bool.Decides.{eqb_tells}
 use Rattle.std.proofs.lemmas.Option.{slice_get-map, slice_get_read}
 use Rattle.js_base.specs.declared.ids.HostId.{HostId}
@@ -117,10 +118,6 @@ entry_there labels emissions place named is =
     ∙ numbered_at (code_entry labels emissions) 0 (entries_in emissions) place named is
     ∙ ap (λ at. Some (code_entry labels emissions at named)) sum
 
-both_true : (first second : Bool) → (first && second) ≡ true → (first ≡ true) × (second ≡ true)
-both_true true second both = (refl, both)
-both_true false second both = absurd (cc)
-
 equal_of : (one other : ℕ) → (one == other) ≡ true → one ≡ other
 equal_of one other same = elim (eqb_tells one other) [
   | inl so ↦ so.1
@@ -140,7 +137,7 @@ entrances labelled hosts planned main emissions last labels host walk spot enter
     let some = Any-from_list_any test entries enters in
     let there = slice_get_read entries (length entries) some.0 some.1 refl some.2 (sym some.3) in
     let so = entry_made labels all some.0 some.1 there in
-    let both = both_true (some.1.host.0 == host.0) (some.1.at == spot) some.4 in
+    let both = and_parts (some.1.host.0 == host.0) (some.1.at == spot) some.4 in
     let on : some.1.host ≡ host = same_host some.1.host host (equal_of some.1.host.0 host.0 both.0) in
     let own : so.0.host ≡ host = sym (ap {A = Entry} (λ one. one.host) so.2) ∙ on in
     let place : length (emitted_on so.0.host (before_entry some.0 all)) ≡ spot =

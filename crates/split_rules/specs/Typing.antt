@@ -23,8 +23,8 @@ use Rattle.split_rules.specs.Expressions.{reads_in, nodes_of, first_element}
 use Rattle.split_rules.specs.Walk.{need_of}
 use Rattle.split_rules.specs.Positions.{IsIn, IsOf, number_of, due_numbers, Entrance, Due, run, keep, statement_due}
 use Rattle.split_rules.specs.Positions.{is_on, all_due, kept_due, body, under, FieldRead, field_reads, Argument}
-use Rattle.split_rules.specs.Positions.{Calling, no_call, arguing, entering, Forward, arguments_of, reads_due, Position, calm}
-use Rattle.split_rules.specs.Positions.{with_reads, with_forwards, forwards_of}
+use Rattle.split_rules.specs.Positions.{Calling, no_call, arguing, entering, Forward, arguments_of, reads_due, Position}
+use Rattle.split_rules.specs.Positions.{calm, with_reads, with_forwards, forwards_of}
 
 -- ---- parts of the laws
 
