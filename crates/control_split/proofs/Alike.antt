@@ -1,10 +1,12 @@
 -- How labels are compared, and where one is found.
-use Rattle.std.proofs.Common.{◌≡◌, ℕ, suc, ◌+◌, ◌<◌, ◌≤◌, Bool, true, false, ◌&&◌, nat_eq, nat_lt, List, [], ◌∷◌, ◌++◌, drop, length, get_or}
-use Rattle.std.proofs.Common.{refl, sym, ap, ◌∙◌, ◌⊎◌, inl, inr, arith}
-use Rattle.std.specs.List.{list_any}
-use Rattle.std.proofs.lemmas.Bool.{eqb-true, eq-eqb, ltb-true, lt-ltb}
+use Rattle.std.proofs.Common.{◌≡◌, ℕ, suc, ◌+◌, ◌<◌, ◌≤◌, Bool, true, false, ◌&&◌, nat_eq, nat_lt}
+use Rattle.std.proofs.Common.{List, [], ◌∷◌, ◌++◌, length, get_or}
+use Rattle.std.proofs.Common.{refl, sym, ap, subst, ◌∙◌, ◌⊎◌, inl, inr, arith}
+use Rattle.std.specs.Prelude.{if◌then◌else◌}
+use Rattle.std.specs.List.{list_any, position_or_len}
+use Rattle.std.proofs.lemmas.Bool.{eqb-true, eq-eqb, ltb-true, lt-ltb, cases_lt}
 use Rattle.std.proofs.lemmas.List.{get_or_default}
-use Rattle.std.proofs.Math.Seq.{drop-cons, get_or-append_seam}
+use Rattle.std.proofs.Math.Seq.{get_or-append_seam}
 use Rattle.std.specs.Cmp.Lexicographic.{pointwise}
 use Rattle.label_lattice.specs.declared.label.Label.{Label}
 use Rattle.label_lattice.specs.Lattice.{empty_label}
@@ -22,19 +24,6 @@ pub compared : (first second : Label) →
     (pointwise nat_eq first.rows second.rows && nat_eq first.trust second.trust) ≡ same_label first second
 compared first second =
     ap (λ (rows : Bool). rows && nat_eq first.trust second.trust) (words_compared first.rows second.rows)
-
--- the label is at this place
-pub found_here : (place index : ℕ) (label other : Label) (labels : List Label) → index < length labels →
-    same_label label (get_or labels index other) ≡ true → label_place place label (drop index labels) ≡ place
-found_here place index label other labels within same =
-    ap (label_place place label) (drop-cons labels index other within) ∙ rw same refl
-
--- it is at a later one
-pub found_later : (place index : ℕ) (label other : Label) (labels : List Label) → index < length labels →
-    same_label label (get_or labels index other) ≡ false →
-    label_place place label (drop index labels) ≡ label_place (suc place) label (drop (suc index) labels)
-found_later place index label other labels within apart =
-    ap (label_place place label) (drop-cons labels index other within) ∙ rw apart refl
 
 -- ---- labels that are alike are the same
 
@@ -140,6 +129,63 @@ pub new_last : (label other : Label) (labels : List Label) → length labels ≤
 new_last label other labels past =
     ap (λ (one : Label). label_place 0 one (labels ++ label ∷ [])) (get_or-append_seam labels label [] other)
     ∙ new_place label labels past
+
+-- ---- a label that is put into a set of labels
+
+-- as a set compares labels
+abbrev alike : Label → Label → Bool
+alike label other = pointwise nat_eq label.rows other.rows && nat_eq label.trust other.trust
+
+alike_is : (label : Label) → alike label ≡ same_label label
+alike_is label = λ i other. compared label other i
+
+-- the labels of the set
+pub labels_put : (label : Label) (labels : List Label) →
+    (if list_any (alike label) labels then labels else labels ++ label ∷ []) ≡ with_labels labels (label ∷ [])
+labels_put label labels =
+    ap (λ test. if list_any test labels then labels else labels ++ label ∷ []) (alike_is label)
+
+place_counted : (number : ℕ) (label : Label) (labels : List Label) →
+    number + position_or_len (same_label label) labels ≡ label_place number label labels
+place_counted number label [] = omega arith
+place_counted number label (other ∷ others) = elim (true_or_false (same_label label other)) [
+  | inl same ↦ rw same (omega arith)
+  | inr apart ↦ rw apart (omega (arith, place_counted (suc number) label others))
+]
+
+-- the place that it answers
+pub place_put : (label : Label) (labels : List Label) →
+    position_or_len (alike label) labels ≡ label_place 0 label labels
+place_put label labels =
+    ap (λ test. position_or_len test labels) (alike_is label) ∙ omega (arith, place_counted 0 label labels)
+
+place_past : (label : Label) (labels : List Label) → length labels ≤ label_place 0 label labels →
+    label_place 0 label labels ≡ length labels
+place_past label labels past = elim (found 0 label labels) [
+  | there index inside at is among ↦ absurd (omega (arith, at))
+  | new behind none ↦ omega (arith, behind)
+]
+
+-- its place stays as it is put in, and from then on it stands there
+abbrev IsPlaced : Label → Label → List Label → List Label → Type 0
+IsPlaced label other labels all =
+    (label_place 0 label labels ≡ label_place 0 label all)
+    × (label_place 0 (get_or all (label_place 0 label labels) other) all ≡ label_place 0 label labels)
+
+pub placed : (label other : Label) (labels : List Label) →
+    IsPlaced label other labels (with_labels labels (label ∷ []))
+placed label other labels = elim (cases_lt (label_place 0 label labels) (length labels)) [
+  | inl within ↦
+      subst (IsPlaced label other labels) (known_labels label labels within)
+      (refl, known_last label other labels within)
+  | inr past ↦
+      let at = place_past label labels past in
+      let all = labels ++ label ∷ [] in
+      subst (IsPlaced label other labels) (new_labels label labels past) (
+        at ∙ sym (new_place label labels past),
+        ap (λ place. label_place 0 (get_or all place other) all) at ∙ new_last label other labels past ∙ sym at,
+      )
+]
 
 -- ---- the label that was named last
 

@@ -36,7 +36,8 @@ fn code_parts(split: &Split<'_>) -> Result<CodeParts, OutOfMemory>
     program(split, &mut trace)?;
     let entry_count = trace.entries();
     let branch_count = trace.branches();
-    let (labels, items) = trace.into_parts();
+    let labels = trace.labels(split.alloc)?;
+    let items = trace.into_items();
     let assembly = assembly_of(split.alloc, items, entry_count, branch_count)?;
     let rows = split.hosts.hosts();
     let hosts = code_hosts(split.alloc, rows)?;

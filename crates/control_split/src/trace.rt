@@ -8,6 +8,7 @@ ghost use Rattle.split_rules.specs.Walk.{emitted};
 ghost use Rattle.control_split.specs.Trace.{first_trace, traced, with_item, is_at, IsNamedLast};
 
 use host_code::{Instr, MOST_ITEMS, Op};
+use indexmap::IndexSet;
 use js_base::{HostId, OutOfMemory, StmtId};
 use label_lattice::Label;
 use std::alloc::Global;
@@ -37,7 +38,7 @@ pub struct Place<'a> {
 /// What the walk has given, in its order, with the labels that it names by their places.
 #[derive(Drop)]
 pub struct Trace {
-    labels: Vec<Label>,
+    labels: IndexSet<Label>,
     items: Vec<TraceItem>,
     entries: u32,
     branches: u32,
@@ -53,28 +54,13 @@ impl Model for Trace {
     ghost Value = { TraceShape };
 
     ghost view = { λ t. record {
-      labels = t.labels.items;
+      labels = t.labels.keys;
       items = t.items.items;
       counts = record { entries = t.entries; branches = t.branches };
     } };
 
-    ghost invariant = { λ t. IsNamedLast t.labels.items t.last × (length t.labels.items ≤ MOST_ITEMS)
+    ghost invariant = { λ t. IsNamedLast t.labels.keys t.last × (length t.labels.keys ≤ MOST_ITEMS)
         × (length t.items.items ≤ MOST_ITEMS) };
-}
-
-/// The place of a label among labels, behind the last where it is not there.
-fn place_among(labels: &[Label], label: &Label) -> usize
-    ensures place { result ≡ label_place 0 label.now labels.now }
-    ensures within { result ≤ length labels.now }
-{
-    let mut place = 0;
-    for other in labels {
-        if *label == *other {
-            return place;
-        }
-        place += 1;
-    }
-    place
 }
 
 /// Whether a label is at this place among labels.
@@ -88,22 +74,18 @@ fn is_at(labels: &[Label], place: usize, label: &Label) -> bool
 }
 
 /// The place of a label, which is among the labels from now on.
-fn place_in(labels: &mut Vec<Label>, label: &Label) -> Result<u32, OutOfMemory>
-    requires { length labels.old.items ≤ MOST_ITEMS }
-    ensures labels { OnOk result (labels.new.items ≡ with_labels labels.old.items (label.now ∷ [])) }
-    ensures place { IfOk result (λ place. place ≡ label_place 0 label.now labels.new.items) }
-    ensures last { IfOk result (λ place. IsNamedLast labels.new.items place) }
-    ensures few { length labels.new.items ≤ MOST_ITEMS }
-    ensures kept { OnErr result (labels.new.items ≡ labels.old.items) }
+fn place_in(labels: &mut IndexSet<Label>, label: &Label) -> Result<u32, OutOfMemory>
+    requires { length labels.old.keys ≤ MOST_ITEMS }
+    ensures labels { OnOk result (labels.new.keys ≡ with_labels labels.old.keys (label.now ∷ [])) }
+    ensures place { IfOk result (λ place. place ≡ label_place 0 label.now labels.new.keys) }
+    ensures last { IfOk result (λ place. IsNamedLast labels.new.keys place) }
+    ensures few { length labels.new.keys ≤ MOST_ITEMS }
+    ensures kept { OnErr result (labels.new.keys ≡ labels.old.keys) }
 {
-    let place = place_among(labels, label);
-    if place < labels.len() {
-        return Ok(place as u32);
-    }
-    if place >= MOST_ITEMS {
+    if labels.len() >= MOST_ITEMS && !labels.contains(label) {
         return Err(OutOfMemory);
     }
-    labels.push(*label)?;
+    let (place, _) = labels.insert_full(*label)?;
     Ok(place as u32)
 }
 
@@ -120,7 +102,7 @@ impl Trace {
         ensures { result ≡ first_trace }
     {
         Trace {
-            labels: Vec::new(alloc),
+            labels: IndexSet::new(alloc),
             items: Vec::new(alloc),
             entries: 0,
             branches: 0,
@@ -152,7 +134,7 @@ impl Trace {
         }) }
         ensures place { IfOk result (λ place. place ≡ label_place 0 label.now self.new.labels) }
     {
-        if !is_at(&self.labels, self.last as usize, label) {
+        if !is_at(self.labels.as_slice(), self.last as usize, label) {
             self.last = place_in(&mut self.labels, label)?;
         }
         Ok(self.last)
@@ -221,11 +203,20 @@ impl Trace {
         self.push(TraceItem::Lands(host, number))
     }
 
-    /// The labels, and all that was given.
-    pub fn into_parts(self) -> (Vec<Label>, Vec<TraceItem>)
-        ensures labels { result.0.items ≡ self.labels }
-        ensures items { result.1.items ≡ self.items }
+    /// The labels in the order of their places.
+    ///
+    /// # Errors
+    /// Memory ran out.
+    pub fn labels(&self, alloc: Global) -> Result<Vec<Label>, OutOfMemory>
+        ensures { IfOk result (λ labels. labels.items ≡ self.now.labels) }
     {
-        (self.labels, self.items)
+        Ok(Vec::from_slice(alloc, self.labels.as_slice())?)
+    }
+
+    /// All that was given.
+    pub fn into_items(self) -> Vec<TraceItem>
+        ensures { result.items ≡ self.items }
+    {
+        self.items
     }
 }

@@ -15,7 +15,7 @@ pub const READERS: usize = PRINCIPALS + 1;
 
 /// Which readers each owner of a value forbids, and which principals trust it, after the decentralized label model of
 /// Myers and Liskov.
-#[derive(Clone, Copy, Debug, PartialEq, Eq)]
+#[derive(Clone, Copy, Debug, PartialEq, Eq, Hash)]
 pub struct Label {
     /// For each owner a word with a bit for each reader that the owner allows. The last bit is that
     /// of the outsider.
@@ -31,6 +31,28 @@ impl Label {
     ghost use Rattle.label_lattice.specs.Lattice.{IsJoin, IsIntegrityMeet, empty_label, bottom_of};
     ghost use Rattle.label_lattice.specs.Lattice.{join_of, meet_of};
     ghost use Rattle.label_lattice.specs.Over.{IsLabelOver};
+
+    /// The label of these words: one for each owner, with a bit for each reader that the owner allows, and one with a bit
+    /// for each principal that trusts.
+    pub fn from_words(rows: [u64; PRINCIPALS], trust: u64) -> Self
+        ensures { result ≡ record { rows = rows; trust = trust } }
+    {
+        Label { rows, trust }
+    }
+
+    /// A word for each owner, with a bit for each reader that the owner allows.
+    pub fn rows(&self) -> &[u64; PRINCIPALS]
+        ensures { result.now ≡ self.now.rows }
+    {
+        &self.rows
+    }
+
+    /// A word with a bit for each principal that trusts.
+    pub fn trust(&self) -> u64
+        ensures { result ≡ self.now.trust }
+    {
+        self.trust
+    }
 
     /// The label `{}`, which forbids nothing and is trusted by nobody.
     pub fn empty() -> Self
@@ -176,12 +198,5 @@ impl Label {
         ensures { result ≡ slice_index self.now.rows owner.0 }
     {
         self.rows[owner.0 as usize]
-    }
-
-    /// The principals that trust, a bit for each.
-    pub(crate) fn trusting(&self) -> u64
-        ensures { result ≡ self.now.trust }
-    {
-        self.trust
     }
 }

@@ -75,7 +75,7 @@ fn push_trust(
     ensures { OnOk result (map string_bytes texts.new.items ≡ map string_bytes texts.old.items
         ++ map printed_part (trust_parts (names_where (is_trusted_by label.now) principals.now))) }
 {
-    let members = names_of(alloc, label.trusting(), principals)?;
+    let members = names_of(alloc, label.trust(), principals)?;
     if !members.is_empty() {
         texts.push(part_text(alloc, "?", &members)?)?;
     }

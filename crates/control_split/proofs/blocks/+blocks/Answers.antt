@@ -1,4 +1,4 @@
-use Rattle.std.proofs.Common.{◌≡◌, ◌∙◌, ℕ, ◌<◌, suc, List, ◌∷◌, drop, length, get_or, ap, sym, subst}
+use Rattle.std.proofs.Common.{◌≡◌, ◌∙◌, suc, List, ◌∷◌, drop, ap, sym, subst}
 use Rattle.std.proofs.Common.{◌+◌, OnOk, refl, add-one, arith}
 use Rattle.js_base.specs.declared.ids.HostId.{HostId}
 use Rattle.js_base.proofs.Lists.{next_of}

@@ -35,8 +35,8 @@ returns c =
     c.in_ok-vars.ensures.trace ∙ ap (λ (trace : TraceShape). naming trace labelled.var_labels) first in
     let third : c.program.new.trace ≡ whole =
     c.in_ok-program.ensures ∙ ap (λ (trace : TraceShape). traced trace emissions) second in
-    let labels = c.into_parts-labels.ensures.labels ∙ ap (λ (trace : TraceShape). trace.labels) third in
-    let items = c.into_parts-labels.ensures.items ∙ ap (λ (trace : TraceShape). trace.items) third in
+    let labels = c.in_ok-labels.ensures ∙ ap (λ (trace : TraceShape). trace.labels) third in
+    let items = c.into_items-items.ensures ∙ ap (λ (trace : TraceShape). trace.items) third in
     let entry_count = c.entries-entry_count.ensures ∙ ap (λ (trace : TraceShape). trace.counts.entries) third in
     let branch_count = c.branches-branch_count.ensures ∙ ap (λ (trace : TraceShape). trace.counts.branches) third in
     let made : AssemblyShape = assembled (first_assembly whole.counts) whole.items in
