@@ -1,7 +1,7 @@
 -- The events of a script present what misbehaving hosts were sent, or tokens of such hosts.
 use Rattle.std.proofs.Common.{◌≡◌, ◌<◌, ◌==◌, ℕ, Bool, true, false, List, [], ◌∷◌, length, Option, Some, None, Result, Ok, Err}
 use Rattle.std.proofs.Common.{refl, subst, sym, inl, inr, arith}
-use Rattle.std.specs.Prelude.{All, position, if◌then◌else◌, codes}
+use Rattle.std.specs.Prelude.{All, ℤ, map, position, if◌then◌else◌, codes}
 use Rattle.std.specs.Int.{bit_at}
 use Rattle.std.specs.List.{AllByRecursion}
 use Rattle.std.specs.Option.{option_map}
@@ -20,10 +20,14 @@ use Rattle.event_text.specs.declared.event.BadToken.TheVariants.{Sent, Own}
 use Rattle.event_text.specs.Acts.{among, own_token, own_in, token_of, get_of, set_of, forward_of, sync_of, rgoto_of}
 use Rattle.event_text.specs.Acts.{lgoto_of, value_of, ack_of, answer_of, message_of}
 use Rattle.event_text.specs.Events.{turn_of, take_of, act_of, event_of, with_event, events_of}
-use Rattle.event_text.specs.Lines.{LineShape}
+use Rattle.event_text.specs.Lines.{LineShape, said_lines}
+use Rattle.event_text.specs.Misbehaving.{bad_in_front, past_bad, with_hosts}
 use Rattle.event_text.specs.Numbers.{number_of, signed_of}
 use Rattle.event_text.specs.OwnTokens.{IsOwnToken, IsOwnMessage, IsOwnEvent}
 use Rattle.event_text.specs.Parts.{host_named, field_of, variable_of, parts, colon, request_of, frame_of, entry_of}
+use Rattle.event_text.specs.Script.{ScriptShape, script_of, with_start}
+use Rattle.event_text.specs.Settings.{FieldForm, form_of, settings_in_front, past_settings, starting_rows}
+use Rattle.event_text.specs.Settings.{after_settings}
 use Rattle.event_text.specs.Words.{Word, one_word, two_words, three_words, four_words}
 use Rattle.event_text.proofs.MadeParts.{mapped, then_made, either_made, two_made, three_made, four_made}
 
@@ -234,3 +238,30 @@ module _ (code : CodeShape) (word : ℕ) where
       All (λ one. IsOwnEvent code.hosts word one.1) said
   all_own lines said is =
       All-from_recursion (λ (one : ℕ × Event). IsOwnEvent code.hosts word one.1) said (lines_own lines said is)
+
+-- what a script presents
+pub script_own : (code : CodeShape) (bytes : List ℕ) (script : ScriptShape) → script_of code bytes ≡ Ok script →
+    All (λ one. IsOwnEvent code.hosts script.bad one.1) script.events
+script_own code bytes script is =
+    by (events_of code word (past_settings fields behind)) refl is
+  where
+    fields : List FieldForm
+    fields = map form_of code.fields
+
+    word : ℕ
+    word = with_hosts 0 (bad_in_front code.hosts (said_lines bytes))
+
+    behind : List LineShape
+    behind = past_bad code.hosts (said_lines bytes)
+
+    start : List (List ℤ)
+    start = after_settings (starting_rows fields) (settings_in_front fields behind)
+
+    by : (found : Result (List (ℕ × Event)) ℕ) → events_of code word (past_settings fields behind) ≡ found →
+        with_start word start found ≡ Ok script → All (λ one. IsOwnEvent code.hosts script.bad one.1) script.events
+    by (Ok events) read made =
+        let whole : ScriptShape = record { bad = word; start = start; events = events } in
+        let same : whole ≡ script = cc in
+        subst (λ (it : ScriptShape). All (λ one. IsOwnEvent code.hosts it.bad one.1) it.events) same
+        (all_own code word (past_settings fields behind) events read)
+    by (Err line) read made = absurd cc

@@ -6,26 +6,19 @@ use Rattle.std.specs.List.{list_all}
 use Rattle.std.specs.Char.{is_ascii_digit}
 use Rattle.std.specs.Fmt.{decimal, signed_decimal}
 use Rattle.std.specs.Str.Parse.{digits_value}
+use Rattle.std.proofs.lemmas.Bool.{and_parts, and_from}
 use Rattle.std.proofs.lemmas.Bool.Decides.{nat_tests}
 use Rattle.std.proofs.lemmas.Fmt.{decimal-digits_value}
 use Rattle.std.proofs.lemmas.Str.Parse.{IsDigitsTest, numerals_by_value}
 use Rattle.event_text.specs.Numbers.{is_plain_number, number_of, not_below_zero, below_zero, signed_of}
 use Rattle.event_text.proofs.MadeParts.{either_made}
 
-and_parts : (first second : Bool) → (first && second) ≡ true → (first ≡ true) × (second ≡ true)
-and_parts true second is = (refl, is)
-and_parts false second is = absurd cc
-
-both_true : (first second : Bool) → first ≡ true → second ≡ true → (first && second) ≡ true
-both_true true second one two = two
-both_true false second one two = absurd cc
-
 tells_digits : IsDigitsTest (λ digits. list_all is_ascii_digit digits ≡ true)
 tells_digits = record {
   empty = refl;
   parts = λ c cs is. let both = and_parts (is_ascii_digit c) (list_all is_ascii_digit cs) is in
       (grind (arith, nat_tests), both.1);
-  more = λ c cs range rest. both_true (is_ascii_digit c) (list_all is_ascii_digit cs) (grind (arith, nat_tests)) rest;
+  more = λ c cs range rest. and_from (is_ascii_digit c) (list_all is_ascii_digit cs) (grind (arith, nat_tests)) rest;
 }
 
 -- digits without a leading 0 are what is printed of their value

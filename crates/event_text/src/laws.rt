@@ -1,6 +1,6 @@
 //! The laws of scripts: what bytes say, or why they say nothing.
 
-ghost use Rattle.std.specs.Prelude.{◌≡◌, ◌≢◌, ◌≤◌, ◌⊎◌, ◌↔◌, ◌==◌, ℕ, ℤ, true, List, length, Some, Ok, Err};
+ghost use Rattle.std.specs.Prelude.{◌≡◌, ◌≢◌, ◌≤◌, ◌⊎◌, ◌↔◌, ◌==◌, ℕ, ℤ, true, List, length, Some, Ok, Err, All};
 ghost use Rattle.std.specs.Int.{bit_at};
 ghost use Rattle.std.specs.List.{list_any};
 ghost use Rattle.js_base.specs.declared.ids.HostId.{HostId};
@@ -13,6 +13,7 @@ ghost use Rattle.event_text.specs.Events.{event_of};
 ghost use Rattle.event_text.specs.EventText.{IsSaid, event_text};
 ghost use Rattle.event_text.specs.Lines.{words};
 ghost use Rattle.event_text.specs.Misbehaving.{with_hosts};
+ghost use Rattle.event_text.specs.OwnTokens.{IsOwnEvent};
 ghost use Rattle.event_text.specs.Script.{ScriptShape, script_of, EventsFail};
 ghost use Rattle.event_text.specs.Start.{start_of, StartFails};
 
@@ -37,6 +38,10 @@ pub fn script_laws()
     // The bits that are set are those of the hosts that the lines name.
     ensures bad_bits { (hosts : List HostId) (number : ℕ) →
         (bit_at (with_hosts 0 hosts) number ≡ 1) ↔ (list_any (λ host. host.0 == number) hosts ≡ true) }
+
+    // What a script presents as a misbehaving host's own names one that it says misbehaves.
+    ensures own { (code : CodeShape) (bytes : List ℕ) (script : ScriptShape) → script_of code bytes ≡ Ok script →
+        All (λ one. IsOwnEvent code.hosts script.bad one.1) script.events }
 
     // A bad line is one of those of the text.
     ensures script_line { (code : CodeShape) (bytes : List ℕ) (line : ℕ) → script_of code bytes ≡ Err line →

@@ -1,4 +1,5 @@
 use Rattle.event_text.proofs.BadBits.{bad_bits}
+use Rattle.event_text.proofs.OwnTokens.{script_own}
 use Rattle.event_text.proofs.Outcomes.{some_script, some_start, script_line, start_line}
 use Rattle.event_text.proofs.SaidAgain.{said_again}
 use Rattle.event_text.proofs.laws.script_laws.Goals as goal
@@ -9,6 +10,7 @@ returns c = record {
   some_start = some_start;
   said_again = λ code bad event said. said_again code bad said.0 event said.1;
   bad_bits = bad_bits;
+  own = script_own;
   script_line = script_line;
   start_line = start_line;
 }
