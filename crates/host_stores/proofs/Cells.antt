@@ -3,7 +3,7 @@ use Rattle.std.proofs.Common.{◌≡◌, ◌⊎◌, ◌<◌, ◌≤◌, ℕ, zer
 use Rattle.std.proofs.Common.{take, drop, Option, Some, None, Result, Ok, Err, Ordering, Less, Equal, Greater, refl}
 use Rattle.std.proofs.Common.{ap, sym, ◌∙◌, ℤ, pos}
 use Rattle.std.proofs.Common.{subst, arith, inl, inr}
-use Rattle.std.specs.Prelude.{IsSomeAnd, if◌then◌else◌, slice_get, slice_set, slice_index_or}
+use Rattle.std.specs.Prelude.{IsSomeAnd, if◌then◌else◌, ◌||◌, slice_get, slice_set, slice_index_or}
 use Rattle.std.specs.List.{AllByRecursion, insert}
 use Rattle.std.specs.List.Sorted.{IsNonDecreasingBy, IsBinarySearchResult, IsSearchInRange}
 use Rattle.std.specs.Option.{option_map}
@@ -17,7 +17,7 @@ use Rattle.js_base.specs.declared.ids.FrameId.{FrameId}
 use Rattle.js_base.specs.declared.ids.VarId.{VarId}
 use Rattle.host_stores.specs.declared.variables.VarCell.{VarCell}
 use Rattle.host_stores.specs.Order.{variable_order, cell_order, IsBefore, AreInOrder, IsPlaceOf}
-use Rattle.host_stores.specs.Stores.{is_same_variable, with_variable, value_in}
+use Rattle.host_stores.specs.Stores.{is_same_variable, with_variable, value_in, is_set}
 use Rattle.host_stores.proofs.Order.{less_before, equal_one, greater_after, before_apart, after_apart}
 use Rattle.host_stores.proofs.Order.{before_less, one_same, before_rises, later_cells, in_order_at}
 
@@ -381,3 +381,48 @@ pub order_inserted : (cells : List VarCell) (place : ℕ) (frame : FrameId) (x :
     AreInOrder (insert cells place (record { frame = frame; var = x; value = value }))
 order_inserted cells place frame x value order is =
     order-insert cells place (record { frame = frame; var = x; value = value }) order is
+
+-- ---- which variables are set
+
+one_twice : (s rest : Bool) → (s || rest) ≡ (s || (s || rest))
+one_twice true rest = refl
+one_twice false rest = refl
+
+either_first : (head s rest : Bool) → (head || (s || rest)) ≡ (s || (head || rest))
+either_first true true rest = refl
+either_first true false rest = refl
+either_first false s rest = refl
+
+-- the cell of a variable gets another value
+pub is_set-set : (cells : List VarCell) (place : ℕ) (frame : FrameId) (x : VarId) (value : ℤ) (other : FrameId)
+    (y : VarId) → IsPlaceOf cells frame x (Ok place) →
+    is_set (slice_set cells place (record { frame = frame; var = x; value = value })) other y
+    ≡ (is_same_variable frame x other y || is_set cells other y)
+is_set-set [] place frame x value other y is = absurd is
+is_set-set (cell ∷ cells) zero frame x value other y is =
+    let same = one_same cell.frame cell.var frame x (equal_one cell.frame cell.var frame x is) in
+    rw (same_as cell.frame cell.var frame x other y same)
+    (one_twice (is_same_variable frame x other y) (is_set cells other y))
+is_set-set (cell ∷ cells) (suc place) frame x value other y is =
+    rw (is_set-set cells place frame x value other y is)
+    (either_first (is_same_variable cell.frame cell.var other y) (is_same_variable frame x other y)
+    (is_set cells other y))
+
+is_set-between : (front back : List VarCell) (added : VarCell) (other : FrameId) (y : VarId) →
+    is_set (front ++ added ∷ back) other y
+    ≡ (is_same_variable added.frame added.var other y || is_set (front ++ back) other y)
+is_set-between [] back added other y = refl
+is_set-between (cell ∷ front) back added other y =
+    rw (is_set-between front back added other y)
+    (either_first (is_same_variable cell.frame cell.var other y) (is_same_variable added.frame added.var other y)
+    (is_set (front ++ back) other y))
+
+-- a cell is added
+pub is_set-insert : (cells : List VarCell) (place : ℕ) (frame : FrameId) (x : VarId) (value : ℤ) (other : FrameId)
+    (y : VarId) →
+    is_set (insert cells place (record { frame = frame; var = x; value = value })) other y
+    ≡ (is_same_variable frame x other y || is_set cells other y)
+is_set-insert cells place frame x value other y =
+    is_set-between (take place cells) (drop place cells) (record { frame = frame; var = x; value = value }) other y
+    ∙ ap (λ (all : List VarCell). is_same_variable frame x other y || is_set all other y)
+    (take-append-drop place cells)

@@ -1,5 +1,5 @@
 -- What a host keeps of fields and of variables, as two maps.
-use Rattle.std.specs.Prelude.{ℕ, ◌+◌, ◌==◌, ◌&&◌, Bool, if◌then◌else◌, ℤ, pos, List, []}
+use Rattle.std.specs.Prelude.{ℕ, ◌+◌, ◌==◌, ◌&&◌, ◌||◌, Bool, false, if◌then◌else◌, ℤ, pos, List, []}
 use Rattle.std.specs.Prelude.{◌∷◌}
 use Rattle.js_base.specs.declared.ids.HostId.{HostId}
 use Rattle.js_base.specs.declared.ids.FrameId.{FrameId}
@@ -9,8 +9,7 @@ use Rattle.host_code.specs.Code.{CodeFieldShape}
 use Rattle.host_stores.specs.declared.variables.VarCell.{VarCell}
 
 -- A row of elements for each field of the code, which is empty where the field is on another host; a cell for each
--- variable of a frame that was set, in their order; and for how many more variables there is room. Contracts read the
--- cells by `variable_of` alone.
+-- variable of a frame that was set, in their order; and for how many more variables there is room.
 pub record StoresShape : Type 0 where
   pub rows : List (List ℤ)
   pub cells : List VarCell
@@ -44,6 +43,12 @@ abbrev pub value_in : List VarCell → FrameId → VarId → ℤ
 value_in [] frame variable = pos 0
 value_in (cell ∷ cells) frame variable =
     if is_same_variable cell.frame cell.var frame variable then cell.value else value_in cells frame variable
+
+-- whether a variable has a cell
+abbrev pub is_set : List VarCell → FrameId → VarId → Bool
+is_set [] frame variable = false
+is_set (cell ∷ cells) frame variable =
+    is_same_variable cell.frame cell.var frame variable || is_set cells frame variable
 
 -- the value of a variable of a frame, 0 where none was set
 abbrev pub variable_of : StoresShape → FrameId → VarId → ℤ

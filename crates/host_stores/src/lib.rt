@@ -1,6 +1,8 @@
 //! What a host keeps: the elements of its fields, and the variables of frames.
 #![tactic(auto)]
 
+mod layout;
+mod rows;
 mod stores;
 mod variables;
 

@@ -1,14 +1,16 @@
 //! The fields and variables of a host.
 
-ghost use Rattle.std.specs.Prelude.{◌≡◌, ◌<◌, ◌≤◌, ◌+◌, IfOk, OnOk, pos};
+ghost use Rattle.std.specs.Prelude.{◌≡◌, ◌<◌, ◌≤◌, ◌+◌, ◌||◌, [], IfOk, OnOk, flat_map, pos};
 ghost use Rattle.js_base.specs.declared.ids.FrameId.{FrameId};
 ghost use Rattle.js_base.specs.declared.ids.VarId.{VarId};
 ghost use Rattle.jif_tree.specs.Store.{row_of, element_at, store_after_write};
-ghost use Rattle.host_stores.specs.Stores.{own_row, own_rows, with_variable};
+ghost use Rattle.host_stores.specs.Order.{AreInOrder};
+ghost use Rattle.host_stores.specs.Stores.{own_rows, with_variable, is_same_variable, is_set};
 
+use crate::rows::Rows;
 use crate::variables::{VarCell, set_in, value_in};
-use host_code::{Code, CodeField};
-use jif_tree::{Row, Store};
+use host_code::Code;
+use jif_tree::Store;
 use js_base::{FieldId, FrameId, HostId, OutOfMemory, VarId};
 use std::alloc::Global;
 use std::marker::Model;
@@ -16,8 +18,7 @@ use std::marker::Model;
 /// The elements of a host's fields, and the variables of frames.
 #[derive(Drop)]
 pub struct Stores {
-    /// A row for each field of the code, empty where the field is on another host.
-    rows: Vec<Row>,
+    rows: Rows,
     /// The variables that were set, in order.
     cells: Vec<VarCell>,
 }
@@ -31,7 +32,7 @@ impl Model for Stores {
     ghost Value = { StoresShape };
 
     ghost view = { λ s. record {
-      rows = s.rows.items;
+      rows = s.rows;
       cells = s.cells.items;
       spare = vec_capacity s.cells - vec_len s.cells;
     } };
@@ -47,11 +48,9 @@ impl Stores {
         ensures rows { IfOk result (λ stores. stores.rows ≡ own_rows me store.now 0 code.now.fields) }
         ensures variables { IfOk result (λ stores. (frame : FrameId) (var : VarId) →
             variable_of stores frame var ≡ pos 0) }
+        ensures unset { IfOk result (λ stores. stores.cells ≡ []) }
     {
-        let mut rows = Vec::new(alloc);
-        for (number, field) in code.fields().iter().enumerate() {
-            rows.push(own_row(alloc, me, store.rows(), number, field)?)?;
-        }
+        let rows = Rows::new(alloc, code, me, store)?;
         let cells = Vec::new(alloc);
         Ok(Stores { rows, cells })
     }
@@ -60,10 +59,7 @@ impl Stores {
     pub fn field(&self, field: FieldId, index: i64) -> i64
         ensures { result ≡ element_at (row_of self.now.rows field.0) index }
     {
-        match self.rows.get(field.0 as usize) {
-            Some(row) => row.element(index),
-            None => 0,
-        }
+        self.rows.element(field, index)
     }
 
     /// Writes the element of a field at an index. Where the field is on another host or the index is out of range
@@ -73,10 +69,7 @@ impl Stores {
         ensures cells { self.new.cells ≡ self.old.cells }
         ensures spare { self.new.spare ≡ self.old.spare }
     {
-        let place = field.0 as usize;
-        if place < self.rows.len() {
-            self.rows[place].set_element(index, value);
-        }
+        self.rows.set_element(field, index, value);
     }
 
     /// The value of a variable of a frame, 0 where none was set.
@@ -102,28 +95,27 @@ impl Stores {
         ensures variables { (other : FrameId) (another : VarId) →
             variable_of self.new other another
             ≡ with_variable (variable_of self.old) frame var value other another }
+        ensures set { (other : FrameId) (another : VarId) → is_set self.new.cells other another
+            ≡ (is_same_variable frame var other another || is_set self.old.cells other another) }
         ensures rows { self.new.rows ≡ self.old.rows }
         ensures spare { self.old.spare ≤ self.new.spare + 1 }
     {
         set_in(&mut self.cells, frame, var, value);
     }
-}
 
-/// The row that host `me` has for a field of this number.
-fn own_row(
-    alloc: Global,
-    me: HostId,
-    store: &[Row],
-    number: usize,
-    field: &CodeField,
-) -> Result<Row, OutOfMemory>
-    ensures { IfOk result (λ row. row ≡ own_row me store.now number field.now) }
-{
-    if field.host().0 != me.0 {
-        return Ok(Row::empty(alloc));
+    /// The elements of all fields of the host, in the order of fields and then of elements.
+    pub fn elements(&self) -> &[i64]
+        ensures { result.now ≡ flat_map (λ row. row) self.now.rows }
+    {
+        self.rows.elements()
     }
-    match store.get(number) {
-        Some(row) => row.copied(alloc),
-        None => Ok(Row::empty(alloc)),
+
+    /// The variables that were set, each once with its value, by the sites of their frames, then by the counts of
+    /// these, then by the variables.
+    pub fn cells(&self) -> &[VarCell]
+        ensures cells { result.now ≡ self.now.cells }
+        ensures order { AreInOrder result.now }
+    {
+        &self.cells
     }
 }
