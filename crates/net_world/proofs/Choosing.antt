@@ -11,7 +11,7 @@ use Rattle.net_world.specs.Flying.{Flight, flights_of, flights_at, pair_place}
 use Rattle.net_world.specs.World.{given, present}
 use Rattle.net_world.specs.Choice.{Runs, NoneRuns, Flies, NothingFlies, NothingFliesFrom}
 use Rattle.net_world.specs.Fits.{WorldModel, world_of}
-use Rattle.net_world.proofs.Present.{present_states}
+use Rattle.net_world.proofs.Present.{present_states, get_lt}
 
 -- a host of the number is the one below a number, or the last below the next
 pub below_more : (P : HostId → Type 0) (n : ℕ) → ((earlier : HostId) → earlier.0 < n → P earlier) →
@@ -60,12 +60,6 @@ at_given [] i d P lt has = absurd (omega arith)
 at_given (host ∷ hosts) zero d P lt has = has
 at_given (host ∷ hosts) (suc i) d P lt has = at_given hosts i d P (omega arith) has
 
-given_past : {X : Type 0} (hosts : List (Option X)) (i : ℕ) (P : X → Type 0) →
-    IsSomeAnd (given (slice_get hosts i)) P → i < length hosts
-given_past [] i P has = absurd has
-given_past (host ∷ hosts) zero P has = omega arith
-given_past (host ∷ hosts) (suc i) P has = let lt = given_past hosts i P has in omega arith
-
 pub runs_here : (world : WorldModel) (i : ℕ) (d : Option HostModel) → i < length world.hosts →
     IsSomeAnd (get_or world.hosts i d) (λ (h : HostModel). IsSome h.running) →
     Runs (world_of world) (record { 0 = i })
@@ -84,7 +78,7 @@ none_more world i d lt before rests =
 pub none_runs : (world : WorldModel) (n : ℕ) → length world.hosts ≤ n →
     ((earlier : HostId) → earlier.0 < n → ¬ Runs (world_of world) earlier) → NoneRuns (world_of world)
 none_runs world n all before host runs =
-    let lt = given_past world.hosts host.0 (λ (h : HostModel). IsSome h.running) (runs_model world host runs) in
+    let lt = get_lt world.hosts host.0 (λ (h : HostModel). IsSome h.running) (runs_model world host runs) in
     before host (omega arith) runs
 
 -- ---- what is in flight

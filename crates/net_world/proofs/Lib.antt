@@ -1,5 +1,6 @@
 pub mod Choosing
 pub mod Counted
+pub mod Decisions
 pub mod Fitting
 pub mod Flights
 pub mod Letters

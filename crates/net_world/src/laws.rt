@@ -8,6 +8,7 @@ ghost use Rattle.host_code.specs.Code.{CodeShape};
 ghost use Rattle.host_code.specs.Sound.{IsSoundCode};
 ghost use Rattle.host_decl.specs.Hosts.{HostShape};
 ghost use Rattle.net_world.specs.Fits.{WorldModel, WorldFits, ShapeFits, HasOwnToken, world_of};
+ghost use Rattle.net_world.specs.Secret.{IsReadable, IsSecret, IsQuiet};
 ghost use Rattle.net_world.specs.Told.{SentMessage};
 ghost use Rattle.net_world.specs.World.{WorldShape, IsStep, IsRun, Refusal, refusal_of, mover, misbehaves};
 ghost use Rattle.net_world.specs.World.{AreHostsOf, world_at_start};
@@ -55,6 +56,17 @@ pub fn fits_laws()
     // What a world of the program keeps is no less.
     ensures world { (code : CodeShape) (world : WorldModel) → WorldFits code world →
         ShapeFits code (world_of world) }
+{}
+
+/// What misbehaving hosts may see is decided. A label is readable or not, an event is secret or not, and a world that
+/// fits the code is quiet or not.
+pub fn secret_laws()
+    ensures readable { (code : CodeShape) (world : WorldShape) (label : ℕ) →
+        IsReadable code world label ⊎ ¬ IsReadable code world label }
+    ensures secret { (code : CodeShape) (world : WorldShape) (event : Event) →
+        IsSecret code world event ⊎ ¬ IsSecret code world event }
+    ensures quiet { (code : CodeShape) (world : WorldShape) → ShapeFits code world →
+        IsQuiet code world ⊎ ¬ IsQuiet code world }
 {}
 
 /// What events leave is determined, and lists of events compose.

@@ -28,8 +28,7 @@ impl World {
         ensures root { self.new.root ≡ self.old.root }
         ensures readable { self.new.readable ≡ self.old.readable }
     {
-        // Only a look at a field tells the check what every world keeps, here that its hosts are few.
-        let _hosts = &self.hosts;
+        self.few_hosts();
         self.told.reserve()?;
         self.flying.reserve(from, to)
     }
@@ -99,8 +98,7 @@ impl World {
             × (self.new.root ≡ self.old.root) }
         ensures readable { self.new.readable ≡ self.old.readable }
     {
-        // Only a look at a field tells the check what every world keeps, here that its hosts are few.
-        let _hosts = &self.hosts;
+        self.few_hosts();
         self.flying.remove(from, to, place as usize);
     }
 
@@ -115,8 +113,7 @@ impl World {
         ensures same { (self.new.hosts ≡ self.old.hosts) × (self.new.root ≡ self.old.root) }
         ensures readable { self.new.readable ≡ self.old.readable }
     {
-        // Only a look at a field tells the check what every world keeps, here that its hosts are few.
-        let _hosts = &self.hosts;
+        self.few_hosts();
         let (Some(label), Some((to, message))) = (label, sent) else {
             return;
         };

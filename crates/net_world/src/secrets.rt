@@ -100,8 +100,7 @@ impl World {
         requires to { to.0 < length self.now.hosts }
         ensures { IsTrue result ↔ FlyOpenly code.now (world_of self.now) from to }
     {
-        // Only a look at a field tells the check what every world keeps, here that its hosts are few.
-        let _hosts = &self.hosts;
+        self.few_hosts();
         !self.flying.hides(from, to)
     }
 
@@ -118,7 +117,7 @@ impl World {
     }
 
     /// Whether the label at a place among the code's labels is one that some misbehaving host may see.
-    fn readable(&self, code: &Code, label: u32) -> bool
+    pub fn readable(&self, code: &Code, label: u32) -> bool
         requires fits { WorldFits code.now self.now }
         ensures { IsTrue result ↔ IsReadable code.now (world_of self.now) label }
     {

@@ -141,6 +141,13 @@ impl World {
         self.told.messages()
     }
 
+    /// A world has few hosts. The call does nothing: only a look at a field tells the check what every world keeps.
+    pub(crate) fn few_hosts(&self)
+        ensures { length self.now.hosts ≤ HOSTS }
+    {
+        let _hosts = &self.hosts;
+    }
+
     /// Whether the code has a host of the number.
     pub(crate) fn is_host(&self, host: HostId) -> bool
         ensures host { IsTrue result ↔ (host.0 < length self.now.hosts) }
