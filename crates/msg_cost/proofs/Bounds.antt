@@ -469,9 +469,9 @@ methods_small planned sound few (method ∷ methods) nodes =
     let long = length-append (numbers_of method) (flat_map numbers_of methods) in
     omega arith
 
--- the cost of a program within the limits fits a number of 64 bits
+-- the cost of a program within the limits fits a number of 64 bits, also with a sign
 pub program_small : (planned : PlannedShape) → AreHosts planned.hosts → IsWithinLimits planned.program →
-    cost_of planned.hosts (program_terms planned) < 2 ^ 64
+    cost_of planned.hosts (program_terms planned) < 2 ^ 62
 program_small planned sound sized =
     let main = method_at planned.program planned.program.main in
     let all = methods_small planned sound sized.params planned.program.methods sized.nodes in

@@ -8,3 +8,10 @@ pub mod Bounds
 pub mod OneHost
 pub mod Found
 pub mod Between
+pub mod ByPieces
+pub mod Seats
+pub mod PieceWalks
+pub mod PieceSums
+pub mod Independent
+pub mod Noting
+pub mod Changes

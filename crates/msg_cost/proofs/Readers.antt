@@ -1,5 +1,5 @@
 -- Words with a bit for each host on which a statement reads a variable.
-use Rattle.std.proofs.Common.{◌≡◌, ◌≢◌, ℕ, ◌<◌, ◌≤◌, ◌↔◌, ◌||◌, Bool, true, false, nat_eq, List, [], take, length}
+use Rattle.std.proofs.Common.{◌≡◌, ◌≢◌, ℕ, ◌<◌, ◌↔◌, ◌||◌, Bool, true, false, nat_eq, List, [], take, length}
 use Rattle.std.proofs.Common.{get_or}
 use Rattle.std.proofs.Common.{◌/◌, ◌^◌, sym, ◌∙◌, subst, ◌+◌, ◌⊎◌, inl, inr, arith}
 use Rattle.std.proofs.Math.Nat.{zero-div}

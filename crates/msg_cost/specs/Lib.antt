@@ -5,3 +5,8 @@ pub mod Views
 pub mod Kept
 pub mod CostExamples
 pub mod CostLaws
+pub mod Steps
+pub mod Pieces
+pub mod PieceViews
+pub mod Touches
+pub mod Rows

@@ -7,12 +7,12 @@ ghost use Rattle.msg_cost.specs.Cost.{cost_of};
 ghost use Rattle.msg_cost.specs.Kept.{IsKept};
 ghost use Rattle.msg_cost.specs.Moves.{on, block_end};
 ghost use Rattle.msg_cost.specs.Terms.{message, block_terms};
-ghost use Rattle.msg_cost.specs.Views.{shape_of, capped};
+ghost use Rattle.msg_cost.specs.Views.{seated_shape, capped};
 
 use crate::calls::call_cost;
 use crate::kept::Kept;
 use crate::messages::{leave, message, move_on};
-use crate::planned::Planned;
+use crate::seated::Seated;
 use crate::spot::Spot;
 use crate::tokens::{block_end, next_spot};
 use crate::values::{expr_cost, field_cost, forwards};
@@ -24,15 +24,15 @@ use js_base::limits::HOSTS;
 /// The cost of the statements of a block that begins on this host.
 #[cycle(blocks)]
 pub fn block_cost(
-    planned: &Planned<'_>,
+    planned: &Seated<'_>,
     kept: &Kept<'_>,
     weight: u64,
     home: HostId,
     block: &[Stmt],
 ) -> u64
-    requires { IsKept (shape_of planned.now) kept.now }
+    requires { IsKept (seated_shape planned.now) kept.now }
     ensures { result ≡ capped (cost_of planned.now.hosts.now
-        (block_terms (shape_of planned.now) weight (on home) (block_tree block.now))) }
+        (block_terms (seated_shape planned.now) weight (on home) (block_tree block.now))) }
 {
     let mut total: u64 = 0;
     let mut spot = Spot::on(home);
@@ -50,16 +50,16 @@ pub fn block_cost(
 /// The cost of a nested block, behind which this host gets the token back.
 #[cycle(blocks)]
 fn nested_cost(
-    planned: &Planned<'_>,
+    planned: &Seated<'_>,
     kept: &Kept<'_>,
     weight: u64,
     host: HostId,
     block: &[Stmt],
 ) -> u64
-    requires { IsKept (shape_of planned.now) kept.now }
+    requires { IsKept (seated_shape planned.now) kept.now }
     ensures { result ≡ capped (cost_of planned.now.hosts.now
-        (block_terms (shape_of planned.now) weight (on host) (block_tree block.now)
-        ++ message weight (block_end (shape_of planned.now) host (block_tree block.now)) host ∷ [])) }
+        (block_terms (seated_shape planned.now) weight (on host) (block_tree block.now)
+        ++ message weight (block_end (seated_shape planned.now) host (block_tree block.now)) host ∷ [])) }
 {
     let end = block_end(planned, host, block);
     let back = message(planned.hosts, weight, end, host);
@@ -68,14 +68,14 @@ fn nested_cost(
 
 /// The cost of a statement on its host, where the token is there already: that of a block that has it alone.
 #[cycle(blocks)]
-fn statement_cost(planned: &Planned<'_>, kept: &Kept<'_>, weight: u64, statement: &Stmt) -> u64
-    requires { IsKept (shape_of planned.now) kept.now }
+fn statement_cost(planned: &Seated<'_>, kept: &Kept<'_>, weight: u64, statement: &Stmt) -> u64
+    requires { IsKept (seated_shape planned.now) kept.now }
     ensures { result ≡ capped (cost_of planned.now.hosts.now
-        (block_terms (shape_of planned.now) weight (on (statement_host planned.now.plan.now statement.now.id))
+        (block_terms (seated_shape planned.now) weight (on (statement_host (seated_shape planned.now).plan statement.now.id))
         (tree_before statement.now done))) }
 {
     tree_laws();
-    let host = planned.plan.host_of(statement.id);
+    let host = planned.host_of(statement.id);
     match &statement.kind {
         StmtKind::Let { var, value } => {
             let read = expr_cost(planned, weight, host, value);

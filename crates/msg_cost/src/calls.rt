@@ -6,12 +6,12 @@ ghost use Rattle.jif_tree.specs.LabelRules.{method_at};
 ghost use Rattle.msg_cost.specs.Cost.{cost_of};
 ghost use Rattle.msg_cost.specs.Kept.{IsKept};
 ghost use Rattle.msg_cost.specs.Terms.{argument_terms, result_terms, call_terms};
-ghost use Rattle.msg_cost.specs.Views.{shape_of, capped};
+ghost use Rattle.msg_cost.specs.Views.{seated_shape, capped};
 
 use crate::ends::called_end;
 use crate::kept::Kept;
 use crate::messages::{exchange, message};
-use crate::planned::Planned;
+use crate::seated::Seated;
 use crate::tokens::called_home;
 use crate::values::{expr_cost, forwards};
 use jif_tree::{Expr, params_of};
@@ -19,16 +19,16 @@ use js_base::{HostId, MethodId, VarId};
 
 /// The cost of the arguments of a call, each with the parameter that gets it.
 fn argument_cost(
-    planned: &Planned<'_>,
+    planned: &Seated<'_>,
     kept: &Kept<'_>,
     weight: u64,
     host: HostId,
     params: &[VarId],
     args: &[Expr],
 ) -> u64
-    requires { IsKept (shape_of planned.now) kept.now }
+    requires { IsKept (seated_shape planned.now) kept.now }
     ensures { result ≡ capped (cost_of planned.now.hosts.now
-        (argument_terms (shape_of planned.now) weight host params.now (map expr_tree args.now))) }
+        (argument_terms (seated_shape planned.now) weight host params.now (map expr_tree args.now))) }
 {
     let mut total: u64 = 0;
     let mut left = params;
@@ -44,16 +44,16 @@ fn argument_cost(
 
 /// The cost of a result that is kept, from the host on which the method ended.
 fn result_cost(
-    planned: &Planned<'_>,
+    planned: &Seated<'_>,
     kept: &Kept<'_>,
     weight: u64,
     host: HostId,
     end: HostId,
     into: Option<VarId>,
 ) -> u64
-    requires { IsKept (shape_of planned.now) kept.now }
+    requires { IsKept (seated_shape planned.now) kept.now }
     ensures { result ≡ capped (cost_of planned.now.hosts.now
-        (result_terms (shape_of planned.now) weight host end into)) }
+        (result_terms (seated_shape planned.now) weight host end into)) }
 {
     match into {
         Some(x) => {
@@ -66,7 +66,7 @@ fn result_cost(
 
 /// The cost of a call.
 pub fn call_cost(
-    planned: &Planned<'_>,
+    planned: &Seated<'_>,
     kept: &Kept<'_>,
     weight: u64,
     host: HostId,
@@ -74,8 +74,8 @@ pub fn call_cost(
     args: &[Expr],
     into: Option<VarId>,
 ) -> u64
-    requires { IsKept (shape_of planned.now) kept.now }
-    ensures { result ≡ capped (cost_of planned.now.hosts.now (call_terms (shape_of planned.now) weight host
+    requires { IsKept (seated_shape planned.now) kept.now }
+    ensures { result ≡ capped (cost_of planned.now.hosts.now (call_terms (seated_shape planned.now) weight host
         (method_at (program_tree planned.now.program.now) method) (map expr_tree args.now) into)) }
 {
     let home = called_home(planned, method);

@@ -19,6 +19,7 @@ ghost use Rattle.msg_cost.specs.CostExamples.{forwarded, forwarded_needs, forwar
 ghost use Rattle.msg_cost.specs.CostExamples.{nested, nested_needs, nested_hosts, nested_plan};
 ghost use Rattle.msg_cost.specs.CostLaws.{StandsOn};
 ghost use Rattle.msg_cost.specs.Moves.{is_trusted_by, planned_of};
+ghost use Rattle.msg_cost.specs.Pieces.{pieces_cost, program_pieces};
 ghost use Rattle.msg_cost.specs.Terms.{inside};
 
 /// Laws of the costs of plans.
@@ -27,6 +28,10 @@ pub fn cost_laws()
     ensures own { (labelled : Labelled) (needs : NeedsShape) (hosts : HostsShape) (plan : PlanShape) (host : HostId) →
         AreHosts hosts → IsWellNumbered labelled.program → StandsOn (planned_of labelled needs hosts plan) host →
         plan_cost labelled needs hosts plan ≡ 0 }
+    // The cost is the sum of the costs of pieces, each of which depends on the hosts of few parts.
+    ensures by_pieces { (labelled : Labelled) (needs : NeedsShape) (hosts : HostsShape) (plan : PlanShape) →
+        plan_cost labelled needs hosts plan
+        ≡ pieces_cost (planned_of labelled needs hosts plan) (program_pieces labelled.program) }
     // The cost of a program within the limits fits a number of 64 bits.
     ensures fits { (labelled : Labelled) (needs : NeedsShape) (hosts : HostsShape) (plan : PlanShape) →
         AreHosts hosts → IsWithinLimits labelled.program → plan_cost labelled needs hosts plan < 2 ^ 64 }

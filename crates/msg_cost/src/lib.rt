@@ -3,21 +3,31 @@
 
 mod blocks;
 mod calls;
+mod change;
 mod ends;
+mod index;
 mod kept;
 mod laws;
 mod messages;
+mod piece;
+mod piece_cost;
+mod pieces;
 mod planned;
 mod program_cost;
+mod seated;
 mod spot;
+mod step;
 mod tokens;
 mod trust;
 mod values;
 mod weight;
 
+pub use change::delta_by_pieces;
+pub use index::{Index, index_of};
 pub use laws::{cost_examples, cost_laws};
-pub use planned::Planned;
-pub use program_cost::cost;
+pub use piece::Piece;
+pub use pieces::program_pieces;
+pub use planned::{Planned, called_home, next_spot, reading_hosts};
+pub use program_cost::{cost, delta};
 pub use spot::Spot;
-pub use tokens::{called_home, next_spot};
-pub use values::reading_hosts;
+pub use step::Step;

@@ -7,10 +7,10 @@ ghost use Rattle.jif_tree.specs.Trees.{block_tree, program_tree};
 ghost use Rattle.msg_cost.specs.Kept.{AreTrustedTo};
 ghost use Rattle.msg_cost.specs.Moves.{link_cost, host_behind, return_host, entered, next_spot, block_end};
 ghost use Rattle.msg_cost.specs.Moves.{called_home};
-ghost use Rattle.msg_cost.specs.Views.{shape_of, ids_of};
+ghost use Rattle.msg_cost.specs.Views.{seated_shape, ids_of};
 
 use crate::messages::link_cost;
-use crate::planned::Planned;
+use crate::seated::Seated;
 use crate::spot::Spot;
 use crate::trust::is_trusted_from;
 use jif_tree::Stmt;
@@ -18,11 +18,11 @@ use js_base::limits::HOSTS;
 use js_base::{HostId, MethodId};
 
 /// The host of the first statement behind the segment on this host with which the statements begin.
-fn host_behind(planned: &Planned<'_>, host: HostId, statements: &[Stmt]) -> Option<HostId>
-    ensures { result ≡ host_behind (shape_of planned.now) host (ids_of statements.now) }
+fn host_behind(planned: &Seated<'_>, host: HostId, statements: &[Stmt]) -> Option<HostId>
+    ensures { result ≡ host_behind (seated_shape planned.now) host (ids_of statements.now) }
 {
     for statement in statements {
-        let other = planned.plan.host_of(statement.id);
+        let other = planned.host_of(statement.id);
         if other.0 != host.0 {
             return Some(other);
         }
@@ -31,7 +31,7 @@ fn host_behind(planned: &Planned<'_>, host: HostId, statements: &[Stmt]) -> Opti
 }
 
 /// Whether the way from a host over the next one to another is shorter than the way straight to it.
-fn is_shorter(planned: &Planned<'_>, host: HostId, next: HostId, from: HostId) -> bool
+fn is_shorter(planned: &Seated<'_>, host: HostId, next: HostId, from: HostId) -> bool
     ensures { IsTrue result ↔ (link_cost planned.now.hosts.now next from + link_cost planned.now.hosts.now host next
         < link_cost planned.now.hosts.now host from) }
 {
@@ -42,7 +42,7 @@ fn is_shorter(planned: &Planned<'_>, host: HostId, next: HostId, from: HostId) -
 
 /// The host that gets the token back of the segment on a host that begins at a place of a block.
 fn return_host(
-    planned: &Planned<'_>,
+    planned: &Seated<'_>,
     from: HostId,
     host: HostId,
     block: &[Stmt],
@@ -50,9 +50,9 @@ fn return_host(
     noted: &mut [usize; HOSTS],
 ) -> HostId
     requires here { place ≤ length block.now }
-    requires noted { AreTrustedTo (shape_of planned.now) block.now place noted.old }
-    ensures result { result ≡ return_host (shape_of planned.now) from host (ids_of (drop place block.now)) }
-    ensures noted { AreTrustedTo (shape_of planned.now) block.now place noted.new }
+    requires noted { AreTrustedTo (seated_shape planned.now) block.now place noted.old }
+    ensures result { result ≡ return_host (seated_shape planned.now) from host (ids_of (drop place block.now)) }
+    ensures noted { AreTrustedTo (seated_shape planned.now) block.now place noted.new }
 {
     let Some(next) = host_behind(planned, host, &block[place..]) else {
         return from;
@@ -67,7 +67,7 @@ fn return_host(
 
 /// Where the statements of a block from a place on begin, which stand on a host, behind one that held the token.
 fn entered(
-    planned: &Planned<'_>,
+    planned: &Seated<'_>,
     from: HostId,
     host: HostId,
     block: &[Stmt],
@@ -75,9 +75,9 @@ fn entered(
     noted: &mut [usize; HOSTS],
 ) -> Spot
     requires here { place ≤ length block.now }
-    requires noted { AreTrustedTo (shape_of planned.now) block.now place noted.old }
-    ensures result { result ≡ entered (shape_of planned.now) from host (ids_of (drop place block.now)) }
-    ensures noted { AreTrustedTo (shape_of planned.now) block.now place noted.new }
+    requires noted { AreTrustedTo (seated_shape planned.now) block.now place noted.old }
+    ensures result { result ≡ entered (seated_shape planned.now) from host (ids_of (drop place block.now)) }
+    ensures noted { AreTrustedTo (seated_shape planned.now) block.now place noted.new }
 {
     if from.0 == host.0 {
         return Spot::on(host);
@@ -95,20 +95,20 @@ fn entered(
 /// Where the statement at a place of a block runs. The hosts' places up to which they are known to be trusted are
 /// noted.
 pub fn next_spot(
-    planned: &Planned<'_>,
+    planned: &Seated<'_>,
     spot: Spot,
     block: &[Stmt],
     place: usize,
     noted: &mut [usize; HOSTS],
 ) -> Spot
     requires here { place < length block.now }
-    requires noted { AreTrustedTo (shape_of planned.now) block.now place noted.old }
+    requires noted { AreTrustedTo (seated_shape planned.now) block.now place noted.old }
     ensures result { (statement : StmtId) (others : List StmtId) →
         ids_of (drop place block.now) ≡ statement ∷ others →
-        result ≡ next_spot (shape_of planned.now) spot statement others }
-    ensures noted { AreTrustedTo (shape_of planned.now) block.now (place + 1) noted.new }
+        result ≡ next_spot (seated_shape planned.now) spot statement others }
+    ensures noted { AreTrustedTo (seated_shape planned.now) block.now (place + 1) noted.new }
 {
-    let host = planned.plan.host_of(block[place].id);
+    let host = planned.host_of(block[place].id);
     if spot.host.0 == host.0 {
         spot
     } else {
@@ -117,8 +117,8 @@ pub fn next_spot(
 }
 
 /// The host that holds the token behind a block that begins on this host.
-pub fn block_end(planned: &Planned<'_>, home: HostId, block: &[Stmt]) -> HostId
-    ensures { result ≡ block_end (shape_of planned.now) home (block_tree block.now) }
+pub fn block_end(planned: &Seated<'_>, home: HostId, block: &[Stmt]) -> HostId
+    ensures { result ≡ block_end (seated_shape planned.now) home (block_tree block.now) }
 {
     let mut spot = Spot::on(home);
     let mut noted = [0; HOSTS];
@@ -129,11 +129,11 @@ pub fn block_end(planned: &Planned<'_>, home: HostId, block: &[Stmt]) -> HostId
 }
 
 /// The home of a method: the host of its head.
-pub fn called_home(planned: &Planned<'_>, method: MethodId) -> HostId
-    ensures { result ≡ called_home (shape_of planned.now) (method_at (program_tree planned.now.program.now) method) }
+pub fn called_home(planned: &Seated<'_>, method: MethodId) -> HostId
+    ensures { result ≡ called_home (seated_shape planned.now) (method_at (program_tree planned.now.program.now) method) }
 {
     match planned.program.methods.get(method.0 as usize) {
-        Some(called) => planned.plan.host_of(called.head),
+        Some(called) => planned.host_of(called.head),
         None => HostId(0),
     }
 }

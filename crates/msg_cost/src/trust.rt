@@ -3,9 +3,9 @@
 ghost use Rattle.std.specs.Prelude.{◌≡◌, ◌≤◌, length, nat_le, slice_index, slice_set};
 ghost use Rattle.msg_cost.specs.Kept.{is_trusted_from, IsTrustedBetween, AreTrustedTo};
 ghost use Rattle.msg_cost.specs.Moves.{is_trusted_by, is_trusted_for};
-ghost use Rattle.msg_cost.specs.Views.{shape_of};
+ghost use Rattle.msg_cost.specs.Views.{seated_shape};
 
-use crate::planned::Planned;
+use crate::seated::Seated;
 use jif_tree::Stmt;
 use js_base::limits::HOSTS;
 use js_base::{HostId, StmtId};
@@ -19,8 +19,8 @@ fn is_trusted_by(label: &Label, need: u64) -> bool
 }
 
 /// Whether the principals that a statement needs trust the host.
-fn is_trusted_for(planned: &Planned<'_>, host: HostId, statement: StmtId) -> bool
-    ensures { result ≡ is_trusted_for (shape_of planned.now) host statement }
+fn is_trusted_for(planned: &Seated<'_>, host: HostId, statement: StmtId) -> bool
+    ensures { result ≡ is_trusted_for (seated_shape planned.now) host statement }
 {
     let need = planned
         .needs
@@ -35,10 +35,10 @@ fn is_trusted_for(planned: &Planned<'_>, host: HostId, statement: StmtId) -> boo
 }
 
 /// The place of the first statement from this one on for which the host is not trusted, or one behind the block.
-fn trusted_to(planned: &Planned<'_>, host: HostId, block: &[Stmt], first: usize) -> usize
-    ensures between { IsTrustedBetween (shape_of planned.now) host block.now first result }
+fn trusted_to(planned: &Seated<'_>, host: HostId, block: &[Stmt], first: usize) -> usize
+    ensures between { IsTrustedBetween (seated_shape planned.now) host block.now first result }
     ensures later { first ≤ result }
-    ensures stops { is_trusted_from (shape_of planned.now) host block.now result ≡ nat_le (length block.now) result }
+    ensures stops { is_trusted_from (seated_shape planned.now) host block.now result ≡ nat_le (length block.now) result }
 {
     let mut end = first;
     for place in first..block.len() {
@@ -69,15 +69,15 @@ fn note(noted: &mut [usize; HOSTS], host: HostId, place: usize)
 /// Whether the host is trusted for all statements of a block from a place on. For each host it is noted up to where it
 /// is known to be trusted, so that a walk of the block asks once for each host and statement.
 pub fn is_trusted_from(
-    planned: &Planned<'_>,
+    planned: &Seated<'_>,
     host: HostId,
     block: &[Stmt],
     place: usize,
     noted: &mut [usize; HOSTS],
 ) -> bool
-    requires { AreTrustedTo (shape_of planned.now) block.now place noted.old }
-    ensures result { result ≡ is_trusted_from (shape_of planned.now) host block.now place }
-    ensures noted { AreTrustedTo (shape_of planned.now) block.now place noted.new }
+    requires { AreTrustedTo (seated_shape planned.now) block.now place noted.old }
+    ensures result { result ≡ is_trusted_from (seated_shape planned.now) host block.now place }
+    ensures noted { AreTrustedTo (seated_shape planned.now) block.now place noted.new }
 {
     let known = noted_at(noted, host);
     let end = trusted_to(planned, host, block, known.max(place));

@@ -3,36 +3,31 @@
 ghost use Rattle.std.specs.Prelude.{◌≡◌, [], ◌∷◌, length, min};
 ghost use Rattle.jif_tree.specs.Trees.{expr_tree};
 ghost use Rattle.msg_cost.specs.Cost.{cost_of};
-ghost use Rattle.msg_cost.specs.Kept.{IsReadingWord, AreReadingWords, IsKept};
+ghost use Rattle.msg_cost.specs.Kept.{IsReadingWord, AreReadingWords};
 ghost use Rattle.msg_cost.specs.declared.kept.TheConstants.{KEPT_VARIABLES};
 ghost use Rattle.msg_cost.specs.Terms.{exchange, expr_terms, forwards};
 ghost use Rattle.need_labels.specs.Plan.{field_host};
-ghost use Rattle.msg_cost.specs.Views.{shape_of, capped};
+ghost use Rattle.msg_cost.specs.Views.{seated_shape, capped};
 
 use crate::kept::{KEPT_VARIABLES, Kept};
 use crate::messages::exchange;
-use crate::planned::Planned;
+use crate::seated::Seated;
 use jif_tree::Expr;
 use js_base::bits::{WORD_BITS, has_bit, with_bit};
 use js_base::{FieldId, HostId, VarId};
 
 /// The cost of reading or writing a field.
-pub fn field_cost(planned: &Planned<'_>, weight: u64, host: HostId, field: FieldId) -> u64
+pub fn field_cost(planned: &Seated<'_>, weight: u64, host: HostId, field: FieldId) -> u64
     ensures { result ≡ capped (cost_of planned.now.hosts.now
-        (exchange weight host (field_host planned.now.plan.now field) ∷ [])) }
+        (exchange weight host (field_host (seated_shape planned.now).plan field) ∷ [])) }
 {
-    exchange(
-        planned.hosts,
-        weight,
-        host,
-        planned.plan.host_of_field(field),
-    )
+    exchange(planned.hosts, weight, host, planned.host_of_field(field))
 }
 
 /// The cost of what a host reads of others for an expression.
-pub fn expr_cost(planned: &Planned<'_>, weight: u64, host: HostId, expr: &Expr) -> u64
+pub fn expr_cost(planned: &Seated<'_>, weight: u64, host: HostId, expr: &Expr) -> u64
     ensures { result ≡ capped (cost_of planned.now.hosts.now
-        (expr_terms (shape_of planned.now) weight host (expr_tree expr.now))) }
+        (expr_terms (seated_shape planned.now) weight host (expr_tree expr.now))) }
 {
     match expr {
         Expr::Number(_) => 0,
@@ -54,12 +49,12 @@ pub fn expr_cost(planned: &Planned<'_>, weight: u64, host: HostId, expr: &Expr) 
 }
 
 /// A word with a bit for each host on which a statement reads the variable.
-pub fn reading_hosts(planned: &Planned<'_>, x: VarId) -> u64
-    ensures { IsReadingWord (shape_of planned.now) x result }
+pub fn reading_hosts(planned: &Seated<'_>, x: VarId) -> u64
+    ensures { IsReadingWord (seated_shape planned.now) x result }
 {
     let mut word = 0;
     for statement in planned.needs.readers(x) {
-        let host = planned.plan.host_of(*statement);
+        let host = planned.host_of(*statement);
         if host.0 < WORD_BITS {
             word = with_bit(word, host.0);
         }
@@ -68,9 +63,9 @@ pub fn reading_hosts(planned: &Planned<'_>, x: VarId) -> u64
 }
 
 /// Notes the words of the first variables of a program, as many as there is room for, and answers of how many.
-pub fn note_reading(planned: &Planned<'_>, words: &mut [u64]) -> usize
-    ensures words { AreReadingWords (shape_of planned.now) result words.new }
-    ensures count { result ≡ min (min (length (shape_of planned.now).program.vars) (length words.old)) KEPT_VARIABLES }
+pub fn note_reading(planned: &Seated<'_>, words: &mut [u64]) -> usize
+    ensures words { AreReadingWords (seated_shape planned.now) result words.new }
+    ensures count { result ≡ min (min (length (seated_shape planned.now).program.vars) (length words.old)) KEPT_VARIABLES }
 {
     let count = planned
         .program
@@ -85,9 +80,9 @@ pub fn note_reading(planned: &Planned<'_>, words: &mut [u64]) -> usize
 }
 
 /// The word of a variable, which is looked up where it was noted.
-fn kept_reading(planned: &Planned<'_>, kept: &Kept<'_>, x: VarId) -> u64
-    requires { IsKept (shape_of planned.now) kept.now }
-    ensures { IsReadingWord (shape_of planned.now) x result }
+fn kept_reading(planned: &Seated<'_>, kept: &Kept<'_>, x: VarId) -> u64
+    requires { AreReadingWords (seated_shape planned.now) kept.now.found kept.now.reading.now }
+    ensures { IsReadingWord (seated_shape planned.now) x result }
 {
     if (x.0 as usize) < kept.found {
         kept.reading.get(x.0 as usize).copied().unwrap_or(0)
@@ -97,9 +92,9 @@ fn kept_reading(planned: &Planned<'_>, kept: &Kept<'_>, x: VarId) -> u64
 }
 
 /// The cost of sending a variable's value to each other host that reads it.
-pub fn forwards(planned: &Planned<'_>, kept: &Kept<'_>, weight: u64, host: HostId, x: VarId) -> u64
-    requires { IsKept (shape_of planned.now) kept.now }
-    ensures { result ≡ capped (cost_of planned.now.hosts.now (forwards (shape_of planned.now) weight host x)) }
+pub fn forwards(planned: &Seated<'_>, kept: &Kept<'_>, weight: u64, host: HostId, x: VarId) -> u64
+    requires { AreReadingWords (seated_shape planned.now) kept.now.found kept.now.reading.now }
+    ensures { result ≡ capped (cost_of planned.now.hosts.now (forwards (seated_shape planned.now) weight host x)) }
 {
     let reading = kept_reading(planned, kept, x);
     let count = planned.hosts.hosts().len() as u8;

@@ -1,4 +1,4 @@
-use Rattle.std.proofs.Common.{◌≡◌, ◌∙◌, ℕ, ◌<◌, suc, List, ◌∷◌, drop, length, get_or, ap, sym, subst}
+use Rattle.std.proofs.Common.{◌≡◌, ◌∙◌, suc, List, drop, ap, sym, subst}
 use Rattle.std.proofs.Common.{add-one, arith}
 use Rattle.js_base.proofs.Lists.{next_of}
 use Rattle.jif_tree.specs.declared.program.Stmt.{Stmt}
@@ -9,14 +9,14 @@ use Rattle.need_labels.specs.Plan.{statement_host}
 use Rattle.msg_cost.specs.Cost.{cost_of}
 use Rattle.msg_cost.specs.Moves.{on}
 use Rattle.msg_cost.specs.Terms.{block_terms}
-use Rattle.msg_cost.specs.Views.{shape_of, ids_of, capped}
+use Rattle.msg_cost.specs.Views.{seated_shape, ids_of, capped}
 use Rattle.msg_cost.proofs.Sums.{CostsWith}
 use Rattle.msg_cost.proofs.Walks.{one_walked, branch_alone, loop_alone}
 use Rattle.msg_cost.proofs.blocks.+blocks.Goals as goal
 
 pub block_cost-loop-place-preserved : goal.block_cost-loop-place-preserved
 block_cost-loop-place-preserved t c =
-    let planned = shape_of c.args.planned.now in
+    let planned = seated_shape c.args.planned.now in
     let rest = drop (suc c.loop-place.place) c.args.block.now in
     let first = c.index-block-place.result in
     let all = block_terms planned c.args.weight (on c.args.home) (block_tree c.args.block.now) in
@@ -66,7 +66,7 @@ statement_cost-nested_cost-requires-in-While t c =
 
 pub statement_cost-returns-in-If : goal.statement_cost-returns-in-If
 statement_cost-returns-in-If t c =
-    let planned = shape_of c.args.planned.now in
+    let planned = seated_shape c.args.planned.now in
     let host = statement_host planned.plan c.args.statement.now.id in
     let tree_is = ap (λ (what : StmtKind). statement_tree what (head_of c.args.statement.now) done) c.in-If.is
     ∙ c.tree_laws.ensures.branches c.in-If.guard c.in-If.yes c.in-If.no (head_of c.args.statement.now) done in
@@ -83,7 +83,7 @@ statement_cost-returns-in-If t c =
 
 pub statement_cost-returns-in-While : goal.statement_cost-returns-in-While
 statement_cost-returns-in-While t c =
-    let planned = shape_of c.args.planned.now in
+    let planned = seated_shape c.args.planned.now in
     let host = statement_host planned.plan c.args.statement.now.id in
     let tree_is = ap (λ (what : StmtKind). statement_tree what (head_of c.args.statement.now) done) c.in-While.is
     ∙ c.tree_laws.ensures.loops c.in-While.guard c.in-While.body (head_of c.args.statement.now) done in

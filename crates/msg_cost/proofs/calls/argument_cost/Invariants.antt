@@ -1,7 +1,7 @@
 use Rattle.std.proofs.Common.{drop, map}
 use Rattle.jif_tree.specs.Trees.{expr_tree}
 use Rattle.msg_cost.specs.Terms.{argument_terms}
-use Rattle.msg_cost.specs.Views.{shape_of}
+use Rattle.msg_cost.specs.Views.{seated_shape}
 use Rattle.msg_cost.proofs.Sums.{CostsWith}
 use Rattle.msg_cost.proofs.calls.argument_cost.Given as goal
 
@@ -9,5 +9,5 @@ use Rattle.msg_cost.proofs.calls.argument_cost.Given as goal
 abbrev pub invariant-loop-arg : goal.invariant-loop-arg
 invariant-loop-arg l =
     CostsWith l.planned.hosts.now
-    (argument_terms (shape_of l.planned) l.weight l.host l.fn.params (map expr_tree l.args)) l.total
-    (argument_terms (shape_of l.planned) l.weight l.host l.left (map expr_tree (drop l.arg-index l.args)))
+    (argument_terms (seated_shape l.planned) l.weight l.host l.fn.params (map expr_tree l.args)) l.total
+    (argument_terms (seated_shape l.planned) l.weight l.host l.left (map expr_tree (drop l.arg-index l.args)))

@@ -2,6 +2,7 @@ use Rattle.std.proofs.Common.{◌≡◌, ◌∙◌, ℕ, zero, suc, ◌+◌, ◌
 use Rattle.msg_cost.specs.Moves.{planned_of}
 use Rattle.msg_cost.specs.Terms.{inside}
 use Rattle.msg_cost.proofs.Bounds.{program_small}
+use Rattle.msg_cost.proofs.ByPieces.{by_pieces}
 use Rattle.msg_cost.proofs.OneHost.{program_none}
 use Rattle.msg_cost.proofs.Trusted.{test_decides}
 use Rattle.msg_cost.proofs.laws.cost_laws.Goals as goal
@@ -25,7 +26,9 @@ pub returns : goal.returns
 returns c = record {
   own = λ labelled needs hosts plan host sound numbered stands.
       program_none (planned_of labelled needs hosts plan) sound numbered host stands;
-  fits = λ labelled needs hosts plan sound sized. program_small (planned_of labelled needs hosts plan) sound sized;
+  by_pieces = λ labelled needs hosts plan. by_pieces (planned_of labelled needs hosts plan);
+  fits = λ labelled needs hosts plan sound sized.
+      let small = program_small (planned_of labelled needs hosts plan) sound sized in omega arith;
   trusted = λ label word. test_decides label word;
   weights = deeper;
 }

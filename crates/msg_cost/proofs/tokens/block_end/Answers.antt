@@ -3,14 +3,14 @@ use Rattle.std.proofs.lemmas.List.{drop_all}
 use Rattle.js_base.specs.declared.ids.StmtId.{StmtId}
 use Rattle.jif_tree.specs.declared.program.Stmt.{Stmt}
 use Rattle.msg_cost.specs.Moves.{on, end_host}
-use Rattle.msg_cost.specs.Views.{shape_of, ids_of}
+use Rattle.msg_cost.specs.Views.{seated_shape, ids_of}
 use Rattle.msg_cost.proofs.Between.{walked}
 use Rattle.msg_cost.proofs.Statements.{own_ids}
 use Rattle.msg_cost.proofs.tokens.block_end.Goals as goal
 
 pub loop-place-preserved : goal.loop-place-preserved
 loop-place-preserved c =
-    let planned = shape_of c.args.planned.now in
+    let planned = seated_shape c.args.planned.now in
     rw add-one (
       c.loop-place.invariant.0
           ∙ walked planned c.args.block.now c.loop-place.place c.loop-place.spot c.next_spot-spot.result
@@ -20,7 +20,7 @@ loop-place-preserved c =
 
 pub returns : goal.returns
 returns c =
-    let planned = shape_of c.args.planned.now in
+    let planned = seated_shape c.args.planned.now in
     c.end.ensures
     ∙ sym (ap (λ (ids : List StmtId). end_host planned (on c.args.home) ids) (own_ids c.args.block.now)
     ∙ c.loop-place.invariant.0

@@ -1,13 +1,13 @@
 use Rattle.std.proofs.Common.{◌∙◌, ◌≤◌, ℕ, List, max, sym, subst, arith}
 use Rattle.msg_cost.specs.Kept.{IsTrustedBetween, AreTrustedTo}
-use Rattle.msg_cost.specs.Views.{shape_of}
+use Rattle.msg_cost.specs.Views.{seated_shape}
 use Rattle.msg_cost.proofs.Between.{joined, noted_too}
 use Rattle.msg_cost.proofs.trust.is_trusted_from.Goals as goal
 
 between : (c : goal.After-note) →
-    IsTrustedBetween (shape_of c.args.planned.now) c.args.host c.args.block.now c.args.place c.trusted_to-end.result
+    IsTrustedBetween (seated_shape c.args.planned.now) c.args.host c.args.block.now c.args.place c.trusted_to-end.result
 between c =
-    let planned = shape_of c.args.planned.now in
+    let planned = seated_shape c.args.planned.now in
     let end = c.trusted_to-end.result in
     let later : max c.noted_at-known.result c.args.place ≤ end = omega (arith, c.max.ensures, c.trusted_to-end.ensures.later) in
     joined planned c.args.host c.args.block.now c.args.place c.noted_at-known.result end later
@@ -23,7 +23,7 @@ returns-clause-result c =
 
 pub returns-clause-noted : goal.returns-clause-noted
 returns-clause-noted c =
-    let planned = shape_of c.args.planned.now in
+    let planned = seated_shape c.args.planned.now in
     subst (λ (ends : List ℕ). AreTrustedTo planned c.args.block.now c.args.place ends) (sym c.note.ensures)
     (noted_too planned c.args.host c.args.block.now c.args.place c.trusted_to-end.result c.args.noted.now (between c)
     c.requires)

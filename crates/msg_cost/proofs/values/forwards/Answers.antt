@@ -2,7 +2,7 @@ use Rattle.std.proofs.Common.{◌<◌, ◌+◌, ℕ, ◌∙◌, List, length, sy
 use Rattle.std.proofs.lemmas.List.{length-map}
 use Rattle.host_decl.specs.Hosts.{HostShape}
 use Rattle.js_base.specs.declared.bits.TheConstants.{WORD_BITS}
-use Rattle.msg_cost.specs.Views.{shape_of}
+use Rattle.msg_cost.specs.Views.{seated_shape}
 use Rattle.msg_cost.proofs.Forwards.{forwards_below, one_gets, one_gets_not, not_reading, the_sender, true_not_false}
 use Rattle.msg_cost.proofs.Sums.{Costs}
 use Rattle.msg_cost.proofs.values.forwards.Goals as goal
@@ -12,7 +12,7 @@ use Rattle.msg_cost.proofs.values.forwards.Goals.{else-other-host-via-else-other
 
 pub loop-other-preserved : goal.loop-other-preserved
 loop-other-preserved c =
-    let planned = shape_of c.args.planned.now in
+    let planned = seated_shape c.args.planned.now in
     let P : ℕ → Type 0 = λ total. Costs planned.hosts
     (forwards_below planned c.args.weight c.args.host c.args.x (c.loop-other.other + 1)) total in
     let long = length-map planned.hosts.hosts (λ (host : HostShape). host.name) in

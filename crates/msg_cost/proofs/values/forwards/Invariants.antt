@@ -1,4 +1,4 @@
-use Rattle.msg_cost.specs.Views.{shape_of}
+use Rattle.msg_cost.specs.Views.{seated_shape}
 use Rattle.msg_cost.proofs.Forwards.{forwards_below}
 use Rattle.msg_cost.proofs.Sums.{Costs}
 use Rattle.msg_cost.proofs.values.forwards.Given as goal
@@ -6,4 +6,4 @@ use Rattle.msg_cost.proofs.values.forwards.Given as goal
 -- the total is the cost of what goes to the hosts so far
 abbrev pub invariant-loop-other : goal.invariant-loop-other
 invariant-loop-other l =
-    Costs l.planned.hosts.now (forwards_below (shape_of l.planned) l.weight l.host l.fn.x l.other) l.total
+    Costs l.planned.hosts.now (forwards_below (seated_shape l.planned) l.weight l.host l.fn.x l.other) l.total

@@ -1,6 +1,6 @@
 use Rattle.std.proofs.Common.{◌∙◌, ◌<◌, length, refl, arith}
 use Rattle.std.proofs.lemmas.List.{length-set}
-use Rattle.msg_cost.specs.Views.{shape_of}
+use Rattle.msg_cost.specs.Views.{seated_shape}
 use Rattle.msg_cost.proofs.Readers.{words_more}
 use Rattle.msg_cost.proofs.values.note_reading.Goals as goal
 
@@ -13,7 +13,7 @@ loop-number-preserved c =
     let within : c.loop-number.number < length c.loop-number.words = omega (arith, long) in
     record {
       long = length-set c.loop-number.words c.loop-number.number c.reading_hosts.result ∙ long;
-      found = words_more (shape_of c.args.planned.now) c.loop-number.words c.loop-number.number c.reading_hosts.result
+      found = words_more (seated_shape c.args.planned.now) c.loop-number.words c.loop-number.number c.reading_hosts.result
           within c.reading_hosts.ensures c.loop-number.invariant.found;
     }
 

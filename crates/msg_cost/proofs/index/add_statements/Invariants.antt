@@ -1,0 +1,8 @@
+use Rattle.std.proofs.Common.{◌≡◌, ◌++◌, map, take}
+use Rattle.msg_cost.proofs.index.add_statements.Given as goal
+
+-- the numbers so far
+abbrev pub invariant-loop-statement : goal.invariant-loop-statement
+invariant-loop-statement l =
+    l.numbers.items
+    ≡ l.fn.numbers.items ++ map (λ statement. statement.0) (take l.statement-index l.statements)
