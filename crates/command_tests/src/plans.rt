@@ -81,13 +81,13 @@ const PLANS: [(&str, &str, &str); 9] = [
         "accepted 2 fields 1 methods 3 statements\nfield b may H at H\nfield d may D at D\n\
         statement 0 line 3 may T at T\nstatement 1 line 4 may H at H\nstatement 2 line 5 may D at D\ncost 5\n",
     ),
-    // Both plans cost the same, so the first host has what it may.
+    // Both starting plans cost the same, so the first host has what it may, and then a field goes to where it is read.
     (
         "int{Alice:} p;\nint{Bob:} q;\nint{} v;\nint{} w;\nvoid main{}() {\np = p + v;\nq = q + w;\n}",
         HOSTS,
         "accepted 4 fields 1 methods 3 statements\nfield p may A at A\nfield q may B at B\nfield v may A B at A\n\
-        field w may A B at A\nstatement 0 line 5 may A B at A\nstatement 1 line 6 may A at A\n\
-        statement 2 line 7 may B at B\ncost 4\n",
+        field w may A B at B\nstatement 0 line 5 may A B at A\nstatement 1 line 6 may A at A\n\
+        statement 2 line 7 may B at B\ncost 2\n",
     ),
     // A read of another host's field.
     (

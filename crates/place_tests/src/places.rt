@@ -59,13 +59,13 @@ const PLACED: [Placed; 9] = [
         "fields: H at H; D at D; statements: T at T; H at H; D at D;",
         4,
     ),
-    // A hands the token on to B: 1, which reads w of A: 2, and ends at A: 1. With v, w and the head of `main` on B it
-    // costs as much, and A is the first host.
+    // A hands the token on to B: 1, which ends at A: 1. At first B has to read w of A: 2, as all that A may hold stands
+    // there. So w moves to B.
     (
         "int{Alice:} p; int{Bob:} q; int{} v; int{} w; void main{}() { p = p + v; q = q + w; }",
         OWN_HOSTS,
-        "fields: A at A; B at B; A B at A; A B at A; statements: A B at A; A at A; B at B;",
-        4,
+        "fields: A at A; B at B; A B at A; A B at B; statements: A B at A; A at A; B at B;",
+        2,
     ),
     // T reads n of B.
     (

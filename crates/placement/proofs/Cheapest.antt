@@ -1,10 +1,18 @@
 -- The cheapest of some starting plans, plan by plan.
 use Rattle.std.proofs.Common.{◌≡◌, ℕ, ◌+◌, ◌<◌, ◌≤◌, ap, subst, arith, inl, inr}
 use Rattle.std.proofs.lemmas.Bool.{cases_order, cases_eq}
+use Rattle.std.specs.Prelude.{All}
 use Rattle.need_labels.specs.Plan.{PlanShape}
+use Rattle.msg_cost.specs.declared.step.Step.{Step}
+use Rattle.msg_cost.specs.Steps.{moved}
 use Rattle.place_rules.specs.Allowed.{AllowedShape}
+use Rattle.place_rules.specs.PlaceRules.{IsWordOfSome}
+use Rattle.placement.specs.Choice.{IsLowered, IsChosen, IsTried}
 use Rattle.placement.specs.Starting.{IsStartOf, IsCheapestStart}
+use Rattle.placement.specs.Steps.{steps_in}
+use Rattle.placement.proofs.Passes.{lowered_lower, one_lowered}
 use Rattle.placement.proofs.Starts.{one_start}
+use Rattle.placement.proofs.TriedSteps.{step_among}
 
 same_cost : (cost : PlanShape → ℕ) (allowed : AllowedShape) (host : ℕ) (first second : PlanShape) →
     IsStartOf allowed host first → IsStartOf allowed host second → cost first ≡ cost second
@@ -77,3 +85,27 @@ one_cheapest cost allowed count first second one two = elim (cases_order one.hos
       let more = two.least one.host first one.known one.start in
       absurd (omega arith)
 ]
+
+-- ---- one chosen plan
+
+pub one_chosen : (cost : PlanShape → ℕ) (allowed : AllowedShape) (count : ℕ) (first second : PlanShape) →
+    IsChosen cost allowed count first → IsChosen cost allowed count second → first ≡ second
+one_chosen cost allowed count first second one two =
+    let same : one.start ≡ two.start = one_cheapest cost allowed count one.start two.start one.cheapest two.cheapest in
+    let Lowered : PlanShape → Type 0 = λ start. IsLowered cost (steps_in count allowed) start first in
+    one_lowered cost (steps_in count allowed) two.start first second (subst Lowered same one.lowered) two.lowered
+
+-- what is chosen costs no more than what was tried
+pub chosen_least : (cost : PlanShape → ℕ) (allowed : AllowedShape) (count : ℕ) (plan other : PlanShape) →
+    All (IsWordOfSome count) allowed.fields → All (IsWordOfSome count) allowed.statements →
+    IsChosen cost allowed count plan → IsTried allowed count plan other → cost plan ≤ cost other
+chosen_least cost allowed count plan other fields statements chosen (inl start) =
+    let lower = lowered_lower cost (steps_in count allowed) chosen.start plan chosen.lowered in
+    let least = chosen.cheapest.least start.0 other start.1 start.2 in
+    omega arith
+chosen_least cost allowed count plan other fields statements chosen (inr near) =
+    let settled = chosen.lowered.settled in
+    let less = step_among (λ (step : Step). cost plan ≤ cost (moved plan step)) count allowed fields statements settled
+    near.0 near.1 in
+    let same = ap cost near.2 in
+    omega arith

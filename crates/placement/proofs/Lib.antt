@@ -2,3 +2,5 @@ pub mod Starts
 pub mod Cheapest
 pub mod Held
 pub mod SomePlan
+pub mod Passes
+pub mod TriedSteps

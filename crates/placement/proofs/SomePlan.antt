@@ -15,6 +15,8 @@ use Rattle.place_rules.specs.PlaceRules.{AreAllowed, IsWordOfSome}
 use Rattle.placement.specs.Starting.{StartsOn, IsStartOf, IsCheapestStart}
 use Rattle.placement.specs.Placing.{IsPlaced}
 use Rattle.placement.proofs.Starts.{lowest_host, some_word}
+use Rattle.placement.specs.Steps.{steps_in}
+use Rattle.placement.proofs.Passes.{some_lowered}
 use Rattle.placement.proofs.Cheapest.{cheapest_one, cheapest_next, cheapest_kept}
 
 -- ---- a starting plan
@@ -84,5 +86,10 @@ pub some_plan : (labelled : Labelled) (needs : NeedsShape) (hosts : HostsShape) 
     0 < length hosts.hosts → AreAllowed labelled needs hosts allowed → HaveHosts (length hosts.hosts) allowed →
     (plan : PlanShape) × IsPlaced labelled needs hosts allowed plan
 some_plan labelled needs hosts allowed some words have =
-    let found = some_cheapest (plan_cost labelled needs hosts) allowed (length hosts.hosts) have some in
-    (found.0, record { words = words; start = found.1 })
+    let cost = plan_cost labelled needs hosts in
+    let count = length hosts.hosts in
+    let found = some_cheapest cost allowed count have some in
+    let last = some_lowered cost (steps_in count allowed) (suc (cost found.0)) found.0 (omega arith) in (
+      last.0,
+      record { words = words; choice = record { start = found.0; cheapest = found.1; lowered = last.1 } },
+    )

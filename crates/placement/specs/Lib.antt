@@ -1,2 +1,5 @@
 pub mod Placing
 pub mod Starting
+pub mod Steps
+pub mod Choice
+pub mod Views

@@ -9,13 +9,13 @@ use Rattle.msg_cost.specs.Cost.{plan_cost}
 use Rattle.place_rules.specs.Allowed.{AllowedShape}
 use Rattle.place_rules.specs.PlaceRules.{AreAllowed, HoldsOn, MayHoldField, MayHoldStatement, told_fields}
 use Rattle.place_rules.specs.PlaceRules.{needed_statements}
-use Rattle.placement.specs.Starting.{IsCheapestStart}
+use Rattle.placement.specs.Choice.{IsChosen}
 
--- who may hold what, and the starting plan that costs least
+-- who may hold what, and the plan that is chosen among those that put each part on a host that may hold it
 pub record IsPlaced (labelled : Labelled) (needs : NeedsShape) (hosts : HostsShape) (allowed : AllowedShape)
     (plan : PlanShape) : Type 0 where
   pub words : AreAllowed labelled needs hosts allowed
-  pub start : IsCheapestStart (plan_cost labelled needs hosts) allowed (length hosts.hosts) plan
+  pub choice : IsChosen (plan_cost labelled needs hosts) allowed (length hosts.hosts) plan
 
 -- each field and each statement stands on a host that may hold it
 pub record IsAllowedPlan (labelled : Labelled) (needs : NeedsShape) (hosts : HostsShape) (plan : PlanShape) :

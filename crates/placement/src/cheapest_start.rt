@@ -9,35 +9,32 @@ ghost use Rattle.msg_cost.specs.Cost.{plan_cost};
 ghost use Rattle.place_rules.specs.PlaceRules.{IsWordOfSome};
 ghost use Rattle.placement.specs.Starting.{IsStartOf, IsCheapestStart};
 
+use crate::costed::Costed;
 use crate::starting_plan::starting_plan;
 use host_decl::Hosts;
 use jif_tree::Checked;
 use js_base::{HostId, OutOfMemory};
 use msg_cost::cost;
-use need_labels::{Needs, Plan};
+use need_labels::Needs;
 use place_rules::Allowed;
 use std::alloc::Global;
 
-/// A plan and what it costs.
-#[derive(Drop)]
-struct Costed {
-    plan: Plan,
-    cost: u64,
-}
-
-/// The starting plan that costs least, and of those that cost as little the one for the first host.
+/// The starting plan that costs least, with its cost. Of those that cost as little it is the one for the first host.
 pub fn cheapest_start(
     alloc: Global,
     checked: &Checked,
     needs: &Needs,
     hosts: &Hosts,
     allowed: &Allowed,
-) -> Result<Plan, OutOfMemory>
+) -> Result<Costed, OutOfMemory>
     requires within { IsWithinLimits (program_tree checked.now.program) }
     requires fields { All (IsWordOfSome (length hosts.now.hosts)) allowed.now.fields }
     requires statements { All (IsWordOfSome (length hosts.now.hosts)) allowed.now.statements }
-    ensures { IfOk result (IsCheapestStart (plan_cost (labelled_of checked.now) needs.now hosts.now) allowed.now
-        (length hosts.now.hosts)) }
+    ensures start { IfOk result (λ best.
+        IsCheapestStart (plan_cost (labelled_of checked.now) needs.now hosts.now) allowed.now
+        (length hosts.now.hosts) best.plan) }
+    ensures cost { IfOk result (λ best.
+        best.cost ≡ plan_cost (labelled_of checked.now) needs.now hosts.now best.plan) }
 {
     let mut best = costed_start(alloc, checked, needs, hosts, allowed, HostId(0))?;
     for number in 1..hosts.hosts().len() {
@@ -46,7 +43,7 @@ pub fn cheapest_start(
             best = next;
         }
     }
-    Ok(best.plan)
+    Ok(best)
 }
 
 /// The starting plan for the host, and its cost.

@@ -2,7 +2,10 @@
 #![tactic(auto)]
 
 mod cheapest_start;
+mod costed;
 mod laws;
+mod lowering;
+mod part;
 mod placing;
 mod starting_plan;
 

@@ -3,7 +3,7 @@ use Rattle.std.proofs.lemmas.List.{length-map}
 use Rattle.need_labels.specs.Labelled.{labelled_of}
 use Rattle.need_labels.specs.Plan.{PlanShape}
 use Rattle.msg_cost.specs.Cost.{plan_cost}
-use Rattle.placement.specs.declared.cheapest_start.Costed.{Costed}
+use Rattle.placement.specs.declared.costed.Costed.{Costed}
 use Rattle.placement.specs.Starting.{IsCheapestStart}
 use Rattle.placement.proofs.Cheapest.{cheapest_one, cheapest_next, cheapest_kept}
 use Rattle.placement.proofs.cheapest_start.cheapest_start.Goals as goal
@@ -38,8 +38,8 @@ loop-number-preserved c =
       })
     ]
 
-pub returns : goal.returns
-returns c =
+pub returns-clause-start : goal.returns-clause-start
+returns-clause-start c =
     let cost : PlanShape → ℕ = plan_cost (labelled_of c.args.checked.now) c.args.needs.now c.args.hosts.now in
     let some : 0 < length c.args.hosts.now.hosts = simp length-map at c.hosts-number-end.ensures.sound.names.some in
     let rows : length c.hosts-number-end.result.now ≡ length c.args.hosts.now.hosts =

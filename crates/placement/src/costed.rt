@@ -1,0 +1,20 @@
+//! Plans whose cost is known.
+
+use host_decl::Hosts;
+use jif_tree::Checked;
+use need_labels::{Needs, Plan};
+
+/// A program, what its statements need, and the hosts: what the costs of plans are counted over.
+#[derive(Clone, Copy)]
+pub struct Counted<'a> {
+    pub checked: &'a Checked,
+    pub needs: &'a Needs,
+    pub hosts: &'a Hosts,
+}
+
+/// A plan and what it costs.
+#[derive(Drop)]
+pub struct Costed {
+    pub plan: Plan,
+    pub cost: u64,
+}
