@@ -1,6 +1,6 @@
 -- Hosts that all obey come to an end: each event leaves less of what is enough, but for the steps of the plain run.
 use Rattle.std.proofs.Common.{◌≡◌, ℕ, zero, suc, ◌+◌, ◌<◌, ◌≤◌, inl, inr, List, [], ◌∷◌, length, refl, subst}
-use Rattle.std.proofs.Common.{arith, ◌⊎◌, Option, Some, None}
+use Rattle.std.proofs.Common.{arith, None}
 use Rattle.std.specs.Prelude.{ℤ, ◌*◌, ◌-◌}
 use Rattle.js_base.proofs.Options.{some_or_none}
 use Rattle.host_decl.specs.Hosts.{HostsShape}
@@ -18,17 +18,19 @@ use Rattle.net_world.proofs.Shapes.{shape_at_start, shape_step}
 use Rattle.split_rules.specs.Pace.{Allowance, IsPaced}
 use Rattle.split_rules.specs.SplitCode.{split_code}
 use Rattle.split_rules.specs.Splittable.{IsSplittable}
+use Rattle.typed_steps.specs.Views.{Split}
+use Rattle.typed_steps.specs.Weights.{Paced, STEP}
 use Rattle.simulation.specs.Driven.{IsDriven}
 use Rattle.simulation.specs.Ending.{EVENTS, HaltsWithin}
 use Rattle.simulation.specs.Obeying.{IsSet}
-use Rattle.simulation.proofs.Views.{Split}
-use Rattle.simulation.proofs.Simulates.{Paced, STEP, Falls, Simulates}
+use Rattle.simulation.proofs.Simulates.{Falls, Simulates}
 use Rattle.simulation.proofs.Starts.{falls_at_start}
-use Rattle.simulation.proofs.Events.{event_kept, idle_halted}
+use Rattle.simulation.proofs.Events.{idle_halted}
+use Rattle.simulation.proofs.Plainly.{GivesPlain, prefix_kept}
 use Rattle.simulation.proofs.Possible.{event_of, happens, none_comes, one_comes}
-use Rattle.simulation.proofs.Obeyed.{SplitLaws, typed_split, own_tokens}
+use Rattle.simulation.proofs.Obeyed.{SplitLaws, typed_split, unaffected, own_tokens}
 
-module _ (split : Split) (paced : Paced split) (store : List (List ℤ)) (most : ℕ)
+module _ (plain : GivesPlain) (split : Split) (paced : Paced split) (store : List (List ℤ)) (most : ℕ)
     (ends : IsAtEnd (prefix split.program store most)) where
   -- where the run has not ended, a step is left
   left_one : (n left : ℕ) → n + left ≡ most → ¬ IsAtEnd (prefix split.program store n) → (0 < left)
@@ -46,7 +48,7 @@ module _ (split : Split) (paced : Paced split) (store : List (List ℤ)) (most :
       let c = prefix split.program store n in
       let next_fits = shape_step split.code world ran.0 event split.sound fits
       (own_tokens split c world ran.0 event sim ran.1) ran.1 in
-      elim (event_kept split c world ran.0 event sim fits ran.1) [
+      elim (prefix_kept plain split store n world ran.0 event sim fits ran.1) [
         | inl same ↦
             let more = counted events ran.0 after n left all same.now next_fits ran.2 in
             let less = same.less paced in
@@ -87,7 +89,7 @@ module _ (split : Split) (paced : Paced split) (store : List (List ℤ)) (most :
             let step = happens split c world sim fits sim.holder sim.stands sim.idle event some.1 in
             let next_fits = shape_step split.code world step.0 event split.sound fits
             (own_tokens split c world step.0 event sim step.1) step.1 in
-            let rest : Drives step.0 = elim (event_kept split c world step.0 event sim fits step.1) [
+            let rest : Drives step.0 = elim (prefix_kept plain split store n world step.0 event sim fits step.1) [
               | inl same ↦
                   let less = same.less paced in
                   drives_on enough step.0 n left all same.now next_fits (omega (arith, less, within))
@@ -128,7 +130,7 @@ module _ (laws : SplitLaws) (paces : GivesPaces) (program : Program) (labelled :
       let typable = laws.trust labelled needs hosts plan set.allowed in
       let typed = laws.tables labelled needs hosts plan set.splittable typable in
       typed_split program labelled needs hosts plan set (laws.sound labelled needs hosts plan set.splittable) typed.0
-      typed.1 (paces labelled needs hosts plan set.splittable).0
+      typed.1 (paces labelled needs hosts plan set.splittable).0 unaffected
 
   paced : Paced split
   unfolding split typed_split
@@ -137,7 +139,7 @@ module _ (laws : SplitLaws) (paces : GivesPaces) (program : Program) (labelled :
   start : Falls split (prefix program store 0) (STEP + 4)
       (world_at_start (split_code labelled needs hosts plan) hosts.hosts 0 store)
   unfolding split typed_split
-  start = falls_at_start split store hosts.hosts refl
+  start = falls_at_start split store hosts.hosts refl refl
 
   fits_there : ShapeFits (split_code labelled needs hosts plan)
       (world_at_start (split_code labelled needs hosts plan) hosts.hosts 0 store)
@@ -151,7 +153,7 @@ module _ (laws : SplitLaws) (paces : GivesPaces) (program : Program) (labelled :
       length events ≤ start.now.fuel + STEP * steps
   unfolding split typed_split
   all_counted events world ran =
-      counted split paced store steps runs.ends events
+      counted laws.plain split paced store steps runs.ends events
       (world_at_start (split_code labelled needs hosts plan) hosts.hosts 0 store) world 0 steps (omega arith) start.now
       fits_there ran
 
@@ -169,8 +171,8 @@ module _ (laws : SplitLaws) (paces : GivesPaces) (program : Program) (labelled :
   unfolding split typed_split
   halts_soon =
       let first = world_at_start (split_code labelled needs hosts plan) hosts.hosts 0 store in
-      let drives = drives_on split paced store steps runs.ends (suc (start.now.fuel + STEP * steps)) first 0 steps
-      (omega arith) start.now fits_there (omega arith) in
+      let drives = drives_on laws.plain split paced store steps runs.ends (suc (start.now.fuel + STEP * steps)) first 0
+      steps (omega arith) start.now fits_there (omega arith) in
       record {
         events = drives.events;
         few = ends_soon drives.events drives.after

@@ -14,14 +14,15 @@ use Rattle.net_world.specs.Choice.{NoneRuns, NothingFlies}
 use Rattle.net_world.specs.Flying.{Flight, Flying}
 use Rattle.net_world.specs.World.{WorldShape, IsStep, IsTurnStep, IsTakeStep, state_at, after_step, has_halted}
 use Rattle.net_world.proofs.Present.{same_id}
-use Rattle.simulation.proofs.Views.{Split, View}
+use Rattle.typed_steps.specs.Views.{Split, View}
+use Rattle.typed_steps.specs.Weights.{Paced}
+use Rattle.typed_steps.proofs.Basics.{none_there}
 use Rattle.simulation.proofs.Simulates.{only, Holder, runs, asked, answered, gives, goes, returns, halted, IsIdle}
-use Rattle.simulation.proofs.Simulates.{Stands, AreIdle, GoesOn, Simulates, Goes, Paced, IsFueled}
-use Rattle.net_world.specs.Fits.{ShapeFits}
+use Rattle.simulation.proofs.Simulates.{Stands, AreIdle, GoesOn, Simulates, Goes, IsFueled}
 use Rattle.simulation.proofs.Moved.{none_taken, own_cell}
-use Rattle.simulation.proofs.HolderTurns.{holder_turn}
+use Rattle.simulation.proofs.Turning.{holder_turn}
 use Rattle.simulation.proofs.Takes.{asked_taken, answered_taken, giving_taken, going_taken, returning_taken}
-use Rattle.simulation.proofs.Basics.{none_there}
+use Rattle.net_world.specs.Fits.{ShapeFits}
 
 -- ---- turns
 
@@ -41,47 +42,48 @@ waiting_turn split world after host holder state there rests same step =
     none_there step.state.running (ap (λ (s : HostShape). s.running) is ∙ rests) step.runs
 
 turned : (split : Split) (c : Configuration) (world after : WorldShape) (sim : Simulates split c world)
-    (holder : Holder) → ShapeFits split.code world → sim.holder ≡ holder →
+    (holder : Holder) → ShapeFits split.code world →
     (stands : Stands split c sim.view world holder) →
     (Paced split → IsFueled split c sim.view world holder stands sim.fuel) → AreIdle holder world →
     GoesOn holder world → (host : HostId) → IsTurnStep split.code world host after → Goes split c sim.fuel after
-turned split c world after sim (runs holder) fits is stands fueled idle none host step = elim (eqb_tells host.0 holder.0) [
+turned split c world after sim (runs holder) fits stands fueled idle none host step = elim (eqb_tells host.0 holder.0) [
   | inl same ↦
       let one : host ≡ holder = same_id host holder same.1 in
       let run = stands.1 in
       let here = subst (λ h. IsTurnStep split.code world h after) one step in
       let state = some_same (state_at world holder) here.state run.state here.obeys run.there in
-      holder_turn split c world after holder fits sim is run stands.0 none idle fueled here.outcome
+      holder_turn split c world after holder fits sim run stands.0 none idle fueled here.outcome
       (subst (λ (s : HostShape). IsTurn split.code s here.outcome) state here.turns)
       (ap (λ (s : HostShape). after_step world holder here.outcome (label_of_turn split.code s)) (sym state)
       ∙ here.leaves)
   | inr apart ↦ absurd (idle_turn split world after (runs holder) idle host apart.1 step)
 ]
-turned split c world after sim (asked holder owner) fits is stands fueled idle none host step = elim (eqb_tells host.0 holder.0) [
-  | inl same ↦
-      let waits = stands.1.waits in
-      absurd (waiting_turn split world after host holder waits.state waits.there waits.running same.1 step)
-  | inr apart ↦ absurd (idle_turn split world after (asked holder owner) idle host apart.1 step)
-]
-turned split c world after sim (answered holder owner) fits is stands fueled idle none host step =
+turned split c world after sim (asked holder owner) fits stands fueled idle none host step =
+    elim (eqb_tells host.0 holder.0) [
+      | inl same ↦
+          let waits = stands.1.waits in
+          absurd (waiting_turn split world after host holder waits.state waits.there waits.running same.1 step)
+      | inr apart ↦ absurd (idle_turn split world after (asked holder owner) idle host apart.1 step)
+    ]
+turned split c world after sim (answered holder owner) fits stands fueled idle none host step =
     elim (eqb_tells host.0 holder.0) [
       | inl same ↦
           let waits = stands.1.waits in
           absurd (waiting_turn split world after host holder waits.state waits.there waits.running same.1 step)
       | inr apart ↦ absurd (idle_turn split world after (answered holder owner) idle host apart.1 step)
     ]
-turned split c world after sim (gives holder owner) fits is stands fueled idle none host step =
+turned split c world after sim (gives holder owner) fits stands fueled idle none host step =
     elim (eqb_tells host.0 holder.0) [
       | inl same ↦
           let waits = stands.1.waits in
           absurd (waiting_turn split world after host holder waits.state waits.there waits.running same.1 step)
       | inr apart ↦ absurd (idle_turn split world after (gives holder owner) idle host apart.1 step)
     ]
-turned split c world after sim (goes from to) fits is stands fueled idle none host step =
+turned split c world after sim (goes from to) fits stands fueled idle none host step =
     absurd (idle_turn split world after (goes from to) idle host tt step)
-turned split c world after sim (returns from to) fits is stands fueled idle none host step =
+turned split c world after sim (returns from to) fits stands fueled idle none host step =
     absurd (idle_turn split world after (returns from to) idle host tt step)
-turned split c world after sim halted fits is stands fueled idle none host step =
+turned split c world after sim halted fits stands fueled idle none host step =
     absurd (idle_turn split world after halted idle host tt step)
 
 -- ---- messages
@@ -112,7 +114,7 @@ pub event_kept : (split : Split) (c : Configuration) (world after : WorldShape) 
 event_kept split c world after (Take from to place) sim fits step =
     taken split c world after sim sim.holder sim.stands sim.fueled sim.idle sim.goes_on from to place step
 event_kept split c world after (Turn host) sim fits step =
-    turned split c world after sim sim.holder fits refl sim.stands sim.fueled sim.idle sim.goes_on host step
+    turned split c world after sim sim.holder fits sim.stands sim.fueled sim.idle sim.goes_on host step
 event_kept split c world after (Act from to made) sim fits step =
     absurd (let none = sim.orderly.none_bad from in let bad = step.bad in cc)
 

@@ -1,26 +1,24 @@
 -- What a step of one host leaves of what holds of a world.
-use Rattle.std.proofs.Common.{◌≡◌, ◌≢◌, ◌∙◌, ℕ, zero, suc, ◌<◌, inl, inr, false, List, [], ◌∷◌}
-use Rattle.std.proofs.Common.{length, Option, Some, None, refl, ap, sym, subst, arith, length-set}
-use Rattle.std.specs.Prelude.{slice_get}
+use Rattle.std.proofs.Common.{◌≡◌, ◌≢◌, ◌∙◌, inl, inr, false, List, []}
+use Rattle.std.proofs.Common.{length, Some, None, refl, ap, sym, subst, length-set}
 use Rattle.js_base.specs.declared.ids.HostId.{HostId}
-use Rattle.host_code.specs.Code.{CodeShape}
 use Rattle.host_core.specs.Host.{HostShape}
 use Rattle.net_world.specs.Flying.{Flying}
-use Rattle.net_world.specs.World.{WorldShape, state_at, given}
-use Rattle.net_world.proofs.Moved.{Moved, either}
-use Rattle.simulation.proofs.Views.{Link}
-use Rattle.simulation.proofs.Chains.{on_stack}
-use Rattle.simulation.proofs.Simulates.{Holder, IsIdle, IsOrderly, AreStacks, AreIdle}
-use Rattle.simulation.proofs.Moved.{none_bad}
+use Rattle.net_world.specs.World.{WorldShape, state_at}
+use Rattle.net_world.proofs.Moved.{Moved, either, bad_moved}
+use Rattle.typed_steps.specs.Views.{Link}
+use Rattle.simulation.proofs.Simulates.{on_stack, Holder, IsIdle, IsOrderly, AreStacks, AreIdle}
+use Rattle.typed_steps.specs.Views.{Split}
 
 -- ---- the world
 
-pub orderly_moved : (code : CodeShape) (world after : WorldShape) (host : HostId) (old state : HostShape)
-    (flying : Flying) → IsOrderly code world → state_at world host ≡ Some old →
-    Moved world host state flying after → state.me ≡ old.me → state.ignored ≡ old.ignored → IsOrderly code after
-orderly_moved code world after host old state flying orderly obeys moved me ignored = record {
+pub orderly_moved : (split : Split) (world after : WorldShape) (host : HostId) (old state : HostShape)
+    (flying : Flying) → IsOrderly split world → state_at world host ≡ Some old →
+    Moved world host state flying after → state.me ≡ old.me → state.ignored ≡ old.ignored → IsOrderly split after
+orderly_moved split world after host old state flying orderly obeys moved me ignored = record {
+  unaffected = orderly.unaffected;
   count = ap length moved.hosts ∙ length-set world.hosts host.0 (Some state) ∙ orderly.count;
-  none_bad = none_bad world after host state flying orderly.none_bad moved;
+  none_bad = λ other. bad_moved world after host old state flying obeys moved other ∙ orderly.none_bad other;
   numbers = λ other there is. elim (either world after host old state flying obeys moved other there is) [
     | inl mover ↦ ap (λ (s : HostShape). s.me) mover.is ∙ me ∙ orderly.numbers host old obeys ∙ sym mover.same
     | inr other_one ↦ orderly.numbers other there other_one.obeys
@@ -74,17 +72,3 @@ idle_moved holder now world after host old state flying idle obeys moved others 
           (own (subst (IsIdle now) mover.same rests))
       | inr other_one ↦ idle other there other_one.obeys (others other other_one.apart rests)
     ]
-
--- a host of a state is one of the code's
-pub host_within : (code : CodeShape) (world : WorldShape) (host : HostId) (state : HostShape) → IsOrderly code world →
-    state_at world host ≡ Some state → host.0 < length code.hosts
-host_within code world host state orderly obeys =
-    let within = within_of world.hosts host.0 state obeys in
-    let count = orderly.count in
-    omega arith
-  where
-    within_of : (hosts : List (Option HostShape)) (place : ℕ) (state : HostShape) →
-        given (slice_get hosts place) ≡ Some state → place < length hosts
-    within_of [] place state is = absurd (cc)
-    within_of (first ∷ hosts) zero state is = omega arith
-    within_of (first ∷ hosts) (suc place) state is = let more = within_of hosts place state is in omega arith

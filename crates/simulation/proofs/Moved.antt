@@ -1,52 +1,34 @@
 -- What a step of one host changes in a world where all obey and at most one message is in flight.
 use Rattle.std.proofs.Common.{◌≡◌, ◌∙◌, ℕ, zero, suc, Bool, true, false, List, [], ◌∷◌}
-use Rattle.std.proofs.Common.{◌++◌, Option, Some, refl, ap, sym}
-use Rattle.std.specs.Prelude.{slice_get, slice_set, remove, ◌==◌, ◌&&◌, if◌then◌else◌}
+use Rattle.std.proofs.Common.{◌++◌, Some, refl, ap, sym}
+use Rattle.std.specs.Prelude.{slice_get, remove, ◌==◌, ◌&&◌, if◌then◌else◌}
 use Rattle.std.proofs.lemmas.Bool.{eq-eqb}
 use Rattle.js_base.specs.declared.ids.HostId.{HostId}
 use Rattle.host_code.specs.declared.message.Message.{Message}
 use Rattle.host_core.specs.Host.{HostShape, Outcome, with_message}
 use Rattle.net_world.specs.Flying.{Flight, Flying, with_flights}
-use Rattle.net_world.specs.World.{WorldShape, lacks, is_absent, misbehaves}
+use Rattle.net_world.specs.World.{WorldShape, state_at, misbehaves}
 use Rattle.net_world.specs.World.{without_flight, after_step}
-use Rattle.net_world.proofs.Moved.{Moved, sends_to}
+use Rattle.net_world.proofs.Moved.{Moved, moved_posted}
 use Rattle.net_world.proofs.Present.{same_id}
+use Rattle.typed_steps.proofs.Basics.{told_equal}
 use Rattle.simulation.proofs.Simulates.{nothing, only}
-use Rattle.simulation.proofs.Basics.{told_equal}
-
--- ---- nobody misbehaves
-
-none_absent : {X : Type 0} (hosts : List (Option X)) (i : ℕ) (x : X) (j : ℕ) →
-    is_absent (slice_get hosts j) ≡ false → is_absent (slice_get (slice_set hosts i (Some x)) j) ≡ false
-none_absent [] i x j before = before
-none_absent (host ∷ hosts) zero x zero before = refl
-none_absent (host ∷ hosts) zero x (suc j) before = before
-none_absent (host ∷ hosts) (suc i) x zero before = before
-none_absent (host ∷ hosts) (suc i) x (suc j) before = none_absent hosts i x j before
-
-pub none_bad : (world after : WorldShape) (host : HostId) (state : HostShape) (flying : Flying) →
-    ((host : HostId) → misbehaves world host ≡ false) → Moved world host state flying after → (other : HostId) →
-    misbehaves after other ≡ false
-none_bad world after host state flying before moved other =
-    ap (λ hosts. lacks hosts other) moved.hosts ∙ none_absent world.hosts host.0 state other.0 (before other)
 
 -- ---- what a step sends
 
 -- a step that sends a message where nothing else is in flight
-pub moved_telling : (world : WorldShape) (host : HostId) (outcome : Outcome) (state : HostShape) (to : HostId)
-    (message : Message) (labelled : Option ℕ) (label : ℕ) (after : WorldShape) →
-    ((host : HostId) → misbehaves world host ≡ false) → world.flying ≡ nothing → labelled ≡ Some label →
-    with_message state to message ≡ outcome → after_step world host outcome labelled ≡ after →
+pub moved_telling : (world : WorldShape) (host : HostId) (outcome : Outcome) (old state : HostShape) (to : HostId)
+    (message : Message) (label : ℕ) (after : WorldShape) → state_at world host ≡ Some old →
+    ((host : HostId) → misbehaves world host ≡ false) → world.flying ≡ nothing →
+    with_message state to message ≡ outcome → after_step world host outcome (Some label) ≡ after →
     Moved world host state (only host to (record { message = message; label = label } ∷ [])) after
-moved_telling world host outcome state to message labelled label after none flying labels is leaves =
+moved_telling world host outcome old state to message label after obeys none flying is leaves =
     let flight : Flight = record { message = message; label = label } in
-    let done =
-    sends_to world host outcome state to message labelled label false after
-    (none_absent world.hosts host.0 state to.0 (none to)) labels is leaves in
+    let posted =
+    moved_posted world host outcome old state to message (Some label) label after obeys (none to) refl is leaves in
     record {
-      hosts = ap (λ (w : WorldShape). w.hosts) (sym done);
-      flying = ap (λ (w : WorldShape). w.flying) (sym done)
-          ∙ ap (λ (f : Flying). with_flights f host to (f host to ++ flight ∷ [])) flying;
+      hosts = posted.moved.hosts;
+      flying = posted.moved.flying ∙ ap (λ (f : Flying). with_flights f host to (f host to ++ flight ∷ [])) flying;
     }
 
 -- ---- what is taken

@@ -13,6 +13,7 @@ use Rattle.host_decl.specs.Hosts.{HostsShape}
 use Rattle.event_text.specs.declared.event.Event.{Event}
 use Rattle.host_code.specs.Sound.{IsSoundCode}
 use Rattle.host_core.specs.Host.{HostShape}
+use Rattle.jif_tree.specs.Altered.{Exposure}
 use Rattle.jif_tree.specs.declared.program.Program.{Program}
 use Rattle.jif_tree.specs.SourceRun.{IsAtEnd, prefix}
 use Rattle.jif_tree.specs.Trees.{MethodTree, ProgramTree}
@@ -26,7 +27,16 @@ use Rattle.net_world.specs.Fits.{ShapeFits, HasOwnToken}
 use Rattle.net_world.proofs.Shapes.{shape_at_start, shape_step}
 use Rattle.event_text.specs.declared.event.Event.TheVariants.{Take, Turn, Act}
 use Rattle.jif_tree.specs.SourceRun.{Configuration}
+use Rattle.typed_steps.specs.Views.{Split, AreRising}
+use Rattle.typed_steps.proofs.KnownReaders.{body_fit, nobody_reads}
+use Rattle.typed_steps.proofs.SeenResults.{results_seen}
+use Rattle.simulation.specs.Obeying.{IsSet, Follows}
 use Rattle.simulation.proofs.Possible.{next_happens, one_event}
+use Rattle.simulation.proofs.Simulates.{Simulates}
+use Rattle.simulation.proofs.Starts.{falls_at_start}
+use Rattle.simulation.proofs.Events.{halted_at_end, idle_halted}
+use Rattle.simulation.proofs.Plainly.{GivesPlain, prefix_kept, fields_are}
+use Rattle.simulation.proofs.Tracks.{IsKept, Tracks, track, track_end}
 use Rattle.net_world.specs.World.{IsStep, named_host, WorldShape, IsRun, world_at_start, state_at, has_halted}
 use Rattle.split_rules.specs.Allowed.{IsAllowed}
 use Rattle.split_rules.specs.Pace.{Allowance}
@@ -34,14 +44,6 @@ use Rattle.split_rules.specs.SplitCode.{split_code}
 use Rattle.split_rules.specs.Splittable.{IsSplittable}
 use Rattle.split_rules.specs.Typable.{IsTypable}
 use Rattle.split_rules.specs.TypedCode.{Table, IsTypedCode}
-use Rattle.simulation.specs.Obeying.{IsSet, Follows}
-use Rattle.simulation.proofs.KnownReaders.{body_fit, nobody_reads}
-use Rattle.simulation.proofs.SeenResults.{results_seen}
-use Rattle.simulation.proofs.Views.{Split, AreRising}
-use Rattle.simulation.proofs.Simulates.{Simulates}
-use Rattle.simulation.proofs.Starts.{falls_at_start}
-use Rattle.simulation.proofs.Events.{event_kept, halted_at_end, idle_halted}
-use Rattle.simulation.proofs.Tracks.{IsKept, Tracks, track, track_end}
 
 -- ---- parameters and results
 
@@ -90,13 +92,18 @@ result_within program place method x are is result =
 
 -- ---- a split program
 
--- a typed code of a program that is set
+-- where nobody misbehaves
+abbrev pub unaffected : Exposure
+unaffected = record { bad = []; fields = []; variables = []; needs = [] }
+
+-- a typed code of a program that is set, and what may be affected there
 unfoldable pub typed_split : (program : Program) (labelled : Labelled) (needs : NeedsShape) (hosts : HostsShape)
     (plan : PlanShape) → IsSet program labelled needs hosts plan → IsSoundCode (split_code labelled needs hosts plan) →
     (table : Table) → IsTypedCode (planned_of labelled needs hosts plan) (split_code labelled needs hosts plan) table
-    → Allowance → Split
-typed_split program labelled needs hosts plan set sound table typed pace = record {
+    → Allowance → Exposure → Split
+typed_split program labelled needs hosts plan set sound table typed pace exposure = record {
   program = program;
+  exposure = exposure;
   planned = planned_of labelled needs hosts plan;
   code = split_code labelled needs hosts plan;
   table = table;
@@ -146,11 +153,11 @@ not_at_end split store n before now m within ends = elim (cases_eq m n) [
   | inr other ↦ before m (omega arith) ends
 ]
 
-kept : (split : Split) (store : List (List ℤ)) → IsKept split.code (Stands split store)
-kept split store world after n event stands step =
+kept : GivesPlain → (split : Split) (store : List (List ℤ)) → IsKept split.code (Stands split store)
+kept plain split store world after n event stands step =
     let fits = shape_step split.code world after event split.sound stands.fits
     (own_tokens split (prefix split.program store n) world after event stands.simulates step) step in
-    elim (event_kept split (prefix split.program store n) world after event stands.simulates stands.fits step) [
+    elim (prefix_kept plain split store n world after event stands.simulates stands.fits step) [
       | inl same ↦ (
         n,
         omega arith,
@@ -170,14 +177,14 @@ kept split store world after n event stands step =
       )
     ]
 
-module _ (split : Split) (store : List (List ℤ)) (hosts : HostsShape)
+module _ (plain : GivesPlain) (split : Split) (store : List (List ℤ)) (hosts : HostsShape)
     (start : Simulates split (prefix split.program store 0) (world_at_start split.code hosts.hosts 0 store))
     (fits : ShapeFits split.code (world_at_start split.code hosts.hosts 0 store))
     (events : List Event) (world : WorldShape)
     (ran : IsRun split.code (world_at_start split.code hosts.hosts 0 store) events world) where
   tracked : Tracks split.code (Stands split store) (world_at_start split.code hosts.hosts 0 store) 0 events
   tracked =
-      track split.code (Stands split store) (kept split store) events
+      track split.code (Stands split store) (kept plain split store) events
       (world_at_start split.code hosts.hosts 0 store) world 0
       (record { simulates = start; not_before = λ m within ends. omega arith; fits = fits }) ran
 
@@ -193,7 +200,9 @@ module _ (split : Split) (store : List (List ℤ)) (hosts : HostsShape)
     first = tracked.first;
     rising = tracked.rising;
     close = tracked.close;
-    fields = λ moment after within is. (tracked.holds moment after within is).simulates.holds.fields;
+    fields = λ moment after within is.
+        let stands = (tracked.holds moment after within is).simulates in
+        fields_are split after _ stands.orderly.unaffected stands.holds.fields;
     halted = λ moment after within is halts.
         let stands = tracked.holds moment after within is in
         record {
@@ -236,14 +245,15 @@ GivesTables = (labelled : Labelled) (needs : NeedsShape) (hosts : HostsShape) (p
     IsSplittable labelled hosts plan → IsTypable planned →
     (table : Table) × IsTypedCode planned (split_code labelled needs hosts plan) table
 
--- the laws of the splitting
+-- the laws of the splitting, and that of altered runs
 pub record SplitLaws : Type 0 where
   pub sound : GivesSound
   pub trust : GivesTrust
   pub tables : GivesTables
+  pub plain : GivesPlain
 
-pub laws_of : GivesSound → GivesTrust → GivesTables → SplitLaws
-laws_of sound trust tables = record { sound = sound; trust = trust; tables = tables }
+pub laws_of : GivesSound → GivesTrust → GivesTables → GivesPlain → SplitLaws
+laws_of sound trust tables plain = record { sound = sound; trust = trust; tables = tables; plain = plain }
 
 module _ (laws : SplitLaws) (program : Program) (labelled : Labelled) (needs : NeedsShape) (hosts : HostsShape)
     (plan : PlanShape) (store : List (List ℤ)) (events : List Event) (world : WorldShape)
@@ -255,12 +265,12 @@ module _ (laws : SplitLaws) (program : Program) (labelled : Labelled) (needs : N
       let typable = laws.trust labelled needs hosts plan set.allowed in
       let typed = laws.tables labelled needs hosts plan set.splittable typable in
       typed_split program labelled needs hosts plan set (laws.sound labelled needs hosts plan set.splittable) typed.0
-      typed.1 (λ host place. 0)
+      typed.1 (λ host place. 0) unaffected
 
   start : Simulates split (prefix program store 0)
       (world_at_start (split_code labelled needs hosts plan) hosts.hosts 0 store)
   unfolding split typed_split
-  start = (falls_at_start split store hosts.hosts refl).now
+  start = (falls_at_start split store hosts.hosts refl refl).now
 
   fits_there : ShapeFits (split_code labelled needs hosts plan)
       (world_at_start (split_code labelled needs hosts plan) hosts.hosts 0 store)
@@ -270,23 +280,23 @@ module _ (laws : SplitLaws) (program : Program) (labelled : Labelled) (needs : N
 
   pub fields_follow : Follows program (split_code labelled needs hosts plan) hosts.hosts store events
   unfolding split typed_split
-  fields_follow = follows split store hosts start fits_there events world ran
+  fields_follow = follows laws.plain split store hosts start fits_there events world ran
 
   pub idle_ends : NoneRuns world → NothingFlies world → has_halted (split_code labelled needs hosts plan).root world
   unfolding split typed_split
-  idle_ends = idle split store hosts start fits_there events world ran
+  idle_ends = idle laws.plain split store hosts start fits_there events world ran
 
   pub nothing_ignored : (host : HostId) (state : HostShape) → state_at world host ≡ Some state → state.ignored ≡ 0
   unfolding split typed_split
-  nothing_ignored = none_ignored split store hosts start fits_there events world ran
+  nothing_ignored = none_ignored laws.plain split store hosts start fits_there events world ran
 
   pub next_there : (event : Event) → IsNextEvent world (Some event) →
       (after : WorldShape) × IsStep (split_code labelled needs hosts plan) world event after
   unfolding split typed_split
-  next_there = next_possible split store hosts start fits_there events world ran
+  next_there = next_possible laws.plain split store hosts start fits_there events world ran
 
   pub one_there : (first second : Event) (after other : WorldShape) →
       IsStep (split_code labelled needs hosts plan) world first after →
       IsStep (split_code labelled needs hosts plan) world second other → first ≡ second
   unfolding split typed_split
-  one_there = one_possible split store hosts start fits_there events world ran
+  one_there = one_possible laws.plain split store hosts start fits_there events world ran

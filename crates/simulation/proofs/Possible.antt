@@ -31,44 +31,49 @@ use Rattle.net_world.specs.Fits.{ShapeFits}
 use Rattle.net_world.proofs.Fitting.{flight_fits}
 use Rattle.net_world.proofs.Present.{same_id}
 use Rattle.simulation.proofs.Simulates as simulates
-use Rattle.simulation.proofs.Views.{Split, View, entries_of}
-use Rattle.simulation.proofs.Chains.{IsChain}
-use Rattle.simulation.proofs.Variables.{Holds}
-use Rattle.simulation.proofs.Simulates.{only, IsRequest, IsAnswer, Holder, runs, asked, answered, gives, goes}
-use Rattle.simulation.proofs.Simulates.{returns, halted, IsIdle, AreIdle, Stands, IsOrderly, AreStacks, Simulates}
-use Rattle.simulation.proofs.Instructions.{Agrees}
-use Rattle.simulation.proofs.Transfers.{calm_calling}
-use Rattle.simulation.proofs.ResultsGiven.{return_at}
-use Rattle.simulation.proofs.Holding.{holder_agrees}
+use Rattle.typed_steps.specs.Views.{Split, View, entries_of}
+use Rattle.typed_steps.specs.Chains.{IsChain}
+use Rattle.typed_steps.specs.Variables.{Holds}
+use Rattle.typed_steps.specs.Requests.{IsRequest, IsAnswer}
+use Rattle.typed_steps.proofs.Instructions.{Agrees}
+use Rattle.typed_steps.proofs.Transfers.{calm_calling}
+use Rattle.typed_steps.proofs.ResultsGiven.{return_at}
+use Rattle.typed_steps.proofs.Holding.{holder_agrees}
+use Rattle.typed_steps.proofs.Pops.{top_of}
+use Rattle.typed_steps.proofs.Takes.{may_here}
+use Rattle.typed_steps.proofs.Basics.{none_there}
+use Rattle.simulation.proofs.Simulates.{only, Holder, runs, asked, answered, gives, goes, returns, halted, IsIdle}
+use Rattle.simulation.proofs.Simulates.{AreIdle, Stands, IsOrderly, AreStacks, Simulates}
 use Rattle.simulation.proofs.Moved.{none_taken, the_one, own_cell}
-use Rattle.simulation.proofs.Pops.{top_of, top_on_stack}
-use Rattle.simulation.proofs.Takes.{may_here, awaited_first}
-use Rattle.simulation.proofs.Basics.{none_there}
+use Rattle.simulation.proofs.Pops.{top_on_stack}
+use Rattle.simulation.proofs.Turning.{no_numbers}
+use Rattle.simulation.proofs.Takes.{awaited_first}
 
 -- ---- checks that pass
 
 -- A result may be seen where its call stands, and a token that is given back here is that of the top entry.
 turn_passes : (split : Split) (c : Configuration) (view : View) (world : WorldShape) (host : HostId) →
-    IsChain split view.naming view.chain → Holds split c view world →
+    split.exposure.bad ≡ [] → IsChain split view.naming view.chain → Holds split c view world →
     (run : simulates.IsRunning split c view world host) → (token : Token) →
     top_token (entries_of view.chain) ≡ Some token →
     (token.host.0 ≡ run.state.me.0 → top_token run.state.entries ≡ Some token) → (what : Op) →
     IsTypedOp split.planned split.table host run.thread.at what →
     PassesWith split.code (with_running run.state None) what run.thread.held
-turn_passes split c view world host is_chain holds run token is top op.Back law =
+turn_passes split c view world host none is_chain holds run token is top op.Back law =
     subst (PassesWith split.code (with_running run.state None) op.Back) (sym (run.at.held ∙ is)) top
-turn_passes split c view world host is_chain holds run token is top (op.Ret x nodes) law =
+turn_passes split c view world host none is_chain holds run token is top (op.Ret x nodes) law =
     let thread = run.thread in
     let at = run.at in
     let held = at.held ∙ is in
     let frame = (calm_calling split c view host thread at law.3).1 in
     let knows : Agrees split c host at.call (run.state.variables thread.frame) =
     subst (λ f. Agrees split c host at.call (run.state.variables f)) (sym frame)
-    (holder_agrees split c view world host run.state at.call holds run.there run.sent at.made) in
+    (holder_agrees split c view world host run.state at.call holds run.there (no_numbers split none run.state) run.sent
+    at.made) in
     let result = return_at split c view host thread (run.state.variables thread.frame) at knows is_chain
     (holds.named at.call at.made) x nodes law token held in
     subst (PassesWith split.code (with_running run.state None) (op.Ret x nodes)) (sym held) (λ differs. result.sees)
-turn_passes split c view world host is_chain holds run token is top _ law = tt
+turn_passes split c view world host none is_chain holds run token is top _ law = tt
 
 request_passes : (split : Split) (c : Configuration) (view : View) (holder owner : HostId) (waiting : WaitingShape)
     (m : Message) → IsRequest split c view holder owner waiting m → (old : HostShape) → old.me ≡ owner →
@@ -104,7 +109,7 @@ outcome_there code bare thread (Some there) passes =
     (after_operation code bare thread there.op true, (true, (λ told. passes there refl, λ passing. refl), refl))
 
 turn_possible : (split : Split) (c : Configuration) (world : WorldShape) (view : View) (holder : HostId) →
-    IsOrderly split.code world → AreStacks view.chain world → IsChain split view.naming view.chain →
+    IsOrderly split world → AreStacks view.chain world → IsChain split view.naming view.chain →
     Holds split c view world → (run : simulates.IsRunning split c view world holder) →
     (after : WorldShape) × IsTurnStep split.code world holder after
 turn_possible split c world view holder orderly stacks is_chain holds run =
@@ -119,8 +124,8 @@ turn_possible split c world view holder orderly stacks is_chain holds run =
     let is : top_token state.entries ≡ Some token.0 =
     ap top_token (stacks holder state run.there) ∙ top_on_stack holder view.chain token.0 token.1 own in is in
     let found = instruction_at code holder thread.at in
-    let one = outcome_there code bare thread found (λ there is. turn_passes split c view world holder is_chain holds run
-    token.0 token.1 top there.op (split.typed.instructions holder thread.at there is).1) in
+    let one = outcome_there code bare thread found (λ there is. turn_passes split c view world holder orderly.unaffected
+    is_chain holds run token.0 token.1 top there.op (split.typed.instructions holder thread.at there is).1) in
     let turns : IsTurn code state one.0 =
     subst (λ o. IsTurnOf code state o one.0) (sym run.running)
     (subst (λ m. IsRunning code bare thread (instruction_at code m thread.at) one.0) (sym me) one.1) in (
@@ -146,7 +151,7 @@ there_if (host ∷ hosts) (suc place) within present = there_if hosts place (ome
 
 -- the target of the one message in flight is there
 target_there : (split : Split) (world : WorldShape) (from to : HostId) (flight : Flight) → ShapeFits split.code world →
-    IsOrderly split.code world → world.flying ≡ only from to (flight ∷ []) →
+    IsOrderly split world → world.flying ≡ only from to (flight ∷ []) →
     (state : HostShape) × (state_at world to ≡ Some state)
 target_there split world from to flight fits orderly flying =
     let there : slice_get (world.flying from to) 0 ≡ Some flight =

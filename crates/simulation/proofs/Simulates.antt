@@ -1,38 +1,34 @@
 -- How a world of hosts that all obey stands for a configuration of the plain run.
 use Rattle.std.proofs.Common.{◌≡◌, ◌≢◌, ℕ, ◌⊎◌, true, false, List, [], ◌∷◌, length, Some, None}
 use Rattle.std.specs.Prelude.{◌+◌, ◌*◌, ◌<◌, ◌≤◌}
-use Rattle.std.specs.Prelude.{ℤ, slice_get, ⊤}
+use Rattle.std.specs.Prelude.{ℤ, ⊤}
 use Rattle.js_base.specs.declared.ids.HostId.{HostId}
-use Rattle.js_base.specs.declared.ids.FieldId.{FieldId}
 use Rattle.js_base.specs.declared.ids.FrameId.{FrameId}
 use Rattle.js_base.specs.declared.ids.RequestId.{RequestId}
 use Rattle.js_base.specs.declared.ids.VarId.{VarId}
-use Rattle.jif_tree.specs.SourceRun as source
-use Rattle.jif_tree.specs.SourceRun.{Call, Configuration, IsAtEnd, step, with_value}
-use Rattle.jif_tree.specs.Store.{element_at, row_of, store_after_write}
-use Rattle.jif_tree.specs.Trees.{BlockTree}
+use Rattle.jif_tree.specs.SourceRun.{Configuration, IsAtEnd}
 use Rattle.capability.specs.declared.token.Token.{Token}
 use Rattle.ics_stack.specs.Stack.{top_token}
 use Rattle.host_code.specs.declared.code.Entry.{Entry}
-use Rattle.host_code.specs.declared.message.Message.{Message}
 use Rattle.host_code.specs.declared.message.Message.TheVariants as message
-use Rattle.host_code.specs.Code.{CodeShape, CodeFieldShape, field_at, entry_at, variable_at}
-use Rattle.host_code.specs.Sound.{IsEntryOn}
+use Rattle.host_code.specs.Code.{entry_at}
 use Rattle.host_code.specs.Thread.{ThreadShape, WaitingShape}
-use Rattle.host_code.specs.Thread.Awaited.{value_of_field, acknowledgement, token_of_entry}
+use Rattle.host_code.specs.Thread.Awaited.{acknowledgement}
 use Rattle.entry_check.specs.declared.ask.Ask.TheVariants as ask
 use Rattle.entry_check.specs.Checks.{May}
-use Rattle.host_core.specs.Host.{HostShape, with_temporary, with_token, thread_at}
-use Rattle.host_core.specs.Turn.{MayReturn}
-use Rattle.msg_cost.specs.Terms.{reads_on}
-use Rattle.split_rules.specs.Pace.{PACE, IsPaced}
-use Rattle.split_rules.specs.Positions.{Forward}
+use Rattle.host_core.specs.Host.{HostShape, thread_at}
+use Rattle.split_rules.specs.Pace.{PACE}
 use Rattle.net_world.specs.Flying.{Flight, Flying, with_flights}
 use Rattle.net_world.specs.World.{WorldShape, state_at, misbehaves}
-use Rattle.simulation.proofs.Views.{Split, Link, entries_of, View, values_set, with_chain, with_out}
-use Rattle.simulation.proofs.Chains.{level_at, chain_due, FitsOver, IsChain, on_stack}
-use Rattle.simulation.proofs.Threads.{IsLeft, NoneKept, IsAt}
-use Rattle.simulation.proofs.Variables.{Sends, Holds}
+use Rattle.typed_steps.specs.Views.{Split, Link, entries_of, View}
+use Rattle.typed_steps.specs.Chains.{chain_due, IsChain}
+use Rattle.typed_steps.specs.Threads.{IsLeft, IsAt}
+use Rattle.typed_steps.specs.Variables.{Sends, Holds}
+use Rattle.typed_steps.specs.Requests.{IsRequest, IsAnswer, GivesResult}
+use Rattle.typed_steps.specs.Weights.{Paced, STEP, weight_at, IsFueledRequest}
+use Rattle.ics_stack.specs.declared.stack.StackEntry.{StackEntry}
+use Rattle.std.specs.Prelude.{◌==◌, if◌then◌else◌}
+use Rattle.typed_steps.specs.Requests.{Does}
 
 -- ---- what is in flight
 
@@ -66,71 +62,6 @@ IsIdle (answered holder owner) host = host.0 ≢ holder.0
 IsIdle (gives holder owner) host = host.0 ≢ holder.0
 IsIdle other host = ⊤
 
--- the field of the code is on the host
-pub record IsFieldOn (code : CodeShape) (field : FieldId) (host : HostId) : Type 0 where
-  pub there : CodeFieldShape
-  pub is : field_at code field ≡ Some there
-  pub on_host : there.host ≡ host
-
--- What a request is to bring about. A get brings the element as the store has it; what a set does is the next step of
--- the plain run; a variable that is forwarded is the call's; a sync puts an entry in front of the chain.
-abbrev pub IsRequest : Split → Configuration → View → HostId → HostId → WaitingShape → Message → Type 0
-IsRequest split c view holder owner waiting (message.Get request field place) =
-    (waiting.awaited ≡ value_of_field) × (waiting.request ≡ request)
-    × May split.code owner (ask.Get field) holder × IsFieldOn split.code field owner
-    × IsAt split c view holder (with_temporary (element_at (row_of c.store field.0) place) waiting.thread)
-IsRequest split c view holder owner waiting (message.Set request field place value) =
-    (waiting.awaited ≡ acknowledgement) × (waiting.request ≡ request)
-    × May split.code owner (ask.Set field) holder × IsFieldOn split.code field owner
-    × (¬ IsAtEnd c) × ((step split.program c).store ≡ store_after_write c.store field.0 place value)
-    × ((step split.program c).calls ≡ c.calls) × NoneKept (step split.program c)
-    × IsAt split (step split.program c) view holder waiting.thread
-IsRequest split c view holder owner waiting (message.Forward request frame x value) =
-    (waiting.awaited ≡ acknowledgement) × (waiting.request ≡ request)
-    × May split.code owner (ask.Forward x) holder × (frame ≡ view.naming.frame view.sender)
-    × (value ≡ view.values view.sender x.0) × (view.sender < view.naming.count) × NoneKept c
-    × (from : BlockTree) × (left : List Forward)
-    × (view.out ≡ record { variable = x; host = owner; source = from } ∷ left)
-    × IsAt split c (with_out view left) holder waiting.thread
-IsRequest split c view holder owner waiting (message.Sync request frame entry token) =
-    (waiting.awaited ≡ token_of_entry) × (waiting.request ≡ request)
-    × May split.code owner (ask.Enter entry) holder × IsEntryOn split.code owner entry
-    × (top_token (entries_of view.chain) ≡ Some token)
-    × (call : ℕ) × (frame ≡ view.naming.frame call) × (call < view.naming.count)
-    × FitsOver split view.naming (level_at (slice_get split.table.entries entry.0)) call view.chain
-    × ((link : Link) → link.entry.entry ≡ entry → link.call ≡ call →
-    IsAt split c (with_chain view (link ∷ view.chain)) holder (with_token (Some link.entry.token) waiting.thread))
-IsRequest split c view holder owner waiting other = ⊥
-
-abbrev pub IsAnswer : Split → Configuration → View → HostId → WaitingShape → Message → Type 0
-IsAnswer split c view holder waiting (message.Value request value) =
-    (waiting.awaited ≡ value_of_field) × (waiting.request ≡ request)
-    × IsAt split c view holder (with_temporary value waiting.thread)
-IsAnswer split c view holder waiting (message.Ack request) =
-    (waiting.awaited ≡ acknowledgement) × (waiting.request ≡ request) × IsAt split c view holder waiting.thread
-IsAnswer split c view holder waiting (message.Token request token) =
-    (waiting.awaited ≡ token_of_entry) × (waiting.request ≡ request)
-    × IsAt split c view holder (with_token (Some token) waiting.thread)
-IsAnswer split c view holder waiting other = ⊥
-
--- A result is given back to the call that made this one: a step sets it, where the call's entry stands.
-pub record GivesResult (split : Split) (c : Configuration) (view : View) (host : HostId) (thread : ThreadShape)
-    (frame : FrameId) (x : VarId) (value : ℤ) (to : HostId) : Type 0 where
-  pub busy : ¬ IsAtEnd c
-  pub none_out : view.out ≡ []
-  pub store : (step split.program c).store ≡ c.store
-  pub caller : ℕ
-  pub made : caller < length c.calls
-  pub frame_is : frame ≡ view.naming.frame caller
-  pub calls : (step split.program c).calls ≡ source.calls_after c.calls caller x.0 value
-  pub unread : (other : ℕ) → reads_on split.planned x other ≡ true → ⊥
-  pub into : VarId
-  pub behind : List source.Item
-  pub pending : (step split.program c).pending ≡ source.keep caller into x ∷ behind
-  pub sees : MayReturn split.code (variable_at split.code x) to
-  pub at : IsAt split (step split.program c)
-      (record view { values = values_set view.values caller x.0 value; keeper = to }) host thread
-
 pub record IsRunning (split : Split) (c : Configuration) (view : View) (world : WorldShape) (holder : HostId) :
     Type 0 where
   pub state : HostShape
@@ -138,12 +69,12 @@ pub record IsRunning (split : Split) (c : Configuration) (view : View) (world : 
   pub thread : ThreadShape
   pub running : state.running ≡ Some thread
   pub waiting : state.waiting ≡ []
-  pub sent : Sends view state holder
+  pub sent : Sends split view state holder
   pub flying : world.flying ≡ nothing
   pub at : IsAt split c view holder thread
 
 -- one thread waits on the holder, and one message is in flight
-pub record IsWaiting (view : View) (world : WorldShape) (holder owner from to : HostId) : Type 0 where
+pub record IsWaiting (split : Split) (view : View) (world : WorldShape) (holder owner from to : HostId) : Type 0 where
   pub state : HostShape
   pub there : state_at world holder ≡ Some state
   pub thread : WaitingShape
@@ -152,22 +83,22 @@ pub record IsWaiting (view : View) (world : WorldShape) (holder owner from to : 
   pub waiting : state.waiting ≡ thread ∷ []
   pub asked : thread.asked ≡ owner
   pub other : owner.0 ≢ holder.0
-  pub sent : Sends view state holder
+  pub sent : Sends split view state holder
   pub flying : world.flying ≡ only from to (flight ∷ [])
 
 pub record IsAsked (split : Split) (c : Configuration) (view : View) (world : WorldShape) (holder owner : HostId) :
     Type 0 where
-  pub waits : IsWaiting view world holder owner holder owner
+  pub waits : IsWaiting split view world holder owner holder owner
   pub request : IsRequest split c view holder owner waits.thread waits.flight.message
 
 pub record IsAnswered (split : Split) (c : Configuration) (view : View) (world : WorldShape) (holder owner : HostId) :
     Type 0 where
-  pub waits : IsWaiting view world holder owner owner holder
+  pub waits : IsWaiting split view world holder owner owner holder
   pub answer : IsAnswer split c view holder waits.thread waits.flight.message
 
 pub record IsGiving (split : Split) (c : Configuration) (view : View) (world : WorldShape) (holder owner : HostId) :
     Type 0 where
-  pub waits : IsWaiting view world holder owner holder owner
+  pub waits : IsWaiting split view world holder owner holder owner
   pub request : RequestId
   pub frame : FrameId
   pub x : VarId
@@ -231,27 +162,6 @@ Stands split c view world halted = IsHalted split c view world
 
 -- ---- how many events may still come before the next step
 
--- by those numbers the code is paced
-abbrev pub Paced : Split → Type 0
-Paced split = IsPaced split.code split.pace
-
--- an instruction makes three events at most: a turn, a request that is taken, and an answer that is taken
-abbrev pub STEP : ℕ
-STEP = 3 * PACE
-
--- where a thread runs
-abbrev pub weight_at : Split → List Link → HostId → ℕ → ℕ
-weight_at split chain host at = 3 * (split.pace host.0 at + length chain)
-
--- A request is still to be taken, and its answer. A set makes a step when it is taken, and a sync puts an entry on the
--- chain.
-abbrev pub IsFueledRequest : Split → List Link → HostId → ℕ → ℕ → Message → Type 0
-IsFueledRequest split chain host at fuel (message.Set request field place value) =
-    weight_at split chain host at + 2 ≤ fuel + STEP
-IsFueledRequest split chain host at fuel (message.Sync request frame entry token) =
-    weight_at split chain host at + 5 ≤ fuel
-IsFueledRequest split chain host at fuel other = weight_at split chain host at + 2 ≤ fuel
-
 -- so many events are enough
 abbrev pub IsFueled : (split : Split) (c : Configuration) (view : View) (world : WorldShape) (holder : Holder) →
     Stands split c view world holder → ℕ → Type 0
@@ -270,12 +180,19 @@ IsFueled split c view world halted stands fuel = ⊤
 
 -- ---- the world
 
--- nobody misbehaves, and no message was ignored
-pub record IsOrderly (code : CodeShape) (world : WorldShape) : Type 0 where
-  pub count : length world.hosts ≡ length code.hosts
+-- nobody misbehaves, so nothing is affected, and no message was ignored
+pub record IsOrderly (split : Split) (world : WorldShape) : Type 0 where
+  pub unaffected : split.exposure.bad ≡ []
+  pub count : length world.hosts ≡ length split.code.hosts
   pub none_bad : (host : HostId) → misbehaves world host ≡ false
   pub numbers : (host : HostId) (state : HostShape) → state_at world host ≡ Some state → state.me ≡ host
   pub ignored : (host : HostId) (state : HostShape) → state_at world host ≡ Some state → state.ignored ≡ 0
+
+-- those on the stack of a host
+abbrev pub on_stack : HostId → List Link → List StackEntry
+on_stack host [] = []
+on_stack host (link ∷ chain) =
+    if link.entry.token.host.0 == host.0 then link.entry ∷ on_stack host chain else on_stack host chain
 
 -- each host has its part of the chain on its stack
 abbrev pub AreStacks : List Link → WorldShape → Type 0
@@ -296,7 +213,7 @@ GoesOn other world = (host : HostId) (state : HostShape) → state_at world host
 pub record Simulates (split : Split) (c : Configuration) (world : WorldShape) : Type 0 where
   pub view : View
   pub holder : Holder
-  pub orderly : IsOrderly split.code world
+  pub orderly : IsOrderly split world
   pub stacks : AreStacks view.chain world
   pub idle : AreIdle holder world
   pub goes_on : GoesOn holder world
@@ -313,4 +230,4 @@ pub record Falls (split : Split) (c : Configuration) (most : ℕ) (world : World
 -- the same configuration, or the next
 abbrev pub Goes : Split → Configuration → ℕ → WorldShape → Type 0
 Goes split c most world =
-    Falls split c most world ⊎ ((¬ IsAtEnd c) × Falls split (step split.program c) (most + STEP) world)
+    Falls split c most world ⊎ ((now : Configuration) × Does split c now × Falls split now (most + STEP) world)

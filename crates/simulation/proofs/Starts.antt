@@ -33,16 +33,18 @@ use Rattle.split_rules.specs.Positions as positions
 use Rattle.split_rules.specs.Positions.{Position, calm, all_due}
 use Rattle.split_rules.specs.Typing as typing
 use Rattle.net_world.proofs.Present.{same_id}
-use Rattle.simulation.proofs.Views.{Split, Naming, View, Link, place_of}
-use Rattle.simulation.proofs.Chains.{Duty, under, due_at, chain_due, FitsOver}
-use Rattle.simulation.proofs.Threads.{Owed, item_of, duty_of, IsLeft, NoneKept, IsCalling, IsAt}
-use Rattle.simulation.proofs.Variables.{AreFresh, Holds}
-use Rattle.simulation.proofs.Simulates.{AreStacks, runs, Falls, Paced, STEP, weight_at}
-use Rattle.simulation.proofs.Owing.{to_run_all, items_before, duties_before, known_before, plainly_before}
-use Rattle.simulation.proofs.Owing.{returned_before, none_kept, stands_plainly}
-use Rattle.simulation.proofs.CallsMade.{called}
-use Rattle.simulation.proofs.TreeValues.{read_value}
-use Rattle.simulation.proofs.Pops.{own_stack, other_stack, entry_pace}
+use Rattle.typed_steps.proofs.Instructions.{no_temporaries}
+use Rattle.typed_steps.specs.Views.{Split, Naming, View, Link, place_of}
+use Rattle.typed_steps.specs.Chains.{Duty, under, due_at, chain_due, FitsOver}
+use Rattle.typed_steps.specs.Threads.{Owed, item_of, duty_of, IsLeft, NoneKept, IsCalling, IsAt}
+use Rattle.typed_steps.specs.Variables.{AreFresh, Holds}
+use Rattle.typed_steps.specs.Weights.{Paced, STEP, weight_at}
+use Rattle.typed_steps.proofs.Owing.{to_run_all, items_before, duties_before, known_before, plainly_before}
+use Rattle.typed_steps.proofs.Owing.{returned_before, none_kept, stands_plainly}
+use Rattle.typed_steps.proofs.CallsMade.{called}
+use Rattle.typed_steps.proofs.Pops.{entry_pace}
+use Rattle.simulation.proofs.Simulates.{AreStacks, runs, Falls}
+use Rattle.simulation.proofs.Pops.{own_stack, other_stack}
 
 all_there : {X : Type 0} (P : X → Type 0) (xs : List X) (i : ℕ) (x : X) → All P xs → slice_get xs i ≡ Some x → P x
 all_there P xs i x all there =
@@ -206,7 +208,7 @@ main_left split store all is =
       pending = pending_at_start split;
       due = is ∙ due_at_start split;
       known = known_before split 0 body [] (called split split.program.main).fit tt;
-      returned = returned_before 0 body [] tt tt;
+      returned = returned_before split 0 body [] tt tt;
       stands = stands_plainly split split.code.root (left_at_start split) (plainly_before 0 body [] tt);
     }
 
@@ -324,13 +326,13 @@ main_apart code host site count there same =
 
 fresh_frames : (split : Split) (store : List (List ℤ)) (rows : List declared_hosts.HostShape) (entry : Entry) →
     entry_at split.code split.code.main ≡ Some entry →
-    AreFresh split.code (naming_at_start split) (world_at_start split.code rows 0 store)
+    AreFresh split (naming_at_start split) (world_at_start split.code rows 0 store)
 fresh_frames split store rows entry main host state site count at there least =
     record {
       apart = λ call within. main_apart split.code host site count there;
       unset = λ other s x is.
-          ap (λ (v : FrameId → VarId → ℤ). v (record { site = site; count = count }) x)
-          (fresh_there split store rows entry main other s is).variables;
+          inl (ap (λ (v : FrameId → VarId → ℤ). v (record { site = site; count = count }) x)
+          (fresh_there split store rows entry main other s is).variables);
     }
 
 holds_at_start : (split : Split) (store : List (List ℤ)) (rows : List declared_hosts.HostShape) (entry : Entry) →
@@ -341,9 +343,9 @@ holds_at_start split store rows entry main key =
     let fresh_at = fresh_there split store rows entry main in
     record {
       fields = λ number field s there at.
-          ap (λ (list : List (List ℤ)). row_of list number) (fresh_at field.host s at).rows
+          inl (ap (λ (list : List (List ℤ)). row_of list number) (fresh_at field.host s at).rows
           ∙ own_row_at field.host store 0 split.code.fields number field there refl
-          ∙ ap (row_of store) (omega arith);
+          ∙ ap (row_of store) (omega arith));
       known = omega arith;
       apart = λ one other within too same. omega arith;
       named = λ call within.
@@ -359,7 +361,7 @@ holds_at_start split store rows entry main key =
           let first : call ≡ 0 = omega arith in
           sym (ap (λ n. source.variable (calls_at_start split) n x) first);
       agree = λ call host s x within at reads.
-          inr (ap (λ (v : FrameId → VarId → ℤ). v main_frame x) (fresh_at host s at).variables);
+          inr (inl (ap (λ (v : FrameId → VarId → ℤ). v main_frame x) (fresh_at host s at).variables));
       result = λ call into result behind s pending at. absurd (main_plain split store call into result behind pending);
     }
 
@@ -378,7 +380,6 @@ main_at split store entry is on_root key =
     ap (λ (host : HostId). split.table.at host.0 entry.at) (sym on_root)
     ∙ entrance_of split entry is split.main_tree split.has_main split.main_entry in
     let none_behind : due_at (slice_get split.table.entries 0) ≡ [] = ap due_at split.typed.halts in
-    let read = read_value store (source.variable (calls_at_start split) 0) in
     record {
       call = 0;
       made = omega arith;
@@ -392,17 +393,18 @@ main_at split store entry is on_root key =
           p.calling) (sym place) (refl, refl, refl);
       forwards = ap (λ (p : Position). p.forwards) place;
       settled = inl refl;
-      temporaries = sym (ap (λ (p : Position). map read p.reads) place);
+      temporaries = no_temporaries split c 0 (place_of split root entry.at) (ap (λ (p : Position). p.reads) place);
     }
 
 -- ---- the start as a whole
 
-started : (split : Split) (store : List (List ℤ)) (rows : List declared_hosts.HostShape) → AreHostsOf split.code rows →
+started : (split : Split) (store : List (List ℤ)) (rows : List declared_hosts.HostShape) →
+    split.exposure.bad ≡ [] → AreHostsOf split.code rows →
     (found : Option Entry) → entry_at split.code split.code.main ≡ found →
     IsSomeAnd found (λ there. there.host ≡ split.code.root) →
     Falls split (configuration_at_start split.program store) (STEP + 4) (world_at_start split.code rows 0 store)
-started split store rows hosts None is on_root = absurd on_root
-started split store rows hosts (Some entry) is on_root =
+started split store rows none hosts None is on_root = absurd on_root
+started split store rows none hosts (Some entry) is on_root =
     let code = split.code in
     let root = code.root in
     let world = world_at_start code rows 0 store in
@@ -423,6 +425,7 @@ started split store rows hosts (Some entry) is on_root =
         view = view_at_start split store key;
         holder = runs root;
         orderly = record {
+          unaffected = none;
           count = long_start code store 0 rows ∙ many;
           none_bad = λ host. none_absent code store 0 rows host.0;
           numbers = λ host s at. (fresh_at host s at).me;
@@ -463,7 +466,7 @@ started split store rows hosts (Some entry) is on_root =
 
 -- the world before the first event stands for the start of the plain run
 pub falls_at_start : (split : Split) (store : List (List ℤ)) (rows : List declared_hosts.HostShape) →
-    AreHostsOf split.code rows →
+    split.exposure.bad ≡ [] → AreHostsOf split.code rows →
     Falls split (configuration_at_start split.program store) (STEP + 4) (world_at_start split.code rows 0 store)
-falls_at_start split store rows hosts =
-    started split store rows hosts (entry_at split.code split.code.main) refl split.sound.main
+falls_at_start split store rows none hosts =
+    started split store rows none hosts (entry_at split.code split.code.main) refl split.sound.main

@@ -16,6 +16,7 @@ ghost use Rattle.split_rules.specs.SplitCode.{split_code};
 ghost use Rattle.simulation.specs.Ending.{EVENTS, HaltsWithin};
 ghost use Rattle.simulation.specs.Obeying.{IsSet, Follows};
 
+use jif_tree::altered_laws;
 use split_rules::{pace_laws, split_laws, trust_laws};
 
 /// Where all hosts obey, whatever the events: the fields follow the plain run of the program, and are those at its end
@@ -55,6 +56,7 @@ pub fn obeying_laws()
         IsRun code (world_at_start code hosts.hosts 0 store) events world → IsStep code world first after →
         IsStep code world second other → first ≡ second }
 {
+    altered_laws();
     split_laws();
     trust_laws();
 }
@@ -74,6 +76,7 @@ pub fn ending_laws()
         IsSet program labelled needs hosts plan → HasLength program store steps →
         HaltsWithin code (EVENTS * (steps + 1)) (world_at_start code hosts.hosts 0 store) }
 {
+    altered_laws();
     split_laws();
     trust_laws();
     pace_laws();

@@ -2,14 +2,13 @@
 -- asks.
 use Rattle.std.proofs.Common.{◌≡◌, ◌∙◌, ℕ, zero, suc, inl, inr, Bool, List, [], ◌∷◌, ◌++◌, map, length, refl, ap, sym}
 use Rattle.std.proofs.Common.{subst, arith, true≢false}
-use Rattle.std.specs.Prelude.{Option, Some, None, IsSomeAnd, slice_get, unwrap_or, ⊤}
+use Rattle.std.specs.Prelude.{Option, Some, None, IsSomeAnd, slice_get, unwrap_or}
 use Rattle.std.specs.List.{AllByRecursion, flat_map, zip}
 use Rattle.std.specs.Option.{option_map}
 use Rattle.std.proofs.lemmas.Option.{slice_get-map, slice_get_within, slice_get_cases}
 use Rattle.js_base.specs.declared.ids.HostId.{HostId}
 use Rattle.js_base.specs.declared.ids.VarId.{VarId}
 use Rattle.js_base.specs.declared.ids.MethodId.{MethodId}
-use Rattle.js_base.specs.declared.ids.StmtId.{StmtId}
 use Rattle.label_lattice.specs.declared.label.Label.{Label}
 use Rattle.label_lattice.specs.Label.{ConfFlows, IsTrustedBy}
 use Rattle.label_lattice.specs.Lattice.{empty_label}
@@ -44,28 +43,8 @@ use Rattle.split_rules.proofs.ToldEmissions.{Sees}
 use Rattle.split_rules.proofs.SeenLabels.{folded_sees}
 use Rattle.split_rules.proofs.SeenPrograms.{zip_at}
 use Rattle.split_rules.proofs.ToldCode.{sees_in_code}
-use Rattle.simulation.proofs.Basics.{all_left, all_right}
-
--- ---- results
-
--- the host of a call may see the label of the method's result
-abbrev pub SeesResult : CodeShape → PlannedShape → StmtId → MethodId → Type 0
-SeesResult code planned statement method = (result : VarId) →
-    result_of (method_at planned.program method) ≡ Some result → (host : HostId) →
-    host.0 ≡ (statement_host planned.plan statement).0 → MayReturn code (variable_at code result) host
-
--- so may that of each call in a block, and in the blocks in it
-abbrev pub SeeResults : CodeShape → PlannedShape → BlockTree → Type 0
-SeeResults code planned done = ⊤
-SeeResults code planned (set_local heading x value rest) = SeeResults code planned rest
-SeeResults code planned (set_field heading field value rest) = SeeResults code planned rest
-SeeResults code planned (set_element heading field index value rest) = SeeResults code planned rest
-SeeResults code planned (branch heading guard first second rest) =
-    SeeResults code planned first × SeeResults code planned second × SeeResults code planned rest
-SeeResults code planned (loop heading guard body rest) = SeeResults code planned body × SeeResults code planned rest
-SeeResults code planned (call heading site method arguments into rest) =
-    SeesResult code planned heading.id method × SeeResults code planned rest
-SeeResults code planned (give_back heading value rest) = SeeResults code planned rest
+use Rattle.typed_steps.proofs.Basics.{all_left, all_right}
+use Rattle.typed_steps.specs.Readers.{SeeResults}
 
 -- ---- what statements tell
 

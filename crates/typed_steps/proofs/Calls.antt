@@ -6,8 +6,8 @@ use Rattle.std.specs.Option.{option_map}
 use Rattle.std.proofs.lemmas.Bool.Decides.{eqb_tells}
 use Rattle.jif_tree.specs.SourceRun.{Call, Configuration, calls_after, variable, with_value}
 use Rattle.net_world.proofs.Present.{get_other}
-use Rattle.simulation.proofs.Views.{Naming, values_set}
-use Rattle.simulation.proofs.Variables.{IsNamed}
+use Rattle.typed_steps.specs.Views.{Naming, values_set}
+use Rattle.typed_steps.specs.Variables.{IsNamed}
 
 -- ---- lists
 

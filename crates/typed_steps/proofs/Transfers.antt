@@ -11,9 +11,8 @@ use Rattle.js_base.specs.declared.ids.EntryId.{EntryId}
 use Rattle.jif_tree.specs.declared.program.Stmt.{Stmt}
 use Rattle.jif_tree.specs.declared.program.StmtKind.{StmtKind}
 use Rattle.jif_tree.specs.declared.program.StmtKind as kind
-use Rattle.jif_tree.specs.Operators.{is_true}
 use Rattle.jif_tree.specs.SourceRun as source
-use Rattle.jif_tree.specs.SourceRun.{Configuration, IsAtEnd, step, executed, operands, value_of}
+use Rattle.jif_tree.specs.SourceRun.{Configuration, IsAtEnd, executed, operands}
 use Rattle.jif_tree.specs.Trees.{Heading, done, branch, loop, statement_tree, row_tree, expr_tree, head_of}
 use Rattle.capability.specs.declared.token.Token.{Token}
 use Rattle.ics_stack.specs.Stack.{top_token}
@@ -25,19 +24,24 @@ use Rattle.host_code.specs.Thread.{ThreadShape}
 use Rattle.host_core.specs.Host.{with_token, after_step, after_clearing, thread_at}
 use Rattle.host_core.specs.Values.{value_of_nodes}
 use Rattle.split_rules.specs.Positions as positions
-use Rattle.split_rules.specs.Positions.{Position, Due, Level, Entrance, Forward, statement_due, is_on, calm, no_call}
+use Rattle.split_rules.specs.Positions.{Position, Due, Level, Forward, statement_due, is_on, calm, no_call}
 use Rattle.split_rules.specs.Positions.{all_due}
 use Rattle.split_rules.specs.Typing.{EntryIs, Cuts, Branches, Divides, Ends, IsCalm}
-use Rattle.simulation.proofs.KnownReaders.{IsFit}
-use Rattle.simulation.proofs.Views.{Split, View, Link, entries_of, place_of, with_chain}
-use Rattle.simulation.proofs.Chains.{Duty, under, due_at, level_at, chain_due, FitsOver, IsChain}
-use Rattle.simulation.proofs.Threads.{alone, Owed, to_run, item_of, duty_of, IsReturn, MayFollow, AreReturned}
-use Rattle.simulation.proofs.Threads.{IsKnown, IsLeft, IsCalling, IsAt, NoneKept}
-use Rattle.simulation.proofs.Owing.{front_of, busy, plainly_behind, none_kept, stands_plainly, BeginsPlainly, to_run_all}
-use Rattle.simulation.proofs.Owing.{row_statements, items_before, duties_before, known_before, plainly_before}
-use Rattle.simulation.proofs.Owing.{returned_before}
-use Rattle.simulation.proofs.Instructions.{next_place, stepped, cleared, only_value, same_values, Agrees}
-use Rattle.simulation.proofs.TreeValues.{read_value}
+use Rattle.jif_tree.specs.Altered.{MayGive}
+use Rattle.std.specs.List.{AllZip}
+use Rattle.typed_steps.specs.Requests.{Does}
+use Rattle.typed_steps.specs.Values.{MayHold}
+use Rattle.typed_steps.proofs.Instructions.{no_temporaries, read_there}
+use Rattle.typed_steps.specs.Readers.{IsFit}
+use Rattle.typed_steps.specs.Views.{Split, View, Link, entries_of, place_of, with_chain}
+use Rattle.typed_steps.specs.Chains.{Duty, under, due_at, level_at, chain_due, FitsOver, IsChain}
+use Rattle.typed_steps.specs.Threads.{alone, Owed, to_run, item_of, duty_of, IsReturn, MayFollow, AreReturned, IsKnown}
+use Rattle.typed_steps.specs.Threads.{IsLeft, IsCalling, IsAt, NoneKept}
+use Rattle.typed_steps.proofs.Owing.{front_of, plainly_behind, none_kept, stands_plainly, BeginsPlainly}
+use Rattle.typed_steps.proofs.Owing.{to_run_all, row_statements, items_before, duties_before, known_before}
+use Rattle.typed_steps.proofs.Owing.{plainly_before, returned_before}
+use Rattle.typed_steps.proofs.Instructions.{next_place, stepped, cleared, only_value, Agrees}
+use Rattle.typed_steps.specs.Requests.{starting, GivesUp}
 
 -- ---- entries
 
@@ -92,7 +96,7 @@ push_at split c view host thread at entry law link is number =
     ∙ ap (λ list. under call next.due ++ (under call list ++ rest)) (sym behind)
     ∙ ap (λ n. under call next.due ++ (under n (due_at (slice_get split.table.entries link.entry.entry.0)) ++ rest))
     (sym number) in
-    let read = read_value c.store (source.variable c.calls call) in
+    let P = MayHold split.exposure c.store (source.variable c.calls call) in
     let calling = calm_calling split c view host thread at (ap (λ (p : Position). p.calling) law.is_calm) in
     record {
       call = call;
@@ -105,8 +109,8 @@ push_at split c view host thread at entry law link is number =
       forwards = ap (λ (p : Position). p.forwards) goes
           ∙ sym (calm_out here view.out at.forwards law.is_calm);
       settled = inl (calm_out here view.out at.forwards law.is_calm);
-      temporaries = at.temporaries ∙ ap (λ (p : Position). map read p.reads) law.is_calm
-          ∙ sym (ap (λ (p : Position). map read p.reads) goes);
+      temporaries = subst (λ (p : Position). AllZip P p.reads thread.temporaries) (sym goes)
+          (subst (λ (p : Position). AllZip P p.reads thread.temporaries) law.is_calm at.temporaries);
     }
 
 -- what stands behind the entry that is pushed fits over the chain
@@ -155,10 +159,6 @@ placed split entry there apart is = at_number entry.0 (λ same. apart (ap make s
           stands = typed.stands;
         }
 
--- what is to be seen where a thread starts for a call
-abbrev pub starting : View → List Link → ℕ → View
-starting view chain call = record view { chain = chain; out = []; sender = call }
-
 -- a thread starts at an entry
 pub starts_at : (split : Split) (c : Configuration) (view : View) (chain : List Link) (call : ℕ) (number : ℕ)
     (there : Entry) (frame : FrameId) (token : Token) → IsPlaced split number there → call < length c.calls →
@@ -183,8 +183,8 @@ starts_at split c view chain call number there frame token is made count frame_i
           p.calling) (sym calm_there) (count, frame_is, refl);
       forwards = ap (λ (p : Position). p.forwards) calm_there;
       settled = inl refl;
-      temporaries = sym (ap (λ (p : Position). map (read_value c.store (source.variable c.calls call)) p.reads)
-          calm_there);
+      temporaries = no_temporaries split c call (place_of split there.host there.at)
+          (ap (λ (p : Position). p.reads) calm_there);
     }
 
 -- the thread is handed over at an entry
@@ -215,11 +215,6 @@ go_at split c view host thread at entry on apart law token held =
     }
 
 -- ---- the way back
-
-pub record GivesUp (split : Split) (c : Configuration) (view : View) : Type 0 where
-  pub none_out : view.out ≡ []
-  pub count : view.naming.count ≡ length c.calls
-  pub left : IsLeft split c view.keeper (chain_due split view.chain)
 
 pub back_at : (split : Split) (c : Configuration) (view : View) (host : HostId) (thread : ThreadShape) →
     IsAt split c view host thread →
@@ -261,12 +256,13 @@ end_at split c view last chain left =
 -- a guard is decided, and the thread goes on behind it or where it branches
 pub record Decides (split : Split) (c : Configuration) (view : View) (host : HostId) (thread : ThreadShape) (target : ℕ)
     (value : ℤ) : Type 0 where
-  pub busy : ¬ IsAtEnd c
+  pub now : Configuration
+  pub does : Does split c now
   pub none_out : view.out ≡ []
-  pub store : (step split.program c).store ≡ c.store
-  pub calls : (step split.program c).calls ≡ c.calls
-  pub plainly : NoneKept (step split.program c)
-  pub at : IsAt split (step split.program c) view host
+  pub store : now.store ≡ c.store
+  pub calls : now.calls ≡ c.calls
+  pub plainly : NoneKept now
+  pub at : IsAt split now view host
       (if int_eq value (pos 0) then record (after_clearing thread) { at = target } else after_clearing thread)
 
 -- what a guard makes of what is to be done
@@ -280,13 +276,13 @@ record Divided (split : Split) (c : Configuration) (call : ℕ) (statement : Stm
   skipped_known : AllByRecursion (IsKnown split) skipped
   taken_plainly : BeginsPlainly taken
   skipped_plainly : BeginsPlainly skipped
-  taken_returned : AreReturned taken
-  skipped_returned : AreReturned skipped
+  taken_returned : AreReturned split taken
+  skipped_returned : AreReturned split skipped
   next_is : next ≡ calm level next.due
   target_is : target ≡ calm level target.due
-  steps : executed split.program c call (source.run call statement) what (map (value_of c call) (operands what))
-      (map item_of behind)
-      ≡ record c { pending = map item_of (if int_eq value (pos 0) then skipped else taken) }
+  all : AllZip (MayGive split.exposure c call) (operands what) (value ∷ [])
+  steps : record c { pending = map item_of (if int_eq value (pos 0) then skipped else taken) }
+      ≡ executed split.program c call (source.run call statement) what (value ∷ []) (map item_of behind)
 
 -- the items of a branch
 chosen : (b : Bool) (call : ℕ) (first second : List Stmt) (behind : List Owed) →
@@ -313,23 +309,23 @@ before_is call found list rest behind is due =
 
 divided : (split : Split) (c : Configuration) (host : HostId) (call : ℕ) (thread : ThreadShape)
     (variables : VarId → ℤ) → Agrees split c host call variables → (here : Position) →
-    thread.temporaries ≡ map (read_value c.store (source.variable c.calls call)) here.reads → (statement : Stmt)
-    (behind : List Owed) (what : StmtKind) (heading : Heading) (others : List Due) (rest : List Duty)
+    AllZip (MayHold split.exposure c.store (source.variable c.calls call)) here.reads thread.temporaries →
+    (statement : Stmt) (behind : List Owed) (what : StmtKind) (heading : Heading) (others : List Due) (rest : List Duty)
     (nodes : List Node) (next target : Position) →
     is_on split.planned host (statement_tree what heading done) ≡ true →
     IsFit split.code split.planned (statement_tree what heading done) →
     IsFit split.code split.planned (alone statement) →
     positions.run (statement_tree what heading done) ≡ positions.run (alone statement) →
     under call others ++ rest ≡ map duty_of behind → AllByRecursion (IsKnown split) behind → BeginsPlainly behind →
-    AreReturned behind → MayFollow (to_run call statement) behind →
+    AreReturned split behind → MayFollow split (to_run call statement) behind →
     Branches here (positions.run (statement_tree what heading done)) others nodes next target →
     Divided split c call statement behind what here.level next target rest
     (value_of_nodes variables thread.temporaries nodes)
 divided split c host call thread variables agrees here holds statement behind (kind.If' guard m first n second) heading
     others rest nodes next target on_host fit own own_is due known plainly returned follows law =
     let block = branch heading (expr_tree guard) (row_tree first) (row_tree second) done in
-    let same = same_values split c host call variables agrees block on_host (expr_tree guard) fit.0 in
-    let value = only_value c call variables thread.temporaries here guard nodes same holds law.0 in
+    let read = read_there split c host call variables agrees block on_host (expr_tree guard) fit.0 in
+    let given = value_of_nodes variables thread.temporaries nodes in
     let one = row_statements split.code split.planned first in
     let two = row_statements split.code split.planned second in
     let left : rest ≡ map duty_of behind = ap (λ list. under call list ++ rest) (sym law.1) ∙ due in
@@ -344,24 +340,19 @@ divided split c host call thread variables agrees here holds statement behind (k
       skipped_known = known_before split call (source.statements_of second) behind (two.fit fit.2) known;
       taken_plainly = plainly_before call (source.statements_of first) behind plainly;
       skipped_plainly = plainly_before call (source.statements_of second) behind plainly;
-      taken_returned = returned_before call (source.statements_of first) behind plainly returned;
-      skipped_returned = returned_before call (source.statements_of second) behind plainly returned;
+      taken_returned = returned_before split call (source.statements_of first) behind plainly returned;
+      skipped_returned = returned_before split call (source.statements_of second) behind plainly returned;
       next_is = law.2 ∙ ap (calm here.level) (sym next_due);
       target_is = law.3 ∙ ap (calm here.level) (sym target_due);
-      steps = ap (λ v.
-          let after : Configuration = record c {
-            pending = (if is_true v then map (source.run call) (source.statements_of first)
-                else map (source.run call) (source.statements_of second)) ++ map item_of behind;
-          } in after) value
-          ∙ ap (λ list. let after : Configuration = record c { pending = list } in after)
-          (chosen (int_eq (value_of_nodes variables thread.temporaries nodes) (pos 0)) call
-          (source.statements_of first) (source.statements_of second) behind);
+      all = (only_value split c call variables thread.temporaries here guard nodes read holds law.0, tt);
+      steps = ap (λ list. let after : Configuration = record c { pending = list } in after)
+          (sym (chosen (int_eq given (pos 0)) call (source.statements_of first) (source.statements_of second) behind));
     }
 divided split c host call thread variables agrees here holds statement behind (kind.While' guard m body) heading others
     rest nodes next target on_host fit own own_is due known plainly returned follows law =
     let block = loop heading (expr_tree guard) (row_tree body) done in
-    let same = same_values split c host call variables agrees block on_host (expr_tree guard) fit.0 in
-    let value = only_value c call variables thread.temporaries here guard nodes same holds law.0 in
+    let read = read_there split c host call variables agrees block on_host (expr_tree guard) fit.0 in
+    let given = value_of_nodes variables thread.temporaries nodes in
     let one = row_statements split.code split.planned body in
     let list = source.statements_of body in
     let next_due : next.due ≡ all_due (row_tree body) ++ positions.run block ∷ others =
@@ -383,17 +374,13 @@ divided split c host call thread variables agrees here holds statement behind (k
       skipped_known = known;
       taken_plainly = plainly_before call list (to_run call statement ∷ behind) tt;
       skipped_plainly = plainly;
-      taken_returned = returned_before call list (to_run call statement ∷ behind) tt (follows, returned);
+      taken_returned = returned_before split call list (to_run call statement ∷ behind) tt (follows, returned);
       skipped_returned = returned;
       next_is = law.1 ∙ ap (calm here.level) (sym next_due);
       target_is = law.2 ∙ ap (calm here.level) (sym target_due);
-      steps = ap (λ v.
-          let after : Configuration = record c {
-            pending = if is_true v then map (source.run call) list ++ source.run call statement ∷ map item_of behind
-                else map item_of behind;
-          } in after) value
-          ∙ ap (λ items. let after : Configuration = record c { pending = items } in after)
-          (repeated (int_eq (value_of_nodes variables thread.temporaries nodes) (pos 0)) call list statement behind);
+      all = (only_value split c call variables thread.temporaries here guard nodes read holds law.0, tt);
+      steps = ap (λ items. let after : Configuration = record c { pending = items } in after)
+          (sym (repeated (int_eq given (pos 0)) call list statement behind));
     }
 divided split c host call thread variables agrees here holds statement behind _ heading others rest nodes next target
     on_host fit own own_is due known plainly returned follows law = absurd law
@@ -416,7 +403,7 @@ at_either : (split : Split) (after : Configuration) (view : View) (host : HostId
     under call next.due ++ chain_due split view.chain ≡ map duty_of taken →
     under call aim.due ++ chain_due split view.chain ≡ map duty_of skipped →
     AllByRecursion (IsKnown split) taken → AllByRecursion (IsKnown split) skipped → BeginsPlainly taken →
-    BeginsPlainly skipped → AreReturned taken → AreReturned skipped →
+    BeginsPlainly skipped → AreReturned split taken → AreReturned split skipped →
     after.pending ≡ map item_of (if b then skipped else taken) →
     IsAt split after view host (if b then record (after_clearing thread) { at = target } else after_clearing thread)
 at_either split after view host thread target call level taken skipped next aim true made held fits calling none is there
@@ -465,35 +452,34 @@ branch_at split c view host thread variables at agrees guard target law =
     let next = place_of split host (suc thread.at) in
     let aim = place_of split host target in
     let value = value_of_nodes variables thread.temporaries guard in
-    let after = step split.program c in
     let calling = calm_calling split c view host thread at law.3 in
     elim (front_of split c view.keeper call here.due (chain_due split view.chain) law.0 law.1 law.2.due at.left) [
       | inl runs ↦
           let heading : Heading = head_of runs.statement in
           let on_host = subst (λ first. is_on split.planned host (statement_due first) ≡ true) runs.is law.2.on_host in
           let branches = subst (λ first. Branches here first law.1 guard next aim) runs.is law.4 in
-          let plainly = plainly_behind (to_run call runs.statement) runs.behind runs.follows
+          let plainly = plainly_behind split (to_run call runs.statement) runs.behind runs.follows
           (guards_only here runs.statement.kind heading law.1 guard next aim branches) in
           let parts = divided split c host call thread variables agrees here at.temporaries runs.statement runs.behind
           runs.statement.kind heading law.1 (chain_due split view.chain) guard next aim on_host runs.fit runs.fit refl
           runs.due runs.known plainly runs.returned runs.follows branches in
-          let steps = stepped split c call runs.statement (map item_of runs.behind) runs.statement.kind runs.pending
-          refl ∙ parts.steps in
-          let calls : after.calls ≡ c.calls = ap (λ (k : Configuration). k.calls) steps in
-          let pending = ap (λ (k : Configuration). k.pending) steps in
+          let after : Configuration = record c {
+            pending = map item_of (if int_eq value (pos 0) then parts.skipped else parts.taken);
+          } in
           let none = sym at.forwards ∙ law.2.forwards in
           record {
-            busy = busy c (source.run call runs.statement) (map item_of runs.behind) runs.pending;
+            now = after;
+            does = stepped split c after call runs.statement (map item_of runs.behind) runs.statement.kind (value ∷ [])
+                runs.pending refl parts.all parts.steps;
             none_out = none;
-            store = ap (λ (k : Configuration). k.store) steps;
-            calls = calls;
-            plainly = none_kept after _ pending (either_plainly (int_eq value (pos 0)) parts.taken parts.skipped
+            store = refl;
+            calls = refl;
+            plainly = none_kept after _ refl (either_plainly (int_eq value (pos 0)) parts.taken parts.skipped
                 parts.taken_plainly parts.skipped_plainly);
             at = at_either split after view host thread target call here.level parts.taken parts.skipped next aim
-                (int_eq value (pos 0)) (subst (λ list. call < length list) (sym calls) at.made) at.held at.fits
-                (calling.0 ∙ sym (ap length calls), calling.1, calling.2) none (next_place split host thread) refl
+                (int_eq value (pos 0)) at.made at.held at.fits calling none (next_place split host thread) refl
                 parts.next_is parts.target_is parts.taken_due parts.skipped_due parts.taken_known parts.skipped_known
-                parts.taken_plainly parts.skipped_plainly parts.taken_returned parts.skipped_returned pending;
+                parts.taken_plainly parts.skipped_plainly parts.taken_returned parts.skipped_returned refl;
           }
       | inr keeps ↦ absurd (subst (λ first. Branches here first law.1 guard next aim) keeps.is law.4)
     ]

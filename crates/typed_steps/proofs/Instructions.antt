@@ -3,7 +3,6 @@ use Rattle.std.proofs.Common.{◌≡◌, ◌∙◌, ℕ, suc, ◌+◌, ◌<◌, 
 use Rattle.std.proofs.Common.{refl, ap, sym, subst, arith, append-nil}
 use Rattle.std.specs.Prelude.{ℤ, pos}
 use Rattle.std.specs.List.{AllByRecursion}
-use Rattle.std.proofs.lemmas.List.{map-append}
 use Rattle.js_base.specs.declared.ids.HostId.{HostId}
 use Rattle.js_base.specs.declared.ids.FieldId.{FieldId}
 use Rattle.js_base.specs.declared.ids.FrameId.{FrameId}
@@ -14,8 +13,7 @@ use Rattle.jif_tree.specs.declared.program.StmtKind as kind
 use Rattle.jif_tree.specs.declared.program.Expr.{Expr}
 use Rattle.jif_tree.specs.LabelRules.{method_at, params_of}
 use Rattle.jif_tree.specs.SourceRun as source
-use Rattle.jif_tree.specs.SourceRun.{Configuration, IsAtEnd, step, executed, operands, value_of, calls_after}
-use Rattle.jif_tree.specs.SourceRun.{after_item}
+use Rattle.jif_tree.specs.SourceRun.{Configuration, executed, operands, calls_after}
 use Rattle.jif_tree.specs.Store.{element_at, row_of, store_after_write}
 use Rattle.jif_tree.specs.Trees as trees
 use Rattle.jif_tree.specs.Trees.{ExprTree, number, local, scalar, element, inverted, negated, binary, declassified}
@@ -36,21 +34,26 @@ use Rattle.msg_cost.specs.Terms.{reads_on}
 use Rattle.split_rules.specs.Expressions.{reads_in, nodes_of}
 use Rattle.split_rules.specs.Positions as positions
 use Rattle.split_rules.specs.Positions.{Position, Due, FieldRead, Forward, Argument, Calling, arguments_of, field_reads}
-use Rattle.split_rules.specs.Positions.{own_reads, reads_due, number_of, statement_due, is_on, calm, no_call, arguing}
+use Rattle.split_rules.specs.Positions.{own_reads, reads_due, number_of, statement_due, is_on, no_call, arguing}
 use Rattle.split_rules.specs.Positions.{entering, with_reads, with_forwards, forwards_of}
 use Rattle.split_rules.specs.Typing as typing
 use Rattle.split_rules.specs.Typing.{Reads, Sets, Stores, IsValue, Follows}
 use Rattle.split_rules.proofs.TypedValues.{reads_many}
 use Rattle.net_world.proofs.Present.{same_id}
-use Rattle.simulation.proofs.KnownReaders.{IsReader, IsFit}
-use Rattle.simulation.proofs.Views.{Split, View, values_set, place_of, entries_of, with_out}
-use Rattle.simulation.proofs.Chains.{Duty, under, chain_due, FitsOver}
-use Rattle.simulation.proofs.Threads.{alone, IsLeft, item_of, to_run, IsReturn, IsCalling, IsAt, IsKeeping, NoneKept}
-use Rattle.simulation.proofs.Owing.{front_of, busy, plainly_behind, none_kept}
-use Rattle.simulation.proofs.Owing.{stands_plainly}
-use Rattle.simulation.proofs.TreeValues.{tree_value, value_is, read_value, value_there, AreSame}
-use Rattle.simulation.proofs.Calls.{long_set}
-use Rattle.simulation.proofs.Basics.{all_both, all_left, all_map, all_right, told_equal}
+use Rattle.jif_tree.specs.Altered.{FieldIsAffected, VariableIsAffected, MayRead, MayGive, MayStep}
+use Rattle.std.specs.List.{AllZip}
+use Rattle.typed_steps.specs.Requests.{Does, SetsField}
+use Rattle.typed_steps.specs.Values.{MayTree, MayHold}
+use Rattle.typed_steps.proofs.Alike.{zip_last}
+use Rattle.typed_steps.proofs.TreeValues.{MayBeRead, tree_may}
+use Rattle.typed_steps.specs.Readers.{IsReader, IsFit}
+use Rattle.typed_steps.specs.Views.{Split, View, values_set, place_of, entries_of, with_out}
+use Rattle.typed_steps.specs.Chains.{Duty, under, chain_due, FitsOver}
+use Rattle.typed_steps.specs.Threads.{alone, IsLeft, item_of, to_run, IsReturn, IsCalling, IsAt, IsKeeping, NoneKept}
+use Rattle.typed_steps.proofs.Owing.{front_of, plainly_behind, none_kept, stands_plainly}
+use Rattle.typed_steps.proofs.TreeValues.{value_there}
+use Rattle.typed_steps.proofs.Calls.{long_set}
+use Rattle.typed_steps.proofs.Basics.{all_both, all_left, all_map, all_right, told_equal}
 
 -- the next instruction
 pub next_place : (split : Split) (host : HostId) (thread : ThreadShape) →
@@ -59,19 +62,20 @@ next_place split host thread = ap (place_of split host) (omega arith)
 
 -- ---- variables
 
--- a host that reads a variable has its value
+-- a host that reads a variable has what may be read of it
 abbrev pub Agrees : Split → Configuration → HostId → ℕ → (VarId → ℤ) → Type 0
 Agrees split c host call variables = (x : VarId) → reads_on split.planned x host.0 ≡ true →
-    variables x ≡ source.variable c.calls call x.0
+    MayRead (VariableIsAffected split.exposure x) (source.variable c.calls call x.0) (variables x)
 
-pub same_values : (split : Split) (c : Configuration) (host : HostId) (call : ℕ) (variables : VarId → ℤ) →
+pub read_there : (split : Split) (c : Configuration) (host : HostId) (call : ℕ) (variables : VarId → ℤ) →
     Agrees split c host call variables → (statement : BlockTree) → is_on split.planned host statement ≡ true →
     (e : ExprTree) → IsReader split.planned (number_of statement) e →
-    AreSame (source.variable c.calls call) variables e
-same_values split c host call variables agrees statement on_host e readers =
+    MayBeRead split.exposure (source.variable c.calls call) variables e
+read_there split c host call variables agrees statement on_host e readers =
     let there = (statement_host split.planned.plan (number_of statement)).0 in
     let same : there ≡ host.0 = told_equal there host.0 on_host in
-    all_map (λ x. reads_on split.planned x there ≡ true) (λ x. variables x ≡ source.variable c.calls call x.0)
+    all_map (λ x. reads_on split.planned x there ≡ true)
+    (λ x. MayRead (VariableIsAffected split.exposure x) (source.variable c.calls call x.0) (variables x))
     (λ x reads. agrees x (subst (λ h. reads_on split.planned x h ≡ true) same reads)) (variables_in e) readers
 
 -- what an index reads is read by its expression
@@ -157,15 +161,17 @@ reads_known split c view host frame new_frame call here rest (arguing statement 
     parts.0)
 reads_known split c view host frame new_frame call here rest (entering statement) first others due left is = tt
 
--- the step of a statement
-pub stepped : (split : Split) (c : Configuration) (call : ℕ) (statement : Stmt) (behind : List source.Item)
-    (what : StmtKind) → c.pending ≡ source.run call statement ∷ behind → statement.kind ≡ what →
-    step split.program c
-    ≡ executed split.program c call (source.run call statement) what (map (value_of c call) (operands what)) behind
-stepped split c call statement behind what pending is =
-    ap (after_item split.program c) pending
-    ∙ ap (λ k. executed split.program c call (source.run call statement) k (map (value_of c call) (operands k)) behind)
-    is
+-- the step of a statement whose operands give these values
+pub stepped : (split : Split) (c now : Configuration) (call : ℕ) (statement : Stmt) (behind : List source.Item)
+    (what : StmtKind) (values : List ℤ) → c.pending ≡ source.run call statement ∷ behind → statement.kind ≡ what →
+    AllZip (MayGive split.exposure c call) (operands what) values →
+    now ≡ executed split.program c call (source.run call statement) what values behind → Does split c now
+stepped split c now call statement behind what values pending is all steps =
+    subst (λ items. MayStep split.program split.exposure c items now) (sym pending) (
+      values,
+      subst (λ k. AllZip (MayGive split.exposure c call) (operands k) values) (sym is) all,
+      steps ∙ ap (λ k. executed split.program c call (source.run call statement) k values behind) (sym is),
+    )
 
 -- ---- reads
 
@@ -173,30 +179,30 @@ pub read_at : (split : Split) (c : Configuration) (view : View) (host : HostId) 
     (variables : VarId → ℤ) (at : IsAt split c view host thread) → Agrees split c host at.call variables →
     (field : FieldId) (index : List Node) →
     Reads split.planned host (place_of split host thread.at) field index (place_of split host (suc thread.at)) →
-    IsAt split c view host (with_temporary
-    (element_at (row_of c.store field.0) (value_of_nodes variables thread.temporaries index)) (after_step thread))
-read_at split c view host thread variables at agrees field index law =
+    (value : ℤ) → MayRead (FieldIsAffected split.exposure field)
+    (element_at (row_of c.store field.0) (value_of_nodes variables thread.temporaries index)) value →
+    IsAt split c view host (with_temporary value (after_step thread))
+read_at split c view host thread variables at agrees field index law value may =
     let here = place_of split host thread.at in
     let call = at.call in
     let values = source.variable c.calls call in
-    let read = read_value c.store values in
+    let P = MayHold split.exposure c.store values in
     let own : FieldRead = record { field = field; index = law.index } in
     let known = reads_known split c view host thread.frame thread.new_frame call here.due (chain_due split view.chain)
     here.calling law.first law.others law.due at.left at.calling in
     let block = statement_due law.first in
     let readers = all_right (λ one. IsReader split.planned (number_of block) one.index) here.reads (own ∷ law.behind)
     (subst (AllByRecursion (λ one. IsReader split.planned (number_of block) one.index)) law.due_next known) in
-    let same = same_values split c host call variables agrees block law.on_host law.index readers.0 in
+    let read = read_there split c host call variables agrees block law.on_host law.index readers.0 in
     let goes : place_of split host (thread.at + 1) ≡ with_reads here (here.reads ++ own ∷ []) =
     next_place split host thread ∙ law.goes in
     let are : here.reads ≡ law.before ++ (field_reads law.index ++ []) =
     law.reads ∙ ap (λ list. law.before ++ list) (sym (append-nil (field_reads law.index))) in
-    let place : value_of_nodes variables thread.temporaries index ≡ tree_value c.store values law.index =
-    ap (value_of_nodes variables thread.temporaries) law.are
-    ∙ value_there c.store values variables thread.temporaries here.reads law.before [] law.index
-    (length law.before) same at.temporaries are refl in
-    let value : element_at (row_of c.store field.0) (value_of_nodes variables thread.temporaries index) ≡ read own =
-    ap (element_at (row_of c.store field.0)) place in
+    let place : MayTree split.exposure c.store values law.index (value_of_nodes variables thread.temporaries index) =
+    subst (λ nodes. MayTree split.exposure c.store values law.index
+    (value_of_nodes variables thread.temporaries nodes)) (sym law.are)
+    (value_there split.exposure c.store values variables thread.temporaries here.reads law.before [] law.index
+    (length law.before) read at.temporaries are refl) in
     record {
       call = call;
       made = at.made;
@@ -208,12 +214,16 @@ read_at split c view host thread variables at agrees field index law =
           thread.new_frame call p.due p.calling) (sym goes) at.calling;
       forwards = ap (λ (p : Position). p.forwards) goes ∙ at.forwards;
       settled = at.settled;
-      temporaries =
-          ap (λ v. thread.temporaries ++ v ∷ []) value
-          ∙ ap (λ list. list ++ read own ∷ []) at.temporaries
-          ∙ sym (map-append read here.reads (own ∷ []))
-          ∙ sym (ap (λ (p : Position). map read p.reads) goes);
+      temporaries = subst (λ (p : Position). AllZip P p.reads (thread.temporaries ++ value ∷ [])) (sym goes)
+          (zip_last P here.reads thread.temporaries own value at.temporaries
+          (value_of_nodes variables thread.temporaries index, place, may));
     }
+
+-- no temporaries where nothing was read
+pub no_temporaries : (split : Split) (c : Configuration) (call : ℕ) (here : Position) → here.reads ≡ [] →
+    AllZip (MayHold split.exposure c.store (source.variable c.calls call)) here.reads []
+no_temporaries split c call here none =
+    subst (λ reads. AllZip (MayHold split.exposure c.store (source.variable c.calls call)) reads []) (sym none) tt
 
 -- the thread behind an instruction that drops its temporaries
 pub cleared : (split : Split) (after : Configuration) (view : View) (host : HostId) (thread : ThreadShape)
@@ -235,30 +245,32 @@ cleared split after view host thread next call made held left fits calling forwa
       thread.new_frame call p.due p.calling) (sym is) calling;
   forwards = ap (λ (p : Position). p.forwards) is ∙ forwards;
   settled = settled;
-  temporaries = sym (ap (λ (p : Position). map (read_value after.store (source.variable after.calls call)) p.reads) is
-      ∙ ap (map (read_value after.store (source.variable after.calls call))) reads);
+  temporaries = no_temporaries split after call (place_of split host at)
+      (ap (λ (p : Position). p.reads) is ∙ reads);
 }
 
--- the value of an expression, by its nodes over temporaries among which is what it reads
-given_value : (c : Configuration) (call : ℕ) (variables : VarId → ℤ) (temporaries : List ℤ)
+-- what the nodes of an expression give, over temporaries among which is what it reads
+given_value : (split : Split) (c : Configuration) (call : ℕ) (variables : VarId → ℤ) (temporaries : List ℤ)
     (reads before behind : List FieldRead) (first : ℕ) (value : Expr) (nodes : List Node) →
-    AreSame (source.variable c.calls call) variables (expr_tree value) →
-    temporaries ≡ map (read_value c.store (source.variable c.calls call)) reads →
+    MayBeRead split.exposure (source.variable c.calls call) variables (expr_tree value) →
+    AllZip (MayHold split.exposure c.store (source.variable c.calls call)) reads temporaries →
     reads ≡ before ++ (field_reads (expr_tree value) ++ behind) → first ≡ length before →
-    nodes ≡ nodes_of first (expr_tree value) → value_of c call value ≡ value_of_nodes variables temporaries nodes
-given_value c call variables temporaries reads before behind first value nodes same holds are at is =
-    value_is c call value
-    ∙ sym (value_there c.store (source.variable c.calls call) variables temporaries reads before behind
-    (expr_tree value) first same holds are at)
-    ∙ sym (ap (value_of_nodes variables temporaries) is)
+    nodes ≡ nodes_of first (expr_tree value) →
+    MayGive split.exposure c call value (value_of_nodes variables temporaries nodes)
+given_value split c call variables temporaries reads before behind first value nodes read holds are at is =
+    subst (λ list. MayGive split.exposure c call value (value_of_nodes variables temporaries list)) (sym is)
+    (tree_may split.exposure c call value _ (value_there split.exposure c.store (source.variable c.calls call) variables
+    temporaries reads before behind (expr_tree value) first read holds are at))
 
 -- the same where nothing else was read
-pub only_value : (c : Configuration) (call : ℕ) (variables : VarId → ℤ) (temporaries : List ℤ) (here : Position)
-    (value : Expr) (nodes : List Node) → AreSame (source.variable c.calls call) variables (expr_tree value) →
-    temporaries ≡ map (read_value c.store (source.variable c.calls call)) here.reads →
-    IsValue here (expr_tree value) nodes → value_of c call value ≡ value_of_nodes variables temporaries nodes
-only_value c call variables temporaries here value nodes same holds is =
-    given_value c call variables temporaries here.reads [] [] 0 value nodes same holds
+pub only_value : (split : Split) (c : Configuration) (call : ℕ) (variables : VarId → ℤ) (temporaries : List ℤ)
+    (here : Position) (value : Expr) (nodes : List Node) →
+    MayBeRead split.exposure (source.variable c.calls call) variables (expr_tree value) →
+    AllZip (MayHold split.exposure c.store (source.variable c.calls call)) here.reads temporaries →
+    IsValue here (expr_tree value) nodes →
+    MayGive split.exposure c call value (value_of_nodes variables temporaries nodes)
+only_value split c call variables temporaries here value nodes read holds is =
+    given_value split c call variables temporaries here.reads [] [] 0 value nodes read holds
     (is.reads ∙ sym (append-nil (field_reads (expr_tree value)))) refl is.are
 
 -- ---- assignments to locals
@@ -268,7 +280,7 @@ record AssignsLocal (split : Split) (c : Configuration) (call : ℕ) (variables 
   value : Expr
   is : what ≡ kind.Let x value
   is_value : IsValue here (expr_tree value) nodes
-  same : AreSame (source.variable c.calls call) variables (expr_tree value)
+  read : MayBeRead split.exposure (source.variable c.calls call) variables (expr_tree value)
 
 assigns_local : (split : Split) (c : Configuration) (host : HostId) (call : ℕ) (variables : VarId → ℤ) →
     Agrees split c host call variables → (here : Position) (what : StmtKind) (heading : Heading) (x : VarId)
@@ -280,7 +292,7 @@ assigns_local split c host call variables agrees here (kind.Let y value) heading
   value = value;
   is = ap (λ z. kind.Let z value) sets.0;
   is_value = sets.1;
-  same = same_values split c host call variables agrees (set_local heading y (expr_tree value) done) on_host
+  read = read_there split c host call variables agrees (set_local heading y (expr_tree value) done) on_host
       (expr_tree value) fit.0;
 }
 assigns_local split c host call variables agrees here _ heading x nodes on_host fit sets = absurd sets
@@ -296,17 +308,17 @@ after_setting split view host from call x value = record view {
 -- a variable of the call is set, and the thread goes on
 pub record SetsLocal (split : Split) (c : Configuration) (view : View) (host : HostId) (thread : ThreadShape)
     (x : VarId) (value : ℤ) : Type 0 where
-  pub busy : ¬ IsAtEnd c
+  pub now : Configuration
+  pub does : Does split c now
   pub none_out : view.out ≡ []
-  pub store : (step split.program c).store ≡ c.store
+  pub store : now.store ≡ c.store
   pub call : ℕ
   pub made : call < length c.calls
   pub frame : thread.frame ≡ view.naming.frame call
-  pub calls : (step split.program c).calls ≡ calls_after c.calls call x.0 value
-  pub plainly : NoneKept (step split.program c)
+  pub calls : now.calls ≡ calls_after c.calls call x.0 value
+  pub plainly : NoneKept now
   pub from : BlockTree
-  pub at : IsAt split (step split.program c) (after_setting split view host from call x value) host
-      (after_clearing thread)
+  pub at : IsAt split now (after_setting split view host from call x value) host (after_clearing thread)
 
 -- what a result is that is to be kept
 record KeepsLocal (split : Split) (here : Position) (x : VarId) (nodes : List Node) (into result : VarId) : Type 0 where
@@ -339,7 +351,8 @@ same_host split one other statement first second =
 pub let_at : (split : Split) (c : Configuration) (view : View) (host : HostId) (thread : ThreadShape)
     (variables : VarId → ℤ) (at : IsAt split c view host thread) → Agrees split c host at.call variables →
     ((into result : VarId) (behind : List source.Item) → view.keeper ≡ host →
-    c.pending ≡ source.keep at.call into result ∷ behind → variables result ≡ source.variable c.calls at.call result.0) →
+    c.pending ≡ source.keep at.call into result ∷ behind →
+    MayRead (VariableIsAffected split.exposure result) (source.variable c.calls at.call result.0) (variables result)) →
     (x : VarId) (nodes : List Node) →
     Follows split.planned split.table.entries host (place_of split host thread.at) (op.Let x nodes)
     (place_of split host (suc thread.at)) →
@@ -350,125 +363,108 @@ let_at split c view host thread variables at agrees kept x nodes law =
     let given = value_of_nodes variables thread.temporaries nodes in
     let calling = subst (IsCalling split c view.naming view.values view.sender host thread.frame thread.new_frame call
     here.due) law.3 at.calling in
-    let next = step split.program c in
+    let calls = calls_after c.calls call x.0 given in
     let from = statement_due law.0 in
-    let made : next.calls ≡ calls_after c.calls call x.0 given → call < length next.calls = λ calls.
-    subst (λ n. call < n) (sym (ap length calls ∙ long_set c.calls call x.0 given at.made)) at.made in
-    let long : next.calls ≡ calls_after c.calls call x.0 given → view.naming.count ≡ length next.calls = λ calls.
-    calling.0 ∙ sym (ap length calls ∙ long_set c.calls call x.0 given at.made) in
+    let long : length calls ≡ length c.calls = long_set c.calls call x.0 given at.made in
+    let sets = λ (now : Configuration) (does : Does split c now) (store : now.store ≡ c.store)
+    (set : now.calls ≡ calls) (left : IsLeft split now view.keeper (under call law.1 ++ chain_due split view.chain))
+    (plainly : NoneKept now).
+    let many : length now.calls ≡ length c.calls = ap length set ∙ long in
+    let it : SetsLocal split c view host thread x given = record {
+      now = now;
+      does = does;
+      none_out = sym at.forwards ∙ law.2.forwards;
+      store = store;
+      call = call;
+      made = at.made;
+      frame = calling.1;
+      calls = set;
+      plainly = plainly;
+      from = from;
+      at = cleared split now (after_setting split view host from call x given) host thread _ call
+          (subst (λ n. call < n) (sym many) at.made) at.held left at.fits (calling.0 ∙ sym many, calling.1, refl) refl
+          (inr plainly) refl (thread.at + 1) (next_place split host thread ∙ law.5);
+    } in it in
     elim (front_of split c view.keeper call here.due (chain_due split view.chain) law.0 law.1 law.2.due at.left) [
       | inl runs ↦
           let on_host = subst (λ first. is_on split.planned host (statement_due first) ≡ true) runs.is law.2.on_host in
-          let sets = subst (λ first. Sets split.planned here first x nodes) runs.is law.4 in
           let assigns = assigns_local split c host call variables agrees here runs.statement.kind
-          (head_of runs.statement) x nodes on_host runs.fit sets in
-          let value = only_value c call variables thread.temporaries here assigns.value nodes assigns.same
+          (head_of runs.statement) x nodes on_host runs.fit
+          (subst (λ first. Sets split.planned here first x nodes) runs.is law.4) in
+          let value = only_value split c call variables thread.temporaries here assigns.value nodes assigns.read
           at.temporaries assigns.is_value in
-          let steps = stepped split c call runs.statement (map item_of runs.behind) (kind.Let x assigns.value)
-          runs.pending assigns.is in
-          let calls = ap (λ (k : Configuration). k.calls) steps ∙ ap (calls_after c.calls call x.0) value in
-          let pending = ap (λ (k : Configuration). k.pending) steps in
-          let plainly = plainly_behind (to_run call runs.statement) runs.behind runs.follows
+          let now : Configuration = record c { calls = calls; pending = map item_of runs.behind } in
+          let plainly = plainly_behind split (to_run call runs.statement) runs.behind runs.follows
           (λ returns. subst IsReturn assigns.is returns) in
-          record {
-            busy = busy c (source.run call runs.statement) (map item_of runs.behind) runs.pending;
-            none_out = sym at.forwards ∙ law.2.forwards;
-            store = ap (λ (k : Configuration). k.store) steps;
-            call = call;
-            made = at.made;
-            frame = calling.1;
-            calls = calls;
-            plainly = none_kept next runs.behind pending plainly;
-            from = from;
-            at = cleared split next (after_setting split view host from call x given) host thread _ call (made calls)
-                at.held (record {
-                  left = runs.behind;
-                  pending = pending;
-                  due = runs.due;
-                  known = runs.known;
-                  returned = runs.returned;
-                  stands = stands_plainly split view.keeper runs.behind plainly;
-                }) at.fits (long calls, calling.1, refl) refl (inr (none_kept next runs.behind pending plainly)) refl
-                (thread.at + 1) (next_place split host thread ∙ law.5);
-          }
+          sets now (stepped split c now call runs.statement (map item_of runs.behind) (kind.Let x assigns.value)
+          (given ∷ []) runs.pending assigns.is (value, tt) refl) refl refl (record {
+            left = runs.behind;
+            pending = refl;
+            due = runs.due;
+            known = runs.known;
+            returned = runs.returned;
+            stands = stands_plainly split view.keeper runs.behind plainly;
+          }) (none_kept now runs.behind refl plainly)
       | inr keeps ↦
           let on_host = subst (λ first. is_on split.planned host (statement_due first) ≡ true) keeps.is
           law.2.on_host in
-          let sets = subst (λ first. Sets split.planned here first x nodes) keeps.is law.4 in
-          let local = keeps_local split here x nodes keeps.statement keeps.into keeps.result keeps.keeping sets in
+          let local = keeps_local split here x nodes keeps.statement keeps.into keeps.result keeps.keeping
+          (subst (λ first. Sets split.planned here first x nodes) keeps.is law.4) in
           let here_too = same_host split view.keeper host (alone keeps.statement) keeps.on_host on_host in
-          let value : source.variable c.calls call keeps.result.0 ≡ given =
-          sym (kept keeps.into keeps.result (map item_of keeps.behind) here_too keeps.pending)
-          ∙ sym (ap (value_of_nodes variables thread.temporaries) local.nodes_are) in
-          let steps = ap (after_item split.program c) keeps.pending in
-          let calls = ap (λ (k : Configuration). k.calls) steps
-          ∙ ap (λ (y : VarId). calls_after c.calls call y.0 (source.variable c.calls call keeps.result.0)) local.into_is
-          ∙ ap (calls_after c.calls call x.0) value in
-          let pending = ap (λ (k : Configuration). k.pending) steps in
-          record {
-            busy = busy c (source.keep call keeps.into keeps.result) (map item_of keeps.behind) keeps.pending;
-            none_out = sym at.forwards ∙ law.2.forwards;
-            store = ap (λ (k : Configuration). k.store) steps;
-            call = call;
-            made = at.made;
-            frame = calling.1;
-            calls = calls;
-            plainly = none_kept next keeps.behind pending keeps.plainly;
-            from = from;
-            at = cleared split next (after_setting split view host from call x given) host thread _ call (made calls)
-                at.held (record {
-                  left = keeps.behind;
-                  pending = pending;
-                  due = keeps.due;
-                  known = keeps.known;
-                  returned = keeps.returned;
-                  stands = stands_plainly split view.keeper keeps.behind keeps.plainly;
-                }) at.fits (long calls, calling.1, refl) refl
-                (inr (none_kept next keeps.behind pending keeps.plainly)) refl (thread.at + 1)
-                (next_place split host thread ∙ law.5);
-          }
+          let behind = map item_of keeps.behind in
+          let value : given ≡ variables keeps.result = ap (value_of_nodes variables thread.temporaries) local.nodes_are
+          in
+          let read = subst (MayRead (VariableIsAffected split.exposure keeps.result)
+          (source.variable c.calls call keeps.result.0)) (sym value)
+          (kept keeps.into keeps.result behind here_too keeps.pending) in
+          let now : Configuration = record c { calls = calls; pending = behind } in
+          let leaves : now ≡ record c { calls = calls_after c.calls call keeps.into.0 given; pending = behind } =
+          ap (λ (y : VarId).
+          let after : Configuration = record c { calls = calls_after c.calls call y.0 given; pending = behind } in
+          after) (sym local.into_is) in
+          sets now (subst (λ items. MayStep split.program split.exposure c items now) (sym keeps.pending)
+          (given, read, leaves)) refl refl (record {
+            left = keeps.behind;
+            pending = refl;
+            due = keeps.due;
+            known = keeps.known;
+            returned = keeps.returned;
+            stands = stands_plainly split view.keeper keeps.behind keeps.plainly;
+          }) (none_kept now keeps.behind refl keeps.plainly)
     ]
 
 -- ---- assignments to fields
 
--- a field's element is written, and the thread goes on
-pub record SetsField (split : Split) (c : Configuration) (view : View) (host : HostId) (thread : ThreadShape)
-    (field : FieldId) (place value : ℤ) : Type 0 where
-  pub busy : ¬ IsAtEnd c
-  pub none_out : view.out ≡ []
-  pub store : (step split.program c).store ≡ store_after_write c.store field.0 place value
-  pub calls : (step split.program c).calls ≡ c.calls
-  pub plainly : NoneKept (step split.program c)
-  pub at : IsAt split (step split.program c) view host (after_clearing thread)
-
 -- what a statement makes of the store
 record AssignsField (split : Split) (c : Configuration) (call : ℕ) (item : source.Item) (behind : List source.Item)
     (what : StmtKind) (field : FieldId) (place value : ℤ) : Type 0 where
-  is : executed split.program c call item what (map (value_of c call) (operands what)) behind
-      ≡ record c { store = store_after_write c.store field.0 place value; pending = behind }
+  values : List ℤ
+  all : AllZip (MayGive split.exposure c call) (operands what) values
+  is : record c { store = store_after_write c.store field.0 place value; pending = behind }
+      ≡ executed split.program c call item what values behind
   goes_on : IsReturn what → ⊥
 
 assigns_field : (split : Split) (c : Configuration) (host : HostId) (call : ℕ) (thread : ThreadShape)
     (variables : VarId → ℤ) → Agrees split c host call variables → (here : Position) →
-    thread.temporaries ≡ map (read_value c.store (source.variable c.calls call)) here.reads → (item : source.Item)
-    (behind : List source.Item) (what : StmtKind) (heading : Heading) (field : FieldId) (at nodes : List Node) →
-    is_on split.planned host (statement_tree what heading done) ≡ true →
+    AllZip (MayHold split.exposure c.store (source.variable c.calls call)) here.reads thread.temporaries →
+    (item : source.Item) (behind : List source.Item) (what : StmtKind) (heading : Heading) (field : FieldId)
+    (at nodes : List Node) → is_on split.planned host (statement_tree what heading done) ≡ true →
     IsFit split.code split.planned (statement_tree what heading done) →
     Stores here (positions.run (statement_tree what heading done)) field at nodes →
     AssignsField split c call item behind what field (value_of_nodes variables thread.temporaries at)
     (value_of_nodes variables thread.temporaries nodes)
 assigns_field split c host call thread variables agrees here holds item behind (kind.SetField own value) heading field
     at nodes on_host fit stores =
-    let same = same_values split c host call variables agrees (set_field heading own (expr_tree value) done) on_host
+    let read = read_there split c host call variables agrees (set_field heading own (expr_tree value) done) on_host
     (expr_tree value) fit.0 in
-    let given = only_value c call variables thread.temporaries here value nodes same holds stores.2 in
-    let place : pos 0 ≡ value_of_nodes variables thread.temporaries at =
-    sym (ap (value_of_nodes variables thread.temporaries) stores.1) in
-    let P = λ (f : FieldId) (i v : ℤ).
-    let after : Configuration = record c { store = store_after_write c.store f.0 i v; pending = behind } in after in
+    let given = value_of_nodes variables thread.temporaries nodes in
+    let P = λ (f : FieldId) (i : ℤ).
+    let after : Configuration = record c { store = store_after_write c.store f.0 i given; pending = behind } in after in
     record {
-      is = ap (λ f. P f (pos 0) (value_of c call value)) stores.0 ∙ ap (λ i. P field i (value_of c call value)) place
-          ∙ ap (P field (value_of_nodes variables thread.temporaries at)) given;
+      values = given ∷ [];
+      all = (only_value split c call variables thread.temporaries here value nodes read holds stores.2, tt);
+      is = ap (λ list. P field (value_of_nodes variables thread.temporaries list)) stores.1
+          ∙ ap (λ f. P f (pos 0)) (sym stores.0);
       goes_on = λ returns. returns;
     }
 assigns_field split c host call thread variables agrees here holds item behind (kind.SetElement own index value) heading
@@ -476,18 +472,21 @@ assigns_field split c host call thread variables agrees here holds item behind (
     let tree = expr_tree value in
     let number = expr_tree index in
     let block = set_element heading own number tree done in
-    let place = given_value c call variables thread.temporaries here.reads [] (field_reads tree) 0 index at
-    (same_values split c host call variables agrees block on_host number fit.0) holds stores.1 refl stores.2 in
-    let given = given_value c call variables thread.temporaries here.reads (field_reads number) [] (reads_in number)
-    value nodes (same_values split c host call variables agrees block on_host tree fit.1) holds
+    let place = value_of_nodes variables thread.temporaries at in
+    let given = value_of_nodes variables thread.temporaries nodes in
+    let first = given_value split c call variables thread.temporaries here.reads [] (field_reads tree) 0 index at
+    (read_there split c host call variables agrees block on_host number fit.0) holds stores.1 refl stores.2 in
+    let second = given_value split c call variables thread.temporaries here.reads (field_reads number) []
+    (reads_in number) value nodes (read_there split c host call variables agrees block on_host tree fit.1) holds
     (stores.1 ∙ ap (λ list. field_reads number ++ list) (sym (append-nil (field_reads tree))))
     (sym (reads_many number)) stores.3 in
-    let P = λ (f : FieldId) (i v : ℤ).
-    let after : Configuration = record c { store = store_after_write c.store f.0 i v; pending = behind } in after in
     record {
-      is = ap (λ f. P f (value_of c call index) (value_of c call value)) stores.0
-          ∙ ap (λ i. P field i (value_of c call value)) place
-          ∙ ap (P field (value_of_nodes variables thread.temporaries at)) given;
+      values = place ∷ given ∷ [];
+      all = (first, (second, tt));
+      is = ap (λ (f : FieldId).
+          let after : Configuration = record c { store = store_after_write c.store f.0 place given; pending = behind }
+          in
+          after) (sym stores.0);
       goes_on = λ returns. returns;
     }
 assigns_field split c host call thread variables agrees here holds item behind _ heading field at nodes on_host fit
@@ -498,7 +497,7 @@ pub put_at : (split : Split) (c : Configuration) (view : View) (host : HostId) (
     (field : FieldId) (index nodes : List Node) →
     Follows split.planned split.table.entries host (place_of split host thread.at) (op.Put field index nodes)
     (place_of split host (suc thread.at)) →
-    SetsField split c view host thread field (value_of_nodes variables thread.temporaries index)
+    SetsField split c view host (after_clearing thread) field (value_of_nodes variables thread.temporaries index)
     (value_of_nodes variables thread.temporaries nodes)
 put_at split c view host thread variables at agrees field index nodes law =
     let here = place_of split host thread.at in
@@ -511,31 +510,31 @@ put_at split c view host thread variables at agrees field index nodes law =
           let stores = subst (λ first. Stores here first field index nodes) runs.is law.4 in
           let item = source.run call runs.statement in
           let behind = map item_of runs.behind in
-          let next = step split.program c in
           let assigns = assigns_field split c host call thread variables agrees here at.temporaries item behind
           runs.statement.kind (head_of runs.statement) field index nodes on_host
           runs.fit stores in
-          let steps = stepped split c call runs.statement behind runs.statement.kind runs.pending refl ∙ assigns.is in
-          let calls : next.calls ≡ c.calls = ap (λ (k : Configuration). k.calls) steps in
-          let pending = ap (λ (k : Configuration). k.pending) steps in
-          let plainly = plainly_behind (to_run call runs.statement) runs.behind runs.follows assigns.goes_on in
+          let now : Configuration = record c {
+            store = store_after_write c.store field.0 (value_of_nodes variables thread.temporaries index)
+                (value_of_nodes variables thread.temporaries nodes);
+            pending = behind;
+          } in
+          let plainly = plainly_behind split (to_run call runs.statement) runs.behind runs.follows assigns.goes_on in
+          let none = sym at.forwards ∙ law.2.forwards in
           record {
-            busy = busy c item behind runs.pending;
-            none_out = sym at.forwards ∙ law.2.forwards;
-            store = ap (λ (k : Configuration). k.store) steps;
-            calls = calls;
-            plainly = none_kept next runs.behind pending plainly;
-            at = cleared split next view host thread _ call (subst (λ list. call < length list) (sym calls) at.made)
-                at.held (record {
-                  left = runs.behind;
-                  pending = pending;
-                  due = runs.due;
-                  known = runs.known;
-                  returned = runs.returned;
-                  stands = stands_plainly split view.keeper runs.behind plainly;
-                }) at.fits (calling.0 ∙ sym (ap length calls), calling.1, calling.2)
-                (sym (sym at.forwards ∙ law.2.forwards)) (inl (sym at.forwards ∙ law.2.forwards)) refl (thread.at + 1)
-                (next_place split host thread ∙ law.5);
+            now = now;
+            does = stepped split c now call runs.statement behind runs.statement.kind assigns.values runs.pending refl
+                assigns.all assigns.is;
+            store = refl;
+            calls = refl;
+            plainly = none_kept now runs.behind refl plainly;
+            at = cleared split now view host thread _ call at.made at.held (record {
+              left = runs.behind;
+              pending = refl;
+              due = runs.due;
+              known = runs.known;
+              returned = runs.returned;
+              stands = stands_plainly split view.keeper runs.behind plainly;
+            }) at.fits calling (sym none) (inl none) refl (thread.at + 1) (next_place split host thread ∙ law.5);
           }
       | inr keeps ↦ absurd (subst (λ first. Stores here first field index nodes) keeps.is law.4)
     ]
@@ -579,7 +578,7 @@ send_at split c view host thread at x to law =
             thread.new_frame call p.due p.calling) (sym goes) at.calling;
         forwards = ap (λ (p : Position). p.forwards) goes;
         settled = inr plainly;
-        temporaries = at.temporaries
-            ∙ sym (ap (λ (p : Position). map (read_value c.store (source.variable c.calls call)) p.reads) goes);
+        temporaries = subst (λ (p : Position). AllZip (MayHold split.exposure c.store (source.variable c.calls call))
+            p.reads thread.temporaries) (sym goes) at.temporaries;
       };
     }

@@ -8,17 +8,18 @@ use Rattle.jif_tree.specs.declared.program.Stmt.{Stmt}
 use Rattle.jif_tree.specs.declared.program.StmtKind.{StmtKind}
 use Rattle.jif_tree.specs.declared.program.StmtKind as kind
 use Rattle.jif_tree.specs.SourceRun as source
-use Rattle.jif_tree.specs.SourceRun.{Configuration, IsAtEnd}
+use Rattle.jif_tree.specs.SourceRun.{Configuration}
 use Rattle.jif_tree.specs.Trees.{Heading, BlockTree, done, block_tree, row_tree, statement_tree, head_of}
 use Rattle.host_code.specs.Code.{CodeShape}
 use Rattle.msg_cost.specs.Moves.{PlannedShape}
 use Rattle.split_rules.specs.Positions as positions
 use Rattle.split_rules.specs.Positions.{Due, all_due, is_on, statements_of}
-use Rattle.simulation.proofs.KnownReaders.{IsFit}
-use Rattle.simulation.proofs.Views.{Split}
-use Rattle.simulation.proofs.Chains.{Duty, under}
-use Rattle.simulation.proofs.Threads.{alone, Owed, to_run, to_keep, item_of, duty_of, IsKeeping, IsKnown, IsReturn}
-use Rattle.simulation.proofs.Threads.{Returns, MayFollow, AreReturned, StandsOn, IsLeft, NoneKept}
+use Rattle.typed_steps.specs.Readers.{IsFit}
+use Rattle.typed_steps.specs.Views.{Split}
+use Rattle.typed_steps.specs.Chains.{Duty, under}
+use Rattle.typed_steps.specs.Threads.{IsFor, alone, Owed, to_run, to_keep, item_of, duty_of, IsKeeping, IsKnown}
+use Rattle.typed_steps.specs.Threads.{IsReturn}
+use Rattle.typed_steps.specs.Threads.{Returns, MayFollow, AreReturned, StandsOn, IsLeft, NoneKept}
 
 -- ---- what does not begin with a result that is to be kept
 
@@ -26,11 +27,11 @@ abbrev pub BeginsPlainly : List Owed → Type 0
 BeginsPlainly (to_keep call statement into result ∷ others) = ⊥
 BeginsPlainly others = ⊤
 
-pub plainly_behind : (owed : Owed) (behind : List Owed) → MayFollow owed behind → (Returns owed → ⊥) →
-    BeginsPlainly behind
-plainly_behind owed [] follows none = tt
-plainly_behind owed (to_run call statement ∷ behind) follows none = tt
-plainly_behind owed (to_keep call statement into result ∷ behind) follows none = none follows
+pub plainly_behind : (split : Split) (owed : Owed) (behind : List Owed) → MayFollow split owed behind →
+    (Returns owed → ⊥) → BeginsPlainly behind
+plainly_behind split owed [] follows none = tt
+plainly_behind split owed (to_run call statement ∷ behind) follows none = tt
+plainly_behind split owed (to_keep call statement into result ∷ behind) follows none = none follows.0
 
 pub none_kept : (c : Configuration) (behind : List Owed) → c.pending ≡ map item_of behind → BeginsPlainly behind →
     NoneKept c
@@ -47,10 +48,11 @@ stands_plainly split keeper [] plainly = tt
 stands_plainly split keeper (to_run call statement ∷ behind) plainly = tt
 stands_plainly split keeper (to_keep call statement into result ∷ behind) plainly = absurd plainly
 
-pub follows_plainly : (owed : Owed) (behind : List Owed) → BeginsPlainly behind → MayFollow owed behind
-follows_plainly owed [] plainly = tt
-follows_plainly owed (to_run call statement ∷ behind) plainly = tt
-follows_plainly owed (to_keep call statement into result ∷ behind) plainly = absurd plainly
+pub follows_plainly : (split : Split) (owed : Owed) (behind : List Owed) → BeginsPlainly behind →
+    MayFollow split owed behind
+follows_plainly split owed [] plainly = tt
+follows_plainly split owed (to_run call statement ∷ behind) plainly = tt
+follows_plainly split owed (to_keep call statement into result ∷ behind) plainly = absurd plainly
 
 -- ---- what comes first
 
@@ -63,8 +65,8 @@ pub record RunsFirst (split : Split) (c : Configuration) (call : ℕ) (first : D
   pub due : others ≡ map duty_of behind
   pub fit : IsFit split.code split.planned (alone statement)
   pub known : AllByRecursion (IsKnown split) behind
-  pub follows : MayFollow (to_run call statement) behind
-  pub returned : AreReturned behind
+  pub follows : MayFollow split (to_run call statement) behind
+  pub returned : AreReturned split behind
 
 -- a result that is to be kept
 pub record KeepsFirst (split : Split) (c : Configuration) (keeper : HostId) (call : ℕ) (first : Due)
@@ -80,7 +82,7 @@ pub record KeepsFirst (split : Split) (c : Configuration) (keeper : HostId) (cal
   pub on_host : is_on split.planned keeper (alone statement) ≡ true
   pub known : AllByRecursion (IsKnown split) behind
   pub plainly : BeginsPlainly behind
-  pub returned : AreReturned behind
+  pub returned : AreReturned split behind
 
 abbrev pub IsFirst : Split → Configuration → HostId → ℕ → Due → List Duty → Type 0
 IsFirst split c keeper call first others =
@@ -89,7 +91,7 @@ IsFirst split c keeper call first others =
 first_of : (split : Split) (c : Configuration) (keeper : HostId) (call : ℕ) (first : Due) (others : List Duty)
     (left : List Owed) → c.pending ≡ map item_of left →
     record { call = call; due = first } ∷ others ≡ map duty_of left →
-    AllByRecursion (IsKnown split) left → AreReturned left → StandsOn split keeper left →
+    AllByRecursion (IsKnown split) left → AreReturned split left → StandsOn split keeper left →
     IsFirst split c keeper call first others
 first_of split c keeper call first others [] pending due known returned stands = absurd (cc)
 first_of split c keeper call first others (to_run number statement ∷ behind) pending due known returned stands =
@@ -104,7 +106,7 @@ first_of split c keeper call first others (to_run number statement ∷ behind) p
       due = cc;
       fit = known.0;
       known = known.1;
-      follows = subst (λ n. MayFollow (to_run n statement) behind) same returned.0;
+      follows = subst (λ n. MayFollow split (to_run n statement) behind) same returned.0;
       returned = returned.1;
     })
 first_of split c keeper call first others (to_keep number statement into result ∷ behind) pending due known returned
@@ -123,7 +125,7 @@ first_of split c keeper call first others (to_keep number statement into result 
       keeping = known.0;
       on_host = stands;
       known = known.1;
-      plainly = plainly_behind (to_keep number statement into result) behind returned.0 (λ no. no);
+      plainly = plainly_behind split (to_keep number statement into result) behind returned.0 (λ no. no);
       returned = returned.1;
     })
 
@@ -134,9 +136,6 @@ pub front_of : (split : Split) (c : Configuration) (keeper : HostId) (call : ℕ
 front_of split c keeper call here rest first others due left =
     first_of split c keeper call first (under call others ++ rest) left.left left.pending
     (sym (ap (λ list. under call list ++ rest) due) ∙ left.due) left.known left.returned left.stands
-
-pub busy : (c : Configuration) (item : source.Item) (items : List source.Item) → c.pending ≡ item ∷ items → ¬ IsAtEnd c
-busy c item items pending ends = absurd (cc)
 
 -- ---- the statements of a block before others
 
@@ -231,31 +230,33 @@ pub plainly_before : (call : ℕ) (statements : List Stmt) (behind : List Owed) 
 plainly_before call [] behind plainly = plainly
 plainly_before call (statement ∷ statements) behind plainly = tt
 
-pub returned_before : (call : ℕ) (statements : List Stmt) (behind : List Owed) → BeginsPlainly behind →
-    AreReturned behind → AreReturned (to_run_all call statements ++ behind)
-returned_before call [] behind plainly returned = returned
-returned_before call (statement ∷ statements) behind plainly returned = (
-  follows_plainly (to_run call statement) (to_run_all call statements ++ behind)
+pub returned_before : (split : Split) (call : ℕ) (statements : List Stmt) (behind : List Owed) → BeginsPlainly behind →
+    AreReturned split behind → AreReturned split (to_run_all call statements ++ behind)
+returned_before split call [] behind plainly returned = returned
+returned_before split call (statement ∷ statements) behind plainly returned = (
+  follows_plainly split (to_run call statement) (to_run_all call statements ++ behind)
       (plainly_before call statements behind plainly),
-  returned_before call statements behind plainly returned,
+  returned_before split call statements behind plainly returned,
 )
 
--- a body that ends by giving a result back
-abbrev pub EndsWithReturn : List Stmt → Type 0
-EndsWithReturn [] = ⊥
-EndsWithReturn (statement ∷ []) = IsReturn statement.kind
-EndsWithReturn (statement ∷ next ∷ statements) = EndsWithReturn (next ∷ statements)
+-- a body that ends by giving a result of its method back
+abbrev pub EndsWithReturn : Split → VarId → List Stmt → Type 0
+EndsWithReturn split result [] = ⊥
+EndsWithReturn split result (statement ∷ []) = IsReturn statement.kind × IsFor split (to_run 0 statement) result
+EndsWithReturn split result (statement ∷ next ∷ statements) = EndsWithReturn split result (next ∷ statements)
 
-pub plainly_ending : (call : ℕ) (statements : List Stmt) (behind : List Owed) → EndsWithReturn statements →
+pub plainly_ending : (split : Split) (result : VarId) (call : ℕ) (statements : List Stmt) (behind : List Owed) →
+    EndsWithReturn split result statements →
     BeginsPlainly (to_run_all call statements ++ behind)
-plainly_ending call [] behind ends = absurd ends
-plainly_ending call (statement ∷ statements) behind ends = tt
+plainly_ending split result call [] behind ends = absurd ends
+plainly_ending split result call (statement ∷ statements) behind ends = tt
 
-pub returned_ending : (call : ℕ) (statements : List Stmt) (caller : ℕ) (from : Stmt) (into result : VarId)
-    (behind : List Owed) → EndsWithReturn statements → BeginsPlainly behind → AreReturned behind →
-    AreReturned (to_run_all call statements ++ to_keep caller from into result ∷ behind)
-returned_ending call [] caller from into result behind ends plainly returned = absurd ends
-returned_ending call (statement ∷ []) caller from into result behind ends plainly returned =
-    (ends, (follows_plainly (to_keep caller from into result) behind plainly, returned))
-returned_ending call (statement ∷ next ∷ statements) caller from into result behind ends plainly returned =
-    (tt, returned_ending call (next ∷ statements) caller from into result behind ends plainly returned)
+pub returned_ending : (split : Split) (call : ℕ) (statements : List Stmt) (caller : ℕ) (from : Stmt)
+    (into result : VarId) (behind : List Owed) → EndsWithReturn split result statements → BeginsPlainly behind →
+    AreReturned split behind →
+    AreReturned split (to_run_all call statements ++ to_keep caller from into result ∷ behind)
+returned_ending split call [] caller from into result behind ends plainly returned = absurd ends
+returned_ending split call (statement ∷ []) caller from into result behind ends plainly returned =
+    (ends, (follows_plainly split (to_keep caller from into result) behind plainly, returned))
+returned_ending split call (statement ∷ next ∷ statements) caller from into result behind ends plainly returned =
+    (tt, returned_ending split call (next ∷ statements) caller from into result behind ends plainly returned)

@@ -11,8 +11,9 @@ use Rattle.js_base.specs.declared.ids.FrameId.{FrameId}
 use Rattle.js_base.specs.declared.ids.SiteId.{SiteId}
 use Rattle.js_base.specs.declared.ids.VarId.{VarId}
 use Rattle.jif_tree.specs.SourceRun as plain
-use Rattle.jif_tree.specs.SourceRun.{Call, Configuration, calls_after}
+use Rattle.jif_tree.specs.SourceRun.{Configuration}
 use Rattle.jif_tree.specs.Trees.{BlockTree}
+use Rattle.jif_tree.specs.Altered.{Exposure, VariableIsAffected, MayRead}
 use Rattle.host_code.specs.Code.{CodeShape, site_at}
 use Rattle.host_stores.specs.Stores.{with_variable}
 use Rattle.host_core.specs.Host.{HostShape}
@@ -23,10 +24,12 @@ use Rattle.split_rules.specs.Positions.{Forward, forwards_of}
 use Rattle.split_rules.proofs.NumberedLists.{number_there}
 use Rattle.net_world.proofs.Moved.{Moved, either}
 use Rattle.net_world.proofs.Present.{same_id}
-use Rattle.simulation.proofs.Views.{Split, Naming, View, values_set}
-use Rattle.simulation.proofs.Variables.{IsOut, AreSent, Sends, Agree, IsUnused, AreFresh, Holds}
-use Rattle.simulation.proofs.Simulates.{IsOrderly}
-use Rattle.simulation.proofs.Kept.{host_within}
+use Rattle.typed_steps.specs.Values.{AreAlike, HoldsNumbers}
+use Rattle.typed_steps.proofs.Alike.{alike_by, alike_on, alike_both, may_read}
+use Rattle.typed_steps.specs.Views.{Split, Naming, View, values_set}
+use Rattle.typed_steps.specs.Variables.{IsOut, AreSent, Sends, Agree, IsUnused, AreFresh, Holds}
+use Rattle.std.specs.Prelude.{Option}
+use Rattle.net_world.specs.World.{given}
 
 -- ---- variables of frames
 
@@ -83,6 +86,16 @@ cell_set variables naming values call other x y value apart same =
           ∙ same ∙ ap now (sym differs.0)
     ]
 
+-- the same where the variable may be affected
+cell_alike : (exposure : Exposure) (variables : FrameId → VarId → ℤ) (naming : Naming) (values : ℕ → ℕ → ℤ)
+    (call other : ℕ) (x y : VarId) (value : ℤ) → (naming.frame call ≡ naming.frame other → call ≡ other) →
+    AreAlike exposure y (variables (naming.frame other) y) (values other y.0) →
+    AreAlike exposure y (with_variable variables (naming.frame call) x value (naming.frame other) y)
+    (values_set values call x.0 value other y.0)
+cell_alike exposure variables naming values call other x y value apart (inl same) =
+    inl (cell_set variables naming values call other x y value apart same)
+cell_alike exposure variables naming values call other x y value apart (inr far) = inr far
+
 -- the variable itself
 pub own_cell : (variables : FrameId → VarId → ℤ) (naming : Naming) (values : ℕ → ℕ → ℤ) (call : ℕ) (x : VarId)
     (value : ℤ) → with_variable variables (naming.frame call) x value (naming.frame call) x
@@ -96,18 +109,20 @@ own_cell variables naming values call x value =
 
 -- ---- frames that are unused
 
-pub fresh_moved : (code : CodeShape) (naming : Naming) (world after : WorldShape) (host : HostId)
-    (old state : HostShape) (flying : Flying) → AreFresh code naming world → state_at world host ≡ Some old →
+fresh_moved : (split : Split) (naming : Naming) (world after : WorldShape) (host : HostId) (old state : HostShape)
+    (flying : Flying) → AreFresh split naming world → state_at world host ≡ Some old →
     Moved world host state flying after →
     ((site : SiteId) → slice_index old.frames site.0 ≤ slice_index state.frames site.0) →
     ((frame : FrameId) (x : VarId) → ((call : ℕ) → call < naming.count → naming.frame call ≢ frame) →
-    old.variables frame x ≡ pos 0 → state.variables frame x ≡ pos 0) → AreFresh code naming after
-fresh_moved code naming world after host old state flying fresh obeys moved grows unset other there site count is on least =
+    AreAlike split.exposure x (old.variables frame x) (pos 0) →
+    AreAlike split.exposure x (state.variables frame x) (pos 0)) → AreFresh split naming after
+fresh_moved split naming world after host old state flying fresh obeys moved grows unset other there site count is on
+    least =
     let frame : FrameId = record { site = site; count = count } in
-    let unused : IsUnused naming world frame =
+    let unused : IsUnused split naming world frame =
     elim (either world after host old state flying obeys moved other there is) [
       | inl mover ↦
-          let here : site_at code site ≡ Some host = on ∙ ap Some mover.same in
+          let here : site_at split.code site ≡ Some host = on ∙ ap Some mover.same in
           let more = grows site in
           let now : slice_index state.frames site.0 ≤ count =
           subst (λ (s : HostShape). slice_index s.frames site.0 ≤ count) mover.is least in
@@ -118,49 +133,57 @@ fresh_moved code naming world after host old state flying fresh obeys moved grow
       apart = unused.apart;
       unset = λ another there x is. elim (either world after host old state flying obeys moved another there is) [
         | inl mover ↦
-            ap (λ (s : HostShape). s.variables frame x) mover.is
-            ∙ unset frame x unused.apart (unused.unset host old x obeys)
+            alike_by split.exposure x _ _ _ (ap (λ (s : HostShape). s.variables frame x) mover.is)
+            (unset frame x unused.apart (unused.unset host old x obeys))
         | inr apart ↦ unused.unset another there x apart.obeys
       ];
     }
 
-same_counts : (old state : HostShape) → state.frames ≡ old.frames → (site : SiteId) →
+pub same_counts : (old state : HostShape) → state.frames ≡ old.frames → (site : SiteId) →
     slice_index old.frames site.0 ≤ slice_index state.frames site.0
 same_counts old state same site =
     subst (λ list. slice_index old.frames site.0 ≤ slice_index list site.0) (sym same) (omega arith)
 
-pub fresh_same : (code : CodeShape) (naming : Naming) (world after : WorldShape) (host : HostId) (old state : HostShape)
-    (flying : Flying) → AreFresh code naming world → state_at world host ≡ Some old →
-    Moved world host state flying after → state.variables ≡ old.variables → state.frames ≡ old.frames →
-    AreFresh code naming after
-fresh_same code naming world after host old state flying fresh obeys moved variables frames =
-    fresh_moved code naming world after host old state flying fresh obeys moved (same_counts old state frames)
-    (λ frame x apart none. ap (λ (v : FrameId → VarId → ℤ). v frame x) variables ∙ none)
+-- no variable was set that may not be affected
+pub fresh_kept : (split : Split) (naming : Naming) (world after : WorldShape) (host : HostId) (old state : HostShape)
+    (flying : Flying) → AreFresh split naming world → state_at world host ≡ Some old →
+    Moved world host state flying after →
+    ((frame : FrameId) (x : VarId) → AreAlike split.exposure x (state.variables frame x) (old.variables frame x)) →
+    ((site : SiteId) → slice_index old.frames site.0 ≤ slice_index state.frames site.0) → AreFresh split naming after
+fresh_kept split naming world after host old state flying fresh obeys moved variables grows =
+    fresh_moved split naming world after host old state flying fresh obeys moved grows
+    (λ frame x apart none. alike_both split.exposure x _ _ _ (variables frame x) none)
 
 -- a variable of a call was set
-pub fresh_set : (code : CodeShape) (naming : Naming) (world after : WorldShape) (host : HostId) (old state : HostShape)
-    (flying : Flying) (call : ℕ) (x : VarId) (value : ℤ) → AreFresh code naming world →
+pub fresh_set : (split : Split) (naming : Naming) (world after : WorldShape) (host : HostId) (old state : HostShape)
+    (flying : Flying) (call : ℕ) (x : VarId) (value : ℤ) → AreFresh split naming world →
     state_at world host ≡ Some old → Moved world host state flying after → call < naming.count →
     state.variables ≡ with_variable old.variables (naming.frame call) x value → state.frames ≡ old.frames →
-    AreFresh code naming after
-fresh_set code naming world after host old state flying call x value fresh obeys moved known variables frames =
-    fresh_moved code naming world after host old state flying fresh obeys moved (same_counts old state frames)
-    (λ frame y apart none. ap (λ (v : FrameId → VarId → ℤ). v frame y) variables
-    ∙ other_frame old.variables (naming.frame call) frame x y value (apart call known) ∙ none)
+    AreFresh split naming after
+fresh_set split naming world after host old state flying call x value fresh obeys moved known variables frames =
+    fresh_moved split naming world after host old state flying fresh obeys moved (same_counts old state frames)
+    (λ frame y apart none. alike_by split.exposure y _ _ _ (ap (λ (v : FrameId → VarId → ℤ). v frame y) variables
+    ∙ other_frame old.variables (naming.frame call) frame x y value (apart call known)) none)
 
 -- ---- agreement
+
+-- a host has a variable of a call, or is still to be sent it
+abbrev HasOrAwaits : Split → Naming → (ℕ → ℕ → ℤ) → List Forward → ℕ → ℕ → HostId → HostShape → VarId → Type 0
+HasOrAwaits split naming values out sender call host state x =
+    ((call ≡ sender) × IsOut out x host)
+    ⊎ AreAlike split.exposure x (state.variables (naming.frame call) x) (values call x.0)
 
 agree_moved : (split : Split) (naming : Naming) (values now : ℕ → ℕ → ℤ) (out left : List Forward)
     (sender next : ℕ) (world after : WorldShape) (host : HostId) (old state : HostShape) (flying : Flying) →
     Agree split naming values out sender world → state_at world host ≡ Some old →
     Moved world host state flying after →
     ((call : ℕ) (x : VarId) → call < naming.count → reads_on split.planned x host.0 ≡ true →
-    ((call ≡ sender) × IsOut out x host) ⊎ (old.variables (naming.frame call) x ≡ values call x.0) →
-    ((call ≡ next) × IsOut left x host) ⊎ (state.variables (naming.frame call) x ≡ now call x.0)) →
+    HasOrAwaits split naming values out sender call host old x →
+    HasOrAwaits split naming now left next call host state x) →
     ((call : ℕ) (other : HostId) (there : HostShape) (x : VarId) → call < naming.count →
     state_at world other ≡ Some there → other.0 ≢ host.0 → reads_on split.planned x other.0 ≡ true →
-    ((call ≡ sender) × IsOut out x other) ⊎ (there.variables (naming.frame call) x ≡ values call x.0) →
-    ((call ≡ next) × IsOut left x other) ⊎ (there.variables (naming.frame call) x ≡ now call x.0)) →
+    HasOrAwaits split naming values out sender call other there x →
+    HasOrAwaits split naming now left next call other there x) →
     Agree split naming now left next after
 agree_moved split naming values now out left sender next world after host old state flying agree obeys moved own others
     call other there x known is reads =
@@ -169,23 +192,25 @@ agree_moved split naming values now out left sender next world after host old st
           let here = subst (λ h. reads_on split.planned x h.0 ≡ true) mover.same reads in
           elim (own call x known here (agree call host old x known obeys here)) [
             | inl out ↦ inl (out.0, subst (IsOut left x) (sym mover.same) out.1)
-            | inr same ↦ inr (ap (λ (s : HostShape). s.variables (naming.frame call) x) mover.is ∙ same)
+            | inr same ↦ inr (alike_by split.exposure x _ _ _
+                (ap (λ (s : HostShape). s.variables (naming.frame call) x) mover.is) same)
           ]
       | inr apart ↦ others call other there x known apart.obeys apart.apart reads
           (agree call other there x known apart.obeys reads)
     ]
 
--- a step that sets no variable
-pub agree_same : (split : Split) (naming : Naming) (values : ℕ → ℕ → ℤ) (out : List Forward) (sender : ℕ)
+-- a step that sets no variable that may not be affected
+pub agree_kept : (split : Split) (naming : Naming) (values : ℕ → ℕ → ℤ) (out : List Forward) (sender : ℕ)
     (world after : WorldShape) (host : HostId) (old state : HostShape) (flying : Flying) →
     Agree split naming values out sender world → state_at world host ≡ Some old →
-    Moved world host state flying after → state.variables ≡ old.variables →
+    Moved world host state flying after →
+    ((frame : FrameId) (x : VarId) → AreAlike split.exposure x (state.variables frame x) (old.variables frame x)) →
     Agree split naming values out sender after
-agree_same split naming values out sender world after host old state flying agree obeys moved variables =
+agree_kept split naming values out sender world after host old state flying agree obeys moved variables =
     agree_moved split naming values values out out sender sender world after host old state flying agree obeys moved
     (λ call x known reads before. elim before [
       | inl is_out ↦ inl is_out
-      | inr same ↦ inr (ap (λ (v : FrameId → VarId → ℤ). v (naming.frame call) x) variables ∙ same)
+      | inr same ↦ inr (alike_both split.exposure x _ _ _ (variables (naming.frame call) x) same)
     ])
     (λ call other there x known is apart reads before. before)
 
@@ -239,77 +264,99 @@ is_to_be_sent split me host source x within apart reads =
     among x source (is_other_reader split.planned me x) (range_with_len 0 count) host.0
     host (number_there count host.0 within) passes
 
-sent_more : (values : ℕ → ℤ) (variables : VarId → ℤ) (me : HostId) (x : VarId) (source : BlockTree) (first : ℕ)
+sent_more : (split : Split) (values : ℕ → ℤ) (variables : VarId → ℤ) (me : HostId) (x : VarId) (source : BlockTree)
+    (first : ℕ)
     (numbers : List ℕ) (own : Bool) (q : Bool) → variables x ≡ values x.0 →
-    (own ≡ false → first ≢ me.0) → AreSent values variables me (for_hosts x source numbers) →
-    AreSent values variables me (for_hosts x source (cond (not own && q) (first ∷ numbers) numbers))
-sent_more values variables me x source first numbers true q same apart sent = sent
-sent_more values variables me x source first numbers false true same apart sent = (same, apart refl, sent)
-sent_more values variables me x source first numbers false false same apart sent = sent
+    (own ≡ false → first ≢ me.0) → AreSent split values variables me (for_hosts x source numbers) →
+    AreSent split values variables me (for_hosts x source (cond (not own && q) (first ∷ numbers) numbers))
+sent_more split values variables me x source first numbers true q same apart sent = sent
+sent_more split values variables me x source first numbers false true same apart sent = (inl same, apart refl, sent)
+sent_more split values variables me x source first numbers false false same apart sent = sent
 
 apart_false : (a b : ℕ) → nat_eq a b ≡ false → a ≢ b
 apart_false a b told same = let is : nat_eq a b ≡ true = eq-eqb a b same in cc
 
-sent_among : (values : ℕ → ℤ) (variables : VarId → ℤ) (me : HostId) (x : VarId) (source : BlockTree)
+sent_among : (split : Split) (values : ℕ → ℤ) (variables : VarId → ℤ) (me : HostId) (x : VarId) (source : BlockTree)
     (q : ℕ → Bool) → variables x ≡ values x.0 → (numbers : List ℕ) →
-    AreSent values variables me (for_hosts x source (filter (λ n. not (nat_eq n me.0) && q n) numbers))
-sent_among values variables me x source q same [] = tt
-sent_among values variables me x source q same (first ∷ numbers) =
-    sent_more values variables me x source first (filter (λ n. not (nat_eq n me.0) && q n) numbers) (nat_eq first me.0)
-    (q first) same (apart_false first me.0) (sent_among values variables me x source q same numbers)
+    AreSent split values variables me (for_hosts x source (filter (λ n. not (nat_eq n me.0) && q n) numbers))
+sent_among split values variables me x source q same [] = tt
+sent_among split values variables me x source q same (first ∷ numbers) =
+    sent_more split values variables me x source first (filter (λ n. not (nat_eq n me.0) && q n) numbers)
+    (nat_eq first me.0)
+    (q first) same (apart_false first me.0) (sent_among split values variables me x source q same numbers)
 
 -- what is to be sent has the variable's value, and goes to others
 pub is_sent : (split : Split) (values : ℕ → ℤ) (variables : VarId → ℤ) (me : HostId) (source : BlockTree)
-    (x : VarId) → variables x ≡ values x.0 → AreSent values variables me (forwards_of split.planned me source x)
+    (x : VarId) → variables x ≡ values x.0 → AreSent split values variables me (forwards_of split.planned me source x)
 is_sent split values variables me source x same =
-    sent_among values variables me x source (reads_on split.planned x) same
+    sent_among split values variables me x source (reads_on split.planned x) same
     (range_with_len 0 (length split.planned.hosts.hosts))
 
-pub not_out : (values : ℕ → ℤ) (variables : VarId → ℤ) (host : HostId) (out : List Forward) (x : VarId) →
-    AreSent values variables host out → IsOut out x host → ⊥
-not_out values variables host [] x sent is_out = is_out
-not_out values variables host (forward ∷ out) x sent (inl own) = sent.1 (ap (λ (h : HostId). h.0) own.1)
-not_out values variables host (forward ∷ out) x sent (inr other) = not_out values variables host out x sent.2 other
+pub not_out : (split : Split) (values : ℕ → ℤ) (variables : VarId → ℤ) (host : HostId) (out : List Forward)
+    (x : VarId) → AreSent split values variables host out → IsOut out x host → ⊥
+not_out split values variables host [] x sent is_out = is_out
+not_out split values variables host (forward ∷ out) x sent (inl own) = sent.1 (ap (λ (h : HostId). h.0) own.1)
+not_out split values variables host (forward ∷ out) x sent (inr other) =
+    not_out split values variables host out x sent.2 other
 
 -- who acts has the variables of a call that it reads
 pub holder_agrees : (split : Split) (c : Configuration) (view : View) (world : WorldShape) (host : HostId)
     (state : HostShape) (call : ℕ) → Holds split c view world → state_at world host ≡ Some state →
-    Sends view state host → call < length c.calls → (x : VarId) → reads_on split.planned x host.0 ≡ true →
-    state.variables (view.naming.frame call) x ≡ plain.variable c.calls call x.0
-holder_agrees split c view world host state call holds obeys sent made x reads =
+    HoldsNumbers split.exposure state → Sends split view state host → call < length c.calls → (x : VarId) →
+    reads_on split.planned x host.0 ≡ true →
+    MayRead (VariableIsAffected split.exposure x) (plain.variable c.calls call x.0)
+    (state.variables (view.naming.frame call) x)
+holder_agrees split c view world host state call holds obeys numbers sent made x reads =
     let known = holds.known in
     elim (holds.agree call host state x (omega arith) obeys reads) [
-      | inl is_out ↦ absurd (not_out (view.values view.sender) (state.variables (view.naming.frame view.sender)) host
-          view.out x sent is_out.1)
-      | inr same ↦ same ∙ holds.valued call x.0 made
+      | inl is_out ↦ absurd (not_out split (view.values view.sender)
+          (state.variables (view.naming.frame view.sender)) host view.out x sent is_out.1)
+      | inr same ↦ may_read split.exposure x _ _
+          (alike_on split.exposure x _ _ _ same (holds.valued call x.0 made))
+          (numbers.variables (view.naming.frame call) x)
     ]
 
 -- ---- a variable that was set
 
+-- a host of a state is one of the code's
+pub host_within : (code : CodeShape) (world : WorldShape) (host : HostId) (state : HostShape) →
+    length world.hosts ≡ length code.hosts → state_at world host ≡ Some state → host.0 < length code.hosts
+host_within code world host state count obeys =
+    let within = within_of world.hosts host.0 state obeys in
+    omega arith
+  where
+    within_of : (hosts : List (Option HostShape)) (place : ℕ) (state : HostShape) →
+        given (slice_get hosts place) ≡ Some state → place < length hosts
+    within_of [] place state is = absurd (cc)
+    within_of (first ∷ hosts) zero state is = omega arith
+    within_of (first ∷ hosts) (suc place) state is = let more = within_of hosts place state is in omega arith
+
 -- Who acts set a variable of a call, which is now to be sent to the others that read it.
 pub agree_set : (split : Split) (naming : Naming) (values : ℕ → ℕ → ℤ) (out : List Forward) (sender : ℕ)
     (world after : WorldShape) (host : HostId) (old state : HostShape) (flying : Flying) (call : ℕ) (x : VarId)
-    (value : ℤ) (source : BlockTree) → IsOrderly split.code world → Agree split naming values out sender world →
+    (value : ℤ) (source : BlockTree) → length world.hosts ≡ length split.code.hosts →
+    Agree split naming values out sender world →
     out ≡ [] → state_at world host ≡ Some old → Moved world host state flying after →
     ((other : ℕ) → other < naming.count → naming.frame call ≡ naming.frame other → call ≡ other) →
     state.variables ≡ with_variable old.variables (naming.frame call) x value →
     Agree split naming (values_set values call x.0 value) (forwards_of split.planned host source x) call after
-agree_set split naming values out sender world after host old state flying call x value source orderly agree none obeys
+agree_set split naming values out sender world after host old state flying call x value source many agree none obeys
     moved apart variables =
     agree_moved split naming values (values_set values call x.0 value) out (forwards_of split.planned host source x)
     sender call world after host old state flying agree obeys moved
     (λ other y known reads before. elim before [
       | inl is_out ↦ absurd (none_out y host out none is_out.1)
-      | inr same ↦ inr (ap (λ (v : FrameId → VarId → ℤ). v (naming.frame other) y) variables
-          ∙ cell_set old.variables naming values call other x y value (apart other known) same)
+      | inr same ↦ inr (alike_by split.exposure y _ _ _
+          (ap (λ (v : FrameId → VarId → ℤ). v (naming.frame other) y) variables)
+          (cell_alike split.exposure old.variables naming values call other x y value (apart other known) same))
     ])
     (λ other another there y known is differs reads before. elim before [
       | inl is_out ↦ absurd (none_out y another out none is_out.1)
       | inr same ↦ elim (eqb_tells other call) [
         | inl one ↦ elim (eqb_tells y.0 x.0) [
           | inl var ↦
-              let within = host_within split.code world another there orderly is in
-              let many = split.many in
+              let within = host_within split.code world another there many is in
+              let planned = split.many in
               let var_of : ℕ → VarId = λ n. record { 0 = n } in
               let equal : y ≡ x = ap var_of var.1 in
               inl (
@@ -318,14 +365,14 @@ agree_set split naming values out sender world after host old state flying call 
                     (is_to_be_sent split host another source x (omega arith) differs
                     (subst (λ z. reads_on split.planned z another.0 ≡ true) equal reads)),
               )
-          | inr var ↦ inr (same
-              ∙ ap (λ (b : Bool). if b then value else values other y.0) (sym var.0)
+          | inr var ↦ inr (alike_on split.exposure y _ _ _ same
+              (ap (λ (b : Bool). if b then value else values other y.0) (sym var.0)
               ∙ ap (λ (b : Bool). if b then plain.with_value (values other) x.0 value y.0 else values other y.0)
-              (sym one.0))
+              (sym one.0)))
         ]
-        | inr one ↦ inr (same
-            ∙ ap (λ (b : Bool). if b then plain.with_value (values other) x.0 value y.0 else values other y.0)
-            (sym one.0))
+        | inr one ↦ inr (alike_on split.exposure y _ _ _ same
+            (ap (λ (b : Bool). if b then plain.with_value (values other) x.0 value y.0 else values other y.0)
+            (sym one.0)))
       ]
     ])
 
@@ -336,8 +383,8 @@ pub agree_forwarded : (split : Split) (naming : Naming) (values : ℕ → ℕ �
     Agree split naming values (record { variable = x; host = host; source = source } ∷ left) sender world →
     state_at world host ≡ Some old → Moved world host state flying after →
     ((other : ℕ) → other < naming.count → naming.frame sender ≡ naming.frame other → sender ≡ other) →
-    state.variables ≡ with_variable old.variables (naming.frame sender) x value → value ≡ values sender x.0 →
-    Agree split naming values left sender after
+    state.variables ≡ with_variable old.variables (naming.frame sender) x value →
+    AreAlike split.exposure x value (values sender x.0) → Agree split naming values left sender after
 agree_forwarded split naming values left sender world after host old state flying x value source agree obeys moved
     apart variables is =
     let out = record { variable = x; host = host; source = source } ∷ left in
@@ -349,9 +396,12 @@ agree_forwarded split naming values left sender world after host old state flyin
           ap (λ (v : FrameId → VarId → ℤ). v (naming.frame call) y) variables
           ∙ own_frame old.variables (naming.frame sender) (naming.frame call) x y value (ap naming.frame (sym one.1)) in
           elim (eqb_tells x.0 y.0) [
-            | inl same ↦ inr (seen
-                ∙ ap (λ (b : Bool). if b then value else old.variables (naming.frame call) y) same.0 ∙ is
-                ∙ ap (λ k. values k x.0) (sym one.1) ∙ ap (values call) same.1)
+            | inl same ↦
+                let var_of : ℕ → VarId = λ n. record { 0 = n } in
+                let given = subst (λ z. AreAlike split.exposure z value (values sender z.0)) (ap var_of same.1) is in
+                inr (alike_by split.exposure y _ _ _
+                (seen ∙ ap (λ (b : Bool). if b then value else old.variables (naming.frame call) y) same.0)
+                (alike_on split.exposure y _ _ _ given (ap (λ k. values k y.0) (sym one.1))))
             | inr differs ↦
                 let kept = seen ∙ ap (λ (b : Bool). if b then value else old.variables (naming.frame call) y) differs.0
                 in
@@ -360,14 +410,15 @@ agree_forwarded split naming values left sender world after host old state flyin
                     | inl own ↦ absurd (differs.1 (ap (λ (v : VarId). v.0) own.0))
                     | inr others ↦ inl (is_out.0, others)
                   ]
-                  | inr same ↦ inr (kept ∙ same)
+                  | inr same ↦ inr (alike_by split.exposure y _ _ _ kept same)
                 ]
           ]
       | inr one ↦ elim before [
         | inl is_out ↦ absurd (one.1 is_out.0)
-        | inr same ↦ inr (ap (λ (v : FrameId → VarId → ℤ). v (naming.frame call) y) variables
+        | inr same ↦ inr (alike_by split.exposure y _ _ _
+            (ap (λ (v : FrameId → VarId → ℤ). v (naming.frame call) y) variables
             ∙ other_frame old.variables (naming.frame sender) (naming.frame call) x y value
-            (λ frames. one.1 (sym (apart call known frames))) ∙ same)
+            (λ frames. one.1 (sym (apart call known frames)))) same)
       ]
     ])
     (λ call another there y known at differs reads before. elim before [
@@ -393,12 +444,13 @@ agree_given split naming values out sender world after host old state flying cal
     flying agree obeys moved
     (λ other y known reads before. elim before [
       | inl is_out ↦ inl is_out
-      | inr same ↦ inr (ap (λ (v : FrameId → VarId → ℤ). v (naming.frame other) y) variables
-          ∙ cell_set old.variables naming values call other x y value (apart other known) same)
+      | inr same ↦ inr (alike_by split.exposure y _ _ _
+          (ap (λ (v : FrameId → VarId → ℤ). v (naming.frame other) y) variables)
+          (cell_alike split.exposure old.variables naming values call other x y value (apart other known) same))
     ])
     (λ other another there y known is differs reads before. elim before [
       | inl is_out ↦ inl is_out
-      | inr same ↦ inr (same ∙ kept other y another reads)
+      | inr same ↦ inr (alike_on split.exposure y _ _ _ same (kept other y another reads))
     ])
   where
     kept : (other : ℕ) (y : VarId) (another : HostId) → reads_on split.planned y another.0 ≡ true →

@@ -13,7 +13,7 @@ use Rattle.jif_tree.specs.declared.program.StmtKind as kind
 use Rattle.jif_tree.specs.declared.program.Expr.{Expr}
 use Rattle.jif_tree.specs.LabelRules.{method_at, result_of}
 use Rattle.jif_tree.specs.SourceRun as source
-use Rattle.jif_tree.specs.SourceRun.{Call, Configuration, step, value_of, calls_after, calls_after_return}
+use Rattle.jif_tree.specs.SourceRun.{Call, Configuration, calls_after, calls_after_return}
 use Rattle.jif_tree.specs.Trees as trees
 use Rattle.jif_tree.specs.Trees.{BlockTree, Heading, done, MethodTree, give_back, statement_tree, expr_tree, head_of}
 use Rattle.capability.specs.declared.token.Token.{Token}
@@ -29,18 +29,19 @@ use Rattle.msg_cost.specs.Terms.{reads_on}
 use Rattle.split_rules.specs.Positions as positions
 use Rattle.split_rules.specs.Positions.{Position, Due, is_on, statement_due}
 use Rattle.split_rules.specs.Typing.{Follows, GivesBack, IsValue}
-use Rattle.simulation.proofs.KnownReaders.{IsFit}
-use Rattle.simulation.proofs.Views.{Split, Naming, View, Link, entries_of, place_of, values_set}
-use Rattle.simulation.proofs.Chains.{Duty, under, due_at, chain_due, FitsOver, IsAwaited, IsChain, IsLinked}
-use Rattle.simulation.proofs.Threads.{alone, Owed, to_run, to_keep, item_of, duty_of, IsKnown, IsKeeping, StandsOn}
-use Rattle.simulation.proofs.Threads.{IsAt}
-use Rattle.simulation.proofs.Variables.{IsNamed}
-use Rattle.simulation.proofs.Simulates.{GivesResult}
-use Rattle.simulation.proofs.Owing.{front_of, busy}
-use Rattle.simulation.proofs.Instructions.{next_place, same_values, only_value, Agrees, cleared, stepped}
-use Rattle.simulation.proofs.Transfers.{calm_calling, entrance_due}
-use Rattle.simulation.proofs.CallsMade.{called}
-use Rattle.simulation.proofs.Calls.{long_set}
+use Rattle.typed_steps.proofs.Instructions.{read_there}
+use Rattle.typed_steps.specs.Readers.{IsFit}
+use Rattle.typed_steps.specs.Views.{Split, Naming, View, Link, entries_of, place_of, values_set}
+use Rattle.typed_steps.specs.Chains.{Duty, under, due_at, chain_due, FitsOver, IsAwaited, IsChain, IsLinked}
+use Rattle.typed_steps.specs.Threads.{alone, Owed, to_run, to_keep, item_of, duty_of, IsKnown, IsKeeping, StandsOn}
+use Rattle.typed_steps.specs.Threads.{IsAt}
+use Rattle.typed_steps.specs.Variables.{IsNamed}
+use Rattle.typed_steps.specs.Requests.{GivesResult}
+use Rattle.typed_steps.proofs.Owing.{front_of}
+use Rattle.typed_steps.proofs.Instructions.{next_place, only_value, Agrees, cleared, stepped}
+use Rattle.typed_steps.proofs.Transfers.{calm_calling, entrance_due}
+use Rattle.typed_steps.proofs.CallsMade.{called}
+use Rattle.typed_steps.proofs.Calls.{long_set}
 
 -- ---- the entry that the result is for
 
@@ -137,7 +138,6 @@ return_at split c view host thread variables at agrees is_chain named x nodes la
     let given = value_of_nodes variables thread.temporaries nodes in
     let method = law.1 in
     let calling = calm_calling split c view host thread at law.3 in
-    let next = step split.program c in
     let awaited : IsAwaited split view.naming method call view.chain =
     subst (λ l. FitsOver split view.naming l call view.chain) law.5 at.fits x law.6 in
     let block = trees.call awaited.heading awaited.site method awaited.arguments awaited.into done in
@@ -154,9 +154,9 @@ return_at split c view host thread variables at agrees is_chain named x nodes la
           let block_is : alone own ≡ give_back heading (expr_tree returns.value) done =
           ap (λ k. statement_tree k heading done) returns.is in
           let fit = subst (IsFit split.code split.planned) block_is runs.fit in
-          let same = same_values split c host call variables agrees (give_back heading (expr_tree returns.value) done)
+          let read = read_there split c host call variables agrees (give_back heading (expr_tree returns.value) done)
           (subst (λ b. is_on split.planned host b ≡ true) block_is on_host) (expr_tree returns.value) fit.0 in
-          let value = only_value c call variables thread.temporaries here returns.value nodes same at.temporaries
+          let value = only_value split c call variables thread.temporaries here returns.value nodes read at.temporaries
           returns.is_value in
           let rest = chain_due split view.chain in
           let rest_is : rest ≡ record { call = top.call; due = positions.keep block }
@@ -169,15 +169,14 @@ return_at split c view host thread variables at agrees is_chain named x nodes la
           let caller_is : named.made.caller ≡ top.call = named.caller ∙ awaited.caller in
           let result_is : source.result_of (source.method_at split.program named.made.method) ≡ Some x =
           ap (λ m. source.result_of (source.method_at split.program m)) method_is ∙ native in
-          let steps = stepped split c call own (map item_of runs.behind) (kind.Return returns.value) runs.pending
-          returns.is in
+          let next : Configuration = record c {
+            calls = calls_after_return split.program c call given;
+            pending = map item_of runs.behind;
+          } in
           let calls : next.calls ≡ calls_after c.calls top.call x.0 given =
-          ap (λ (k : Configuration). k.calls) steps
-          ∙ returned_calls split.program c call (value_of c call returns.value) named.made named.is
-          ∙ ap (λ o. source.after_result c named.made o (value_of c call returns.value)) result_is
-          ∙ ap (λ k. calls_after c.calls k x.0 (value_of c call returns.value)) caller_is
-          ∙ ap (calls_after c.calls top.call x.0) value in
-          let pending = ap (λ (k : Configuration). k.pending) steps in
+          returned_calls split.program c call given named.made named.is
+          ∙ ap (λ o. source.after_result c named.made o given) result_is
+          ∙ ap (λ k. calls_after c.calls k x.0 given) caller_is in
           let within : top.call < length c.calls = subst (λ n. top.call < n) calling.0 is_top.linked.known in
           let long : length next.calls ≡ length c.calls =
           ap length calls ∙ long_set c.calls top.call x.0 given within in
@@ -194,9 +193,11 @@ return_at split c view host thread variables at agrees is_chain named x nodes la
           (subst (λ (t : Token). is_on split.planned t.host block ≡ true) (sym is_top.token_is) awaited.on_host) in
           let none = sym at.forwards ∙ law.2.forwards in
           record {
-            busy = busy c (source.run call own) (map item_of runs.behind) runs.pending;
+            now = next;
+            does = stepped split c next call own (map item_of runs.behind) (kind.Return returns.value) (given ∷ [])
+                runs.pending returns.is (value, tt) refl;
             none_out = none;
-            store = ap (λ (k : Configuration). k.store) steps;
+            store = refl;
             caller = top.call;
             made = within;
             frame_is = ap (λ (t : Token). t.frame) is_top.token_is ∙ is_top.linked.token ∙ is_top.linked.frame;
@@ -204,14 +205,14 @@ return_at split c view host thread variables at agrees is_chain named x nodes la
             unread = unread_there split method x (method_at split.planned.program method) refl law.6;
             into = kept.into;
             behind = map item_of kept.others;
-            pending = pending ∙ ap (map item_of) kept.is
+            pending = ap (map item_of) kept.is
                 ∙ ap (λ y. source.keep top.call kept.into y ∷ map item_of kept.others) result_x;
             sees = subst (λ y. MayReturn split.code (variable_at split.code y) token.host) result_x
                 (kept.keeping.sees token.host stands);
             at = cleared split next (record view { values = values_set view.values top.call x.0 given; keeper = token.host })
                 host thread _ call (subst (λ n. call < n) (sym long) at.made) at.held (record {
                   left = runs.behind;
-                  pending = pending;
+                  pending = refl;
                   due = runs.due;
                   known = runs.known;
                   returned = runs.returned;

@@ -15,10 +15,10 @@ use Rattle.jif_tree.specs.declared.program.StmtKind.{StmtKind}
 use Rattle.jif_tree.specs.declared.program.StmtKind as kind
 use Rattle.jif_tree.specs.LabelRules.{method_at, params_of}
 use Rattle.jif_tree.specs.SourceRun as source
-use Rattle.jif_tree.specs.SourceRun.{Call, Configuration, IsAtEnd, step, value_of, calls_after, passed}
+use Rattle.jif_tree.specs.SourceRun.{Configuration, passed}
 use Rattle.jif_tree.specs.Trees as trees
-use Rattle.jif_tree.specs.Trees.{ExprTree, Heading, BlockTree, done, MethodTree, ProgramTree, statement_tree, expr_tree}
-use Rattle.jif_tree.specs.Trees.{method_tree, program_tree, block_tree, head_of}
+use Rattle.jif_tree.specs.Trees.{ExprTree, Heading, BlockTree, done, MethodTree, statement_tree, expr_tree}
+use Rattle.jif_tree.specs.Trees.{head_of}
 use Rattle.host_code.specs.declared.code_expr.Node.{Node}
 use Rattle.host_code.specs.declared.instruction.Op.TheVariants as op
 use Rattle.host_code.specs.Thread.{ThreadShape}
@@ -26,19 +26,23 @@ use Rattle.host_core.specs.Host.{after_step, after_clearing}
 use Rattle.host_core.specs.Values.{value_of_nodes}
 use Rattle.split_rules.specs.Positions as positions
 use Rattle.split_rules.specs.Positions.{Position, Due, Level, Argument, Calling, no_call, arguing, entering, arguments_of}
-use Rattle.split_rules.specs.Positions.{field_reads, number_of, statement_due, is_on, calm, kept_due, forwards_of}
+use Rattle.split_rules.specs.Positions.{field_reads, statement_due, is_on}
 use Rattle.split_rules.specs.Typing as typing
-use Rattle.split_rules.specs.Typing.{Follows, Frames, IsValue, SetsArgument, PushesCall, Enters, IsCalm}
-use Rattle.simulation.proofs.KnownReaders.{IsReader, IsFit}
-use Rattle.simulation.proofs.Views.{Split, Naming, View, Link, place_of, AreRising}
-use Rattle.simulation.proofs.Chains.{Duty, under, chain_due, FitsOver, IsAwaited}
-use Rattle.simulation.proofs.Threads.{alone, IsLeft, IsCalling, IsAt, NoneKept}
-use Rattle.simulation.proofs.Owing.{front_of}
-use Rattle.simulation.proofs.Instructions.{next_place, fit_call, same_values, Agrees, cleared, after_setting}
-use Rattle.simulation.proofs.Transfers.{calm_calling}
-use Rattle.simulation.proofs.TreeValues.{tree_value, read_value, value_there}
-use Rattle.simulation.proofs.HeldSteps.{with_frame, old_number, new_number}
-use Rattle.simulation.proofs.Basics.{all_right}
+use Rattle.split_rules.specs.Typing.{Follows, Frames}
+use Rattle.std.specs.List.{AllZip}
+use Rattle.typed_steps.specs.Values.{MayTree, MayHold}
+use Rattle.typed_steps.proofs.Alike.{zip_last}
+use Rattle.typed_steps.proofs.Instructions.{read_there}
+use Rattle.typed_steps.specs.Readers.{IsReader, IsFit}
+use Rattle.typed_steps.specs.Views.{Split, Naming, View, Link, place_of, AreRising}
+use Rattle.typed_steps.specs.Chains.{Duty, under, chain_due, FitsOver, IsAwaited}
+use Rattle.typed_steps.specs.Threads.{alone, IsLeft, IsCalling, IsAt, NoneKept}
+use Rattle.typed_steps.proofs.Owing.{front_of}
+use Rattle.typed_steps.proofs.Instructions.{next_place, fit_call, Agrees, cleared, after_setting}
+use Rattle.typed_steps.proofs.Transfers.{calm_calling}
+use Rattle.typed_steps.proofs.TreeValues.{value_there}
+use Rattle.typed_steps.proofs.HeldSteps.{with_frame, old_number, new_number}
+use Rattle.typed_steps.proofs.Basics.{all_right}
 
 -- what runs next is not a result that is to be kept
 pub run_plainly : (c : Configuration) (call : ℕ) (statement : Stmt) (items : List source.Item) →
@@ -140,6 +144,7 @@ frame_at split c view host thread at site law =
           let goes = next_place split host thread ∙ frames.goes in
           let within : call < view.naming.count = subst (λ n. call < n) (sym calling.0) at.made in
           let naming = view.naming in
+          let P = MayHold split.exposure c.store (source.variable c.calls call) in
           record {
             none_out = sym at.forwards ∙ law.2.forwards;
             count = calling.0;
@@ -175,13 +180,14 @@ frame_at split c view host thread at site law =
                     is = frames.is;
                     method_is = new_number count naming.count frames.method.0 (naming.method count) (sym calling.0);
                     parts = refl;
+                    given = [];
+                    gives = tt;
                     passed = λ x. new_number count naming.count (pos 0) (view.values count x) (sym calling.0);
                   });
               forwards = ap (λ (p : Position). p.forwards) goes;
               settled = inl refl;
-              temporaries = at.temporaries
-                  ∙ ap (λ (p : Position). map (read_value c.store (source.variable c.calls call)) p.reads) law.3
-                  ∙ sym (ap (λ (p : Position). map (read_value c.store (source.variable c.calls call)) p.reads) goes);
+              temporaries = subst (λ (p : Position). AllZip P p.reads thread.temporaries) (sym goes)
+                  (subst (λ (p : Position). AllZip P p.reads thread.temporaries) law.3 at.temporaries);
             };
           }
       | inr keeps ↦
@@ -192,30 +198,30 @@ frame_at split c view host thread at site law =
 -- ---- parameters
 
 -- what is passed, with one parameter more
-passed_last : (value : ExprTree → ℤ) (set : List Argument) (last : Argument) (y : ℕ) →
-    AllByRecursion (λ (one : Argument). one.param.0 < last.param.0) set →
-    passed (map (λ one. one.param) (set ++ last ∷ [])) (map (λ (one : Argument). value one.value) (set ++ last ∷ [])) y
-    ≡ (if y == last.param.0 then value last.value
-    else passed (map (λ one. one.param) set) (map (λ (one : Argument). value one.value) set) y)
-passed_last value [] last y below = refl
-passed_last value (first ∷ set) last y below =
-    let more = passed_last value set last y below.1 in
-    let rest = passed (map (λ one. one.param) set) (map (λ (one : Argument). value one.value) set) y in
+passed_last : (P : Argument → ℤ → Type 0) (set : List Argument) (given : List ℤ) (last : Argument) (value : ℤ) (y : ℕ) →
+    AllZip P set given → AllByRecursion (λ (one : Argument). one.param.0 < last.param.0) set →
+    passed (map (λ one. one.param) (set ++ last ∷ [])) (given ++ value ∷ []) y
+    ≡ (if y == last.param.0 then value else passed (map (λ one. one.param) set) given y)
+passed_last P [] [] last value y all below = refl
+passed_last P [] (own ∷ given) last value y all below = absurd all
+passed_last P (first ∷ set) [] last value y all below = absurd all
+passed_last P (first ∷ set) (own ∷ given) last value y all below =
+    let more = passed_last P set given last value y all.1 below.1 in
+    let rest = passed (map (λ one. one.param) set) given y in
     elim (eqb_tells y last.param.0) [
       | inl same ↦
-          ap (λ (b : Bool). if b then value first.value
-          else passed (map (λ one. one.param) (set ++ last ∷ []))
-          (map (λ (one : Argument). value one.value) (set ++ last ∷ [])) y)
+          ap (λ (b : Bool). if b then own
+          else passed (map (λ one. one.param) (set ++ last ∷ [])) (given ++ value ∷ []) y)
           (ne_eqb y first.param.0 (λ at. omega (arith, at, same.1, below.0)))
           ∙ more
-          ∙ ap (λ (b : Bool). if b then value last.value else rest) same.0
-          ∙ sym (ap (λ (b : Bool). if b then value last.value
-          else (if y == first.param.0 then value first.value else rest)) same.0)
+          ∙ ap (λ (b : Bool). if b then value else rest) same.0
+          ∙ sym (ap (λ (b : Bool). if b then value
+          else (if y == first.param.0 then own else rest)) same.0)
       | inr apart ↦
-          ap (λ v. if y == first.param.0 then value first.value else v)
-          (more ∙ ap (λ (b : Bool). if b then value last.value else rest) apart.0)
-          ∙ sym (ap (λ (b : Bool). if b then value last.value
-          else (if y == first.param.0 then value first.value else rest)) apart.0)
+          ap (λ v. if y == first.param.0 then own else v)
+          (more ∙ ap (λ (b : Bool). if b then value else rest) apart.0)
+          ∙ sym (ap (λ (b : Bool). if b then value
+          else (if y == first.param.0 then own else rest)) apart.0)
     ]
 
 all_params : (P : VarId → Type 0) (params : List VarId) (values : List ExprTree) → AllByRecursion P params →
@@ -283,18 +289,19 @@ argued split c view host thread variables at agrees x nodes (arguing statement s
     (subst (AllByRecursion (λ (a : Argument). IsReader split.planned args.heading.id a.value)) parts
     (arguments_known (IsReader split.planned args.heading.id)
     (params_of (method_at split.planned.program args.method)) args.arguments fit.0))).0 in
-    let same = same_values split c host call variables agrees block
+    let read = read_there split c host call variables agrees block
     (subst (λ b. is_on split.planned host b ≡ true) args.is law.on_host) law.value reader in
-    let value : tree_value c.store (source.variable c.calls call) law.value ≡ given =
-    sym (value_there c.store (source.variable c.calls call) variables thread.temporaries here.reads [] [] law.value 0
-    same at.temporaries (law.is_value.reads ∙ sym (append-nil (field_reads law.value))) refl)
-    ∙ sym (ap (value_of_nodes variables thread.temporaries) law.is_value.are) in
+    let P = λ (one : Argument). MayTree split.exposure c.store (source.variable c.calls call) one.value in
+    let may : MayTree split.exposure c.store (source.variable c.calls call) law.value given =
+    subst (λ list. MayTree split.exposure c.store (source.variable c.calls call) law.value
+    (value_of_nodes variables thread.temporaries list)) (sym law.is_value.are)
+    (value_there split.exposure c.store (source.variable c.calls call) variables thread.temporaries here.reads [] []
+    law.value 0 read at.temporaries (law.is_value.reads ∙ sym (append-nil (field_reads law.value))) refl) in
     let none = sym at.forwards ∙ law.forwards in
     let plainly = arguing_plainly split c view.keeper call here.due (chain_due split view.chain) statement args.others
     args.due_first at.left in
     let below = below_next (params_of (method_at split.planned.program args.method)) args.arguments set own law.others
     (rising_of split args.method) parts in
-    let valued = λ (e : ExprTree). tree_value c.store (source.variable c.calls call) e in
     record {
       none_out = none;
       within = subst (λ n. count < n) (sym args.count) (omega arith);
@@ -319,13 +326,13 @@ argued split c view host thread variables at agrees x nodes (arguing statement s
             is = args.is;
             method_is = args.method_is;
             parts = parts ∙ sym (append_assoc set (own ∷ []) law.others);
+            given = args.given ++ given ∷ [];
+            gives = zip_last P set args.given own given args.gives may;
             passed = λ y.
                 ap (λ (b : Bool). if b then source.with_value (view.values count) x.0 given y else view.values count y)
                 (eq-eqb count count refl)
                 ∙ ap (λ v. if y == x.0 then given else v) (args.passed y)
-                ∙ ap (λ v. if y == x.0 then v
-                else passed (map (λ one. one.param) set) (map (λ (one : Argument). valued one.value) set) y) (sym value)
-                ∙ sym (passed_last valued set own y below);
+                ∙ sym (passed_last P set args.given own given y args.gives below);
           }) refl (inr plainly) refl (thread.at + 1) (next_place split host thread ∙ law.goes);
     }
   where

@@ -1,8 +1,8 @@
 -- What is still to be done, and where the thread stands that does it.
-use Rattle.std.proofs.Common.{◌≡◌, ℕ, ◌⊎◌, true, List, [], ◌∷◌, ◌++◌, length, map, Option, Some}
+use Rattle.std.specs.Prelude.{◌≡◌, ℕ, ◌⊎◌, true, List, [], ◌∷◌, ◌++◌, length, map, Option, Some}
 use Rattle.std.specs.Prelude.{◌<◌}
 use Rattle.std.specs.Prelude.{ℤ, suc, ⊤}
-use Rattle.std.specs.List.{AllByRecursion}
+use Rattle.std.specs.List.{AllByRecursion, AllZip}
 use Rattle.js_base.specs.declared.ids.HostId.{HostId}
 use Rattle.js_base.specs.declared.ids.FrameId.{FrameId}
 use Rattle.js_base.specs.declared.ids.MethodId.{MethodId}
@@ -13,20 +13,21 @@ use Rattle.jif_tree.specs.declared.program.StmtKind.{StmtKind}
 use Rattle.jif_tree.specs.declared.program.StmtKind as kind
 use Rattle.jif_tree.specs.LabelRules.{method_at, params_of, result_of}
 use Rattle.jif_tree.specs.SourceRun as source
-use Rattle.jif_tree.specs.SourceRun.{Call, Configuration, IsAtEnd, step, with_value}
+use Rattle.jif_tree.specs.SourceRun.{Configuration}
 use Rattle.jif_tree.specs.Trees as trees
-use Rattle.jif_tree.specs.Trees.{BlockTree, ExprTree, Heading, done, MethodTree, statement_tree, program_tree, head_of}
+use Rattle.jif_tree.specs.Trees.{BlockTree, ExprTree, Heading, done, statement_tree, head_of}
 use Rattle.ics_stack.specs.Stack.{top_token}
 use Rattle.host_code.specs.Code.{variable_at}
 use Rattle.host_code.specs.Thread.{ThreadShape}
 use Rattle.host_core.specs.Turn.{MayReturn}
 use Rattle.split_rules.specs.Positions as positions
-use Rattle.split_rules.specs.Positions.{Due, Level, Position, Entrance, Forward, Argument, Calling, no_call, arguing}
+use Rattle.split_rules.specs.Positions.{IsIn}
+use Rattle.split_rules.specs.Positions.{Due, Argument, Calling, no_call, arguing}
 use Rattle.split_rules.specs.Positions.{entering, arguments_of, is_on}
-use Rattle.simulation.proofs.KnownReaders.{IsFit}
-use Rattle.simulation.proofs.TreeValues.{read_value, tree_value}
-use Rattle.simulation.proofs.Views.{Split, place_of, Naming, entries_of, View}
-use Rattle.simulation.proofs.Chains.{Duty, under, chain_due, FitsOver}
+use Rattle.typed_steps.specs.Readers.{IsFit}
+use Rattle.typed_steps.specs.Values.{MayTree, MayHold}
+use Rattle.typed_steps.specs.Views.{Split, place_of, Naming, entries_of, View}
+use Rattle.typed_steps.specs.Chains.{Duty, under, chain_due, FitsOver}
 
 -- ---- what is still to be done
 
@@ -71,18 +72,26 @@ abbrev pub Returns : Owed → Type 0
 Returns (to_run call statement) = IsReturn statement.kind
 Returns other = ⊥
 
--- a result is kept only right behind where it is given back
-abbrev pub MayFollow : Owed → List Owed → Type 0
-MayFollow before (to_keep call statement into result ∷ others) = Returns before
-MayFollow before others = ⊤
+-- a statement of a method with this result
+abbrev pub IsFor : Split → Owed → VarId → Type 0
+IsFor split (to_run call statement) result =
+    (method : MethodId) × IsIn split.planned.program method (alone statement)
+    × (result_of (method_at split.planned.program method) ≡ Some result)
+IsFor split other result = ⊥
 
-abbrev pub AreReturned : List Owed → Type 0
-AreReturned [] = ⊤
-AreReturned (first ∷ others) = MayFollow first others × AreReturned others
+-- a result is kept only right behind where the method that has it gives it back
+abbrev pub MayFollow : Split → Owed → List Owed → Type 0
+MayFollow split before (to_keep call statement into result ∷ others) = Returns before × IsFor split before result
+MayFollow split before others = ⊤
+
+abbrev pub AreReturned : Split → List Owed → Type 0
+AreReturned split [] = ⊤
+AreReturned split (first ∷ others) = MayFollow split first others × AreReturned split others
 
 -- where a result is to be kept next it is on the host of the call
 abbrev pub StandsOn : Split → HostId → List Owed → Type 0
-StandsOn split keeper (to_keep call statement into result ∷ others) = is_on split.planned keeper (alone statement) ≡ true
+StandsOn split keeper (to_keep call statement into result ∷ others) =
+    is_on split.planned keeper (alone statement) ≡ true
 StandsOn split keeper others = ⊤
 
 -- these are due, and are what is still to be done
@@ -91,7 +100,7 @@ pub record IsLeft (split : Split) (c : Configuration) (keeper : HostId) (all : L
   pub pending : c.pending ≡ map item_of left
   pub due : all ≡ map duty_of left
   pub known : AllByRecursion (IsKnown split) left
-  pub returned : AreReturned left
+  pub returned : AreReturned split left
   pub stands : StandsOn split keeper left
 
 -- no result is to be kept next
@@ -122,9 +131,11 @@ pub record IsArguing (split : Split) (c : Configuration) (naming : Naming) (valu
   pub is : statement ≡ trees.call heading site method arguments into done
   pub method_is : naming.method (length c.calls) ≡ method.0
   pub parts : arguments_of (params_of (method_at split.planned.program method)) arguments ≡ set ++ left
-  pub passed : (x : ℕ) → values (length c.calls) x
-      ≡ source.passed (map (λ one. one.param) set)
-      (map (λ one. tree_value c.store (source.variable c.calls call) one.value) set) x
+  -- what the arguments of the parameters that are set have given
+  pub given : List ℤ
+  pub gives : AllZip (λ (one : Argument). MayTree split.exposure c.store (source.variable c.calls call) one.value) set
+      given
+  pub passed : (x : ℕ) → values (length c.calls) x ≡ source.passed (map (λ one. one.param) set) given x
 
 -- in which frame a thread acts for a call
 abbrev pub IsCalling : Split → Configuration → Naming → (ℕ → ℕ → ℤ) → ℕ → HostId → FrameId → FrameId → ℕ → List Due →
@@ -150,5 +161,5 @@ pub record IsAt (split : Split) (c : Configuration) (view : View) (host : HostId
       (place_of split host thread.at).due (place_of split host thread.at).calling
   pub forwards : (place_of split host thread.at).forwards ≡ view.out
   pub settled : (view.out ≡ []) ⊎ NoneKept c
-  pub temporaries : thread.temporaries ≡ map (read_value c.store (source.variable c.calls call))
-      (place_of split host thread.at).reads
+  pub temporaries : AllZip (MayHold split.exposure c.store (source.variable c.calls call))
+      (place_of split host thread.at).reads thread.temporaries

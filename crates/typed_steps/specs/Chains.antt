@@ -1,21 +1,19 @@
 -- What is due behind the entries of a chain, and when they are one.
-use Rattle.std.proofs.Common.{◌≡◌, ℕ, true, List, [], ◌∷◌, ◌++◌, map, Option, Some, None}
+use Rattle.std.specs.Prelude.{◌≡◌, ℕ, true, List, [], ◌∷◌, ◌++◌, map, Option, Some, None}
 use Rattle.std.specs.Prelude.{◌<◌}
-use Rattle.std.specs.Prelude.{slice_get, ◌==◌, if◌then◌else◌, ⊤}
-use Rattle.js_base.specs.declared.ids.HostId.{HostId}
+use Rattle.std.specs.Prelude.{slice_get, ⊤}
 use Rattle.js_base.specs.declared.ids.MethodId.{MethodId}
 use Rattle.js_base.specs.declared.ids.SiteId.{SiteId}
 use Rattle.js_base.specs.declared.ids.VarId.{VarId}
 use Rattle.jif_tree.specs.LabelRules.{method_at, result_of}
 use Rattle.jif_tree.specs.Trees as trees
-use Rattle.jif_tree.specs.Trees.{BlockTree, ExprTree, Heading, done, MethodTree, statement_tree, program_tree}
-use Rattle.ics_stack.specs.declared.stack.StackEntry.{StackEntry}
+use Rattle.jif_tree.specs.Trees.{ExprTree, Heading, done}
 use Rattle.host_code.specs.Code.{halt}
 use Rattle.host_code.specs.Sound.{IsEntryOn}
 use Rattle.split_rules.specs.Positions as positions
-use Rattle.split_rules.specs.Positions.{Due, Level, Position, Entrance, Forward, Argument, Calling, no_call, arguing}
-use Rattle.split_rules.specs.Positions.{entering, arguments_of, is_on}
-use Rattle.simulation.proofs.Views.{Split, Naming, Link}
+use Rattle.split_rules.specs.Positions.{Due, Level, Entrance}
+use Rattle.split_rules.specs.Positions.{is_on}
+use Rattle.typed_steps.specs.Views.{Split, Naming, Link}
 
 -- ---- what is due
 
@@ -81,9 +79,3 @@ IsChain split naming (link ∷ next ∷ chain) =
     × (link.entry.kept ≡ next.entry.token)
     × FitsOver split naming (level_at (slice_get split.table.entries link.entry.entry.0)) link.call (next ∷ chain)
     × IsChain split naming (next ∷ chain)
-
--- those on the stack of a host
-abbrev pub on_stack : HostId → List Link → List StackEntry
-on_stack host [] = []
-on_stack host (link ∷ chain) =
-    if link.entry.token.host.0 == host.0 then link.entry ∷ on_stack host chain else on_stack host chain

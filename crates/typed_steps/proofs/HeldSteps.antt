@@ -22,56 +22,90 @@ use Rattle.net_world.specs.Flying.{Flying}
 use Rattle.net_world.specs.World.{WorldShape, state_at}
 use Rattle.split_rules.specs.Positions.{Forward, forwards_of}
 use Rattle.net_world.proofs.Moved.{Moved, either, mover_state}
-use Rattle.simulation.specs.Obeying.{FieldsAre}
-use Rattle.simulation.proofs.Views.{Split, Naming, View, Link, values_set, with_out, with_chain}
-use Rattle.simulation.proofs.Threads.{NoneKept}
-use Rattle.simulation.proofs.Variables.{Agree, IsUnused, AreFresh, HasResult, Holds}
-use Rattle.simulation.proofs.Simulates.{IsOrderly, IsFieldOn}
-use Rattle.simulation.proofs.Rows.{fields_same, fields_written}
-use Rattle.simulation.proofs.Calls.{long_set, value_set, named_set, get_front, get_last, long_last, value_front, value_last}
-use Rattle.simulation.proofs.Holding.{agree_same, agree_calm, agree_set, agree_forwarded, agree_given, fresh_same}
-use Rattle.simulation.proofs.Holding.{fresh_set, own_cell}
+use Rattle.typed_steps.specs.Values.{AreAlike}
+use Rattle.typed_steps.proofs.Alike.{alike_by, alike_on, alike_both}
+use Rattle.typed_steps.proofs.Holding.{same_counts}
+use Rattle.jif_tree.specs.Store.{row_of}
+use Rattle.typed_steps.specs.Views.{Split, Naming, View, Link, values_set, with_out, with_chain}
+use Rattle.typed_steps.specs.Threads.{NoneKept}
+use Rattle.typed_steps.specs.Values.{AreRowsAlike}
+use Rattle.typed_steps.specs.Variables.{Agree, IsUnused, AreFresh, HasResult, Holds}
+use Rattle.typed_steps.specs.Requests.{IsFieldOn}
+use Rattle.typed_steps.proofs.Rows.{fields_kept, fields_same, fields_written}
+use Rattle.typed_steps.proofs.Calls.{long_set, value_set, named_set, get_front, get_last, long_last, value_front}
+use Rattle.typed_steps.proofs.Calls.{value_last}
+use Rattle.typed_steps.proofs.Holding.{agree_kept, agree_calm, agree_set, agree_forwarded, agree_given, fresh_kept}
+use Rattle.typed_steps.proofs.Holding.{fresh_set, own_cell}
+use Rattle.typed_steps.specs.Variables.{HaveFields}
+use Rattle.typed_steps.specs.Turns.{Keeps}
+use Rattle.std.proofs.Common.{refl}
+
+-- what is known of a world where a host has come to a state, whatever is in flight there
+pub kept : (split : Split) (now : Configuration) (seen : View) (world : WorldShape) (host : HostId) (new : HostShape) →
+    ((after : WorldShape) → Moved world host new after.flying after → Holds split now seen after) →
+    Keeps split now seen world host new
+kept split now seen world host new given after hosts = given after (record { hosts = hosts; flying = refl })
 
 -- ---- nothing is set
 
-result_moved : (c : Configuration) (view : View) (world after : WorldShape) (host : HostId) (old state : HostShape)
-    (flying : Flying) → HasResult c view world → state_at world host ≡ Some old → Moved world host state flying after →
-    state.variables ≡ old.variables → HasResult c view after
-result_moved c view world after host old state flying result obeys moved variables call into kept behind there pending
-    is =
+result_kept : (split : Split) (c : Configuration) (view : View) (world after : WorldShape) (host : HostId)
+    (old state : HostShape) (flying : Flying) → HasResult split c view world → state_at world host ≡ Some old →
+    Moved world host state flying after →
+    ((frame : FrameId) (x : VarId) → AreAlike split.exposure x (state.variables frame x) (old.variables frame x)) →
+    HasResult split c view after
+result_kept split c view world after host old state flying result obeys moved variables call into kept behind there
+    pending is =
     elim (either world after host old state flying obeys moved view.keeper there is) [
       | inl mover ↦
-          ap (λ (s : HostShape). s.variables (view.naming.frame call) kept) mover.is
-          ∙ ap (λ (v : FrameId → VarId → ℤ). v (view.naming.frame call) kept) variables
-          ∙ result call into kept behind old pending (ap (state_at world) mover.same ∙ obeys)
+          alike_by split.exposure kept _ _ _ (ap (λ (s : HostShape). s.variables (view.naming.frame call) kept)
+          mover.is) (alike_both split.exposure kept _ _ _ (variables (view.naming.frame call) kept)
+          (result call into kept behind old pending (ap (state_at world) mover.same ∙ obeys)))
       | inr apart ↦ result call into kept behind there pending apart.obeys
     ]
+
+-- a step that leaves each field and each variable as it was, or that may be affected, and takes no frame back
+pub holds_kept : (split : Split) (c : Configuration) (view : View) (world after : WorldShape) (host : HostId)
+    (old state : HostShape) (flying : Flying) → Holds split c view world → state_at world host ≡ Some old →
+    Moved world host state flying after →
+    ((number : ℕ) → AreRowsAlike split.exposure number (row_of state.rows number) (row_of old.rows number)) →
+    ((frame : FrameId) (x : VarId) → AreAlike split.exposure x (state.variables frame x) (old.variables frame x)) →
+    ((site : SiteId) → slice_index old.frames site.0 ≤ slice_index state.frames site.0) → Holds split c view after
+holds_kept split c view world after host old state flying holds obeys moved rows variables grows = record {
+  fields = fields_kept split world after host old state flying c.store holds.fields obeys moved rows;
+  known = holds.known;
+  apart = holds.apart;
+  named = holds.named;
+  fresh = fresh_kept split view.naming world after host old state flying holds.fresh obeys moved variables grows;
+  valued = holds.valued;
+  agree = agree_kept split view.naming view.values view.out view.sender world after host old state flying holds.agree
+      obeys moved variables;
+  result = result_kept split c view world after host old state flying holds.result obeys moved variables;
+}
+
+-- the variables stay
+variables_same : (split : Split) (old state : HostShape) → state.variables ≡ old.variables → (frame : FrameId)
+    (x : VarId) → AreAlike split.exposure x (state.variables frame x) (old.variables frame x)
+variables_same split old state same frame x = inl (ap (λ (v : FrameId → VarId → ℤ). v frame x) same)
 
 -- a step that writes no field, sets no variable and makes no frame
 pub holds_same : (split : Split) (c : Configuration) (view : View) (world after : WorldShape) (host : HostId)
     (old state : HostShape) (flying : Flying) → Holds split c view world → state_at world host ≡ Some old →
     Moved world host state flying after → state.rows ≡ old.rows → state.variables ≡ old.variables →
     state.frames ≡ old.frames → Holds split c view after
-holds_same split c view world after host old state flying holds obeys moved rows variables frames = record {
-  fields = fields_same split.code world after host old state flying c.store holds.fields obeys moved rows;
-  known = holds.known;
-  apart = holds.apart;
-  named = holds.named;
-  fresh = fresh_same split.code view.naming world after host old state flying holds.fresh obeys moved variables frames;
-  valued = holds.valued;
-  agree = agree_same split view.naming view.values view.out view.sender world after host old state flying holds.agree
-      obeys moved variables;
-  result = result_moved c view world after host old state flying holds.result obeys moved variables;
-}
+holds_same split c view world after host old state flying holds obeys moved rows variables frames =
+    holds_kept split c view world after host old state flying holds obeys moved
+    (λ number. inl (ap (λ list. row_of list number) rows)) (variables_same split old state variables)
+    (same_counts old state frames)
 
-none_result : (c : Configuration) (view : View) (world : WorldShape) → NoneKept c → HasResult c view world
-none_result c view world none call into kept behind there pending is = absurd (none call into kept behind pending)
+none_result : (split : Split) (c : Configuration) (view : View) (world : WorldShape) → NoneKept c →
+    HasResult split c view world
+none_result split c view world none call into kept behind there pending is = absurd (none call into kept behind pending)
 
 -- a step of the plain run that changes nothing but what is to be done
 pub holds_now : (split : Split) (c now : Configuration) (view : View) (world : WorldShape) → Holds split c view world →
     now.store ≡ c.store → now.calls ≡ c.calls → NoneKept now → Holds split now view world
 holds_now split c now view world holds store calls none = record {
-  fields = subst (FieldsAre split.code world) (sym store) holds.fields;
+  fields = subst (HaveFields split world) (sym store) holds.fields;
   known = subst (λ list. length list ≤ view.naming.count) (sym calls) holds.known;
   apart = holds.apart;
   named = λ call made.
@@ -87,7 +121,7 @@ holds_now split c now view world holds store calls none = record {
       holds.valued call x (subst (λ list. call < length list) calls made)
       ∙ ap (λ list. plain.variable list call x) (sym calls);
   agree = holds.agree;
-  result = none_result now view world none;
+  result = none_result split now view world none;
 }
 
 -- where nothing is to be sent, another entry may come first
@@ -129,8 +163,8 @@ pub holds_written : (split : Split) (c now : Configuration) (view : View) (world
     NoneKept now → Holds split now view after
 holds_written split c now view world after host old state flying field index value holds obeys moved on rows variables
     frames store calls none = record {
-      fields = subst (FieldsAre split.code after) (sym store)
-          (fields_written split.code world after host old state flying c.store field index value holds.fields obeys
+      fields = subst (HaveFields split after) (sym store)
+          (fields_written split world after host old state flying c.store field index value holds.fields obeys
           moved on rows);
       known = subst (λ list. length list ≤ view.naming.count) (sym calls) holds.known;
       apart = holds.apart;
@@ -142,14 +176,14 @@ holds_written split c now view world after host old state flying field index val
             caller = one.caller;
             method = one.method;
           };
-      fresh = fresh_same split.code view.naming world after host old state flying holds.fresh obeys moved variables
-          frames;
+      fresh = fresh_kept split view.naming world after host old state flying holds.fresh obeys moved
+          (variables_same split old state variables) (same_counts old state frames);
       valued = λ call x made.
           holds.valued call x (subst (λ list. call < length list) calls made)
           ∙ ap (λ list. plain.variable list call x) (sym calls);
-      agree = agree_same split view.naming view.values view.out view.sender world after host old state flying
-          holds.agree obeys moved variables;
-      result = none_result now view after none;
+      agree = agree_kept split view.naming view.values view.out view.sender world after host old state flying
+          holds.agree obeys moved (variables_same split old state variables);
+      result = none_result split now view after none;
     }
 
 -- ---- variables
@@ -170,8 +204,8 @@ same_call split c view world holds call known other within same = holds.apart ca
 -- who acts set a variable of a call that was made
 pub holds_set : (split : Split) (c now : Configuration) (view : View) (world after : WorldShape) (host : HostId)
     (old state : HostShape) (flying : Flying) (call : ℕ) (x : VarId) (value : ℤ) (source : BlockTree) →
-    IsOrderly split.code world → Holds split c view world → view.out ≡ [] → state_at world host ≡ Some old →
-    Moved world host state flying after → state.rows ≡ old.rows →
+    length world.hosts ≡ length split.code.hosts → Holds split c view world → view.out ≡ [] →
+    state_at world host ≡ Some old → Moved world host state flying after → state.rows ≡ old.rows →
     state.variables ≡ with_variable old.variables (view.naming.frame call) x value → state.frames ≡ old.frames →
     call < length c.calls → now.store ≡ c.store → now.calls ≡ calls_after c.calls call x.0 value → NoneKept now →
     Holds split now (record view {
@@ -179,25 +213,25 @@ pub holds_set : (split : Split) (c now : Configuration) (view : View) (world aft
       sender = call;
       values = values_set view.values call x.0 value;
     }) after
-holds_set split c now view world after host old state flying call x value source orderly holds none obeys moved rows
+holds_set split c now view world after host old state flying call x value source long holds none obeys moved rows
     variables frames made store calls plainly =
     let known = holds.known in
     let within : call < view.naming.count = omega arith in
     let many : length now.calls ≡ length c.calls = ap length calls ∙ long_set c.calls call x.0 value made in
     record {
-      fields = subst (FieldsAre split.code after) (sym store)
-          (fields_same split.code world after host old state flying c.store holds.fields obeys moved rows);
+      fields = subst (HaveFields split after) (sym store)
+          (fields_same split world after host old state flying c.store holds.fields obeys moved rows);
       known = subst (λ n. n ≤ view.naming.count) (sym many) holds.known;
       apart = holds.apart;
       named = λ k there.
           named_set c now view.naming call x.0 value made calls k (holds.named k (subst (λ n. k < n) many there));
-      fresh = fresh_set split.code view.naming world after host old state flying call x value holds.fresh obeys moved
+      fresh = fresh_set split view.naming world after host old state flying call x value holds.fresh obeys moved
           within variables frames;
       valued = λ k y there.
           values_kept view.values c.calls call x.0 value made holds.valued k y (subst (λ n. k < n) many there)
           ∙ ap (λ list. plain.variable list k y) (sym calls);
       agree = agree_set split view.naming view.values view.out view.sender world after host old state flying call x
-          value source orderly holds.agree none obeys moved (same_call split c view world holds call within) variables;
+          value source long holds.agree none obeys moved (same_call split c view world holds call within) variables;
       result = λ k into kept behind there pending is. absurd (plainly k into kept behind pending);
     }
 
@@ -207,15 +241,16 @@ pub holds_forwarded : (split : Split) (c : Configuration) (view : View) (left : 
     Holds split c view world → view.out ≡ record { variable = x; host = host; source = source } ∷ left →
     state_at world host ≡ Some old → Moved world host state flying after → state.rows ≡ old.rows →
     state.variables ≡ with_variable old.variables (view.naming.frame view.sender) x value →
-    state.frames ≡ old.frames → value ≡ view.values view.sender x.0 → view.sender < view.naming.count → NoneKept c →
+    state.frames ≡ old.frames → AreAlike split.exposure x value (view.values view.sender x.0) →
+    view.sender < view.naming.count → NoneKept c →
     Holds split c (with_out view left) after
 holds_forwarded split c view left world after host old state flying x value source holds first obeys moved rows variables
     frames is within plainly = record {
-      fields = fields_same split.code world after host old state flying c.store holds.fields obeys moved rows;
+      fields = fields_same split world after host old state flying c.store holds.fields obeys moved rows;
       known = holds.known;
       apart = holds.apart;
       named = holds.named;
-      fresh = fresh_set split.code view.naming world after host old state flying view.sender x value holds.fresh obeys
+      fresh = fresh_set split view.naming world after host old state flying view.sender x value holds.fresh obeys
           moved within variables frames;
       valued = holds.valued;
       agree = agree_forwarded split view.naming view.values left view.sender world after host old state flying x value
@@ -229,8 +264,9 @@ holds_forwarded split c view left world after host old state flying x value sour
 -- a parameter was set in the frame for a call
 pub holds_argued : (split : Split) (c : Configuration) (view : View) (world after : WorldShape) (host : HostId)
     (old state : HostShape) (flying : Flying) (x : VarId) (value : ℤ) (source : BlockTree) →
-    IsOrderly split.code world → Holds split c view world → view.out ≡ [] → state_at world host ≡ Some old →
-    Moved world host state flying after → state.rows ≡ old.rows → length c.calls < view.naming.count →
+    length world.hosts ≡ length split.code.hosts → Holds split c view world → view.out ≡ [] →
+    state_at world host ≡ Some old → Moved world host state flying after → state.rows ≡ old.rows →
+    length c.calls < view.naming.count →
     state.variables ≡ with_variable old.variables (view.naming.frame (length c.calls)) x value →
     state.frames ≡ old.frames → NoneKept c →
     Holds split c (record view {
@@ -238,22 +274,22 @@ pub holds_argued : (split : Split) (c : Configuration) (view : View) (world afte
       sender = length c.calls;
       values = values_set view.values (length c.calls) x.0 value;
     }) after
-holds_argued split c view world after host old state flying x value source orderly holds none obeys moved rows within
+holds_argued split c view world after host old state flying x value source long holds none obeys moved rows within
     variables frames plainly =
     let call = length c.calls in
     record {
-      fields = fields_same split.code world after host old state flying c.store holds.fields obeys moved rows;
+      fields = fields_same split world after host old state flying c.store holds.fields obeys moved rows;
       known = holds.known;
       apart = holds.apart;
       named = holds.named;
-      fresh = fresh_set split.code view.naming world after host old state flying call x value holds.fresh obeys moved
+      fresh = fresh_set split view.naming world after host old state flying call x value holds.fresh obeys moved
           within variables frames;
       valued = λ k y there.
           ap (λ (b : Bool). if b then plain.with_value (view.values k) x.0 value y else view.values k y)
           (ne_eqb k call (λ same. omega (arith, same, there)))
           ∙ holds.valued k y there;
       agree = agree_set split view.naming view.values view.out view.sender world after host old state flying call x
-          value source orderly holds.agree none obeys moved (same_call split c view world holds call within) variables;
+          value source long holds.agree none obeys moved (same_call split c view world holds call within) variables;
       result = λ k into kept behind there pending is. absurd (plainly k into kept behind pending);
     }
 
@@ -300,7 +336,7 @@ holds_framed split c view world after host old state flying site caller method h
     variables on within frames plainly =
     let known = holds.known in
     record {
-      fields = fields_same split.code world after host old state flying c.store holds.fields obeys moved rows;
+      fields = fields_same split world after host old state flying c.store holds.fields obeys moved rows;
       known = omega arith;
       apart = λ one other first second same. apart_there one other first second same;
       named = λ k there.
@@ -328,7 +364,7 @@ holds_framed split c view world after host old state flying site caller method h
     now : Naming
     now = with_frame naming frame caller method
 
-    unused : IsUnused naming world frame
+    unused : IsUnused split naming world frame
     unused = holds.fresh host old site (slice_index old.frames site.0) obeys on (omega arith)
 
     -- a number of a call, or the next
@@ -354,31 +390,34 @@ holds_framed split c view world after host old state flying site caller method h
     agree_there : Agree split now (λ k x. if k == naming.count then pos 0 else view.values k x) [] (length c.calls) after
     agree_there call other there x within is reads = elim (cases_lt call naming.count) [
       | inl early ↦
-          let before = agree_same split naming view.values [] view.sender world after host old state flying
+          let before = agree_kept split naming view.values [] view.sender world after host old state flying
           (agree_calm split naming view.values view.out view.sender view.sender world holds.agree none) obeys moved
-          variables call other there x early is reads in
+          (variables_same split old state variables) call other there x early is reads in
           elim before [
             | inl is_out ↦ absurd is_out.1
-            | inr same ↦ inr (ap (λ f. there.variables f x)
-                (old_number call naming.count frame (naming.frame call) early)
-                ∙ same ∙ sym (old_number call naming.count (pos 0) (view.values call x.0) early))
+            | inr same ↦ inr (alike_by split.exposure x _ _ _ (ap (λ f. there.variables f x)
+                (old_number call naming.count frame (naming.frame call) early))
+                (alike_on split.exposure x _ _ _ same
+                (sym (old_number call naming.count (pos 0) (view.values call x.0) early))))
           ]
       | inr late ↦
           let at : call ≡ naming.count = omega arith in
-          let here : there.variables frame x ≡ pos 0 =
+          let here : AreAlike split.exposure x (there.variables frame x) (pos 0) =
           elim (either world after host old state flying obeys moved other there is) [
-            | inl mover ↦ ap (λ (s : HostShape). s.variables frame x) mover.is
-                ∙ ap (λ (v : FrameId → VarId → ℤ). v frame x) variables ∙ unused.unset host old x obeys
+            | inl mover ↦ alike_by split.exposure x _ _ _ (ap (λ (s : HostShape). s.variables frame x) mover.is
+                ∙ ap (λ (v : FrameId → VarId → ℤ). v frame x) variables) (unused.unset host old x obeys)
             | inr differs ↦ unused.unset other there x differs.obeys
           ] in
-          inr (ap (λ f. there.variables f x) (new_number call naming.count frame (naming.frame call) at)
-          ∙ here ∙ sym (new_number call naming.count (pos 0) (view.values call x.0) at))
+          inr (alike_by split.exposure x _ _ _
+          (ap (λ f. there.variables f x) (new_number call naming.count frame (naming.frame call) at))
+          (alike_on split.exposure x _ _ _ here
+          (sym (new_number call naming.count (pos 0) (view.values call x.0) at))))
     ]
 
     -- the frames that are still to be made, seen from the world before
     before_it : (other : HostId) (there : HostShape) (another : SiteId) (count : ℕ) → state_at after other ≡ Some there →
         site_at split.code another ≡ Some other → slice_index there.frames another.0 ≤ count →
-        IsUnused naming world (record { site = another; count = count })
+        IsUnused split naming world (record { site = another; count = count })
     before_it other there another count is on_it least =
         elim (either world after host old state flying obeys moved other there is) [
           | inl mover ↦
@@ -426,7 +465,7 @@ holds_framed split c view world after host old state flying site caller method h
         ∙ get_or-set_same old.frames site.0 (slice_index old.frames site.0 + 1) 0 within in
         omega (arith, own, counts, least)
 
-    fresh_there : AreFresh split.code now after
+    fresh_there : AreFresh split now after
     fresh_there other there another count is on_it least =
         let was = before_it other there another count is on_it least in
         record {
@@ -437,9 +476,10 @@ holds_framed split c view world after host old state flying site caller method h
                 (sym (new_number call naming.count frame (naming.frame call) (omega arith)) ∙ same)
           ];
           unset = λ h s x at. elim (either world after host old state flying obeys moved h s at) [
-            | inl mover ↦ ap (λ (t : HostShape). t.variables (record { site = another; count = count }) x) mover.is
-                ∙ ap (λ (v : FrameId → VarId → ℤ). v (record { site = another; count = count }) x) variables
-                ∙ was.unset host old x obeys
+            | inl mover ↦ alike_by split.exposure x _ _ _
+                (ap (λ (t : HostShape). t.variables (record { site = another; count = count }) x) mover.is
+                ∙ ap (λ (v : FrameId → VarId → ℤ). v (record { site = another; count = count }) x) variables)
+                (was.unset host old x obeys)
             | inr differs ↦ was.unset h s x differs.obeys
           ];
         }
@@ -453,7 +493,7 @@ pub holds_called : (split : Split) (c now : Configuration) (view : View) (world 
 holds_called split c now view world made holds count store calls caller method values plainly =
     let many : length now.calls ≡ suc (length c.calls) = ap length calls ∙ long_last c.calls made in
     record {
-      fields = subst (FieldsAre split.code world) (sym store) holds.fields;
+      fields = subst (HaveFields split world) (sym store) holds.fields;
       known = omega arith;
       apart = holds.apart;
       named = λ k there. elim (cases_lt k (length c.calls)) [
@@ -485,7 +525,7 @@ holds_called split c now view world made holds count store calls caller method v
             ∙ ap (λ list. plain.variable list k x) (sym calls)
       ];
       agree = holds.agree;
-      result = none_result now view world plainly;
+      result = none_result split now view world plainly;
     }
 
 -- a result was left where its call stands
@@ -504,13 +544,13 @@ holds_given split c now view world after host old state flying call x value into
     let many : length now.calls ≡ length c.calls = ap length calls ∙ long_set c.calls call x.0 value made in
     let kept = values_kept view.values c.calls call x.0 value made holds.valued in
     record {
-      fields = subst (FieldsAre split.code after) (sym store)
-          (fields_same split.code world after host old state flying c.store holds.fields obeys moved rows);
+      fields = subst (HaveFields split after) (sym store)
+          (fields_same split world after host old state flying c.store holds.fields obeys moved rows);
       known = subst (λ n. n ≤ view.naming.count) (sym many) holds.known;
       apart = holds.apart;
       named = λ k there.
           named_set c now view.naming call x.0 value made calls k (holds.named k (subst (λ n. k < n) many there));
-      fresh = fresh_set split.code view.naming world after host old state flying call x value holds.fresh obeys moved
+      fresh = fresh_set split view.naming world after host old state flying call x value holds.fresh obeys moved
           within variables frames;
       valued = λ k y there.
           kept k y (subst (λ n. k < n) many there) ∙ ap (λ list. plain.variable list k y) (sym calls);
@@ -523,7 +563,7 @@ holds_given split c now view world after host old state flying call x value into
           let mine : Some there ≡ Some state =
           sym at ∙ mover_state world after host old state flying obeys moved in
           let state_is : there ≡ state = cc in
-          ap (λ (s : HostShape). s.variables (view.naming.frame other) result) state_is
+          inl (ap (λ (s : HostShape). s.variables (view.naming.frame other) result) state_is
           ∙ ap (λ k. state.variables (view.naming.frame k) result) one
           ∙ ap (λ y. state.variables (view.naming.frame call) y) var
           ∙ ap (λ (v : FrameId → VarId → ℤ). v (view.naming.frame call) x) variables
@@ -531,5 +571,5 @@ holds_given split c now view world after host old state flying call x value into
           ∙ kept call x.0 made
           ∙ ap (λ list. plain.variable list call x.0) (sym calls)
           ∙ ap (λ k. plain.variable now.calls k x.0) (sym one)
-          ∙ ap (λ (y : VarId). plain.variable now.calls other y.0) (sym var);
+          ∙ ap (λ (y : VarId). plain.variable now.calls other y.0) (sym var));
     }

@@ -1,5 +1,5 @@
 -- Split programs, and what is seen of a world: the entries that are to be taken off, what is to be sent, and the calls.
-use Rattle.std.proofs.Common.{◌≡◌, ℕ, true, List, [], ◌∷◌, length, map, Some, None}
+use Rattle.std.specs.Prelude.{◌≡◌, ℕ, true, List, [], ◌∷◌, length, map, Some, None}
 use Rattle.std.specs.Prelude.{◌<◌}
 use Rattle.std.specs.Prelude.{ℤ, suc, slice_get, ◌==◌, if◌then◌else◌, ⊤}
 use Rattle.std.specs.List.{AllByRecursion}
@@ -7,6 +7,7 @@ use Rattle.js_base.specs.declared.ids.HostId.{HostId}
 use Rattle.js_base.specs.declared.ids.FrameId.{FrameId}
 use Rattle.js_base.specs.declared.ids.VarId.{VarId}
 use Rattle.jif_tree.specs.declared.program.Program.{Program}
+use Rattle.jif_tree.specs.Altered.{Exposure}
 use Rattle.jif_tree.specs.Results.{AreGivenBack}
 use Rattle.jif_tree.specs.SourceRun.{with_value}
 use Rattle.jif_tree.specs.Trees.{MethodTree, program_tree}
@@ -19,7 +20,7 @@ use Rattle.split_rules.specs.Asking.{AreGranted}
 use Rattle.split_rules.specs.Pace.{Allowance}
 use Rattle.split_rules.specs.Positions.{Position, Forward}
 use Rattle.split_rules.specs.TypedCode.{Table, IsTypedCode}
-use Rattle.simulation.proofs.KnownReaders.{IsFit}
+use Rattle.typed_steps.specs.Readers.{IsFit}
 
 -- ---- split programs
 
@@ -28,9 +29,11 @@ abbrev pub AreRising : List VarId → Type 0
 AreRising [] = ⊤
 AreRising (x ∷ others) = AllByRecursion (λ y. x.0 < y.0) others × AreRising others
 
--- a program with its code, what is known at each instruction of that, and how many instructions may still come there
+-- a program with its code, what is known at each instruction of that, how many instructions may still come there, and
+-- what hosts that misbehave may affect
 pub record Split : Type 0 where
   pub program : Program
+  pub exposure : Exposure
   pub planned : PlannedShape
   pub code : CodeShape
   pub table : Table

@@ -1,7 +1,7 @@
 -- Where the needs are those of the program, the host of each statement is one of those that read its variables.
 use Rattle.std.proofs.Common.{zero, ◌≡◌, ◌≢◌, ◌∙◌, ℕ, suc, ◌<◌, ◌⊎◌, inl, inr, Bool, true, false, List, [], ◌∷◌}
 use Rattle.std.proofs.Common.{◌++◌, map, length, Option, Some, None, refl, ap, sym, subst}
-use Rattle.std.specs.Prelude.{◌||◌, cond, filter, nat_eq, slice_get, unwrap_or, ⊤}
+use Rattle.std.specs.Prelude.{◌||◌, cond, filter, nat_eq, slice_get, unwrap_or}
 use Rattle.std.specs.List.{AllByRecursion, range_with_len, flat_map, list_any}
 use Rattle.std.proofs.lemmas.Bool.{eq-eqb, ne_eqb}
 use Rattle.std.proofs.lemmas.Option.{slice_get-map, slice_get_within}
@@ -24,37 +24,9 @@ use Rattle.need_labels.specs.Plan.{statement_host}
 use Rattle.msg_cost.specs.Moves.{PlannedShape}
 use Rattle.msg_cost.specs.Terms.{reads_on}
 use Rattle.split_rules.proofs.NumberedLists.{number_there}
-use Rattle.simulation.proofs.SeenResults.{SeesResult, SeeResults}
-use Rattle.simulation.proofs.Basics.{all_both, all_left, all_right}
-
--- ---- readers
-
--- the host of a statement is one of those that read the variables of an expression
-abbrev pub IsReader : PlannedShape → StmtId → ExprTree → Type 0
-IsReader planned statement expr =
-    AllByRecursion (λ x. reads_on planned x (statement_host planned.plan statement).0 ≡ true) (variables_in expr)
-
--- a call keeps the result of the method exactly where there is one
-abbrev pub IsResultKept : PlannedShape → MethodId → Option VarId → Type 0
-IsResultKept planned method into = is_some into ≡ is_some (result_of (method_at planned.program method))
-
--- The host of each statement of a block, and of the blocks in it, reads the variables of its expressions, and may see
--- the result of what it calls.
-abbrev pub IsFit : CodeShape → PlannedShape → BlockTree → Type 0
-IsFit code planned done = ⊤
-IsFit code planned (set_local heading x value rest) = IsReader planned heading.id value × IsFit code planned rest
-IsFit code planned (set_field heading field value rest) = IsReader planned heading.id value × IsFit code planned rest
-IsFit code planned (set_element heading field index value rest) =
-    IsReader planned heading.id index × IsReader planned heading.id value × IsFit code planned rest
-IsFit code planned (branch heading guard first second rest) =
-    IsReader planned heading.id guard × IsFit code planned first × IsFit code planned second
-    × IsFit code planned rest
-IsFit code planned (loop heading guard body rest) =
-    IsReader planned heading.id guard × IsFit code planned body × IsFit code planned rest
-IsFit code planned (call heading site method arguments into rest) =
-    AllByRecursion (IsReader planned heading.id) arguments × IsResultKept planned method into
-    × SeesResult code planned heading.id method × IsFit code planned rest
-IsFit code planned (give_back heading value rest) = IsReader planned heading.id value × IsFit code planned rest
+use Rattle.typed_steps.specs.Readers.{SeeResults}
+use Rattle.typed_steps.proofs.Basics.{all_both, all_left, all_right}
+use Rattle.typed_steps.specs.Readers.{IsFit, IsReader}
 
 -- ---- uses among uses
 

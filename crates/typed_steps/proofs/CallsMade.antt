@@ -1,5 +1,5 @@
 -- The call that a statement makes: the entry behind it is pushed, and the method is entered.
-use Rattle.std.proofs.Common.{◌≡◌, ◌≢◌, ◌∙◌, ℕ, suc, ◌<◌, inl, inr, true, false, List, [], ◌∷◌, ◌++◌}
+use Rattle.std.proofs.Common.{◌+◌, ◌≡◌, ◌≢◌, ◌∙◌, ℕ, suc, ◌<◌, inl, inr, true, false, List, [], ◌∷◌, ◌++◌}
 use Rattle.std.proofs.Common.{Vec, Global, map, length, Option, Some, None, refl, ap, sym, subst, arith, append_assoc}
 use Rattle.std.specs.Prelude.{ℤ, slice_get, ◌==◌, if◌then◌else◌}
 use Rattle.std.specs.List.{AllByRecursion}
@@ -17,10 +17,10 @@ use Rattle.jif_tree.specs.declared.program.StmtKind as kind
 use Rattle.jif_tree.specs.declared.program.Expr.{Expr}
 use Rattle.jif_tree.specs.LabelRules.{method_at, params_of, result_of}
 use Rattle.jif_tree.specs.SourceRun as source
-use Rattle.jif_tree.specs.SourceRun.{Call, Configuration, IsAtEnd, step, value_of, calls_after, passed}
+use Rattle.jif_tree.specs.SourceRun.{Call, Configuration, value_of, passed}
 use Rattle.jif_tree.specs.Trees as trees
-use Rattle.jif_tree.specs.Trees.{ExprTree, Heading, BlockTree, done, MethodTree, ProgramTree, statement_tree, expr_tree}
-use Rattle.jif_tree.specs.Trees.{method_tree, program_tree, block_tree, head_of}
+use Rattle.jif_tree.specs.Trees.{ExprTree, Heading, BlockTree, done, ProgramTree, statement_tree, expr_tree}
+use Rattle.jif_tree.specs.Trees.{method_tree, block_tree, head_of}
 use Rattle.jif_tree.specs.Results.{GivesBack}
 use Rattle.jif_tree.specs.WellNumbered.{is_some}
 use Rattle.capability.specs.declared.token.Token.{Token}
@@ -32,23 +32,33 @@ use Rattle.host_core.specs.Host.{after_step, thread_at, with_token}
 use Rattle.need_labels.specs.Plan.{statement_host}
 use Rattle.msg_cost.specs.Moves.{PlannedShape}
 use Rattle.split_rules.specs.Positions as positions
-use Rattle.split_rules.specs.Positions.{Position, Due, Level, Argument, Calling, no_call, arguing, entering, arguments_of}
-use Rattle.split_rules.specs.Positions.{field_reads, number_of, statement_due, is_on, calm, kept_due, forwards_of}
+use Rattle.split_rules.specs.Positions.{IsIn, all_statements}
+use Rattle.split_rules.proofs.AllowedTyping.{body_of_method}
+use Rattle.jif_tree.specs.Trees.{row_tree}
+use Rattle.typed_steps.proofs.Basics.{all_right}
+use Rattle.split_rules.specs.Positions.{Position, Due, Argument, Calling, no_call, arguing, entering, arguments_of}
+use Rattle.split_rules.specs.Positions.{statement_due, is_on, calm, kept_due}
 use Rattle.split_rules.specs.Typing as typing
-use Rattle.split_rules.specs.Typing.{Follows, Frames, IsValue, SetsArgument, PushesCall, Enters, IsCalm}
-use Rattle.simulation.proofs.KnownReaders.{IsFit}
-use Rattle.simulation.proofs.Views.{Split, View, Link, place_of, with_chain}
-use Rattle.simulation.proofs.Chains.{under, due_at, level_at, chain_due, FitsOver}
-use Rattle.simulation.proofs.Threads.{alone, Owed, to_run, to_keep, item_of, duty_of, IsLeft, IsCalling, IsAt}
-use Rattle.simulation.proofs.Threads.{NoneKept, IsReturn, IsKnown, AreReturned}
-use Rattle.simulation.proofs.Owing.{front_of, busy, BeginsPlainly, EndsWithReturn, block_statements, to_run_all}
-use Rattle.simulation.proofs.Owing.{plainly_behind, none_kept, stands_plainly, items_before, duties_before}
-use Rattle.simulation.proofs.Owing.{known_before, plainly_before, returned_before, plainly_ending, returned_ending}
-use Rattle.simulation.proofs.Instructions.{next_place, stepped}
-use Rattle.simulation.proofs.Transfers.{entrance_due, entrance_level, under_both, starting, starts_at, placed}
-use Rattle.simulation.proofs.TreeValues.{tree_value, value_is, read_value}
-use Rattle.simulation.proofs.Calls.{long_last}
-use Rattle.simulation.proofs.Basics.{told_equal}
+use Rattle.split_rules.specs.Typing.{PushesCall, Enters}
+use Rattle.jif_tree.specs.Altered.{Exposure, MayGive}
+use Rattle.std.specs.List.{AllZip}
+use Rattle.split_rules.specs.Positions.{FieldRead}
+use Rattle.typed_steps.specs.Requests.{Does}
+use Rattle.typed_steps.specs.Values.{MayTree, MayHold}
+use Rattle.typed_steps.proofs.TreeValues.{tree_may, plainly_may}
+use Rattle.typed_steps.specs.Readers.{IsFit}
+use Rattle.typed_steps.specs.Views.{Split, View, Link, place_of, with_chain}
+use Rattle.typed_steps.specs.Chains.{under, due_at, level_at, chain_due, FitsOver}
+use Rattle.typed_steps.specs.Threads.{alone, Owed, to_run, to_keep, item_of, duty_of, IsLeft, IsCalling, IsAt, NoneKept}
+use Rattle.typed_steps.specs.Threads.{IsReturn, IsKnown, AreReturned}
+use Rattle.typed_steps.specs.Requests.{starting}
+use Rattle.typed_steps.proofs.Owing.{front_of, BeginsPlainly, EndsWithReturn, block_statements, to_run_all}
+use Rattle.typed_steps.proofs.Owing.{plainly_behind, none_kept, stands_plainly, items_before, duties_before}
+use Rattle.typed_steps.proofs.Owing.{known_before, plainly_before, returned_before, plainly_ending, returned_ending}
+use Rattle.typed_steps.proofs.Instructions.{next_place, stepped, no_temporaries}
+use Rattle.typed_steps.proofs.Transfers.{entrance_due, entrance_level, under_both, starts_at, placed}
+use Rattle.typed_steps.proofs.Calls.{long_last}
+use Rattle.typed_steps.proofs.Basics.{told_equal}
 
 -- ---- methods
 
@@ -66,7 +76,7 @@ pub record IsCalled (split : Split) (method : MethodId) (found : Option Method) 
   pub due : positions.all_due (typing.body_of (method_at split.planned.program method))
       ≡ map (λ one. positions.run (alone one)) (source.body_of found)
   pub fit : AllByRecursion (λ one. IsFit split.code split.planned (alone one)) (source.body_of found)
-  pub ends : (x : VarId) → source.result_of found ≡ Some x → EndsWithReturn (source.body_of found)
+  pub ends : (x : VarId) → source.result_of found ≡ Some x → EndsWithReturn split x (source.body_of found)
 
 last_return : (what : StmtKind) (heading : Heading) → GivesBack (statement_tree what heading done) → IsReturn what
 last_return (kind.Return value) heading gives = tt
@@ -96,12 +106,45 @@ not_done (kind.While' guard m body) heading rest same = cc
 not_done (kind.Call site method args into) heading rest same = cc
 not_done (kind.Return value) heading rest same = cc
 
-ends_native : (statements : List Stmt) → GivesBack (block_tree statements) → EndsWithReturn statements
-ends_native [] gives = gives
-ends_native (statement ∷ []) gives =
-    last_return statement.kind (head_of statement) gives
-ends_native (statement ∷ next ∷ others) gives =
-    ends_native (next ∷ others) (behind_first statement.kind (head_of statement)
+-- what holds of all statements of a block holds of the first, and of all behind that
+record AllApart (P : BlockTree → Type 0) (what : StmtKind) (heading : Heading) (rest : BlockTree) : Type 0 where
+  own : P (statement_tree what heading done)
+  behind : AllByRecursion P (all_statements rest)
+
+all_apart : (P : BlockTree → Type 0) (what : StmtKind) (heading : Heading) (rest : BlockTree) →
+    AllByRecursion P (all_statements (statement_tree what heading rest)) → AllApart P what heading rest
+all_apart P (kind.If' guard m first n second) heading rest all = record {
+  own = all.0;
+  behind = all_right P (all_statements (row_tree second)) (all_statements rest)
+      (all_right P (all_statements (row_tree first)) (all_statements (row_tree second) ++ all_statements rest) all.1);
+}
+all_apart P (kind.While' guard m body) heading rest all = record {
+  own = all.0;
+  behind = all_right P (all_statements (row_tree body)) (all_statements rest) all.1;
+}
+all_apart P (kind.Let x value) heading rest all = record { own = all.0; behind = all.1 }
+all_apart P (kind.SetField field value) heading rest all = record { own = all.0; behind = all.1 }
+all_apart P (kind.SetElement field index value) heading rest all = record { own = all.0; behind = all.1 }
+all_apart P (kind.Call site method args into) heading rest all = record { own = all.0; behind = all.1 }
+all_apart P (kind.Return value) heading rest all = record { own = all.0; behind = all.1 }
+
+ends_native : (split : Split) (method : MethodId) (x : VarId) →
+    result_of (method_at split.planned.program method) ≡ Some x → (statements : List Stmt) →
+    AllByRecursion (IsIn split.planned.program method) (all_statements (block_tree statements)) →
+    GivesBack (block_tree statements) → EndsWithReturn split x statements
+ends_native split method x result [] all gives = gives
+ends_native split method x result (statement ∷ []) all gives = (
+  last_return statement.kind (head_of statement) gives,
+  (
+    method,
+    (all_apart (IsIn split.planned.program method) statement.kind (head_of statement) done all).own,
+    result,
+  ),
+)
+ends_native split method x result (statement ∷ next ∷ others) all gives =
+    ends_native split method x result (next ∷ others)
+    (all_apart (IsIn split.planned.program method) statement.kind (head_of statement) (block_tree (next ∷ others))
+    all).behind (behind_first statement.kind (head_of statement)
     (block_tree (next ∷ others))
     (not_done next.kind (head_of next) (block_tree others)) gives)
 
@@ -126,26 +169,38 @@ called split method = by (source.method_at split.program method.0) (called_is sp
           result = ap result_of is;
           due = ap (λ o. positions.all_due (typing.body_of o)) (sym is) ∙ body.due;
           fit = body.fit (split.bodies method.0 tree there);
-          ends = λ x gives. ends_native own.body.items (split.given_back method.0 tree x there gives);
+          ends = λ x gives. ends_native split method x (sym (ap result_of is) ∙ gives) own.body.items
+              (body_of_method split.planned.program method tree there)
+              (split.given_back method.0 tree x there gives);
         }
 
--- what is passed for arguments is what is passed for their parameters
-passed_parts : (value : ExprTree → ℤ) (params : List VarId) (values : List ExprTree) (x : ℕ) →
-    passed (map (λ one. one.param) (arguments_of params values))
-    (map (λ (one : Argument). value one.value) (arguments_of params values)) x
-    ≡ passed params (map value values) x
-passed_parts value [] [] x = refl
-passed_parts value (param ∷ params) [] x = refl
-passed_parts value [] (first ∷ values) x = refl
-passed_parts value (param ∷ params) (first ∷ values) x =
-    ap (λ v. if x == param.0 then value first else v) (passed_parts value params values x)
+-- Values that the arguments of a call may give. Those of its parameters are what was given for them.
+record AreGiven (exposure : Exposure) (c : Configuration) (call : ℕ) (params : List VarId) (args : List Expr)
+    (given : List ℤ) : Type 0 where
+  values : List ℤ
+  all : AllZip (MayGive exposure c call) args values
+  same : (x : ℕ) → passed (map (λ one. one.param) (arguments_of params (map expr_tree args))) given x
+      ≡ passed params values x
 
-values_are : (c : Configuration) (call : ℕ) (args : List Expr) →
-    map (tree_value c.store (source.variable c.calls call)) (map expr_tree args) ≡ map (value_of c call) args
-values_are c call [] = refl
-values_are c call (arg ∷ args) =
-    ap (λ v. v ∷ map (tree_value c.store (source.variable c.calls call)) (map expr_tree args)) (sym (value_is c call arg))
-    ∙ ap (λ list. value_of c call arg ∷ list) (values_are c call args)
+are_given : (exposure : Exposure) (c : Configuration) (call : ℕ) (params : List VarId) (args : List Expr)
+    (given : List ℤ) →
+    AllZip (λ (one : Argument). MayTree exposure c.store (source.variable c.calls call) one.value)
+    (arguments_of params (map expr_tree args)) given → AreGiven exposure c call params args given
+are_given exposure c call [] [] given all = record { values = []; all = tt; same = λ x. refl }
+are_given exposure c call (param ∷ params) [] given all = record { values = []; all = tt; same = λ x. refl }
+are_given exposure c call [] (arg ∷ args) given all = record {
+  values = map (value_of c call) (arg ∷ args);
+  all = plainly_may exposure c call (arg ∷ args);
+  same = λ x. refl;
+}
+are_given exposure c call (param ∷ params) (arg ∷ args) [] all = absurd all
+are_given exposure c call (param ∷ params) (arg ∷ args) (value ∷ given) all =
+    let more = are_given exposure c call params args given all.1 in
+    record {
+      values = value ∷ more.values;
+      all = (tree_may exposure c call arg value all.0, more.all);
+      same = λ x. ap (λ v. if x == param.0 then value else v) (more.same x);
+    }
 
 -- a statement that is a call in its tree
 record IsCallKind (what : StmtKind) (method : MethodId) (arguments : List ExprTree) (into : Option VarId) : Type 0 where
@@ -198,14 +253,14 @@ record Behind (split : Split) (call n : ℕ) (into result : Option VarId) (body 
   duties : under call due ++ map duty_of behind ≡ map duty_of owed
   known : AllByRecursion (IsKnown split) owed
   plainly : BeginsPlainly (to_run_all n body ++ owed)
-  returned : AreReturned (to_run_all n body ++ owed)
+  returned : AreReturned split (to_run_all n body ++ owed)
 
 behind_call : (split : Split) (call n : ℕ) (statement : Stmt) (site : SiteId) (method : MethodId) (args : Vec Expr Global)
     (into result : Option VarId) (body : List Stmt) (behind : List Owed) →
     statement.kind ≡ kind.Call site method args into → IsFit split.code split.planned (alone statement) →
     result ≡ result_of (method_at split.planned.program method) →
-    ((x : VarId) → result ≡ Some x → EndsWithReturn body) → AllByRecursion (IsKnown split) behind →
-    BeginsPlainly behind → AreReturned behind →
+    ((x : VarId) → result ≡ Some x → EndsWithReturn split x body) → AllByRecursion (IsKnown split) behind →
+    BeginsPlainly behind → AreReturned split behind →
     Behind split call n into result body behind (kept_due split.planned (alone statement))
 behind_call split call n statement site method args into None body behind is fit result ends known plainly returned =
     let heading : Heading = head_of statement in
@@ -219,7 +274,7 @@ behind_call split call n statement site method args into None body behind is fit
       duties = ap (λ list. under call list ++ map duty_of behind) none;
       known = known;
       plainly = plainly_before n body behind plainly;
-      returned = returned_before n body behind plainly returned;
+      returned = returned_before split n body behind plainly returned;
     }
   where
     nothing_kept : (call : ℕ) (into : Option VarId) → source.kept call into None ≡ []
@@ -258,8 +313,8 @@ behind_call split call n statement site method args (Some into) (Some x) body be
         },
         known,
       );
-      plainly = plainly_ending n body (to_keep call statement into x ∷ behind) (ends x refl);
-      returned = returned_ending n body call statement into x behind (ends x refl) plainly returned;
+      plainly = plainly_ending split x n body (to_keep call statement into x ∷ behind) (ends x refl);
+      returned = returned_ending split n body call statement into x behind (ends x refl) plainly returned;
     }
 
 -- what is to be done once the call is made
@@ -280,23 +335,31 @@ called_items split c call method values into behind due parts =
 -- a call is made, and what is behind it is pushed
 pub record MakesCall (split : Split) (c : Configuration) (view : View) (host : HostId) (thread : ThreadShape)
     (entry : EntryId) : Type 0 where
-  pub busy : ¬ IsAtEnd c
+  pub now : Configuration
+  pub does : Does split c now
   pub none_out : view.out ≡ []
-  pub store : (step split.program c).store ≡ c.store
+  pub store : now.store ≡ c.store
   pub caller : ℕ
   pub within : caller < view.naming.count
   pub frame : thread.frame ≡ view.naming.frame caller
   pub count : view.naming.count ≡ suc (length c.calls)
   pub made : Call
-  pub calls : (step split.program c).calls ≡ c.calls ++ made ∷ []
+  pub calls : now.calls ≡ c.calls ++ made ∷ []
   pub caller_is : made.caller ≡ view.naming.caller (length c.calls)
   pub method_is : made.method ≡ view.naming.method (length c.calls)
   pub values : (x : ℕ) → view.values (length c.calls) x ≡ made.values x
-  pub plainly : NoneKept (step split.program c)
+  pub plainly : NoneKept now
   pub fits : FitsOver split view.naming (level_at (slice_get split.table.entries entry.0)) caller view.chain
   pub at : (link : Link) → link.entry.entry ≡ entry → link.call ≡ caller → link.entry.token.host ≡ host →
-      IsAt split (step split.program c) (with_chain view (link ∷ view.chain)) host
+      IsAt split now (with_chain view (link ∷ view.chain)) host
       (with_token (Some link.entry.token) (after_step thread))
+
+-- where nothing was read there are no temporaries
+none_held : (P : FieldRead → ℤ → Type 0) (reads : List FieldRead) (temporaries : List ℤ) → reads ≡ [] →
+    AllZip P reads temporaries → temporaries ≡ []
+none_held P reads [] none all = refl
+none_held P reads (value ∷ temporaries) none all =
+    absurd (subst (λ list. AllZip P list (value ∷ temporaries)) none all)
 
 pub call_made : (split : Split) (c : Configuration) (view : View) (host : HostId) (thread : ThreadShape) →
     IsAt split c view host thread → (entry : EntryId) (statement : BlockTree) (set left : List Argument) →
@@ -307,7 +370,6 @@ call_made split c view host thread at entry statement set left is pushes =
     let here = place_of split host thread.at in
     let call = at.call in
     let n = length c.calls in
-    let next = step split.program c in
     let args = subst (IsCalling split c view.naming view.values view.sender host thread.frame thread.new_frame call
     here.due) is at.calling in
     let block = trees.call args.heading args.site args.method args.arguments args.into done in
@@ -325,51 +387,49 @@ call_made split c view host thread at entry statement set left is pushes =
           let same : alone own ≡ block = sym (ap statement_due runs.is) in
           let what = call_kind own.kind heading args.heading args.site args.method args.arguments args.into same in
           let native = what.args.items in
-          let plain = plainly_behind (to_run call own) runs.behind runs.follows
+          let plain = plainly_behind split (to_run call own) runs.behind runs.follows
           (λ returns. subst IsReturn what.is returns) in
           let behind = behind_call split call n own what.site args.method what.args args.into (source.result_of found)
           (source.body_of found) runs.behind what.is runs.fit method.result method.ends runs.known plain runs.returned in
+          let params = params_of (method_at split.planned.program args.method) in
+          let P = λ (one : Argument). MayTree split.exposure c.store (source.variable c.calls call) one.value in
+          let all_set = law.all_set ∙ ap (arguments_of params) what.arguments_are in
+          let given = are_given split.exposure c call params native args.given
+          (subst (λ list. AllZip P list args.given) all_set args.gives) in
+          let next = source.after_call split.program c call args.method.0 given.values args.into
+          (map item_of runs.behind) in
           let made : Call = record {
             caller = call;
             method = args.method.0;
-            values = passed (source.params_of found) (map (value_of c call) native);
+            values = passed (source.params_of found) given.values;
           } in
-          let steps = stepped split c call own (map item_of runs.behind)
-          (kind.Call what.site args.method what.args args.into) runs.pending what.is in
-          let calls : next.calls ≡ c.calls ++ made ∷ [] = ap (λ (k : Configuration). k.calls) steps in
           let pending : next.pending ≡ map item_of (to_run_all n (source.body_of found) ++ behind.owed) =
-          ap (λ (k : Configuration). k.pending) steps
-          ∙ called_items split c call args.method (map (value_of c call) native) args.into runs.behind _ behind in
-          let long : length next.calls ≡ suc n = ap length calls ∙ long_last c.calls made in
+          called_items split c call args.method given.values args.into runs.behind _ behind in
+          let long : length next.calls ≡ suc n = long_last c.calls made in
           let rest = chain_due split view.chain in
           let goes = next_place split host thread ∙ law.goes in
           let fit : IsFit split.code split.planned block = subst (IsFit split.code split.planned) same runs.fit in
-          let valued = λ (e : ExprTree). tree_value c.store (source.variable c.calls call) e in
           let none = sym at.forwards ∙ law.forwards in
           let count = args.count in
           let made_at = at.made in
           record {
-            busy = busy c (source.run call own) (map item_of runs.behind) runs.pending;
+            now = next;
+            does = stepped split c next call own (map item_of runs.behind)
+                (kind.Call what.site args.method what.args args.into) given.values runs.pending what.is given.all refl;
             none_out = none;
-            store = ap (λ (k : Configuration). k.store) steps;
+            store = refl;
             caller = call;
             within = omega arith;
             frame = args.frame_is;
             count = args.count;
             made = made;
-            calls = calls;
+            calls = refl;
             caller_is = sym args.caller;
             method_is = sym args.method_is;
             values = λ x.
                 args.passed x
-                ∙ ap (λ list. passed (map (λ (one : Argument). one.param) list)
-                (map (λ (one : Argument). valued one.value) list) x) law.all_set
-                ∙ passed_parts valued (params_of (method_at split.planned.program args.method)) args.arguments x
-                ∙ ap (λ list. passed (params_of (method_at split.planned.program args.method)) (map valued list) x)
-                what.arguments_are
-                ∙ ap (λ list. passed (params_of (method_at split.planned.program args.method)) list x)
-                (values_are c call native)
-                ∙ ap (λ list. passed list (map (value_of c call) native) x) (sym method.params);
+                ∙ ap (λ list. passed (map (λ (one : Argument). one.param) list) args.given x) all_set
+                ∙ given.same x ∙ ap (λ list. passed list given.values x) (sym method.params);
             plainly = none_kept next _ pending behind.plainly;
             fits = subst (λ l. FitsOver split view.naming l call view.chain)
                 (sym (entrance_level split entry.0 _ _ law.pushed)) at.fits;
@@ -429,10 +489,11 @@ call_made split c view host thread at entry statement set left is pushes =
                       (args.count ∙ sym long, args.new_frame_is);
                   forwards = ap (λ (p : Position). p.forwards) goes ∙ sym none;
                   settled = inl none;
-                  temporaries = at.temporaries
-                      ∙ ap (map (read_value c.store (source.variable c.calls call))) law.reads
-                      ∙ sym (ap (λ (p : Position). map (read_value next.store (source.variable next.calls n)) p.reads)
-                      goes);
+                  temporaries = subst (AllZip (MayHold split.exposure next.store (source.variable next.calls n))
+                      (place_of split host (thread.at + 1)).reads) (sym (none_held (MayHold split.exposure c.store
+                      (source.variable c.calls call)) here.reads thread.temporaries law.reads at.temporaries))
+                      (no_temporaries split next n (place_of split host (thread.at + 1))
+                      (ap (λ (p : Position). p.reads) goes));
                 };
           }
       | inr keeps ↦ absurd (let both = keeps.is in cc)
@@ -462,7 +523,8 @@ entered split c view host thread at entry token (entering (trees.call heading si
     record {
       none_out = sym at.forwards ∙ law.3;
       call = at.call;
-      bare = at.temporaries ∙ ap (map (read_value c.store (source.variable c.calls at.call))) law.2;
+      bare = none_held (MayHold split.exposure c.store (source.variable c.calls at.call)) here.reads thread.temporaries
+          law.2 at.temporaries;
       at = λ there found.
           starts_at split c view view.chain at.call entry.0 there thread.new_frame token
           (placed split entry there apart found) at.made calling.0 calling.1 (sym held ∙ at.held)

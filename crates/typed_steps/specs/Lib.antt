@@ -1,0 +1,10 @@
+pub mod Values
+pub mod Readers
+pub mod Views
+pub mod Chains
+pub mod Threads
+pub mod Variables
+pub mod Requests
+pub mod Weights
+pub mod Turns
+pub mod Takes

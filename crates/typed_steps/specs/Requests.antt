@@ -1,0 +1,119 @@
+-- What requests, answers and results in flight bring about where they are taken, and what is left where a thread ends.
+use Rattle.std.specs.Prelude.{◌≡◌, ℕ, ◌<◌, ℤ, true, List, [], ◌∷◌, length, Some, slice_get}
+use Rattle.js_base.specs.declared.ids.HostId.{HostId}
+use Rattle.js_base.specs.declared.ids.FieldId.{FieldId}
+use Rattle.js_base.specs.declared.ids.FrameId.{FrameId}
+use Rattle.js_base.specs.declared.ids.VarId.{VarId}
+use Rattle.jif_tree.specs.SourceRun as source
+use Rattle.jif_tree.specs.Altered.{FieldIsAffected, MayRead, MayStep}
+use Rattle.jif_tree.specs.SourceRun.{Configuration}
+use Rattle.jif_tree.specs.Store.{element_at, row_of, store_after_write}
+use Rattle.jif_tree.specs.Trees.{BlockTree}
+use Rattle.ics_stack.specs.Stack.{top_token}
+use Rattle.host_code.specs.declared.message.Message.{Message}
+use Rattle.host_code.specs.declared.message.Message.TheVariants as message
+use Rattle.host_code.specs.Code.{CodeShape, CodeFieldShape, field_at, variable_at}
+use Rattle.host_code.specs.Sound.{IsEntryOn}
+use Rattle.host_code.specs.Thread.{ThreadShape, WaitingShape}
+use Rattle.host_code.specs.Thread.Awaited.{value_of_field, acknowledgement, token_of_entry}
+use Rattle.entry_check.specs.declared.ask.Ask.TheVariants as ask
+use Rattle.entry_check.specs.Checks.{May}
+use Rattle.host_core.specs.Host.{with_temporary, with_token}
+use Rattle.host_core.specs.Turn.{MayReturn}
+use Rattle.msg_cost.specs.Terms.{reads_on}
+use Rattle.split_rules.specs.Positions.{Forward}
+use Rattle.typed_steps.specs.Values.{AreAlike}
+use Rattle.typed_steps.specs.Views.{Split, Link, entries_of, View, values_set, with_chain, with_out}
+use Rattle.typed_steps.specs.Chains.{level_at, chain_due, FitsOver}
+use Rattle.typed_steps.specs.Threads.{IsLeft, NoneKept, IsAt}
+
+-- the field of the code is on the host
+pub record IsFieldOn (code : CodeShape) (field : FieldId) (host : HostId) : Type 0 where
+  pub there : CodeFieldShape
+  pub is : field_at code field ≡ Some there
+  pub on_host : there.host ≡ host
+
+-- a step of the plain run, by what its readings may give
+abbrev pub Does : Split → Configuration → Configuration → Type 0
+Does split c now = MayStep split.program split.exposure c c.pending now
+
+-- a field's element is written, and the thread goes on
+pub record SetsField (split : Split) (c : Configuration) (view : View) (host : HostId) (thread : ThreadShape)
+    (field : FieldId) (place value : ℤ) : Type 0 where
+  pub now : Configuration
+  pub does : Does split c now
+  pub store : now.store ≡ store_after_write c.store field.0 place value
+  pub calls : now.calls ≡ c.calls
+  pub plainly : NoneKept now
+  pub at : IsAt split now view host thread
+
+-- What a request is to bring about. A get brings what may be read of the element; what a set does is the next step of
+-- the plain run; a variable that is forwarded is the call's, or may be affected; a sync puts an entry in front of the
+-- chain.
+abbrev pub IsRequest : Split → Configuration → View → HostId → HostId → WaitingShape → Message → Type 0
+IsRequest split c view holder owner waiting (message.Get request field place) =
+    (waiting.awaited ≡ value_of_field) × (waiting.request ≡ request)
+    × May split.code owner (ask.Get field) holder × IsFieldOn split.code field owner
+    × ((value : ℤ) → MayRead (FieldIsAffected split.exposure field) (element_at (row_of c.store field.0) place) value →
+    IsAt split c view holder (with_temporary value waiting.thread))
+IsRequest split c view holder owner waiting (message.Set request field place value) =
+    (waiting.awaited ≡ acknowledgement) × (waiting.request ≡ request)
+    × May split.code owner (ask.Set field) holder × IsFieldOn split.code field owner
+    × SetsField split c view holder waiting.thread field place value
+IsRequest split c view holder owner waiting (message.Forward request frame x value) =
+    (waiting.awaited ≡ acknowledgement) × (waiting.request ≡ request)
+    × May split.code owner (ask.Forward x) holder × (frame ≡ view.naming.frame view.sender)
+    × AreAlike split.exposure x value (view.values view.sender x.0) × (view.sender < view.naming.count) × NoneKept c
+    × (from : BlockTree) × (left : List Forward)
+    × (view.out ≡ record { variable = x; host = owner; source = from } ∷ left)
+    × IsAt split c (with_out view left) holder waiting.thread
+IsRequest split c view holder owner waiting (message.Sync request frame entry token) =
+    (waiting.awaited ≡ token_of_entry) × (waiting.request ≡ request)
+    × May split.code owner (ask.Enter entry) holder × IsEntryOn split.code owner entry
+    × (top_token (entries_of view.chain) ≡ Some token)
+    × (call : ℕ) × (frame ≡ view.naming.frame call) × (call < view.naming.count)
+    × FitsOver split view.naming (level_at (slice_get split.table.entries entry.0)) call view.chain
+    × ((link : Link) → link.entry.entry ≡ entry → link.call ≡ call →
+    IsAt split c (with_chain view (link ∷ view.chain)) holder (with_token (Some link.entry.token) waiting.thread))
+IsRequest split c view holder owner waiting other = ⊥
+
+abbrev pub IsAnswer : Split → Configuration → View → HostId → WaitingShape → Message → Type 0
+IsAnswer split c view holder waiting (message.Value request value) =
+    (waiting.awaited ≡ value_of_field) × (waiting.request ≡ request)
+    × IsAt split c view holder (with_temporary value waiting.thread)
+IsAnswer split c view holder waiting (message.Ack request) =
+    (waiting.awaited ≡ acknowledgement) × (waiting.request ≡ request) × IsAt split c view holder waiting.thread
+IsAnswer split c view holder waiting (message.Token request token) =
+    (waiting.awaited ≡ token_of_entry) × (waiting.request ≡ request)
+    × IsAt split c view holder (with_token (Some token) waiting.thread)
+IsAnswer split c view holder waiting other = ⊥
+
+-- A result is given back to the call that made this one: a step sets it, where the call's entry stands.
+pub record GivesResult (split : Split) (c : Configuration) (view : View) (host : HostId) (thread : ThreadShape)
+    (frame : FrameId) (x : VarId) (value : ℤ) (to : HostId) : Type 0 where
+  pub now : Configuration
+  pub does : Does split c now
+  pub none_out : view.out ≡ []
+  pub store : now.store ≡ c.store
+  pub caller : ℕ
+  pub made : caller < length c.calls
+  pub frame_is : frame ≡ view.naming.frame caller
+  pub calls : now.calls ≡ source.calls_after c.calls caller x.0 value
+  pub unread : (other : ℕ) → reads_on split.planned x other ≡ true → ⊥
+  pub into : VarId
+  pub behind : List source.Item
+  pub pending : now.pending ≡ source.keep caller into x ∷ behind
+  pub sees : MayReturn split.code (variable_at split.code x) to
+  pub at : IsAt split now (record view { values = values_set view.values caller x.0 value; keeper = to }) host thread
+
+-- ---- where a thread ends
+
+-- what is to be seen where a thread starts for a call
+abbrev pub starting : View → List Link → ℕ → View
+starting view chain call = record view { chain = chain; out = []; sender = call }
+
+-- nothing is left of a thread but what is due behind the chain
+pub record GivesUp (split : Split) (c : Configuration) (view : View) : Type 0 where
+  pub none_out : view.out ≡ []
+  pub count : view.naming.count ≡ length c.calls
+  pub left : IsLeft split c view.keeper (chain_due split view.chain)

@@ -1,0 +1,58 @@
+//! What the host that holds the token makes of the plain run, and the hosts that answer it. The calls do nothing: their
+//! contracts are the laws.
+
+ghost use Rattle.std.specs.Prelude.{◌≡◌, ℕ, ◌+◌, ◌≤◌, Some, ℤ};
+ghost use Rattle.js_base.specs.declared.ids.HostId.{HostId};
+ghost use Rattle.js_base.specs.declared.ids.FrameId.{FrameId};
+ghost use Rattle.js_base.specs.declared.ids.RequestId.{RequestId};
+ghost use Rattle.js_base.specs.declared.ids.VarId.{VarId};
+ghost use Rattle.jif_tree.specs.SourceRun.{Configuration};
+ghost use Rattle.host_code.specs.declared.message.Message.{Message};
+ghost use Rattle.host_code.specs.declared.message.Message.TheVariants as message;
+ghost use Rattle.host_code.specs.Thread.{ThreadShape, WaitingShape};
+ghost use Rattle.host_code.specs.Thread.Awaited.{acknowledgement};
+ghost use Rattle.entry_check.specs.declared.ask.Ask.TheVariants as ask;
+ghost use Rattle.entry_check.specs.Checks.{May};
+ghost use Rattle.host_core.specs.Host.{HostShape, Outcome};
+ghost use Rattle.host_core.specs.Taking.{IsTaking, place_of_awaiting};
+ghost use Rattle.host_core.specs.Turn.{IsTurn, label_of_turn};
+ghost use Rattle.net_world.specs.World.{WorldShape};
+ghost use Rattle.typed_steps.specs.Requests.{IsRequest, IsAnswer, GivesResult};
+ghost use Rattle.typed_steps.specs.Takes.{IsOwner, Answered, Resumes};
+ghost use Rattle.typed_steps.specs.Turns.{IsActing, Turned};
+ghost use Rattle.typed_steps.specs.Views.{Split, View};
+ghost use Rattle.typed_steps.specs.Weights.{IsFueledRequest, STEP, weight_at};
+
+/// A turn of the host that runs the thread with the token makes no step of the plain run, or one; and then the thread
+/// goes on, or waits for what it asked another host for, or its token goes on.
+pub fn turn_laws()
+    ensures turned { (split : Split) (c : Configuration) (view : View) (world : WorldShape) (host : HostId)
+        (old : HostShape) (thread : ThreadShape) (outcome : Outcome) →
+        IsActing split c view world host old thread → IsTurn split.code old outcome →
+        (label : ℕ) × (label_of_turn split.code old ≡ Some label)
+        × Turned split c view world host old thread outcome }
+{}
+
+/// Whoever takes a request of that host, or a result, makes what it is for, and answers. Where that host takes the
+/// answer, its thread goes on.
+pub fn take_laws()
+    ensures request { (split : Split) (c : Configuration) (view : View) (world : WorldShape) (holder owner : HostId)
+        (waiting : WaitingShape) (old : HostShape) (asked : Message) (outcome : Outcome) →
+        IsOwner split c view world owner old → IsRequest split c view holder owner waiting asked →
+        IsTaking split.code old holder asked outcome →
+        Answered split c view world holder owner waiting old
+        (λ fuel. IsFueledRequest split view.chain holder waiting.thread.at fuel asked) outcome }
+    ensures result { (split : Split) (c : Configuration) (view : View) (world : WorldShape) (holder owner : HostId)
+        (waiting : WaitingShape) (old : HostShape) (request : RequestId) (frame : FrameId) (x : VarId) (value : ℤ)
+        (outcome : Outcome) → IsOwner split c view world owner old → waiting.awaited ≡ acknowledgement →
+        waiting.request ≡ request → May split.code owner (ask.Forward x) holder →
+        GivesResult split c view holder waiting.thread frame x value owner →
+        IsTaking split.code old holder (message.Forward request frame x value) outcome →
+        Answered split c view world holder owner waiting old
+        (λ fuel. weight_at split view.chain holder waiting.thread.at + 2 ≤ fuel + STEP) outcome }
+    ensures answer { (split : Split) (c : Configuration) (view : View) (holder owner : HostId)
+        (waiting : WaitingShape) (state : HostShape) (place : ℕ) (answer : Message) (outcome : Outcome) →
+        place_of_awaiting state waiting.awaited waiting.request owner ≡ Some place →
+        IsAnswer split c view holder waiting answer → IsTaking split.code state owner answer outcome →
+        Resumes split c view holder waiting state place outcome }
+{}
