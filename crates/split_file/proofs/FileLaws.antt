@@ -1,0 +1,212 @@
+-- Laws of split files: what is read is spelled so, and what is spelled so is read.
+use Rattle.std.proofs.Common.{◌≡◌, ◌≢◌, ◌⊎◌, inl, inr, ℕ, ◌+◌, ◌*◌, ◌<◌, Bool, List, [], ◌∷◌, ◌++◌, length, Result, Ok, Err, refl, sym, ap, subst, ◌∙◌, append_assoc, arith}
+use Rattle.std.specs.Prelude.{⊤}
+use Rattle.std.specs.List.{concat, flat_map, AllByRecursion}
+use Rattle.std.specs.Int.{w16, to_be_bytes}
+use Rattle.std.proofs.lemmas.Bool.{ltb-true, lt-ltb}
+use Rattle.std.proofs.lemmas.List.{append-nil}
+use Rattle.host_code.specs.declared.code.Entry.{Entry}
+use Rattle.host_code.specs.declared.instruction.Instr.{Instr}
+use Rattle.host_code.specs.Code.{CodeShape, part_of}
+use Rattle.split_file.specs.declared.fault.Fault.{Fault}
+use Rattle.split_file.specs.declared.fault.Fault.TheVariants as fault
+use Rattle.split_file.specs.declared.fault.ReadError.{ReadError}
+use Rattle.split_file.specs.declared.fault.ReadError.TheVariants as error
+use Rattle.split_file.specs.declared.error.SplitError.{SplitError}
+use Rattle.split_file.specs.declared.error.SplitError.TheVariants as refusal
+use Rattle.split_file.specs.Spelling.{magic, version_of, table_bytes, start_bytes, part_bytes, split_file}
+use Rattle.split_file.specs.Reader.{Reader, Fails, handed_on, sequel, given, require, items_at}
+use Rattle.split_file.specs.Reading.{next_part_at, front_at, with_parts, ended, PLACE_BYTES, ENTRY_BYTES, entries_stand, code_at}
+use Rattle.split_file.specs.File.{IsRealCode, IsRefusal, refusal_of, outcome, file_code}
+use Rattle.split_file.proofs.Sequels.{AreBytes, Taken, Reads, Again, read_as, ok_is, handed, reads_then, reads_given, reads_require, reads_weaker, again_given, again_require}
+use Rattle.split_file.proofs.ItemLaws.{AllIn}
+use Rattle.split_file.proofs.PartLaws.{PartBehind, parts_reads, parts_again}
+use Rattle.split_file.proofs.FrontLaws.{FrontIs, front_bytes, IsFront, front_reads, front_again}
+use Rattle.split_file.proofs.SoundCodes.{Stand, sound_code, front_is, few_items, parts_are, entries_there}
+
+-- ---- entries
+
+stand_reads : (code : CodeShape) (entries : List Entry) (behind : ℕ) → Reads (entries_stand code entries behind)
+    (λ _ text. (text ≡ []) × Stand code entries)
+unfolding entries_stand
+stand_reads code [] behind = reads_given tt (refl, tt)
+stand_reads code (entry ∷ entries) behind =
+    reads_require (fault.BadField (PLACE_BYTES + ENTRY_BYTES * length entries + behind)) (λ stands.
+    reads_weaker (stand_reads code entries behind) (λ _ text is. (is.0, (ltb-true _ _ stands, is.1))))
+
+stand_again : (code : CodeShape) (entries : List Entry) (behind : ℕ) → Stand code entries →
+    Again (entries_stand code entries behind) tt []
+unfolding entries_stand
+stand_again code [] behind all = again_given tt
+stand_again code (entry ∷ entries) behind all =
+    again_require (fault.BadField (PLACE_BYTES + ENTRY_BYTES * length entries + behind)) (lt-ltb _ _ all.0)
+    (stand_again code entries behind all.1)
+
+-- ---- the end
+
+ended_is : (bytes : List ℕ) (x : ⊤) (rest : List ℕ) → ended bytes ≡ Ok (x, rest) → (bytes ≡ []) × (rest ≡ [])
+unfolding ended
+ended_is [] x rest is =
+    let same = ok_is (tt, []) (x, rest) is in
+    (refl, ap (λ (p : ⊤ × List ℕ). p.1) (sym same))
+ended_is (byte ∷ bytes) x rest is = absurd cc
+
+-- what is read behind the front, up to the end
+abbrev behind_parts : CodeShape × ℕ → List (List Instr) → Reader CodeShape
+behind_parts front parts =
+    sequel ended (λ _. sequel (entries_stand (with_parts front.0 parts) front.0.entries front.1)
+    (λ _. given (with_parts front.0 parts)))
+
+abbrev behind_front : CodeShape × ℕ → Reader CodeShape
+behind_front front = sequel (items_at (next_part_at front.0) [] (length front.0.hosts)) (behind_parts front)
+
+no_bytes : AreBytes []
+no_bytes i = omega arith
+
+end_read : (front : CodeShape × ℕ) (parts : List (List Instr)) (bytes : List ℕ) (code : CodeShape) (rest : List ℕ) →
+    behind_parts front parts bytes ≡ Ok (code, rest) →
+    (bytes ≡ []) × (code ≡ with_parts front.0 parts) × Stand (with_parts front.0 parts) front.0.entries
+unfolding sequel given
+end_read front parts bytes code rest is =
+    let tail = λ (_ : ⊤). sequel (entries_stand (with_parts front.0 parts) front.0.entries front.1)
+    (λ _. given (with_parts front.0 parts)) in
+    let step = handed (ended bytes) tail code rest is in
+    let over = ended_is bytes step.0 step.1 step.2 in
+    let next = handed (entries_stand (with_parts front.0 parts) front.0.entries front.1 step.1)
+    (λ _. given (with_parts front.0 parts)) code rest step.3 in
+    let stood = (stand_reads (with_parts front.0 parts) front.0.entries front.1).taken step.1 next.0 next.1
+    (subst AreBytes (sym over.1) no_bytes) next.2 in
+    let same = ok_is (with_parts front.0 parts, next.1) (code, rest) next.3 in
+    (over.0, sym (ap (λ (p : CodeShape × List ℕ). p.0) same), stood.is.1)
+
+regroup : (one two three four more : List ℕ) →
+    concat (one ∷ two ∷ three ∷ four ∷ []) ++ more ≡ concat (one ∷ two ∷ three ∷ four ∷ more ∷ [])
+regroup one two three four more = simp (append_assoc, append-nil)
+
+-- the front and the parts are the file
+whole_file : (code : CodeShape) (parts : List (List Instr)) →
+    front_bytes code ++ flat_map part_bytes parts ≡ split_file (with_parts code parts)
+unfolding split_file
+whole_file code parts =
+    regroup magic (to_be_bytes w16 (version_of code)) (table_bytes code) (start_bytes code) (flat_map part_bytes parts)
+
+-- what is read is spelled so, and sound
+pub code_read : (bytes : List ℕ) (code : CodeShape) (rest : List ℕ) → AreBytes bytes → code_at bytes ≡ Ok (code, rest) →
+    IsRealCode code × (bytes ≡ split_file code)
+unfolding code_at sequel
+code_read bytes code rest fits is =
+    let step = handed (front_at bytes) behind_front code rest is in
+    let front = front_reads.taken bytes step.0 step.1 fits step.2 in
+    let next = handed (items_at (next_part_at step.0.0) [] (length step.0.0.hosts) step.1) (behind_parts step.0) code rest
+    step.3 in
+    let parts = (parts_reads step.0.0 (length step.0.0.hosts)).taken step.1 next.0 next.1 front.left next.2 in
+    let end = end_read step.0 next.0 next.1 code rest next.3 in
+    let real = sound_code step.0.0 next.0 front.is.1 parts.is.1.0 parts.is.1.1 end.2 in
+    let behind : step.1 ≡ flat_map part_bytes next.0 =
+    parts.parts ∙ ap (λ r. parts.text ++ r) end.0 ∙ append-nil parts.text ∙ parts.is.0 in
+    let spelled : bytes ≡ split_file (with_parts step.0.0 next.0) =
+    front.parts ∙ ap (λ t. t ++ step.1) front.is.0 ∙ ap (λ r. front_bytes step.0.0 ++ r) behind
+    ∙ whole_file step.0.0 next.0 in
+    subst (λ c. IsRealCode c × (bytes ≡ split_file c)) (sym end.1) (real, spelled)
+
+-- the parts of a sound code are read to the end
+behind_again : (code : CodeShape) (behind : ℕ) → IsRealCode code →
+    behind_front (with_parts code [], behind) (flat_map part_bytes code.parts) ≡ Ok (code, [])
+unfolding sequel given ended
+behind_again code behind sound =
+    let bare = with_parts code [] in
+    let parts = (parts_again bare code.parts (few_items code sound) (parts_are code sound)).again [] in
+    let read : items_at (next_part_at bare) [] (length code.hosts) (flat_map part_bytes code.parts)
+    ≡ Ok (code.parts, []) =
+    ap (λ n. items_at (next_part_at bare) [] n (flat_map part_bytes code.parts)) (sym sound.0.a_part_each)
+    ∙ ap (items_at (next_part_at bare) [] (length code.parts)) (sym (append-nil (flat_map part_bytes code.parts)))
+    ∙ parts in
+    let stand = (stand_again code code.entries behind (entries_there code sound)).again [] in
+    ap (λ reading. handed_on reading (behind_parts (bare, behind))) read
+    ∙ ap (λ reading. handed_on reading (λ _. given code)) stand
+
+-- what is spelled so is read
+pub code_again : (code : CodeShape) → IsRealCode code → code_at (split_file code) ≡ Ok (code, [])
+unfolding code_at sequel
+code_again code sound =
+    let parts = flat_map part_bytes code.parts in
+    let found = (front_again code (front_is code sound)).again parts in
+    ap (λ bytes. handed_on (front_at bytes) behind_front) (sym (whole_file code code.parts))
+    ∙ ap (λ reading. handed_on reading behind_front) found.1
+    ∙ subst (λ front. behind_front front parts ≡ Ok (code, [])) (sym found.2.1) (behind_again code found.2.0 sound)
+
+-- ---- files
+
+outcome_is : (total : ℕ) (reading : Result (CodeShape × List ℕ) Fault) (code : CodeShape) →
+    outcome total reading ≡ Ok code → (rest : List ℕ) × (reading ≡ Ok (code, rest))
+outcome_is total (Ok x) code is =
+    let same : x.0 ≡ code = cc in
+    (x.1, ap (λ c. Ok (c, x.1)) same)
+outcome_is total (Err what) code is = absurd cc
+
+pub file_read : (bytes : List ℕ) (code : CodeShape) → AreBytes bytes → file_code bytes ≡ Ok code →
+    IsRealCode code × (bytes ≡ split_file code)
+unfolding file_code
+file_read bytes code fits is =
+    let found = outcome_is (length bytes) (code_at bytes) code is in
+    code_read bytes code found.0 fits found.1
+
+pub file_again : (code : CodeShape) → IsRealCode code → file_code (split_file code) ≡ Ok code
+unfolding file_code
+file_again code sound = ap (outcome (length (split_file code))) (code_again code sound)
+
+-- where there is something to read, only memory may fail
+pub only_memory : (e : ReadError) (total : ℕ) (refused : SplitError) (reading : Result (CodeShape × List ℕ) Fault)
+    (x : CodeShape × List ℕ) → Fails e reading → reading ≡ Ok x → IsRefusal total e refused →
+    refused ≡ refusal.OutOfMemory
+only_memory error.OutOfMemory total refused reading x fails is refusing = refusing
+only_memory (error.Fault what) total refused reading x fails is refusing =
+    let never : read_as x ≡ Err what = sym is ∙ fails in
+    absurd cc
+
+abbrev coded : CodeShape → Result CodeShape SplitError
+coded code = Ok code
+
+read_refused : (bytes : List ℕ) (refused : SplitError) → file_code bytes ≡ Err refused → (code : CodeShape) →
+    IsRealCode code → bytes ≡ split_file code → ⊥
+read_refused bytes refused is code sound spelled =
+    let never : coded code ≡ Err refused = sym (file_again code sound) ∙ sym (ap file_code spelled) ∙ is in
+    absurd cc
+
+refusal_apart : (total : ℕ) (what : Fault) → refusal_of total what ≢ refusal.OutOfMemory
+refusal_apart total fault.Short is = cc
+refusal_apart total fault.BadMagic is = cc
+refusal_apart total fault.BadVersion is = cc
+refusal_apart total (fault.BadField left) is = cc
+refusal_apart total fault.Trailing is = cc
+
+-- which of both it is
+pub one_outcome : (bytes : List ℕ) (reading : Result (CodeShape × List ℕ) Fault) →
+    file_code bytes ≡ outcome (length bytes) reading →
+    ((code : CodeShape) × (file_code bytes ≡ Ok code))
+    ⊎ ((refused : SplitError) × (refused ≢ refusal.OutOfMemory) × (file_code bytes ≡ Err refused))
+one_outcome bytes (Ok x) is = inl (x.0, is)
+one_outcome bytes (Err what) is = inr (refusal_of (length bytes) what, refusal_apart (length bytes) what, is)
+
+by_outcome : (bytes : List ℕ) → file_code bytes ≡ outcome (length bytes) (code_at bytes)
+unfolding file_code
+by_outcome bytes = refl
+
+pub code_or_refusal : (bytes : List ℕ) → AreBytes bytes →
+    ((code : CodeShape) × IsRealCode code × (bytes ≡ split_file code) × (file_code bytes ≡ Ok code))
+    ⊎ ((refused : SplitError) × (refused ≢ refusal.OutOfMemory) × (file_code bytes ≡ Err refused)
+    × ((code : CodeShape) → IsRealCode code → bytes ≢ split_file code))
+code_or_refusal bytes fits =
+    elim (one_outcome bytes (code_at bytes) (by_outcome bytes)) [
+      | inl found ↦
+          let fact = file_read bytes found.0 fits found.1 in
+          inl (found.0, fact.0, fact.1, found.1)
+      | inr found ↦ inr (found.0, found.1, found.2, read_refused bytes found.0 found.2)
+    ]
+
+pub spelled_once : (first second : CodeShape) → IsRealCode first → IsRealCode second →
+    split_file first ≡ split_file second → first ≡ second
+spelled_once first second one other same =
+    let both : coded first ≡ coded second =
+    sym (file_again first one) ∙ ap file_code same ∙ file_again second other in
+    cc

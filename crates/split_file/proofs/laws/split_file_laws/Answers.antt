@@ -1,0 +1,96 @@
+use Rattle.std.proofs.Common.{refl}
+use Rattle.split_file.specs.Spelling.{number_bytes, word_bytes, split_file}
+use Rattle.split_file.specs.Reader.{text_at, bytes_at, number_at, in_range, place, require, given, sequel, items_at, list_at}
+use Rattle.split_file.specs.Reading.{code_at, front_at, magic_at, version_at, tables_at, hosts_at, host_row_at, name_at, label_at}
+use Rattle.split_file.specs.File.{file_code}
+use Rattle.split_file.proofs.FileLaws.{file_again, file_read, code_or_refusal, spelled_once}
+use Rattle.split_file.proofs.laws.split_file_laws.Goals as goal
+
+pub returns-clause-spelled_once : goal.returns-clause-spelled_once
+returns-clause-spelled_once c = spelled_once
+
+pub returns-clause-read_again : goal.returns-clause-read_again
+returns-clause-read_again c = file_again
+
+pub returns-clause-only_spelled : goal.returns-clause-only_spelled
+returns-clause-only_spelled c bytes code fits is = file_read bytes code fits is
+
+pub returns-clause-code_or_refusal : goal.returns-clause-code_or_refusal
+returns-clause-code_or_refusal c = code_or_refusal
+
+pub returns-clause-worked_hosts : goal.returns-clause-worked_hosts
+unfolding number_bytes word_bytes split_file
+returns-clause-worked_hosts c = refl
+
+pub returns-clause-worked_labels : goal.returns-clause-worked_labels
+unfolding number_bytes word_bytes split_file
+returns-clause-worked_labels c = refl
+
+pub returns-clause-worked_fields : goal.returns-clause-worked_fields
+unfolding number_bytes word_bytes split_file
+returns-clause-worked_fields c = refl
+
+pub returns-clause-worked_variables : goal.returns-clause-worked_variables
+unfolding number_bytes word_bytes split_file
+returns-clause-worked_variables c = refl
+
+pub returns-clause-worked_entries : goal.returns-clause-worked_entries
+unfolding number_bytes word_bytes split_file
+returns-clause-worked_entries c = refl
+
+pub returns-clause-worked_sites : goal.returns-clause-worked_sites
+unfolding number_bytes word_bytes split_file
+returns-clause-worked_sites c = refl
+
+pub returns-clause-worked_file : goal.returns-clause-worked_file
+unfolding number_bytes word_bytes split_file
+returns-clause-worked_file c = refl
+
+pub returns-clause-worked_parts : goal.returns-clause-worked_parts
+unfolding number_bytes word_bytes
+returns-clause-worked_parts c = (refl, refl)
+
+pub returns-clause-worked_short : goal.returns-clause-worked_short
+unfolding file_code code_at front_at magic_at version_at tables_at hosts_at host_row_at name_at label_at text_at bytes_at
+    number_at in_range place require given sequel items_at list_at
+returns-clause-worked_short c = refl
+
+pub returns-clause-worked_magic : goal.returns-clause-worked_magic
+unfolding file_code code_at front_at magic_at version_at tables_at hosts_at host_row_at name_at label_at text_at bytes_at
+    number_at in_range place require given sequel items_at list_at
+returns-clause-worked_magic c = refl
+
+pub returns-clause-worked_half_version : goal.returns-clause-worked_half_version
+unfolding file_code code_at front_at magic_at version_at tables_at hosts_at host_row_at name_at label_at text_at bytes_at
+    number_at in_range place require given sequel items_at list_at
+returns-clause-worked_half_version c = refl
+
+pub returns-clause-worked_version : goal.returns-clause-worked_version
+unfolding file_code code_at front_at magic_at version_at tables_at hosts_at host_row_at name_at label_at text_at bytes_at
+    number_at in_range place require given sequel items_at list_at
+returns-clause-worked_version c = refl
+
+pub returns-clause-worked_no_host : goal.returns-clause-worked_no_host
+unfolding file_code code_at front_at magic_at version_at tables_at hosts_at host_row_at name_at label_at text_at bytes_at
+    number_at in_range place require given sequel items_at list_at
+returns-clause-worked_no_host c = refl
+
+pub returns-clause-worked_many_hosts : goal.returns-clause-worked_many_hosts
+unfolding file_code code_at front_at magic_at version_at tables_at hosts_at host_row_at name_at label_at text_at bytes_at
+    number_at in_range place require given sequel items_at list_at
+returns-clause-worked_many_hosts c = refl
+
+pub returns-clause-worked_no_name : goal.returns-clause-worked_no_name
+unfolding file_code code_at front_at magic_at version_at tables_at hosts_at host_row_at name_at label_at text_at bytes_at
+    number_at in_range place require given sequel items_at list_at
+returns-clause-worked_no_name c = refl
+
+pub returns-clause-worked_half_name : goal.returns-clause-worked_half_name
+unfolding file_code code_at front_at magic_at version_at tables_at hosts_at host_row_at name_at label_at text_at bytes_at
+    number_at in_range place require given sequel items_at list_at
+returns-clause-worked_half_name c = refl
+
+pub returns-clause-worked_half_label : goal.returns-clause-worked_half_label
+unfolding file_code code_at front_at magic_at version_at tables_at hosts_at host_row_at name_at label_at text_at bytes_at
+    number_at in_range place require given sequel items_at list_at
+returns-clause-worked_half_label c = refl

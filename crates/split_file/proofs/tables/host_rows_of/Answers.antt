@@ -1,0 +1,25 @@
+use Rattle.std.proofs.Common.{◌+◌, length, ap, ◌∙◌}
+use Rattle.std.proofs.lemmas.Result.{err_from_is_err_and}
+use Rattle.std.proofs.lemmas.List.{length_push}
+use Rattle.split_file.specs.Reading.{host_row_at}
+use Rattle.split_file.proofs.Items.{items_more, items_fail, items_done}
+use Rattle.split_file.proofs.tables.host_rows_of.Goals as goal
+
+pub returns-in_err-host-clause-hosts : goal.returns-in_err-host-clause-hosts
+returns-in_err-host-clause-hosts c =
+    let p = err_from_is_err_and c.from_residual.result c.from_residual.ensures.1 in
+    rw (p.1, p.2) (items_fail (λ _. host_row_at) c.loop.hosts.items c.args.count c.loop.counter _ c.loop.rest.now _
+    c.loop-test.true c.in_err-host.ensures c.loop.invariant.read)
+
+pub loop-preserved : goal.loop-preserved
+loop-preserved c = record {
+  read = rw c.in_ok-push.ensures.items (items_more (λ _. host_row_at) c.loop.hosts.items c.args.count c.loop.counter _
+      c.loop.rest.now _ _ c.loop-test.true c.in_ok-host.ensures c.loop.invariant.read);
+  count = ap length c.in_ok-push.ensures.items ∙ length_push c.loop.hosts.items c.in_ok-host.host
+      ∙ ap (λ n. n + 1) c.loop.invariant.count;
+}
+
+pub returns-clause-hosts : goal.returns-clause-hosts
+returns-clause-hosts c =
+    items_done (λ _. host_row_at) c.loop.hosts.items c.args.count c.loop.counter c.loop.rest.now _ c.loop-test.false
+    c.loop.invariant.read

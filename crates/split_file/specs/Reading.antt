@@ -1,0 +1,526 @@
+-- Which code bytes spell, or what is wrong with them. Each item is read and tested in the order of the bytes. What
+-- speaks of a later part is tested behind all parts.
+use Rattle.std.specs.Prelude.{◌≡◌, ℕ, ◌+◌, ◌-◌, ◌*◌, zero, suc, ℤ, Bool, true, false, not, ◌&&◌, ◌||◌, ◌==◌}
+use Rattle.std.specs.Prelude.{if◌then◌else◌, List, [], ◌∷◌, length, nat_lt, nat_le, slice_get, sum_by, codes}
+use Rattle.std.specs.Prelude.{Option, Result, Ok, Err, ⊤}
+use Rattle.std.specs.Option.{option_map_or}
+use Rattle.std.specs.List.{before_first, after_first}
+use Rattle.std.specs.Str.{bytes_eq}
+use Rattle.std.specs.Int.{w16, w32, w64, cast_signed}
+use Rattle.js_base.specs.declared.binary_operator.BinOp.{BinOp}
+use Rattle.js_base.specs.declared.binary_operator.BinOp.TheVariants as binary
+use Rattle.js_base.specs.declared.ids.HostId.{HostId}
+use Rattle.js_base.specs.declared.ids.FieldId.{FieldId}
+use Rattle.js_base.specs.declared.ids.VarId.{VarId}
+use Rattle.js_base.specs.declared.ids.EntryId.{EntryId}
+use Rattle.js_base.specs.declared.ids.SiteId.{SiteId}
+use Rattle.js_base.specs.declared.limits.TheConstants.{HOSTS, PRINCIPALS, ARRAY_SIZE, ELEMENTS}
+use Rattle.js_base.specs.Name.{is_name}
+use Rattle.label_lattice.specs.declared.label.Label.{Label}
+use Rattle.host_code.specs.declared.code.Entry.{Entry}
+use Rattle.host_code.specs.declared.instruction.Instr.{Instr}
+use Rattle.host_code.specs.declared.instruction.Op.{Op}
+use Rattle.host_code.specs.declared.instruction.Op.TheVariants as op
+use Rattle.host_code.specs.declared.code_expr.Node.{Node}
+use Rattle.host_code.specs.declared.code_expr.Node.TheVariants as node
+use Rattle.host_code.specs.declared.code_expr.TheConstants.{MOST_NODES}
+use Rattle.host_code.specs.Code.{CodeShape, CodeHostShape, CodeFieldShape, CodeVariableShape, part_of}
+use Rattle.host_code.specs.Code.{host_of_site}
+use Rattle.host_code.specs.CodeExpr.{depth_after}
+use Rattle.host_code.specs.Sound.{temporaries_at}
+use Rattle.split_file.specs.declared.fault.Fault.{Fault}
+use Rattle.split_file.specs.declared.fault.Fault.TheVariants as fault
+use Rattle.split_file.specs.Spelling.{magic}
+use Rattle.split_file.specs.Reader.{Reader, ◌>>=◌, given, refused, place, require, in_range, byte_at, bytes_at}
+use Rattle.split_file.specs.Reader.{number_at, text_at, items_at, list_at}
+
+-- ---- names
+
+abbrev pub is_dot : ℕ → Bool
+is_dot byte = byte == 46
+
+-- `METHOD.NAME`, or `METHOD.return`
+abbrev pub is_variable_name : List ℕ → Bool
+is_variable_name text =
+    is_name (before_first is_dot text)
+    && (is_name (after_first is_dot text) || bytes_eq (after_first is_dot text) (codes "return"))
+
+unfoldable pub name_at : Reader (List ℕ)
+name_at = in_range is_name text_at
+
+-- ---- indices
+
+-- a number below a count
+unfoldable pub index_at : ℕ → Reader ℕ
+index_at count = in_range (λ index. nat_lt index count) (number_at w32)
+
+unfoldable pub host_id_at : ℕ → Reader HostId
+host_id_at hosts = do
+  host ← in_range (λ host. nat_lt host hosts) byte_at
+  given (record { 0 = host })
+
+-- ---- labels and hosts
+
+unfoldable pub label_at : Reader Label
+label_at = do
+  rows ← items_at (λ _. number_at w64) [] PRINCIPALS
+  trust ← number_at w64
+  given (record { rows = rows; trust = trust })
+
+unfoldable pub host_row_at : Reader CodeHostShape
+host_row_at = do
+  name ← name_at
+  label ← label_at
+  given (record { name = name; label = label })
+
+unfoldable pub hosts_at : Reader (List CodeHostShape)
+hosts_at = do
+  count ← in_range (λ count. nat_lt 0 count && nat_le count HOSTS) (number_at w32)
+  items_at (λ _. host_row_at) [] count
+
+-- ---- fields and variables
+
+unfoldable pub integer_at : Reader ℤ
+integer_at = do
+  word ← number_at w64
+  given (cast_signed w64 word)
+
+unfoldable pub flag_at : Reader Bool
+flag_at = do
+  byte ← in_range (λ byte. nat_le byte 1) byte_at
+  given (byte == 1)
+
+-- how many elements some fields have
+abbrev pub elements_of : List CodeFieldShape → ℕ
+elements_of fields = sum_by (λ field. field.size) fields
+
+-- a size is within the limits, where there are so many elements before
+abbrev pub is_size : ℕ → ℕ → Bool
+is_size before size = nat_lt 0 size && nat_le size ARRAY_SIZE && nat_le (before + size) ELEMENTS
+
+-- A size, and whether it is that of an array. A plain field has one element, and where it has not, its size is out of
+-- range.
+unfoldable pub shape_at : ℕ → Reader (ℕ × Bool)
+shape_at before = do
+  at ← place
+  size ← in_range (is_size before) (number_at w32)
+  array ← flag_at
+  _ ← require (array || size == 1) (fault.BadField at)
+  given (size, array)
+
+-- a field, where those before it have so many elements
+unfoldable pub field_row_at : ℕ → ℕ → ℕ → Reader CodeFieldShape
+field_row_at hosts labels before = do
+  name ← name_at
+  label ← index_at labels
+  shape ← shape_at before
+  first ← integer_at
+  host ← host_id_at hosts
+  given (record { name = name; label = label; size = shape.0; array = shape.1; first = first; host = host })
+
+unfoldable pub variable_row_at : ℕ → Reader CodeVariableShape
+variable_row_at labels = do
+  name ← in_range is_variable_name text_at
+  label ← index_at labels
+  given (record { name = name; label = label })
+
+-- ---- entries, sites, and where the program starts
+
+abbrev pub is_empty : {A : Type 0} → List A → Bool
+is_empty [] = true
+is_empty (x ∷ xs) = false
+
+-- an entry; the first of all stands at its host's first instruction
+unfoldable pub entry_row_at : ℕ → ℕ → Bool → Reader Entry
+entry_row_at hosts labels is_first = do
+  host ← host_id_at hosts
+  at ← in_range (λ at. not is_first || at == 0) (number_at w32)
+  label ← index_at labels
+  need ← number_at w64
+  given (record { host = host; at = at; label = label; need = need })
+
+-- the entry of this number is there, on this host
+abbrev pub is_entry_on : List Entry → ℕ → ℕ → Bool
+is_entry_on entries number host = option_map_or (λ entry. entry.host.0 == host) (slice_get entries number) false
+
+unfoldable pub root_at : List Entry → Reader HostId
+root_at entries = do
+  root ← in_range (is_entry_on entries 0) byte_at
+  given (record { 0 = root })
+
+unfoldable pub main_at : List Entry → HostId → Reader EntryId
+main_at entries root = do
+  main ← in_range (λ main. is_entry_on entries main root.0) (number_at w32)
+  given (record { 0 = main })
+
+-- ---- expressions
+
+-- an operator by its byte
+unfoldable pub operator_of : ℕ → ℕ → Reader BinOp
+operator_of at byte =
+    if byte == 6 then given binary.Or
+    else (if byte == 7 then given binary.And
+    else (if byte == 8 then given binary.Equal
+    else (if byte == 9 then given binary.NotEqual
+    else (if byte == 10 then given binary.Less
+    else (if byte == 11 then given binary.LessEqual
+    else (if byte == 12 then given binary.Greater
+    else (if byte == 13 then given binary.GreaterEqual
+    else (if byte == 14 then given binary.Add
+    else (if byte == 15 then given binary.Subtract
+    else (if byte == 16 then given binary.Multiply
+    else (if byte == 17 then given binary.Divide
+    else (if byte == 18 then given binary.Remainder
+    else refused (fault.BadField at)))))))))))))
+
+unfoldable pub number_node_at : Reader Node
+number_node_at = do
+  n ← integer_at
+  given (node.Number n)
+
+-- one of so many variables
+unfoldable pub variable_id_at : ℕ → Reader VarId
+variable_id_at variables = do
+  variable ← index_at variables
+  given (record { 0 = variable })
+
+unfoldable pub variable_node_at : ℕ → Reader Node
+variable_node_at variables = do
+  variable ← variable_id_at variables
+  given (node.Var variable)
+
+unfoldable pub temporary_node_at : ℕ → Reader Node
+temporary_node_at temporaries = do
+  temporary ← index_at temporaries
+  given (node.Temp temporary)
+
+unfoldable pub operator_node_at : ℕ → ℕ → Reader Node
+operator_node_at at byte = do
+  operator ← operator_of at byte
+  given (node.Binary operator)
+
+-- what follows the first byte of a node
+unfoldable pub node_of : ℕ → ℕ → ℕ → ℕ → Reader Node
+node_of variables temporaries at byte =
+    if byte == 1 then number_node_at
+    else (if byte == 2 then variable_node_at variables
+    else (if byte == 3 then temporary_node_at temporaries
+    else (if byte == 4 then given node.Not
+    else (if byte == 5 then given node.Negate
+    else operator_node_at at byte))))
+
+-- a node, where there are so many variables and a thread has so many temporaries
+unfoldable pub node_at : ℕ → ℕ → Reader Node
+node_at variables temporaries = do
+  at ← place
+  byte ← byte_at
+  node_of variables temporaries at byte
+
+-- the nodes leave exactly one value
+abbrev pub leave_one : List Node → Bool
+leave_one nodes = option_map_or (λ depth. depth == 1) (depth_after nodes 0) false
+
+-- an expression, or its count of nodes is out of range
+unfoldable pub expression_at : ℕ → ℕ → Reader (List Node)
+expression_at variables temporaries = do
+  at ← place
+  count ← in_range (λ count. nat_le count MOST_NODES) (number_at w32)
+  nodes ← items_at (λ _. node_at variables temporaries) [] count
+  _ ← require (leave_one nodes) (fault.BadField at)
+  given nodes
+
+-- ---- operands
+
+unfoldable pub field_id_at : CodeShape → Reader FieldId
+field_id_at code = do
+  field ← index_at (length code.fields)
+  given (record { 0 = field })
+
+-- another host
+unfoldable pub other_host_at : CodeShape → HostId → Reader HostId
+other_host_at code me = do
+  host ← in_range (λ host. nat_lt host (length code.hosts) && not (host == me.0)) byte_at
+  given (record { 0 = host })
+
+-- a site on this host
+unfoldable pub own_site_at : CodeShape → HostId → Reader SiteId
+own_site_at code me = do
+  site ← in_range (λ site. option_map_or (λ host. host.0 == me.0) (host_of_site code.sites site) false) (number_at w32)
+  given (record { 0 = site })
+
+-- an entry on this host, which is not the one that ends the program
+unfoldable pub own_entry_at : CodeShape → HostId → Reader EntryId
+own_entry_at code me = do
+  entry ← in_range (λ entry. not (entry == 0) && is_entry_on code.entries entry me.0) (number_at w32)
+  given (record { 0 = entry })
+
+-- an entry that is not the one that ends the program
+unfoldable pub some_entry_at : CodeShape → Reader EntryId
+some_entry_at code = do
+  entry ← in_range (λ entry. not (entry == 0) && nat_lt entry (length code.entries)) (number_at w32)
+  given (record { 0 = entry })
+
+-- the host of an entry
+unfoldable pub host_of_entry_at : CodeShape → EntryId → Reader HostId
+host_of_entry_at code entry = do
+  host ← in_range (λ host. nat_lt host (length code.hosts) && is_entry_on code.entries entry.0 host) byte_at
+  given (record { 0 = host })
+
+-- the host of an entry, which is another host
+unfoldable pub other_host_of_entry_at : CodeShape → HostId → EntryId → Reader HostId
+other_host_of_entry_at code me entry = do
+  host ← in_range (λ host. nat_lt host (length code.hosts) && not (host == me.0)
+      && is_entry_on code.entries entry.0 host) byte_at
+  given (record { 0 = host })
+
+-- ---- operations
+
+-- a variable and its value
+unfoldable pub valued_at : CodeShape → ℕ → Reader (VarId × List Node)
+valued_at code temporaries = do
+  variable ← variable_id_at (length code.variables)
+  value ← expression_at (length code.variables) temporaries
+  given (variable, value)
+
+-- a variable and another host
+unfoldable pub sent_at : CodeShape → HostId → Reader (VarId × HostId)
+sent_at code me = do
+  variable ← variable_id_at (length code.variables)
+  to ← other_host_at code me
+  given (variable, to)
+
+-- an entry on another host
+unfoldable pub entered_at : CodeShape → HostId → Reader (EntryId × HostId)
+entered_at code me = do
+  entry ← some_entry_at code
+  on ← other_host_of_entry_at code me entry
+  given (entry, on)
+
+unfoldable pub read_at : CodeShape → ℕ → Reader Op
+read_at code temporaries = do
+  field ← field_id_at code
+  index ← expression_at (length code.variables) temporaries
+  given (op.Read field index)
+
+unfoldable pub let_at : CodeShape → ℕ → Reader Op
+let_at code temporaries = do
+  to ← valued_at code temporaries
+  given (op.Let to.0 to.1)
+
+unfoldable pub put_at : CodeShape → ℕ → Reader Op
+put_at code temporaries = do
+  field ← field_id_at code
+  index ← expression_at (length code.variables) temporaries
+  value ← expression_at (length code.variables) temporaries
+  given (op.Put field index value)
+
+unfoldable pub send_at : CodeShape → HostId → Reader Op
+send_at code me = do
+  what ← sent_at code me
+  given (op.Send what.0 what.1)
+
+unfoldable pub frame_at : CodeShape → HostId → Reader Op
+frame_at code me = do
+  site ← own_site_at code me
+  given (op.Frame site)
+
+unfoldable pub arg_at : CodeShape → ℕ → Reader Op
+arg_at code temporaries = do
+  to ← valued_at code temporaries
+  given (op.Arg to.0 to.1)
+
+unfoldable pub pass_at : CodeShape → HostId → Reader Op
+pass_at code me = do
+  what ← sent_at code me
+  given (op.Pass what.0 what.1)
+
+unfoldable pub push_at : CodeShape → HostId → Reader Op
+push_at code me = do
+  entry ← own_entry_at code me
+  given (op.Push entry)
+
+unfoldable pub ask_at : CodeShape → HostId → Reader Op
+ask_at code me = do
+  where_to ← entered_at code me
+  given (op.Ask where_to.0 where_to.1)
+
+unfoldable pub go_at : CodeShape → HostId → Reader Op
+go_at code me = do
+  where_to ← entered_at code me
+  given (op.Go where_to.0 where_to.1)
+
+unfoldable pub call_at : CodeShape → Reader Op
+call_at code = do
+  entry ← some_entry_at code
+  on ← host_of_entry_at code entry
+  given (op.Call entry on)
+
+unfoldable pub ret_at : CodeShape → ℕ → Reader Op
+ret_at code temporaries = do
+  to ← valued_at code temporaries
+  given (op.Ret to.0 to.1)
+
+-- a host has so many instructions
+unfoldable pub branch_at : CodeShape → ℕ → ℕ → Reader Op
+branch_at code temporaries places = do
+  guard ← expression_at (length code.variables) temporaries
+  target ← index_at places
+  given (op.Branch guard target)
+
+-- what follows the first byte of an operation
+unfoldable pub operation_of : CodeShape → HostId → ℕ → ℕ → ℕ → ℕ → Reader Op
+operation_of code me temporaries places at byte =
+    if byte == 1 then read_at code temporaries
+    else (if byte == 2 then let_at code temporaries
+    else (if byte == 3 then put_at code temporaries
+    else (if byte == 4 then send_at code me
+    else (if byte == 5 then frame_at code me
+    else (if byte == 6 then arg_at code temporaries
+    else (if byte == 7 then pass_at code me
+    else (if byte == 8 then push_at code me
+    else (if byte == 9 then ask_at code me
+    else (if byte == 10 then go_at code me
+    else (if byte == 11 then call_at code
+    else (if byte == 12 then ret_at code temporaries
+    else (if byte == 13 then given op.Back
+    else (if byte == 14 then branch_at code temporaries places
+    else refused (fault.BadField at))))))))))))))
+
+unfoldable pub operation_at : CodeShape → HostId → ℕ → ℕ → Reader Op
+operation_at code me temporaries places = do
+  at ← place
+  byte ← byte_at
+  operation_of code me temporaries places at byte
+
+-- ---- instructions
+
+-- the operation ends a thread on this host
+abbrev pub is_leaving : Op → Bool
+is_leaving op.Back = true
+is_leaving (op.Go entry on) = true
+is_leaving _ = false
+
+-- The instruction of this number, of a host that has so many, where a thread has so many temporaries. The last one has to
+-- leave the host, and is out of range as a whole where it does not.
+unfoldable pub instruction_at : CodeShape → HostId → ℕ → ℕ → ℕ → Reader Instr
+instruction_at code me places temporaries number = do
+  at ← place
+  label ← index_at (length code.labels)
+  statement ← number_at w32
+  operation ← operation_at code me temporaries places
+  _ ← require (nat_lt (suc number) places || is_leaving operation) (fault.BadField at)
+  given (record { label = label; statement = record { 0 = statement }; op = operation })
+
+-- an instruction behind some others
+unfoldable pub next_instruction_at : CodeShape → HostId → ℕ → List Instr → Reader Instr
+next_instruction_at code me places before =
+    instruction_at code me places (temporaries_at code.entries me before (length before)) (length before)
+
+-- the instructions of a host
+unfoldable pub part_at : CodeShape → HostId → Reader (List Instr)
+part_at code me = do
+  places ← number_at w32
+  items_at (next_instruction_at code me places) [] places
+
+-- the parts of the hosts in order, behind those of some
+unfoldable pub next_part_at : CodeShape → List (List Instr) → Reader (List Instr)
+next_part_at code before = part_at code (record { 0 = length before })
+
+-- ---- the file
+
+unfoldable pub magic_at : Reader ⊤
+magic_at = do
+  bytes ← bytes_at 8
+  require (bytes_eq bytes magic) fault.BadMagic
+
+unfoldable pub version_at : Reader ⊤
+version_at = do
+  version ← number_at w16
+  require (version == 1) fault.BadVersion
+
+-- what is named by instructions, and what they are labelled with
+pub record TablesShape : Type 0 where
+  pub hosts : List CodeHostShape
+  pub labels : List Label
+  pub fields : List CodeFieldShape
+  pub variables : List CodeVariableShape
+
+unfoldable pub tables_at : Reader TablesShape
+tables_at = do
+  hosts ← hosts_at
+  labels ← list_at (λ _. label_at)
+  fields ← list_at (λ before. field_row_at (length hosts) (length labels) (elements_of before))
+  variables ← list_at (λ _. variable_row_at (length labels))
+  given (record { hosts = hosts; labels = labels; fields = fields; variables = variables })
+
+-- where threads and calls start, and how many bytes there are behind the entries
+pub record StartsShape : Type 0 where
+  pub entries : List Entry
+  pub behind : ℕ
+  pub sites : List HostId
+  pub root : HostId
+  pub main : EntryId
+
+unfoldable pub starts_at : ℕ → ℕ → Reader StartsShape
+starts_at hosts labels = do
+  entries ← list_at (λ before. entry_row_at hosts labels (is_empty before))
+  behind ← place
+  sites ← list_at (λ _. host_id_at hosts)
+  root ← root_at entries
+  main ← main_at entries root
+  given (record { entries = entries; behind = behind; sites = sites; root = root; main = main })
+
+-- a code without its instructions
+abbrev pub code_with : TablesShape → StartsShape → CodeShape
+code_with tables starts = record {
+  hosts = tables.hosts;
+  labels = tables.labels;
+  fields = tables.fields;
+  variables = tables.variables;
+  entries = starts.entries;
+  sites = starts.sites;
+  parts = [];
+  root = starts.root;
+  main = starts.main;
+}
+
+-- all that stands before the instructions, and how many bytes there are behind the entries
+unfoldable pub front_at : Reader (CodeShape × ℕ)
+front_at = do
+  _ ← magic_at
+  _ ← version_at
+  tables ← tables_at
+  starts ← starts_at (length tables.hosts) (length tables.labels)
+  given (code_with tables starts, starts.behind)
+
+unfoldable pub ended : Reader ⊤
+ended [] = Ok (tt, [])
+ended (byte ∷ bytes) = Err fault.Trailing
+
+-- how many bytes an entry has, and how many of them there are from its place on
+abbrev pub ENTRY_BYTES : ℕ
+ENTRY_BYTES = 17
+
+abbrev pub PLACE_BYTES : ℕ
+PLACE_BYTES = 16
+
+-- each of some entries, behind which there are so many bytes, stands at an instruction of its host
+unfoldable pub entries_stand : CodeShape → List Entry → ℕ → Reader ⊤
+entries_stand code [] behind = given tt
+entries_stand code (entry ∷ entries) behind = do
+  _ ← require (nat_lt entry.at (length (part_of code entry.host)))
+      (fault.BadField (PLACE_BYTES + ENTRY_BYTES * length entries + behind))
+  entries_stand code entries behind
+
+-- a code with these instructions
+abbrev pub with_parts : CodeShape → List (List Instr) → CodeShape
+with_parts code parts = record code { parts = parts }
+
+-- all of the bytes
+unfoldable pub code_at : Reader CodeShape
+code_at = do
+  front ← front_at
+  parts ← items_at (next_part_at front.0) [] (length front.0.hosts)
+  _ ← ended
+  _ ← entries_stand (with_parts front.0 parts) front.0.entries front.1
+  given (with_parts front.0 parts)

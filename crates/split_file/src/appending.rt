@@ -1,0 +1,97 @@
+//! Numbers, texts and labels at the end of some bytes.
+#![tactic(auto, using(crate::proofs::Appends::appends), unfolding(crate::specs::Spelling::number_bytes, crate::specs::Spelling::word_bytes))]
+
+ghost use Rattle.std.specs.Prelude.{◌≡◌, ◌++◌, ◌∷◌, [], ◌≤◌, length, OnOk};
+ghost use Rattle.std.specs.List.{flat_map};
+ghost use Rattle.host_code.specs.declared.code.TheConstants.{MOST_ITEMS};
+ghost use Rattle.split_file.specs.Spelling.{number_bytes, word_bytes, integer_bytes, text_bytes, flag_bytes};
+ghost use Rattle.split_file.specs.Spelling.{host_id_bytes, label_bytes};
+
+use js_base::{HostId, OutOfMemory};
+use label_lattice::Label;
+
+/// Adds a byte.
+pub fn put_byte(out: &mut Vec<u8>, byte: u8) -> Result<(), OutOfMemory>
+    ensures { OnOk result (out.new.items ≡ out.old.items ++ byte ∷ []) }
+{
+    out.push(byte)?;
+    Ok(())
+}
+
+/// Adds a number of four bytes.
+pub fn put_number(out: &mut Vec<u8>, number: u32) -> Result<(), OutOfMemory>
+    ensures { OnOk result (out.new.items ≡ out.old.items ++ number_bytes number) }
+{
+    out.extend_from_slice(&number.to_be_bytes())?;
+    Ok(())
+}
+
+/// Adds a number of eight bytes.
+pub fn put_word(out: &mut Vec<u8>, word: u64) -> Result<(), OutOfMemory>
+    ensures { OnOk result (out.new.items ≡ out.old.items ++ word_bytes word) }
+{
+    out.extend_from_slice(&word.to_be_bytes())?;
+    Ok(())
+}
+
+/// Adds a signed number of eight bytes.
+pub fn put_integer(out: &mut Vec<u8>, number: i64) -> Result<(), OutOfMemory>
+    ensures { OnOk result (out.new.items ≡ out.old.items ++ integer_bytes number) }
+{
+    out.extend_from_slice(&number.to_be_bytes())?;
+    Ok(())
+}
+
+/// Adds a byte that says yes or no.
+pub fn put_flag(out: &mut Vec<u8>, flag: bool) -> Result<(), OutOfMemory>
+    ensures { OnOk result (out.new.items ≡ out.old.items ++ flag_bytes flag) }
+{
+    put_byte(out, u8::from(flag))
+}
+
+/// Adds the number of a host.
+pub fn put_host_id(out: &mut Vec<u8>, host: HostId) -> Result<(), OutOfMemory>
+    ensures { OnOk result (out.new.items ≡ out.old.items ++ host_id_bytes host) }
+{
+    put_byte(out, host.0)
+}
+
+/// Adds a count of items.
+#[tactic(auto)]
+pub fn put_count(out: &mut Vec<u8>, count: usize) -> Result<(), OutOfMemory>
+    requires { count ≤ MOST_ITEMS }
+    ensures { OnOk result (out.new.items ≡ out.old.items ++ number_bytes count) }
+{
+    put_number(out, count as u32)
+}
+
+/// Adds a text, behind its length.
+#[tactic(auto, using(crate::proofs::Appends::appends))]
+pub fn put_text(out: &mut Vec<u8>, text: &[u8]) -> Result<(), OutOfMemory>
+    requires { length text.now ≤ MOST_ITEMS }
+    ensures { OnOk result (out.new.items ≡ out.old.items ++ text_bytes text.now) }
+{
+    put_count(out, text.len())?;
+    out.extend_from_slice(text)?;
+    Ok(())
+}
+
+/// Adds words.
+#[tactic(auto, using(crate::proofs::Appends::appends))]
+fn put_words(out: &mut Vec<u8>, words: &[u64]) -> Result<(), OutOfMemory>
+    ensures { OnOk result (out.new.items ≡ out.old.items ++ flat_map word_bytes words.now) }
+{
+    for word in words {
+        put_word(out, *word)?;
+    }
+    Ok(())
+}
+
+/// Adds a label.
+#[tactic(auto, using(crate::proofs::Appends::appends))]
+pub fn put_label(out: &mut Vec<u8>, label: &Label) -> Result<(), OutOfMemory>
+    ensures { OnOk result (out.new.items ≡ out.old.items ++ label_bytes label.now) }
+{
+    put_words(out, label.rows())?;
+    put_word(out, label.trust())
+}
