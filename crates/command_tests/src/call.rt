@@ -42,14 +42,14 @@ fn listed(alloc: Global, call: Option<u64>) -> Result<Vec<u64>, AllocError> {
     Ok(calls)
 }
 
-/// The files `P`, `H` and `E`, of which some may be absent, which fail at the call of this number.
+/// The files `P`, `H`, `E` and `F`, of which some may be absent, which fail at the call of this number.
 fn files(
     alloc: Global,
-    held: [Option<&str>; 3],
+    held: [Option<&str>; 4],
     fails: Option<u64>,
 ) -> Result<MemFiles, AllocError> {
     let mut named = Vec::new(alloc);
-    for (name, text) in ["P", "H", "E"].into_iter().zip(held) {
+    for (name, text) in ["P", "H", "E", "F"].into_iter().zip(held) {
         if let Some(text) = text {
             let bytes = Vec::from_slice(alloc, text.as_bytes())?;
             named.push((String::from_str(alloc, name)?, bytes))?;
@@ -63,6 +63,17 @@ pub fn call(
     alloc: Global,
     words: &str,
     held: [Option<&str>; 3],
+    failing: [Option<u64>; 3],
+) -> Result<Ended, AllocError> {
+    let [program, hosts, script] = held;
+    call_with(alloc, words, [program, hosts, script, None], failing)
+}
+
+/// The same, with one more file.
+fn call_with(
+    alloc: Global,
+    words: &str,
+    held: [Option<&str>; 4],
     failing: [Option<u64>; 3],
 ) -> Result<Ended, AllocError> {
     let mut list = Vec::new(alloc);
@@ -80,6 +91,13 @@ pub fn call(
 /// Calls `jifsplit` on `replay P H E`, with no fault of the outside.
 pub fn replay(alloc: Global, held: [Option<&str>; 3]) -> Result<Ended, AllocError> {
     call(alloc, "replay P H E", held, [None, None, None])
+}
+
+/// Calls `jifsplit` on `compare P H E F`, with no fault of the outside.
+pub fn compare(alloc: Global, held: [&str; 4]) -> Result<Ended, AllocError> {
+    let [program, hosts, one, other] = held;
+    let held = [Some(program), Some(hosts), Some(one), Some(other)];
+    call_with(alloc, "compare P H E F", held, [None, None, None])
 }
 
 /// A text with so many copies of a filler in its middle.

@@ -6,6 +6,8 @@ mod answers;
 #[cfg(test)]
 mod call;
 #[cfg(test)]
+mod comparing;
+#[cfg(test)]
 mod drives;
 #[cfg(test)]
 mod host_files;

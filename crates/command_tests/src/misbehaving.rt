@@ -6,15 +6,15 @@ use std::alloc::Global;
 use std::test::Fail;
 
 /// T counts its `n` to 4, and A, which alone may hold `s`, adds each `n` to it.
-const SUM: &str =
+pub const SUM: &str =
     "int{?:Alice} n;\nint{Alice:} s;\nvoid main{?:Alice}() {\n  while (n < 4) {\n    s = s + n;\n    \
     n = n + 1;\n  }\n}\n";
 
-const SUM_HOSTS: &str = "principals = ['Alice']\n[[host]]\nname = 'T'\nlabel = '{?:Alice}'\n\
+pub const SUM_HOSTS: &str = "principals = ['Alice']\n[[host]]\nname = 'T'\nlabel = '{?:Alice}'\n\
     [[host]]\nname = 'A'\nlabel = '{Alice:}'\n";
 
 /// T counts its `k` down, and P adds one to its `p`.
-const COUNTER: &str = "int{Alice:; ?:Alice} k;\nint{Bob:} p;\nvoid main{?:Alice}() {\n  \
+pub const COUNTER: &str = "int{Alice:; ?:Alice} k;\nint{Bob:} p;\nvoid main{?:Alice}() {\n  \
     while (k > 0) { k = k - 1; }\n  p = p + 1;\n  k = 0;\n}\n";
 
 /// Alice trusts Q as much as T, but Q may not see what is hers.
@@ -23,10 +23,10 @@ const COUNTER_HOSTS: &str = "principals = ['Alice', 'Bob']\n\
     [[host]]\nname = 'Q'\nlabel = '{?:Alice}'\n";
 
 /// T reads `n`, branches, pushes the loop head and where it goes on, and hands that token to A.
-const FIVE_TURNS: &str = "turn T\nturn T\nturn T\nturn T\nturn T\n";
+pub const FIVE_TURNS: &str = "turn T\nturn T\nturn T\nturn T\nturn T\n";
 
 /// T adds one to `n` and goes back to the loop head.
-const THREE_TURNS: &str = "turn T\nturn T\nturn T\n";
+pub const THREE_TURNS: &str = "turn T\nturn T\nturn T\n";
 
 const FIRST_SENT: &str = "sent 0 T A: rgoto 0.0 e4 T:0.0:e3:0\n";
 

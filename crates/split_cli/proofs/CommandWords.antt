@@ -2,7 +2,7 @@
 use Rattle.std.proofs.Common.{◌≡◌, ◌≢◌, ℕ, List, [], ◌∷◌, length, get_or, arith, map, sym, ◌∙◌, String, Global}
 use Rattle.std.specs.Prelude.{string_bytes, codes}
 use Rattle.std.specs.Fmt.{decimal}
-use Rattle.split_cli.specs.Commands.{CommandShape, Check, Run, Replay, Drive, IsCommand, IsStepCount, words_of}
+use Rattle.split_cli.specs.Commands.{CommandShape, Check, Run, Replay, Drive, Compare, IsCommand, IsStepCount, words_of}
 
 -- texts, by their places
 pub three : (xs : List (String Global)) (a b c : String Global) → length xs ≡ 3 → a ≡ get_or xs 0 a →
@@ -48,30 +48,39 @@ pub five_same : (words : List (List ℕ)) (a b c d e v p h s n : List ℕ) → w
     p ≡ b → h ≡ c → s ≡ d → n ≡ e → words ≡ v ∷ p ∷ h ∷ s ∷ n ∷ []
 five_same words a b c d e v p h s n is pa pb pc pd pe = cc
 
--- five words of which the last is no number of steps ask for nothing
+-- five words of which the last is no number of steps ask for nothing, where the first is not `compare`
 last_word : (a b c d e v p h s n : List ℕ) →
     ◌≡◌ {A = List (List ℕ)} (a ∷ b ∷ c ∷ d ∷ e ∷ []) (v ∷ p ∷ h ∷ s ∷ n ∷ []) → e ≡ n
 last_word a b c d e v p h s n is = cc
 
-pub no_steps : (words : List (List ℕ)) (a b c d e last : List ℕ) → words ≡ a ∷ b ∷ c ∷ d ∷ e ∷ [] → last ≡ e →
+first_word : (a b c d e v p h s t : List ℕ) →
+    ◌≡◌ {A = List (List ℕ)} (a ∷ b ∷ c ∷ d ∷ e ∷ []) (v ∷ p ∷ h ∷ s ∷ t ∷ []) → a ≡ v
+first_word a b c d e v p h s t is = cc
+
+pub no_steps : (words : List (List ℕ)) (a b c d e last : List ℕ) → words ≡ a ∷ b ∷ c ∷ d ∷ e ∷ [] →
+    a ≢ codes "compare" → last ≡ e →
     ((steps : ℕ) → IsStepCount steps → last ≢ decimal steps) → (command : CommandShape) → IsCommand command →
     words ≢ words_of command
-no_steps words a b c d e last is last_is none (Check program hosts) command same = let never : ⊥ = cc in never
-no_steps words a b c d e last is last_is none (Run program hosts start steps) command same =
+no_steps words a b c d e last is not_compare last_is none (Check program hosts) command same = let never : ⊥ = cc in never
+no_steps words a b c d e last is not_compare last_is none (Run program hosts start steps) command same =
     none steps command (last_is
     ∙ last_word a b c d e (codes "run") program hosts start (decimal steps) (sym is ∙ same))
-no_steps words a b c d e last is last_is none (Replay program hosts events) command same =
+no_steps words a b c d e last is not_compare last_is none (Replay program hosts events) command same =
     let never : ⊥ = cc in never
-no_steps words a b c d e last is last_is none (Drive program hosts start events) command same =
+no_steps words a b c d e last is not_compare last_is none (Drive program hosts start events) command same =
     none events command (last_is
     ∙ last_word a b c d e (codes "drive") program hosts start (decimal events) (sym is ∙ same))
+no_steps words a b c d e last is not_compare last_is none (Compare program hosts one other) command same =
+    not_compare (first_word a b c d e (codes "compare") program hosts one other (sym is ∙ same))
 
--- nor do five words that begin with no command that has a number
-pub no_verb : (a b c d e : List ℕ) → a ≢ codes "run" → a ≢ codes "drive" → (command : CommandShape) →
-    IsCommand command → ◌≢◌ {A = List (List ℕ)} (a ∷ b ∷ c ∷ d ∷ e ∷ []) (words_of command)
-no_verb a b c d e not_run not_drive (Check program hosts) command same = let never : ⊥ = cc in never
-no_verb a b c d e not_run not_drive (Run program hosts start steps) command same =
+-- nor do five words that begin with no command that has five
+pub no_verb : (a b c d e : List ℕ) → a ≢ codes "compare" → a ≢ codes "run" → a ≢ codes "drive" →
+    (command : CommandShape) → IsCommand command → ◌≢◌ {A = List (List ℕ)} (a ∷ b ∷ c ∷ d ∷ e ∷ []) (words_of command)
+no_verb a b c d e not_compare not_run not_drive (Check program hosts) command same = let never : ⊥ = cc in never
+no_verb a b c d e not_compare not_run not_drive (Run program hosts start steps) command same =
     not_run (let first : a ≡ codes "run" = cc in first)
-no_verb a b c d e not_run not_drive (Replay program hosts events) command same = let never : ⊥ = cc in never
-no_verb a b c d e not_run not_drive (Drive program hosts start events) command same =
+no_verb a b c d e not_compare not_run not_drive (Replay program hosts events) command same = let never : ⊥ = cc in never
+no_verb a b c d e not_compare not_run not_drive (Drive program hosts start events) command same =
     not_drive (let first : a ≡ codes "drive" = cc in first)
+no_verb a b c d e not_compare not_run not_drive (Compare program hosts one other) command same =
+    not_compare (let first : a ≡ codes "compare" = cc in first)

@@ -1,12 +1,15 @@
 pub mod Accepted
+pub mod AlikeLists
 pub mod Answering
-pub mod BlockLines
+pub mod BlockParts
 pub mod CommandWords
+pub mod CompareDue
 pub mod Completeness
 pub mod DriveDue
 pub mod DriveEnds
 pub mod Faithful
 pub mod FirstHosts
+pub mod FollowedEvents
 pub mod LabelCounts
 pub mod LineCounts
 pub mod ListLimits
@@ -17,6 +20,7 @@ pub mod NativeParts
 pub mod NativePrograms
 pub mod NativeSources
 pub mod NextEvents
+pub mod OneCompare
 pub mod OneDrive
 pub mod OnePlaced
 pub mod OneReplay
@@ -37,7 +41,9 @@ pub mod Results
 pub mod RunDue
 pub mod RunReport
 pub mod SeenItems
+pub mod SameMessages
 pub mod SetSources
+pub mod SomeCompare
 pub mod SomeDrive
 pub mod SomePlaced
 pub mod SomeReplay

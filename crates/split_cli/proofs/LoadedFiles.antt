@@ -26,6 +26,15 @@ three_names one two three program hosts script first second third =
     ∙ ap (λ (name : List ℕ). program ∷ name ∷ three.name.now ∷ []) second
     ∙ ap (λ (name : List ℕ). program ∷ hosts ∷ name ∷ []) third
 
+pub four_names : (one two three four : Asked) (program hosts script other : List ℕ) → one.name.now ≡ program →
+    two.name.now ≡ hosts → three.name.now ≡ script → four.name.now ≡ other →
+    names_asked (one ∷ two ∷ three ∷ four ∷ []) ≡ program ∷ hosts ∷ script ∷ other ∷ []
+four_names one two three four program hosts script other first second third fourth =
+    ap (λ (name : List ℕ). name ∷ two.name.now ∷ three.name.now ∷ four.name.now ∷ []) first
+    ∙ ap (λ (name : List ℕ). program ∷ name ∷ three.name.now ∷ four.name.now ∷ []) second
+    ∙ ap (λ (name : List ℕ). program ∷ hosts ∷ name ∷ four.name.now ∷ []) third
+    ∙ ap (λ (name : List ℕ). program ∷ hosts ∷ script ∷ name ∷ []) fourth
+
 -- a command stops where one of its files was not loaded
 pub loading_stops : (command : CommandShape) (names : List (List ℕ)) (files : FilesChange) (why : Stop) →
     names ≡ files_of command → StopsWith (StopsLoading names files) why →
@@ -51,6 +60,11 @@ all_due command files bytes result told loads faults ends =
       loaded verdict (record { bytes = bytes; told = told; due = due }),
       record { loads = loads; no_fault = faults },
     )) ends
+
+-- a count after as many more, in other words; for numbers that are no literals, of which the counts would be computed
+counted_as : (most number before after : ℕ) → after ≡ counted_by most before → number ≡ most →
+    after ≡ counted_by number before
+counted_as most number before after is same = is ∙ ap (λ (n : ℕ). counted_by n before) (sym same)
 
 -- what was asked for and given, as a file of a command
 given_file : (held : Option (List ℕ → Option (List ℕ))) (one : Asked) (name : List ℕ) (most : ℕ) (given : Loaded) →
@@ -108,9 +122,48 @@ three_due command program hosts script one two three files (x ∷ y ∷ z ∷ []
     let names_told : AreTold files.held (files_of command) (first.0 ∷ second.0 ∷ third.0 ∷ []) =
     subst (λ (all_names : List (List ℕ)). AreTold files.held all_names (first.0 ∷ second.0 ∷ third.0 ∷ [])) (sym names)
     told in
-    let count : length (files_of command) ≡ 3 = ap length names in
     all_due command files (first.0 ∷ second.0 ∷ third.0 ∷ []) result names_told
-    (loads ∙ ap (λ (n : ℕ). counted_by n files.loads_before) (sym count)) faults
+    (counted_as 3 (length (files_of command)) files.loads_before files.loads_after loads (ap length names)) faults
     (due first.0 second.0 third.0 (subst (IsLoaded PROGRAM_BYTES first.0) (sym pa) first.2)
     (subst (IsLoaded HOSTS_BYTES second.0) (sym pb) second.2)
     (subst (IsLoaded SCRIPT_BYTES third.0) (sym pc) third.2))
+
+-- a command with a program, a host file and two scripts
+pub four_due : (command : CommandShape) (program hosts script other : List ℕ) (one two three four : Asked)
+    (files : FilesChange) (given : List Loaded) (p h s t : Loaded) (result : Result Verdict Stop) →
+    files_of command ≡ program ∷ hosts ∷ script ∷ other ∷ [] →
+    AllZip (GivesAsked files.held) (one ∷ two ∷ three ∷ four ∷ []) given → p ≡ get_or given 0 p → h ≡ get_or given 1 h →
+    s ≡ get_or given 2 s → t ≡ get_or given 3 t →
+    one.name.now ≡ program → one.most ≡ PROGRAM_BYTES → two.name.now ≡ hosts → two.most ≡ HOSTS_BYTES →
+    three.name.now ≡ script → three.most ≡ SCRIPT_BYTES → four.name.now ≡ other → four.most ≡ SCRIPT_BYTES →
+    files.loads_after ≡ counted_by 4 files.loads_before → files.faults_after ≡ files.faults_before →
+    ((b c d e : List ℕ) → IsLoaded PROGRAM_BYTES b p → IsLoaded HOSTS_BYTES c h → IsLoaded SCRIPT_BYTES d s →
+    IsLoaded SCRIPT_BYTES e t → EndsIn (DueForBytes command (b ∷ c ∷ d ∷ e ∷ [])) result) →
+    EndsIn (IsDueForCommand command files) result
+four_due command program hosts script other one two three four files [] p h s t result names all pa pb pc pd na ma nb
+    mb nc mc nd md loads faults due = absurd all
+four_due command program hosts script other one two three four files (x ∷ []) p h s t result names all pa pb pc pd na
+    ma nb mb nc mc nd md loads faults due = absurd all.1
+four_due command program hosts script other one two three four files (x ∷ y ∷ []) p h s t result names all pa pb pc pd
+    na ma nb mb nc mc nd md loads faults due = absurd all.1.1
+four_due command program hosts script other one two three four files (x ∷ y ∷ z ∷ []) p h s t result names all pa pb pc
+    pd na ma nb mb nc mc nd md loads faults due = absurd all.1.1.1
+four_due command program hosts script other one two three four files (x ∷ y ∷ z ∷ w ∷ v ∷ more) p h s t result names all
+    pa pb pc pd na ma nb mb nc mc nd md loads faults due = absurd all.1.1.1.1
+four_due command program hosts script other one two three four files (x ∷ y ∷ z ∷ w ∷ []) p h s t result names all pa pb
+    pc pd na ma nb mb nc mc nd md loads faults due =
+    let first = given_file files.held one program PROGRAM_BYTES x na ma all.0 in
+    let second = given_file files.held two hosts HOSTS_BYTES y nb mb all.1.0 in
+    let third = given_file files.held three script SCRIPT_BYTES z nc mc all.1.1.0 in
+    let fourth = given_file files.held four other SCRIPT_BYTES w nd md all.1.1.1.0 in
+    let bytes : List (List ℕ) = first.0 ∷ second.0 ∷ third.0 ∷ fourth.0 ∷ [] in
+    let told : AreTold files.held (program ∷ hosts ∷ script ∷ other ∷ []) bytes =
+    (first.1, (second.1, (third.1, (fourth.1, tt)))) in
+    let names_told : AreTold files.held (files_of command) bytes =
+    subst (λ (all_names : List (List ℕ)). AreTold files.held all_names bytes) (sym names) told in
+    all_due command files bytes result names_told
+    (counted_as 4 (length (files_of command)) files.loads_before files.loads_after loads (ap length names)) faults
+    (due first.0 second.0 third.0 fourth.0 (subst (IsLoaded PROGRAM_BYTES first.0) (sym pa) first.2)
+    (subst (IsLoaded HOSTS_BYTES second.0) (sym pb) second.2)
+    (subst (IsLoaded SCRIPT_BYTES third.0) (sym pc) third.2)
+    (subst (IsLoaded SCRIPT_BYTES fourth.0) (sym pd) fourth.2))

@@ -32,7 +32,7 @@ never_both code world after event why laws step stops =
     let goes = laws.not_refused code world after event step in
     let no : ⊥ = cc (goes, stops) in no
 
-refused_once : StepLaws → (code : CodeShape) (world : WorldShape) (said : List (ℕ × Event)) (at other : ℕ × Event)
+pub refused_once : StepLaws → (code : CodeShape) (world : WorldShape) (said : List (ℕ × Event)) (at other : ℕ × Event)
     (why also : Refusal) → IsRefusedAt code world said at why → IsRefusedAt code world said other also →
     AreOne at other why also
 refused_once laws code world [] at other why also one two = absurd one
@@ -51,7 +51,7 @@ refused_once laws code world (event ∷ said) at other why also one two =
     (sym (laws.one code world past.0 later.0 event.1 past.1 later.1)) later.2)) two)
     one
 
-ran_or_refused : StepLaws → (code : CodeShape) (world last : WorldShape) (said : List (ℕ × Event)) (at : ℕ × Event)
+pub ran_or_refused : StepLaws → (code : CodeShape) (world last : WorldShape) (said : List (ℕ × Event)) (at : ℕ × Event)
     (why : Refusal) → IsRun code world (events_in said) last → ¬ IsRefusedAt code world said at why
 ran_or_refused laws code world last [] at why ran stops = stops
 ran_or_refused laws code world last (event ∷ said) at why ran stops =
@@ -84,7 +84,7 @@ events_once laws file code world said _ _ (refused at why stops) (refused other 
     ap (λ (it : ℕ × Event). stop_with {X = WorldShape} (event_refused file it why)) one.places
     ∙ ap (λ (cause : Refusal). stop_with {X = WorldShape} (event_refused file other cause)) one.causes
 
-script_once : (file script : List ℕ) (code : CodeShape) → IsOne (ScriptRead file script code)
+pub script_once : (file script : List ℕ) (code : CodeShape) → IsOne (ScriptRead file script code)
 script_once file script code _ _ (long more) (long also) = refl
 script_once file script code _ _ (long more) (bad_line line short is) = absurd (omega arith)
 script_once file script code _ _ (long more) (read said short is) = absurd (omega arith)

@@ -1,24 +1,26 @@
 -- For words and for files that tell what they hold, one verdict is due.
 use Rattle.std.proofs.Common.{◌≡◌, ℕ, zero, suc, ◌+◌, ◌<◌, List, [], ◌∷◌, Option, Some, None, refl, sym, ap, ◌∙◌}
-use Rattle.std.proofs.Common.{subst, ⊎_elim, arith}
+use Rattle.std.proofs.Common.{codes, subst, ⊎_elim, arith}
 use Rattle.std.specs.Prelude.{IsSome}
 use Rattle.std.specs.Fmt.{decimal}
 use Rattle.std.specs.List.{AllZip, AllByRecursion}
 use Rattle.std.proofs.lemmas.Bool.{false≢true}
 use Rattle.std.proofs.lemmas.Fmt.{decimal_injective}
 use Rattle.js_base.specs.Counts.{last_count, Rose}
-use Rattle.split_cli.specs.Commands.{CommandShape, Check, Run, Replay, Drive, IsStepCount, IsCommand, words_of}
-use Rattle.split_cli.specs.Commands.{files_of}
+use Rattle.split_cli.specs.Commands.{CommandShape, Check, Run, Replay, Drive, Compare, IsStepCount, IsCommand}
+use Rattle.split_cli.specs.Commands.{words_of, files_of}
 use Rattle.split_cli.specs.Verdicts.{VerdictShape, no_such_file}
 use Rattle.split_cli.specs.Loads.{FilesChange, Told, IsHeld, counted_by, IsFirstAbsent, IsFileFault}
 use Rattle.split_cli.specs.Sources.{Sources}
 use Rattle.split_cli.specs.PlacedSources.{PlacedSources}
 use Rattle.split_cli.specs.Check.{plan_report}
+use Rattle.split_cli.specs.Compare.{DueForCompare}
 use Rattle.split_cli.specs.PlainRun.{DueForRun}
 use Rattle.split_cli.specs.Replay.{DueForReplay}
 use Rattle.split_cli.specs.Drive.{DueForDrive}
 use Rattle.split_cli.specs.Due.{DueForBytes, DueForFiles, DueForCommand, absent, loaded, Due, no_words, for_command}
 use Rattle.split_cli.specs.Due.{IsDue}
+use Rattle.split_cli.proofs.OneCompare.{compare_once}
 use Rattle.split_cli.proofs.OneDrive.{drive_once}
 use Rattle.split_cli.proofs.OnePlaced.{PlaceLaws, places_once}
 use Rattle.split_cli.proofs.OneReplay.{StepLaws, replay_once}
@@ -52,6 +54,10 @@ bytes_once laws (Drive program hosts start events) (p ∷ h ∷ s ∷ []) first 
     one_due (PlacedSources p h) (DueForDrive start s events) first second
     (places_once laws.sources laws.places p h)
     (λ placed was. drive_once laws.steps.one start s events placed first second) one two
+bytes_once laws (Compare program hosts name other) (p ∷ h ∷ s ∷ t ∷ []) first second one two =
+    one_due (PlacedSources p h) (DueForCompare name s other t) first second
+    (places_once laws.sources laws.places p h)
+    (λ placed was. compare_once laws.steps name s other t placed first second) one two
 bytes_once laws (Check program hosts) [] first second one two = absurd one
 bytes_once laws (Check program hosts) (p ∷ []) first second one two = absurd one
 bytes_once laws (Check program hosts) (p ∷ h ∷ s ∷ more) first second one two = absurd one
@@ -67,6 +73,11 @@ bytes_once laws (Drive program hosts start events) [] first second one two = abs
 bytes_once laws (Drive program hosts start events) (p ∷ []) first second one two = absurd one
 bytes_once laws (Drive program hosts start events) (p ∷ h ∷ []) first second one two = absurd one
 bytes_once laws (Drive program hosts start events) (p ∷ h ∷ s ∷ x ∷ more) first second one two = absurd one
+bytes_once laws (Compare program hosts name other) [] first second one two = absurd one
+bytes_once laws (Compare program hosts name other) (p ∷ []) first second one two = absurd one
+bytes_once laws (Compare program hosts name other) (p ∷ h ∷ []) first second one two = absurd one
+bytes_once laws (Compare program hosts name other) (p ∷ h ∷ s ∷ []) first second one two = absurd one
+bytes_once laws (Compare program hosts name other) (p ∷ h ∷ s ∷ t ∷ x ∷ more) first second one two = absurd one
 
 -- ---- what is due for a command
 
@@ -165,6 +176,7 @@ one_command (Check p h) (Check q i) one two same = cc
 one_command (Check p h) (Run q i t n) one two same = absurd (let no = same in cc)
 one_command (Check p h) (Replay q i f) one two same = absurd (let no = same in cc)
 one_command (Check p h) (Drive q i t n) one two same = absurd (let no = same in cc)
+one_command (Check p h) (Compare q i f g) one two same = absurd (let no = same in cc)
 one_command (Run p h s n) (Check q i) one two same = absurd (let no = same in cc)
 one_command (Run p h s n) (Run q i t m) one two same =
     let steps : decimal n ≡ decimal m = cc in
@@ -175,10 +187,13 @@ one_command (Run p h s n) (Run q i t m) one two same =
     cc
 one_command (Run p h s n) (Replay q i f) one two same = absurd (let no = same in cc)
 one_command (Run p h s n) (Drive q i t m) one two same = absurd (let no = same in cc)
+one_command (Run p h s n) (Compare q i f g) one two same =
+    absurd (let first : codes "run" ≡ codes "compare" = cc in cc)
 one_command (Replay p h e) (Check q i) one two same = absurd (let no = same in cc)
 one_command (Replay p h e) (Run q i t n) one two same = absurd (let no = same in cc)
 one_command (Replay p h e) (Replay q i f) one two same = cc
 one_command (Replay p h e) (Drive q i t n) one two same = absurd (let no = same in cc)
+one_command (Replay p h e) (Compare q i f g) one two same = absurd (let no = same in cc)
 one_command (Drive p h s n) (Check q i) one two same = absurd (let no = same in cc)
 one_command (Drive p h s n) (Run q i t m) one two same = absurd (let no = same in cc)
 one_command (Drive p h s n) (Replay q i f) one two same = absurd (let no = same in cc)
@@ -189,6 +204,15 @@ one_command (Drive p h s n) (Drive q i t m) one two same =
     let start : s ≡ t = cc in
     let number : n ≡ m = same_steps n m one two events in
     cc
+one_command (Drive p h s n) (Compare q i f g) one two same =
+    absurd (let first : codes "drive" ≡ codes "compare" = cc in cc)
+one_command (Compare p h e f) (Check q i) one two same = absurd (let no = same in cc)
+one_command (Compare p h e f) (Run q i t m) one two same =
+    absurd (let first : codes "compare" ≡ codes "run" = cc in cc)
+one_command (Compare p h e f) (Replay q i g) one two same = absurd (let no = same in cc)
+one_command (Compare p h e f) (Drive q i t m) one two same =
+    absurd (let first : codes "compare" ≡ codes "drive" = cc in cc)
+one_command (Compare p h e f) (Compare q i g j) one two same = cc
 
 pub due_once : AllLaws → (words : List (List ℕ)) (holds : List ℕ → Option (List ℕ)) (number other : ℕ)
     (first second : VerdictShape) →

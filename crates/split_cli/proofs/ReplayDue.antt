@@ -17,7 +17,7 @@ use Rattle.split_cli.specs.declared.load.Loaded.TheVariants.{TooLong}
 use Rattle.split_cli.specs.Drive.{code_of, first_world}
 use Rattle.split_cli.specs.Loading.{IsLoaded}
 use Rattle.split_cli.specs.PlacedSources.{PlacedSource}
-use Rattle.split_cli.specs.Replay.{replay_text, ScriptRead, long, bad_line, read, EventsHappen, DueForReplay}
+use Rattle.split_cli.specs.Replay.{replay_text, ScriptRead, long, bad_line, read, EventsHappen, DueForReplay, DueForSaid}
 use Rattle.split_cli.specs.Stages.{Outcome, given, stopped}
 use Rattle.split_cli.specs.Verdicts.{VerdictShape, Print, too_long, no_form}
 use Rattle.split_cli.proofs.StartingDue.{AreBytes}
@@ -63,20 +63,25 @@ pub script_of_program : (file script : List ℕ) (placed : PlacedSource) (code :
 script_of_program file script placed code end same was =
     subst (λ (c : CodeShape). ScriptRead file script c end) same was
 
--- what happened in a world that is its first
-pub events_of_program : (file : List ℕ) (placed : PlacedSource) (code : CodeShape) (said : ScriptShape)
-    (first : WorldShape) (bad : ℕ) (start : List (List ℤ)) (events : List (ℕ × Event)) (end : Outcome WorldShape) →
-    code ≡ code_of placed → first ≡ world_at_start code placed.source.file.hosts bad start → bad ≡ said.bad →
-    start ≡ said.start → events ≡ said.events → EventsHappen file code first events end →
-    EventsHappen file (code_of placed) (first_world placed said.bad said.start) said.events end
-events_of_program file placed code said first bad start events end same starts bad_is start_is events_are was =
-    let world : first ≡ first_world placed said.bad said.start =
+-- a world that starts by a code that is that of the program is the first of a script
+pub first_of_program : (placed : PlacedSource) (code : CodeShape) (said : ScriptShape) (first : WorldShape) (bad : ℕ)
+    (start : List (List ℤ)) → code ≡ code_of placed →
+    first ≡ world_at_start code placed.source.file.hosts bad start → bad ≡ said.bad → start ≡ said.start →
+    first ≡ first_world placed said.bad said.start
+first_of_program placed code said first bad start same starts bad_is start_is =
     starts ∙ ap (λ (values : List (List ℤ)). world_at_start code placed.source.file.hosts bad values) start_is
     ∙ ap (λ (word : ℕ). world_at_start code placed.source.file.hosts word said.start) bad_is
-    ∙ ap (λ (c : CodeShape). world_at_start c placed.source.file.hosts said.bad said.start) same in
+    ∙ ap (λ (c : CodeShape). world_at_start c placed.source.file.hosts said.bad said.start) same
+
+-- what happened in a world that is its first
+pub events_as : (file : List ℕ) (placed : PlacedSource) (code : CodeShape) (said : ScriptShape) (first : WorldShape)
+    (events : List (ℕ × Event)) (end : Outcome WorldShape) → code ≡ code_of placed →
+    first ≡ first_world placed said.bad said.start → events ≡ said.events → EventsHappen file code first events end →
+    EventsHappen file (code_of placed) (first_world placed said.bad said.start) said.events end
+events_as file placed code said first events end same starts are was =
     subst (λ (c : CodeShape). EventsHappen file c (first_world placed said.bad said.start) said.events end) same
-    (subst (λ (w : WorldShape). EventsHappen file code w said.events end) world
-    (subst (λ (es : List (ℕ × Event)). EventsHappen file code first es end) events_are was))
+    (subst (λ (w : WorldShape). EventsHappen file code w said.events end) starts
+    (subst (λ (es : List (ℕ × Event)). EventsHappen file code first es end) are was))
 
 -- ---- what is due
 
@@ -86,30 +91,23 @@ pub script_stops : (file script : List ℕ) (placed : PlacedSource) (program : P
     DueForReplay file script placed verdict
 script_stops file script placed program verdict same was = (program, same, inr was)
 
--- where one of its events does
-pub events_stop : (file script : List ℕ) (placed : PlacedSource) (program : Program) (said : ScriptShape)
+-- where it was read
+pub script_happens : (file script : List ℕ) (placed : PlacedSource) (program : Program) (said : ScriptShape)
     (verdict : VerdictShape) → program_tree program ≡ placed.source.tree →
-    ScriptRead file script (code_of placed) (given said) →
-    EventsHappen file (code_of placed) (first_world placed said.bad said.start) said.events (stopped verdict) →
+    ScriptRead file script (code_of placed) (given said) → DueForSaid file placed said verdict →
     DueForReplay file script placed verdict
-events_stop file script placed program said verdict same was stops = (program, same, inl (said, was, inr stops))
+script_happens file script placed program said verdict same was due = (program, same, inl (said, was, due))
+
+-- where one of its events is refused
+pub events_stop : (file : List ℕ) (placed : PlacedSource) (said : ScriptShape) (verdict : VerdictShape) →
+    EventsHappen file (code_of placed) (first_world placed said.bad said.start) said.events (stopped verdict) →
+    DueForSaid file placed said verdict
+events_stop file placed said verdict stops = inr stops
 
 -- the report, where they all happen
-pub events_reported : (file script : List ℕ) (placed : PlacedSource) (program : Program) (code : CodeShape)
-    (said : ScriptShape) (last : WorldShape) (text : List ℕ) → program_tree program ≡ placed.source.tree →
-    code ≡ code_of placed → ScriptRead file script (code_of placed) (given said) →
+pub events_reported : (file : List ℕ) (placed : PlacedSource) (code : CodeShape) (said : ScriptShape)
+    (last : WorldShape) (text : List ℕ) → code ≡ code_of placed →
     EventsHappen file (code_of placed) (first_world placed said.bad said.start) said.events (given last) →
-    text ≡ replay_text code last → DueForReplay file script placed (Print Done text)
-events_reported file script placed program code said last text same code_is was happen is = (
-  program,
-  same,
-  inl (
-    said,
-    was,
-    inl (
-      last,
-      happen,
-      ap (Print Done) (is ∙ ap (λ (c : CodeShape). replay_text c last) code_is),
-    ),
-  ),
-)
+    text ≡ replay_text code last → DueForSaid file placed said (Print Done text)
+events_reported file placed code said last text same happen is =
+    inl (last, happen, ap (Print Done) (is ∙ ap (λ (c : CodeShape). replay_text c last) same))

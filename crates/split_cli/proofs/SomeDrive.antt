@@ -64,6 +64,12 @@ splits laws program hosts placed accepted =
     (laws.hosts hosts source.file read.file) (laws.short_names hosts source.file read.file)
     (laws.places (labelled_source source) placed.needs source.file placed.allowed placed.plan choice.plan)
 
+pub sound_code : CodeLaws → (program hosts : List ℕ) (placed : PlacedSource) →
+    PlacedSources program hosts (given placed) → IsSoundCode (code_of placed)
+sound_code laws program hosts placed accepted =
+    laws.sound (labelled_source placed.source) placed.needs placed.source.file placed.plan
+    (splits laws program hosts placed accepted)
+
 report_some : StepCauses → (placed : PlacedSource) (values : List (List ℤ)) (most : ℕ) →
     IsSoundCode (code_of placed) → ShapeFits (code_of placed) (first_world placed 0 values) →
     HasVerdict (IsDriveReport placed values most)
@@ -81,8 +87,7 @@ pub drive_some : SomeStart → StepCauses → CodeLaws → (program hosts : List
 drive_some starts steps laws program hosts placed accepted file start most seen =
     let tree = seen.0 in
     let code = code_of placed in
-    let sound = laws.sound (labelled_source placed.source) placed.needs placed.source.file placed.plan
-    (splits laws program hosts placed accepted) in
+    let sound = sound_code laws program hosts placed accepted in
     let due =
     some_due (StartingValues file start tree.fields.items) (λ values. IsDriveReport placed values most)
     (start_some starts file start tree.fields.items)

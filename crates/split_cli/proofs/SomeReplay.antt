@@ -32,7 +32,7 @@ script_fails file script code error.TooLong not fails = (stopped (too_long file)
 script_fails file script code (error.BadLine line) not fails =
     (stopped (no_form file line), bad_line line fails.0 fails.1)
 
-script_some : SomeScript → (file script : List ℕ) (code : CodeShape) → HasOutcome (ScriptRead file script code)
+pub script_some : SomeScript → (file script : List ℕ) (code : CodeShape) → HasOutcome (ScriptRead file script code)
 script_some law file script code =
     ⊎_elim
     (λ said. (given said.0, read said.0 said.1 said.2))

@@ -3,7 +3,8 @@ use Rattle.std.proofs.Common.{◌≡◌, ◌⊎◌, ℕ, suc, ◌+◌, List, [],
 use Rattle.std.proofs.Common.{inl, inr}
 use Rattle.std.specs.List.{AllZip}
 use Rattle.split_cli.specs.Check.{plan_report}
-use Rattle.split_cli.specs.Commands.{CommandShape, Check, Run, Replay, Drive, files_of}
+use Rattle.split_cli.specs.Commands.{CommandShape, Check, Run, Replay, Drive, Compare, files_of}
+use Rattle.split_cli.specs.Compare.{DueForCompare}
 use Rattle.split_cli.specs.Drive.{DueForDrive}
 use Rattle.split_cli.specs.Due.{DueForBytes, DueForCommand, absent, loaded, Due, no_words, for_command}
 use Rattle.split_cli.specs.Loads.{Told, IsFirstAbsent}
@@ -17,6 +18,7 @@ use Rattle.jif_tree.specs.Trees.{program_tree}
 use Rattle.split_cli.proofs.NativeParts.{IsSeen}
 use Rattle.split_cli.proofs.NativeSources.{NativeLaws, source_seen}
 use Rattle.split_cli.proofs.OneVerdict.{told_held}
+use Rattle.split_cli.proofs.SomeCompare.{CompareCauses, compare_some}
 use Rattle.split_cli.proofs.SomeDrive.{CodeLaws, drive_some}
 use Rattle.split_cli.proofs.SetSources.{source_given}
 use Rattle.split_cli.proofs.DriveEnds.{StepCauses}
@@ -36,6 +38,7 @@ pub record AllCauses : Type 0 where
   pub ends : SomeEnd
   pub scripts : SomeScript
   pub steps : StepCauses
+  pub comparing : CompareCauses
 
 -- the tree of a program with its places is that of a program of the code
 placed_seen : NativeLaws → (program hosts : List ℕ) (placed : PlacedSource) →
@@ -70,6 +73,10 @@ bytes_due laws files (Drive program hosts start events) (p ∷ h ∷ s ∷ []) h
     some_due (PlacedSources p h) (DueForDrive start s events) (places_some laws.sources laws.places p h)
     (λ placed was. drive_some laws.start laws.steps laws.code p h placed was start s events
     (placed_seen laws.code.native p h placed was))
+bytes_due laws files (Compare program hosts one other) (p ∷ h ∷ s ∷ t ∷ []) held =
+    some_due (PlacedSources p h) (DueForCompare one s other t) (places_some laws.sources laws.places p h)
+    (λ placed was. compare_some laws.comparing laws.code laws.scripts p h placed was one s other t
+    (placed_seen laws.code.native p h placed was))
 bytes_due laws files (Check program hosts) [] held = absurd held
 bytes_due laws files (Check program hosts) (p ∷ []) held = absurd held.1
 bytes_due laws files (Check program hosts) (p ∷ h ∷ s ∷ more) held = absurd held.1.1
@@ -85,6 +92,11 @@ bytes_due laws files (Drive program hosts start events) [] held = absurd held
 bytes_due laws files (Drive program hosts start events) (p ∷ []) held = absurd held.1
 bytes_due laws files (Drive program hosts start events) (p ∷ h ∷ []) held = absurd held.1.1
 bytes_due laws files (Drive program hosts start events) (p ∷ h ∷ s ∷ x ∷ more) held = absurd held.1.1.1
+bytes_due laws files (Compare program hosts one other) [] held = absurd held
+bytes_due laws files (Compare program hosts one other) (p ∷ []) held = absurd held.1
+bytes_due laws files (Compare program hosts one other) (p ∷ h ∷ []) held = absurd held.1.1
+bytes_due laws files (Compare program hosts one other) (p ∷ h ∷ s ∷ []) held = absurd held.1.1.1
+bytes_due laws files (Compare program hosts one other) (p ∷ h ∷ s ∷ t ∷ x ∷ more) held = absurd held.1.1.1.1
 
 -- ---- files of which one may be absent
 

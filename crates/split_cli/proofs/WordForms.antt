@@ -6,8 +6,8 @@ use Rattle.std.specs.Fmt.{decimal}
 use Rattle.std.specs.Str.Parse.{digits_value}
 use Rattle.std.proofs.lemmas.Fmt.{digits_value-decimal}
 use Rattle.js_base.proofs.Decisions.{Decided, same_text, less_than}
-use Rattle.split_cli.specs.Commands.{CommandShape, Check, Run, Replay, Drive, IsCommand, IsStepCount, words_of}
-use Rattle.split_cli.specs.Commands.{HaveNoForm}
+use Rattle.split_cli.specs.Commands.{CommandShape, Check, Run, Replay, Drive, Compare, IsCommand, IsStepCount}
+use Rattle.split_cli.specs.Commands.{HaveNoForm, words_of}
 use Rattle.split_cli.specs.declared.words.TheConstants.{STEPS}
 use Rattle.split_cli.proofs.StepCounts.{own, small}
 use Rattle.split_cli.proofs.CommandWords.{no_steps, no_verb}
@@ -51,46 +51,59 @@ none_asked (Check program hosts) is same = let never : ⊥ = cc in never
 none_asked (Run program hosts start steps) is same = let never : ⊥ = cc in never
 none_asked (Replay program hosts events) is same = let never : ⊥ = cc in never
 none_asked (Drive program hosts start events) is same = let never : ⊥ = cc in never
+none_asked (Compare program hosts one other) is same = let never : ⊥ = cc in never
 
 one_asked : (a : List ℕ) → HaveNoForm (a ∷ [])
 one_asked a (Check program hosts) is same = let never : ⊥ = cc in never
 one_asked a (Run program hosts start steps) is same = let never : ⊥ = cc in never
 one_asked a (Replay program hosts events) is same = let never : ⊥ = cc in never
 one_asked a (Drive program hosts start events) is same = let never : ⊥ = cc in never
+one_asked a (Compare program hosts one other) is same = let never : ⊥ = cc in never
 
 two_asked : (a b : List ℕ) → HaveNoForm (a ∷ b ∷ [])
 two_asked a b (Check program hosts) is same = let never : ⊥ = cc in never
 two_asked a b (Run program hosts start steps) is same = let never : ⊥ = cc in never
 two_asked a b (Replay program hosts events) is same = let never : ⊥ = cc in never
 two_asked a b (Drive program hosts start events) is same = let never : ⊥ = cc in never
+two_asked a b (Compare program hosts one other) is same = let never : ⊥ = cc in never
 
 three_asked : (a b c : List ℕ) → a ≢ codes "check" → HaveNoForm (a ∷ b ∷ c ∷ [])
 three_asked a b c not (Check program hosts) is same = not (let first : a ≡ codes "check" = cc in first)
 three_asked a b c not (Run program hosts start steps) is same = let never : ⊥ = cc in never
 three_asked a b c not (Replay program hosts events) is same = let never : ⊥ = cc in never
 three_asked a b c not (Drive program hosts start events) is same = let never : ⊥ = cc in never
+three_asked a b c not (Compare program hosts one other) is same = let never : ⊥ = cc in never
 
 four_asked : (a b c d : List ℕ) → a ≢ codes "replay" → HaveNoForm (a ∷ b ∷ c ∷ d ∷ [])
 four_asked a b c d not (Check program hosts) is same = let never : ⊥ = cc in never
 four_asked a b c d not (Run program hosts start steps) is same = let never : ⊥ = cc in never
 four_asked a b c d not (Replay program hosts events) is same = not (let first : a ≡ codes "replay" = cc in first)
 four_asked a b c d not (Drive program hosts start events) is same = let never : ⊥ = cc in never
+four_asked a b c d not (Compare program hosts one other) is same = let never : ⊥ = cc in never
 
 six_asked : (a b c d e f : List ℕ) (more : List (List ℕ)) → HaveNoForm (a ∷ b ∷ c ∷ d ∷ e ∷ f ∷ more)
 six_asked a b c d e f more (Check program hosts) is same = let never : ⊥ = cc in never
 six_asked a b c d e f more (Run program hosts start steps) is same = let never : ⊥ = cc in never
 six_asked a b c d e f more (Replay program hosts events) is same = let never : ⊥ = cc in never
 six_asked a b c d e f more (Drive program hosts start events) is same = let never : ⊥ = cc in never
+six_asked a b c d e f more (Compare program hosts one other) is same = let never : ⊥ = cc in never
 
 -- ---- forms
 
-counted_form : (a b c d e : List ℕ) → Decided (a ≡ codes "run") → Decided (a ≡ codes "drive") →
-    IsCountWord e ⊎ ((steps : ℕ) → IsStepCount steps → e ≢ decimal steps) →
+counted_form : (a b c d e : List ℕ) → a ≢ codes "compare" → Decided (a ≡ codes "run") →
+    Decided (a ≡ codes "drive") → IsCountWord e ⊎ ((steps : ℕ) → IsStepCount steps → e ≢ decimal steps) →
     AskFor (a ∷ b ∷ c ∷ d ∷ e ∷ []) ⊎ HaveNoForm (a ∷ b ∷ c ∷ d ∷ e ∷ [])
-counted_form a b c d e runs drives (inr none) = inr (no_steps (a ∷ b ∷ c ∷ d ∷ e ∷ []) a b c d e e refl refl none)
-counted_form a b c d e (inl is) drives (inl (steps, count, written)) = inl (Run b c d steps, count, cc)
-counted_form a b c d e (inr not) (inl is) (inl (steps, count, written)) = inl (Drive b c d steps, count, cc)
-counted_form a b c d e (inr not) (inr neither) (inl count) = inr (no_verb a b c d e not neither)
+counted_form a b c d e other runs drives (inr none) =
+    inr (no_steps (a ∷ b ∷ c ∷ d ∷ e ∷ []) a b c d e e refl other refl none)
+counted_form a b c d e other (inl is) drives (inl (steps, count, written)) = inl (Run b c d steps, count, cc)
+counted_form a b c d e other (inr not) (inl is) (inl (steps, count, written)) = inl (Drive b c d steps, count, cc)
+counted_form a b c d e other (inr not) (inr neither) (inl count) = inr (no_verb a b c d e other not neither)
+
+five_form : (a b c d e : List ℕ) → Decided (a ≡ codes "compare") →
+    AskFor (a ∷ b ∷ c ∷ d ∷ e ∷ []) ⊎ HaveNoForm (a ∷ b ∷ c ∷ d ∷ e ∷ [])
+five_form a b c d e (inl is) = inl (Compare b c d e, tt, ap (λ x. x ∷ b ∷ c ∷ d ∷ e ∷ []) is)
+five_form a b c d e (inr not) =
+    counted_form a b c d e not (same_text a (codes "run")) (same_text a (codes "drive")) (count_word e)
 
 pub words_form : (words : List (List ℕ)) → AskFor words ⊎ HaveNoForm words
 words_form [] = inr none_asked
@@ -102,6 +115,5 @@ words_form (a ∷ b ∷ c ∷ []) =
 words_form (a ∷ b ∷ c ∷ d ∷ []) =
     ⊎_elim (λ is. inl (Replay b c d, tt, ap (λ x. x ∷ b ∷ c ∷ d ∷ []) is)) (λ not. inr (four_asked a b c d not))
     (same_text a (codes "replay"))
-words_form (a ∷ b ∷ c ∷ d ∷ e ∷ []) =
-    counted_form a b c d e (same_text a (codes "run")) (same_text a (codes "drive")) (count_word e)
+words_form (a ∷ b ∷ c ∷ d ∷ e ∷ []) = five_form a b c d e (same_text a (codes "compare"))
 words_form (a ∷ b ∷ c ∷ d ∷ e ∷ f ∷ more) = inr (six_asked a b c d e f more)

@@ -9,6 +9,7 @@ pub data CommandShape : Type 0 where
   Run : (program hosts start : List ℕ) (steps : ℕ) → CommandShape
   Replay : (program hosts events : List ℕ) → CommandShape
   Drive : (program hosts start : List ℕ) (events : ℕ) → CommandShape
+  Compare : (program hosts one other : List ℕ) → CommandShape
 
 -- a number of steps or events that can be asked for
 pub record IsStepCount (steps : ℕ) : Type 0 where
@@ -21,6 +22,7 @@ IsCommand (Check program hosts) = ⊤
 IsCommand (Run program hosts start steps) = IsStepCount steps
 IsCommand (Replay program hosts events) = ⊤
 IsCommand (Drive program hosts start events) = IsStepCount events
+IsCommand (Compare program hosts one other) = ⊤
 
 -- the words that ask for it: a number is written in decimal digits, without leading zeros
 abbrev pub words_of : CommandShape → List (List ℕ)
@@ -28,6 +30,7 @@ words_of (Check program hosts) = codes "check" ∷ program ∷ hosts ∷ []
 words_of (Run program hosts start steps) = codes "run" ∷ program ∷ hosts ∷ start ∷ decimal steps ∷ []
 words_of (Replay program hosts events) = codes "replay" ∷ program ∷ hosts ∷ events ∷ []
 words_of (Drive program hosts start events) = codes "drive" ∷ program ∷ hosts ∷ start ∷ decimal events ∷ []
+words_of (Compare program hosts one other) = codes "compare" ∷ program ∷ hosts ∷ one ∷ other ∷ []
 
 -- the files that are loaded for it, in order
 abbrev pub files_of : CommandShape → List (List ℕ)
@@ -35,6 +38,7 @@ files_of (Check program hosts) = program ∷ hosts ∷ []
 files_of (Run program hosts start steps) = program ∷ hosts ∷ start ∷ []
 files_of (Replay program hosts events) = program ∷ hosts ∷ events ∷ []
 files_of (Drive program hosts start events) = program ∷ hosts ∷ start ∷ []
+files_of (Compare program hosts one other) = program ∷ hosts ∷ one ∷ other ∷ []
 
 -- the words ask for no command
 abbrev pub HaveNoForm : List (List ℕ) → Type 0

@@ -1,14 +1,15 @@
 -- What is due for words, by what the files hold and did.
 use Rattle.std.specs.Prelude.{◌≡◌, ℕ, ◌+◌, ◌⊎◌, List, [], ◌∷◌, length, Option, Some}
 use Rattle.std.specs.List.{AllZip}
-use Rattle.split_cli.specs.Commands.{CommandShape, Check, Run, Replay, Drive, IsCommand, words_of, files_of}
-use Rattle.split_cli.specs.Commands.{HaveNoForm}
+use Rattle.split_cli.specs.Commands.{CommandShape, Check, Run, Replay, Drive, Compare, IsCommand, words_of}
+use Rattle.split_cli.specs.Commands.{files_of, HaveNoForm}
 use Rattle.split_cli.specs.Verdicts.{VerdictShape, usage, no_such_file}
 use Rattle.split_cli.specs.Loads.{FilesChange, Told, LoadsWell, IsFirstAbsent, IsFileFault}
 use Rattle.split_cli.specs.Stages.{DueThen}
 use Rattle.split_cli.specs.Sources.{Sources}
 use Rattle.split_cli.specs.PlacedSources.{PlacedSources}
 use Rattle.split_cli.specs.Check.{plan_report}
+use Rattle.split_cli.specs.Compare.{DueForCompare}
 use Rattle.split_cli.specs.PlainRun.{DueForRun}
 use Rattle.split_cli.specs.Replay.{DueForReplay}
 use Rattle.split_cli.specs.Drive.{DueForDrive}
@@ -24,6 +25,8 @@ DueForBytes (Replay program hosts events) (p ∷ h ∷ e ∷ []) verdict =
     DueThen (PlacedSources p h) (DueForReplay events e) verdict
 DueForBytes (Drive program hosts start events) (p ∷ h ∷ s ∷ []) verdict =
     DueThen (PlacedSources p h) (DueForDrive start s events) verdict
+DueForBytes (Compare program hosts one other) (p ∷ h ∷ s ∷ t ∷ []) verdict =
+    DueThen (PlacedSources p h) (DueForCompare one s other t) verdict
 DueForBytes command bytes verdict = ⊥
 
 -- What is due for a command whose files are all held. Where files do not tell what they hold, they hold some bytes.

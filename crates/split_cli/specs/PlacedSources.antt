@@ -27,7 +27,7 @@ pub record PlacedSource : Type 0 where
   pub allowed : AllowedShape
   pub plan : PlanShape
 
--- these are what the program needs, which hosts may hold its parts, and its cheapest starting plan
+-- these are what the program needs, which hosts may hold its parts, and the plan that is chosen for it
 pub record AreChosen (source : Source) (placed : PlacedSource) : Type 0 where
   pub same : placed.source ≡ source
   pub needs : AreNeedsOf source.file.principals (labelled_source source) placed.needs

@@ -60,6 +60,11 @@ event_refused file at host_busy = event_host_busy file at.0
 event_refused file at not_bad = event_not_misbehaving file at.0
 event_refused file at (no_such_token count) = event_no_token file at.0 (number_presented at.1) count
 
+-- the first event that is refused is one that this verdict refuses
+abbrev pub AreRefused : (file : List ℕ) → CodeShape → WorldShape → List (ℕ × Event) → VerdictShape → Type 0
+AreRefused file code world said verdict =
+    (at : ℕ × Event) × (why : Refusal) × IsRefusedAt code world said at why × (verdict ≡ event_refused file at why)
+
 -- what is said of a world at the end of a replay
 abbrev pub replay_text : CodeShape → WorldShape → List ℕ
 replay_text code world = lines_text (world_lines code world)
@@ -89,10 +94,13 @@ abbrev pub DueForEvents : List ℕ → CodeShape → WorldShape → List (ℕ ×
 DueForEvents file code world said =
     DueThen (EventsHappen file code world said) (λ last verdict. verdict ≡ Print Done (replay_text code last))
 
+-- where this was read of the script
+abbrev pub DueForSaid : List ℕ → PlacedSource → ScriptShape → VerdictShape → Type 0
+DueForSaid file placed said =
+    DueForEvents file (code_of placed) (first_world placed said.bad said.start) said.events
+
 abbrev pub DueForScript : List ℕ → List ℕ → PlacedSource → VerdictShape → Type 0
-DueForScript file script placed =
-    DueThen (ScriptRead file script (code_of placed))
-    (λ said. DueForEvents file (code_of placed) (first_world placed said.bad said.start) said.events)
+DueForScript file script placed = DueThen (ScriptRead file script (code_of placed)) (DueForSaid file placed)
 
 -- hosts make the script happen; the tree is that of some program
 abbrev pub DueForReplay : List ℕ → List ℕ → PlacedSource → VerdictShape → Type 0

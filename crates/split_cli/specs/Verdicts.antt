@@ -195,8 +195,26 @@ event_host_busy file line = at_file_line file line (codes "host busy")
 abbrev pub event_not_misbehaving : List ℕ → ℕ → VerdictShape
 event_not_misbehaving file line = at_file_line file line (codes "not misbehaving")
 
+-- a misbehaving host may see an event of this line that the other run has not
+abbrev pub events_differ : List ℕ → ℕ → VerdictShape
+events_differ file line = at_file_line file line (codes "events differ")
+
+-- or it may see the event of this line while something secret goes on
+abbrev pub not_prompt : List ℕ → ℕ → VerdictShape
+not_prompt file line = at_file_line file line (codes "not prompt")
+
 -- an act presents the token of this number, and misbehaving hosts were sent only so many
 abbrev pub event_no_token : List ℕ → ℕ → ℕ → ℕ → VerdictShape
 event_no_token file line number count =
     at_file_line file line
     (codes "no such token " ++ (decimal number ++ (codes ", " ++ (decimal count ++ codes " sent"))))
+
+-- ---- two runs
+
+abbrev pub bad_differ : VerdictShape
+bad_differ = Refuse InputRefused (error_line (codes "the misbehaving hosts differ"))
+
+-- a field of this name starts unlike
+abbrev pub starts_differ : List ℕ → VerdictShape
+starts_differ field =
+    Refuse InputRefused (error_line (codes "starting values of " ++ (field ++ codes " differ")))

@@ -21,7 +21,7 @@ use jif_parse::named_laws;
 use jif_resolve::{limit_laws, program_laws, resolve_laws, verdict_laws as name_verdicts};
 use label_check::failure_laws;
 use need_labels::need_laws;
-use net_world::laws::{fits_laws, step_laws};
+use net_world::laws::{fits_laws, secret_laws, step_laws};
 use place_rules::place_rule_laws;
 use placement::placement_laws;
 use source_run::run_laws;
@@ -93,5 +93,6 @@ pub fn due_laws()
     split_laws();
     script_laws();
     fits_laws();
+    secret_laws();
     step_laws();
 }

@@ -2,12 +2,16 @@
 #![tactic(auto)]
 
 mod commands;
+mod comparing;
 mod driving;
+mod following;
 mod laws;
 mod load;
+mod message_parts;
 mod place_lines;
 mod placed;
 mod placed_code;
+mod releasing;
 mod replaying;
 mod row_line;
 mod scripts;

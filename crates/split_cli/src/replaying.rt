@@ -9,6 +9,7 @@ ghost use Rattle.split_cli.specs.Replay.{number_in_message, number_in_token};
 
 use event_text::{BadMessage, BadToken, Event};
 use host_code::Code;
+use js_base::OutOfMemory;
 use net_world::laws::fits_laws;
 use net_world::{EventError, World};
 
@@ -25,6 +26,17 @@ pub enum ReplayError {
     /// The act on the line presents the token of the first number, and misbehaving hosts were sent so many as the
     /// second says.
     NoSuchToken(u32, u64, u64),
+}
+
+impl From<OutOfMemory> for ReplayError {
+    ghost use Rattle.std.specs.Prelude.{◌≡◌};
+    ghost use Rattle.split_cli.specs.declared.replaying.ReplayError.TheVariants as error;
+
+    ghost from_gives = { λ _ e. e ≡ error.OutOfMemory };
+
+    fn from(_error: OutOfMemory) -> ReplayError {
+        ReplayError::OutOfMemory
+    }
 }
 
 /// Makes events happen, each of which stands on a line, up to the first that is refused.
@@ -46,7 +58,7 @@ pub fn replay(code: &Code, world: &mut World, events: &[(u32, Event)]) -> Result
 }
 
 /// Why the event on a line did not happen. No host has made so many steps that it answers no more.
-fn refused(line: u32, event: &Event, error: EventError) -> ReplayError
+pub fn refused(line: u32, event: &Event, error: EventError) -> ReplayError
     requires { error ≡ EventError.Stopped → ⊥ }
     ensures { IsErrorOf line event.now error result }
 {

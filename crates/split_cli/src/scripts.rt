@@ -5,8 +5,11 @@ ghost use Rattle.js_base.specs.declared.limits.TheConstants.{SCRIPT_BYTES};
 ghost use Rattle.event_text.specs.OwnTokens.{IsOwnEvent};
 ghost use Rattle.net_world.specs.Fits.{WorldFits, HasOwnToken, world_of};
 ghost use Rattle.net_world.specs.Steps.{HaveMade};
-ghost use Rattle.split_cli.specs.Loading.{EndsAs, IsLoaded};
-ghost use Rattle.split_cli.specs.Replay.{ScriptRead, EventsHappen};
+ghost use Rattle.event_text.specs.declared.event.Event.{Event};
+ghost use Rattle.host_code.specs.Code.{CodeShape};
+ghost use Rattle.net_world.specs.World.{WorldShape};
+ghost use Rattle.split_cli.specs.Loading.{EndsAs, IsLoaded, StopsWith};
+ghost use Rattle.split_cli.specs.Replay.{AreRefused, EventsHappen, IsReplayError, ScriptRead};
 
 use crate::load::Loaded;
 use crate::replaying::{ReplayError, replay};
@@ -57,14 +60,22 @@ pub fn events_happen(
     let mut world = from;
     match replay(code, &mut world, events) {
         Ok(()) => Ok(world),
-        Err(ReplayError::NotThere(line)) => Err(stopped(Verdict::not_there(alloc, name, line))),
-        Err(ReplayError::HostBusy(line)) => Err(stopped(Verdict::host_busy(alloc, name, line))),
-        Err(ReplayError::NotBad(line)) => {
-            Err(stopped(Verdict::not_misbehaving(alloc, name, line)))
+        Err(error) => Err(events_refused(alloc, name, error)),
+    }
+}
+
+/// What is due where the events of a script of this name did not all happen.
+pub fn events_refused(alloc: Global, name: &str, error: ReplayError) -> Stop
+    ensures { (code : CodeShape) (world : WorldShape) (said : List (ℕ × Event)) →
+        IsReplayError code world said error → StopsWith (AreRefused name.now code world said) result }
+{
+    match error {
+        ReplayError::NotThere(line) => stopped(Verdict::not_there(alloc, name, line)),
+        ReplayError::HostBusy(line) => stopped(Verdict::host_busy(alloc, name, line)),
+        ReplayError::NotBad(line) => stopped(Verdict::not_misbehaving(alloc, name, line)),
+        ReplayError::NoSuchToken(line, number, count) => {
+            stopped(Verdict::no_such_token(alloc, name, line, number, count))
         }
-        Err(ReplayError::NoSuchToken(line, number, count)) => {
-            Err(stopped(Verdict::no_such_token(alloc, name, line, number, count)))
-        }
-        Err(ReplayError::OutOfMemory) => Err(Stop::OutOfMemory),
+        ReplayError::OutOfMemory => Stop::OutOfMemory,
     }
 }

@@ -14,6 +14,7 @@ ghost use Rattle.split_cli.specs.Loads.{AreKept, files_change};
 ghost use Rattle.split_cli.specs.Verdicts.{Print, verdict_shape, no_memory_line};
 
 use crate::commands::check::due_for_check;
+use crate::commands::compare::due_for_compare;
 use crate::commands::drive::due_for_drive;
 use crate::commands::replay::due_for_replay;
 use crate::commands::run::due_for_run;
@@ -33,14 +34,14 @@ use std::alloc::Global;
 
 /// Runs `jifsplit` on the words after its name.
 ///
-/// It answers `Done` where the report of the command was put on `out`, and `Spent` where it was put for a run that its
-/// steps did not end, or for hosts that its events did not bring to their rest. Any other answer is a refusal or a
-/// fault:
+/// It answers `Done` where the report of the command was put on `out`, `Spent` where it was put for a run that its
+/// steps did not end, or for hosts that its events did not bring to their rest, and `Differ` where it says that
+/// misbehaving hosts were sent other messages in one run than in the other. Any other answer is a refusal or a fault:
 /// - `Usage`: the words ask for no command.
 /// - `SourceRefused`: the program is refused for its text, its names or its labels; or no host may hold some part of
 ///   it.
 /// - `InputRefused`: a file is absent, the host file is refused, or the file of starting values or of events is too
-///   long, or a line of it has no form or asks for what cannot happen.
+///   long, or a line of it has no form or asks for what cannot happen; or two runs cannot be compared.
 /// - `FileFault`: a file could not be read.
 /// - `OutFault`: what was due could not all be put out.
 /// - `NoMemory`: memory ran out.
@@ -181,6 +182,12 @@ fn due_for<F: Files>(
             start,
             events,
         } => due_for_drive(alloc, program, hosts, start, *events, files),
+        Command::Compare {
+            program,
+            hosts,
+            one,
+            other,
+        } => due_for_compare(alloc, program, hosts, one, other, files),
     };
     match due {
         Ok(verdict) => Ok(verdict),

@@ -201,6 +201,35 @@ impl Verdict {
         Verdict::at_line(alloc, file, line, "not misbehaving")
     }
 
+    /// Two runs go apart at an event on this line.
+    pub fn events_differ(alloc: Global, file: &str, line: u32) -> Result<Verdict, OutOfMemory>
+        ensures { IfOk result (λ verdict. verdict_shape verdict ≡ verdicts.events_differ file.now line) }
+    {
+        Verdict::at_line(alloc, file, line, "events differ")
+    }
+
+    /// Something secret goes on while the event on this line may be seen.
+    pub fn not_prompt(alloc: Global, file: &str, line: u32) -> Result<Verdict, OutOfMemory>
+        ensures { IfOk result (λ verdict. verdict_shape verdict ≡ verdicts.not_prompt file.now line) }
+    {
+        Verdict::at_line(alloc, file, line, "not prompt")
+    }
+
+    /// Not the same hosts misbehave in two runs.
+    pub fn bad_differ(alloc: Global) -> Result<Verdict, OutOfMemory>
+        ensures { IfOk result (λ verdict. verdict_shape verdict ≡ verdicts.bad_differ) }
+    {
+        Verdict::refusal(alloc, Status::InputRefused, "the misbehaving hosts differ")
+    }
+
+    /// A field of this name starts unlike in two runs.
+    pub fn starts_differ(alloc: Global, field: &str) -> Result<Verdict, OutOfMemory>
+        ensures { IfOk result (λ verdict. verdict_shape verdict ≡ verdicts.starts_differ field.now) }
+    {
+        let text = format!(in alloc; "starting values of {field} differ")?;
+        Verdict::refusal(alloc, Status::InputRefused, text.as_str())
+    }
+
     /// An act presents the token of this number, and misbehaving hosts were sent only so many.
     pub fn no_such_token(
         alloc: Global,

@@ -30,6 +30,13 @@ pub enum Command<'a> {
         hosts: &'a str,
         events: &'a str,
     },
+    /// `compare P H EVENTS1 EVENTS2`
+    Compare {
+        program: &'a str,
+        hosts: &'a str,
+        one: &'a str,
+        other: &'a str,
+    },
     /// `drive P H START N`, for at most N events
     Drive {
         program: &'a str,
@@ -55,32 +62,38 @@ pub fn command_of(words: &[String]) -> Option<Command<'_>>
             hosts,
             events,
         }),
-        [verb, program, hosts, start, number] => {
-            counted_command(verb, program, hosts, start, number)
-        }
+        [verb, program, hosts, third, last] => command_of_five(verb, program, hosts, third, last),
         _ => None,
     }
 }
 
-/// The command that five words ask for, the last of which is a number.
-fn counted_command<'a>(
+/// The command that five words ask for: one that compares, or one whose last word is a number.
+fn command_of_five<'a>(
     verb: &str,
     program: &'a str,
     hosts: &'a str,
-    start: &'a str,
-    number: &str,
+    third: &'a str,
+    last: &'a str,
 ) -> Option<Command<'a>>
     ensures command { IfSome result (λ asked. IsCommand (command_shape asked)) }
     ensures found { IfSome result (λ asked.
-        verb.now ∷ program.now ∷ hosts.now ∷ start.now ∷ number.now ∷ [] ≡ words_of (command_shape asked)) }
-    ensures none { IfNone result (HaveNoForm (verb.now ∷ program.now ∷ hosts.now ∷ start.now ∷ number.now ∷ [])) }
+        verb.now ∷ program.now ∷ hosts.now ∷ third.now ∷ last.now ∷ [] ≡ words_of (command_shape asked)) }
+    ensures none { IfNone result (HaveNoForm (verb.now ∷ program.now ∷ hosts.now ∷ third.now ∷ last.now ∷ [])) }
 {
-    let count = step_count(number)?;
+    if verb == "compare" {
+        return Some(Command::Compare {
+            program,
+            hosts,
+            one: third,
+            other: last,
+        });
+    }
+    let count = step_count(last)?;
     if verb == "run" {
         return Some(Command::Run {
             program,
             hosts,
-            start,
+            start: third,
             steps: count,
         });
     }
@@ -88,7 +101,7 @@ fn counted_command<'a>(
         return Some(Command::Drive {
             program,
             hosts,
-            start,
+            start: third,
             events: count,
         });
     }

@@ -1,23 +1,27 @@
 //! The command `replay`.
 
-ghost use Rattle.std.specs.Prelude.{◌≡◌, ◌≤◌, ◌+◌, ◌∷◌, [], ℕ, List};
+ghost use Rattle.std.specs.Prelude.{◌≡◌, ◌≤◌, ◌+◌, ◌∷◌, [], ℕ, List, All};
 ghost use Rattle.js_base.specs.declared.limits.TheConstants.{PROGRAM_BYTES, HOSTS_BYTES, SCRIPT_BYTES};
+ghost use Rattle.event_text.specs.OwnTokens.{IsOwnEvent};
 ghost use Rattle.split_cli.specs.Commands as command;
+ghost use Rattle.split_cli.specs.Drive.{code_of};
 ghost use Rattle.split_cli.specs.Due.{DueForBytes, IsDueForCommand};
 ghost use Rattle.split_cli.specs.Loading.{EndsIn, IsLoaded};
 ghost use Rattle.split_cli.specs.Loads.{AreKept, files_change};
+ghost use Rattle.split_cli.specs.PlacedShapes.{placed_shape};
+ghost use Rattle.split_cli.specs.Replay.{DueForSaid};
 
 use crate::commands::{host_file, program_file, script_file};
 use crate::load::{Loaded, load_all};
-use crate::placed::read_places;
-use crate::placed_code::code_of;
+use crate::placed::{PlacedSource, read_places};
+use crate::placed_code::{code_of, first_world};
 use crate::scripts::{events_happen, read_script};
 use crate::stop::Stop;
 use crate::verdict::Verdict;
 use crate::world_report::replay_text;
+use event_text::Script;
+use host_code::Code;
 use js_base::{Files, Status};
-use net_world::World;
-use net_world::laws::fits_laws;
 use std::alloc::Global;
 
 /// What is due for `replay P H EVENTS`.
@@ -54,15 +58,27 @@ fn due_for_loaded(
         IsLoaded SCRIPT_BYTES e events.now →
         EndsIn (DueForBytes (command.Replay names others name.now) (p ∷ h ∷ e ∷ [])) result }
 {
-    fits_laws();
     let placed = read_places(alloc, program, hosts)?;
     let code = code_of(alloc, &placed)?;
-    let script = read_script(alloc, name, &code, events)?;
-    let bad = script.bad();
-    let store = script.start();
-    let first = World::start(alloc, &code, placed.hosts(), bad, store)?;
-    let last = events_happen(alloc, name, &code, first, script.events())?;
-    let text = replay_text(alloc, &code, &last)?;
+    let said = read_script(alloc, name, &code, events)?;
+    due_for_said(alloc, &placed, &code, name, &said)
+}
+
+/// What is due for a script of a file of this name that was read.
+fn due_for_said(
+    alloc: Global,
+    placed: &PlacedSource,
+    code: &Code,
+    name: &str,
+    said: &Script,
+) -> Result<Verdict, Stop>
+    requires code { code.now ≡ code_of (placed_shape placed.now) }
+    requires own { All (λ one. IsOwnEvent code.now.hosts said.now.bad one.1) said.now.events }
+    ensures { EndsIn (DueForSaid name.now (placed_shape placed.now) said.now) result }
+{
+    let first = first_world(alloc, placed, code, said)?;
+    let last = events_happen(alloc, name, code, first, said.events())?;
+    let text = replay_text(alloc, code, &last)?;
     Ok(Verdict::Print {
         status: Status::Done,
         text,

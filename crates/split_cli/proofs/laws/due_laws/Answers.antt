@@ -1,4 +1,5 @@
 use Rattle.std.proofs.Common.{codes, refl, zero}
+use Rattle.split_cli.proofs.DriveEnds.{StepCauses}
 use Rattle.split_cli.proofs.OneDrive.{driven_run}
 use Rattle.split_cli.proofs.OnePlaced.{PlaceLaws, places_once}
 use Rattle.split_cli.proofs.OneSource.{SourceLaws, sources_once}
@@ -78,6 +79,13 @@ native_laws c = record {
   numbered = c.program_laws.ensures.well_numbered;
 }
 
+step_causes : (c : goal.After-step_laws) → StepCauses
+step_causes c = record {
+  some = c.step_laws.ensures.happens_or_refused;
+  obeying = c.step_laws.ensures.misbehaving;
+  fits = c.fits_laws.ensures.step;
+}
+
 all_causes : (c : goal.After-step_laws) → AllCauses
 all_causes c = record {
   sources = source_causes c;
@@ -94,10 +102,15 @@ all_causes c = record {
   start = c.script_laws.ensures.some_start;
   ends = c.run_laws.ensures.some_answer;
   scripts = c.script_laws.ensures.some_script;
-  steps = record {
-    some = c.step_laws.ensures.happens_or_refused;
-    obeying = c.step_laws.ensures.misbehaving;
-    fits = c.fits_laws.ensures.step;
+  steps = step_causes c;
+  comparing = record {
+    steps = step_causes c;
+    readable = c.secret_laws.ensures.readable;
+    secret = c.secret_laws.ensures.secret;
+    quiet = c.secret_laws.ensures.quiet;
+    said_own = c.script_laws.ensures.own;
+    own_at_start = c.fits_laws.ensures.own_at_start;
+    own = c.fits_laws.ensures.own;
   };
 }
 

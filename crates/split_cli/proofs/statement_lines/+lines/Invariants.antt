@@ -1,6 +1,6 @@
 use Rattle.std.proofs.Common.{◌≡◌, ◌++◌, take}
 use Rattle.std.specs.List.{flat_map}
-use Rattle.split_cli.proofs.BlockLines.{part_of}
+use Rattle.split_cli.proofs.BlockParts.{part_of}
 use Rattle.split_cli.proofs.statement_lines.+lines.Given as goal
 
 -- the lines of the statements so far were added

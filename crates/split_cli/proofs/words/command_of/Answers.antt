@@ -25,22 +25,22 @@ returns-in-len4-clause-found c =
     ∙ (bytes_eq-Decides c.as_str-then-words-lt5.result.now (codes "replay")).0 (sym c.if-eq-2.ensures))
     c.deref-in-len4.ensures c.deref-in-len4-2.ensures c.deref-in-len4-3.ensures
 
-five_words : (c : goal.After-counted_command) → map string_bytes c.args.words.now
+five_words : (c : goal.After-command_of_five) → map string_bytes c.args.words.now
     ≡ c.deref-in-len5.result.now ∷ c.deref-in-len5-2.result.now ∷ c.deref-in-len5-3.result.now
     ∷ c.deref-in-len5-4.result.now ∷ c.deref-in-len5-5.result.now ∷ []
 five_words c =
     five_same _ (string_bytes c.verb-item-then-words-lt6.result) (string_bytes c.program-item-then-words-lt6.result)
-    (string_bytes c.hosts-item-then-words-lt6.result) (string_bytes c.start-item.result) (string_bytes c.number-item.result)
+    (string_bytes c.hosts-item-then-words-lt6.result) (string_bytes c.third-item.result) (string_bytes c.last-item.result)
     _ _ _ _ _
     (five c.args.words.now c.verb-item-then-words-lt6.result c.program-item-then-words-lt6.result c.hosts-item-then-words-lt6.result
-    c.start-item.result c.number-item.result (omega arith) c.verb-item-then-words-lt6.is c.program-item-then-words-lt6.is
-    c.hosts-item-then-words-lt6.is c.start-item.is c.number-item.is)
+    c.third-item.result c.last-item.result (omega arith) c.verb-item-then-words-lt6.is c.program-item-then-words-lt6.is
+    c.hosts-item-then-words-lt6.is c.third-item.is c.last-item.is)
     (sym c.deref-in-len5.ensures) c.deref-in-len5-2.ensures c.deref-in-len5-3.ensures c.deref-in-len5-4.ensures
     c.deref-in-len5-5.ensures
 
 pub returns-in-len5-clause-found : goal.returns-in-len5-clause-found
 returns-in-len5-clause-found c =
-    IfSome_then c.counted_command.result c.counted_command.ensures.found (λ asked is. five_words c ∙ is)
+    IfSome_then c.command_of_five.result c.command_of_five.ensures.found (λ asked is. five_words c ∙ is)
 
 pub returns-in-len5-clause-none : goal.returns-in-len5-clause-none
-returns-in-len5-clause-none c = rw (five_words c) c.counted_command.ensures.none
+returns-in-len5-clause-none c = rw (five_words c) c.command_of_five.ensures.none

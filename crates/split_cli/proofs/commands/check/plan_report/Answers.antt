@@ -22,5 +22,5 @@ returns c =
     report_text (placed_shape (with_source source)) source.checked _ _ _ _ c.source.invariant.labelled
     (rw (← c.source.view_is) at c.in_ok-text.ensures) (c.in_ok-push_places.ensures
     ∙ ap (λ (placed : PlacedModel). string_bytes c.in_ok-text.text ++ lines_text (place_lines (placed_shape placed)))
-    (sym same)) c.cost-cost.ensures (from_ok c.writeln.result c.in_ok-map_err.ensures.variant c.writeln.ensures.bytes)
+    (sym same)) c.cost-cost.ensures.cost (from_ok c.writeln.result c.in_ok-map_err.ensures.variant c.writeln.ensures.bytes)
     ∙ ap (λ (placed : PlacedModel). plan_report (placed_shape placed)) same

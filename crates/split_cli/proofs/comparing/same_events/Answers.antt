@@ -1,0 +1,27 @@
+use Rattle.std.proofs.Common.{◌≡◌, ℕ}
+use Rattle.std.proofs.lemmas.Result.{IfOk-weaker}
+use Rattle.split_cli.specs.Compare.{AreAlike, GoApart, holds}
+use Rattle.split_cli.specs.FollowedRuns.{run_with}
+use Rattle.split_cli.specs.Replay.{events_in}
+use Rattle.split_cli.specs.Verdicts.{events_differ}
+use Rattle.split_cli.proofs.CompareDue.{premise_stops}
+use Rattle.split_cli.proofs.comparing.same_events.Goals as goal
+
+pub returns-in-None : goal.returns-in-None
+returns-in-None c = λ last last_too.
+    holds (rw (c.deref.ensures.value, c.deref-2.ensures.value) at c.in-None.ensures)
+
+pub returns-in-Some : goal.returns-in-Some
+returns-in-Some c = λ last last_too.
+    let one = (run_with c.args.one.now last).seen in
+    let other = (run_with c.args.other.now last_too).seen in
+    premise_stops (AreAlike (events_in one) (events_in other))
+    (λ verdict. (line : ℕ) × GoApart one other line × (verdict ≡ events_differ c.args.name.now line))
+    c.events_differ.result c.stopped.result
+    (IfOk-weaker c.events_differ.result _ _ (λ verdict is. (
+      c.in-Some.line,
+      rw (c.deref.ensures.value, c.deref-2.ensures.value) at c.in-Some.ensures,
+      is,
+    ))
+    c.events_differ.ensures)
+    c.stopped.ensures

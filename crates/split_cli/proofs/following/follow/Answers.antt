@@ -1,0 +1,25 @@
+use Rattle.std.proofs.Common.{subst, sym}
+use Rattle.net_world.specs.Fits.{world_of}
+use Rattle.split_cli.specs.Followed.{EventsFollowed, followed, refused}
+use Rattle.split_cli.specs.FollowedRuns.{run_with}
+use Rattle.split_cli.specs.Replay.{AreRefused}
+use Rattle.split_cli.specs.Stages.{stopped}
+use Rattle.split_cli.specs.Verdicts.{VerdictShape}
+use Rattle.split_cli.proofs.Stages.{stops_weaker}
+use Rattle.split_cli.proofs.following.follow.Goals as goal
+
+pub returns-in-Ok : goal.returns-in-Ok
+returns-in-Ok c = record {
+  follow = followed (run_with c.in-Ok.seen (world_of c.seen_events.new.world)) c.in-Ok.ensures.followed;
+}
+
+pub returns : goal.returns
+returns c =
+    let Stops : VerdictShape → Type 0 =
+    λ verdict. EventsFollowed c.args.name.now c.args.code.now (world_of c.args.from) c.args.events.now
+    (stopped verdict) in
+    record {
+      follow = stops_weaker (AreRefused c.args.name.now c.args.code.now (world_of c.args.from) c.args.events.now) Stops
+          c.events_refused.result (λ verdict was. subst Stops (sym was.3) (refused was.0 was.1 was.2))
+          (c.events_refused.ensures c.args.code.now (world_of c.args.from) c.args.events.now c.in-Err.ensures.refused);
+    }

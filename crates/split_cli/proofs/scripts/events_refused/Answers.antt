@@ -1,0 +1,45 @@
+use Rattle.std.proofs.Common.{ℕ, sym, ap, ◌∙◌}
+use Rattle.std.proofs.lemmas.Result.{IfOk-weaker}
+use Rattle.net_world.specs.World.{not_bad, not_there, host_busy, no_such_token}
+use Rattle.split_cli.specs.Replay.{AreRefused}
+use Rattle.split_cli.specs.Verdicts.{event_no_token}
+use Rattle.split_cli.proofs.Stages.{stopped_with}
+use Rattle.split_cli.proofs.scripts.events_refused.Goals as goal
+
+pub returns-in-NotThere : goal.returns-in-NotThere
+returns-in-NotThere c = λ code world said why.
+    let cause = rw c.in-NotThere.is at why in
+    stopped_with (AreRefused c.args.name.now code world said) c.not_there.result c.stopped.result
+    (IfOk-weaker c.not_there.result _ _
+    (λ verdict is. ((c.in-NotThere.line, cause.0), not_there, cause.1, is)) c.not_there.ensures)
+    c.stopped.ensures
+
+pub returns-in-HostBusy : goal.returns-in-HostBusy
+returns-in-HostBusy c = λ code world said why.
+    let cause = rw c.in-HostBusy.is at why in
+    stopped_with (AreRefused c.args.name.now code world said) c.host_busy.result c.stopped-in-HostBusy.result
+    (IfOk-weaker c.host_busy.result _ _
+    (λ verdict is. ((c.in-HostBusy.line, cause.0), host_busy, cause.1, is)) c.host_busy.ensures)
+    c.stopped-in-HostBusy.ensures
+
+pub returns-in-NotBad : goal.returns-in-NotBad
+returns-in-NotBad c = λ code world said why.
+    let cause = rw c.in-NotBad.is at why in
+    stopped_with (AreRefused c.args.name.now code world said) c.not_misbehaving.result c.stopped-in-NotBad.result
+    (IfOk-weaker c.not_misbehaving.result _ _
+    (λ verdict is. ((c.in-NotBad.line, cause.0), not_bad, cause.1, is)) c.not_misbehaving.ensures)
+    c.stopped-in-NotBad.ensures
+
+pub returns-in-NoSuchToken : goal.returns-in-NoSuchToken
+returns-in-NoSuchToken c = λ code world said why.
+    let found = c.in-NoSuchToken in
+    let cause = rw found.is at why in
+    stopped_with (AreRefused c.args.name.now code world said) c.no_such_token.result c.stopped-in-NoSuchToken.result
+    (IfOk-weaker c.no_such_token.result _ _
+    (λ verdict is. (
+      (found.line, cause.0),
+      no_such_token found.count,
+      cause.1,
+      is ∙ ap (λ (number : ℕ). event_no_token c.args.name.now found.line number found.count) (sym cause.2),
+    )) c.no_such_token.ensures)
+    c.stopped-in-NoSuchToken.ensures

@@ -1,0 +1,204 @@
+//! What two runs have in common, as far as misbehaving hosts may see them.
+
+ghost use Rattle.std.specs.Prelude.{◌≡◌, ◌≢◌, ◌↔◌, ℕ, ℤ, List, Some, IfOk, IsTrue, MatchOption, map, option_copied};
+ghost use Rattle.std.specs.Prelude.{slice_get};
+ghost use Rattle.js_base.specs.declared.status.Status.{Status};
+ghost use Rattle.host_code.specs.Code.{CodeShape};
+ghost use Rattle.net_world.specs.Fits.{WorldFits, world_of};
+ghost use Rattle.net_world.specs.World.{WorldShape};
+ghost use Rattle.split_cli.specs.Compare.{AreAlike, Compared, DifferAt, GoApart, IsFirstUnlike, IsPromptRun};
+ghost use Rattle.split_cli.specs.Compare.{SameBits, SameEvents, SameValues, StartAlike, StartsUnlike, agree_text};
+ghost use Rattle.split_cli.specs.Compare.{differ_text};
+ghost use Rattle.split_cli.specs.FollowedRuns.{run_with};
+ghost use Rattle.split_cli.specs.Loading.{EndsAs};
+ghost use Rattle.split_cli.specs.PlacedShapes.{placed_shape};
+ghost use Rattle.split_cli.specs.Replay.{events_in};
+ghost use Rattle.split_cli.specs.Verdicts.{Print, verdict_shape};
+
+use crate::following::Seen;
+use crate::message_parts::{is_same_event, is_same_sent};
+use crate::placed::PlacedSource;
+use crate::releasing::first_release;
+use crate::stop::{Stop, stopped};
+use crate::verdict::Verdict;
+use event_text::Event;
+use host_code::{Code, CodeField, Message};
+use jif_tree::{Row, Store};
+use js_base::{HostId, OutOfMemory, Status};
+use net_world::World;
+use std::alloc::Global;
+
+/// Whether the same hosts misbehave in both runs, by a bit for each host.
+pub fn same_misbehave(alloc: Global, one: u16, other: u16) -> Result<(), Stop>
+    ensures { EndsAs (λ _. tt) (SameBits one other) result }
+{
+    if one == other {
+        Ok(())
+    } else {
+        Err(stopped(Verdict::bad_differ(alloc)))
+    }
+}
+
+/// The first field whose starting values differ, where an obeying host has it and misbehaving hosts may read it.
+pub fn unlike_field<'a>(
+    code: &'a Code,
+    world: &World,
+    one: &Store,
+    other: &Store,
+) -> Option<&'a CodeField>
+    requires { WorldFits code.now world.now }
+    ensures { MatchOption result
+        (StartAlike code.now (world_of world.now) one.now other.now)
+        (λ field. (number : ℕ) × IsFirstUnlike code.now (world_of world.now) one.now other.now number field.now) }
+{
+    for (number, field) in code.fields().iter().enumerate() {
+        if starts_unlike(code, world, one, other, number, field) {
+            return Some(field);
+        }
+    }
+    None
+}
+
+/// Whether the starting values of the field of this number differ, an obeying host has it, and misbehaving hosts may
+/// read it.
+fn starts_unlike(
+    code: &Code,
+    world: &World,
+    one: &Store,
+    other: &Store,
+    number: usize,
+    field: &CodeField,
+) -> bool
+    requires fits { WorldFits code.now world.now }
+    requires there { slice_get code.now.fields number ≡ Some field.now }
+    ensures { IsTrue result ↔ StartsUnlike code.now (world_of world.now) one.now other.now number }
+{
+    world.readable(code, field.label())
+        && world.host(field.host()).is_some()
+        && are_unlike(one.rows().get(number), other.rows().get(number))
+}
+
+/// Whether two rows differ, of which either may be missing.
+fn are_unlike(one: Option<&Row>, other: Option<&Row>) -> bool
+    ensures { IsTrue result ↔ (option_copied one.entry ≢ option_copied other.entry) }
+{
+    match (one, other) {
+        (Some(one), Some(other)) => !is_same_row(one, other),
+        (None, None) => false,
+        _ => true,
+    }
+}
+
+/// Whether two rows have the same elements.
+fn is_same_row(one: &Row, other: &Row) -> bool
+    ensures { IsTrue result ↔ (one.now ≡ other.now) }
+{
+    one.elements() == other.elements()
+}
+
+/// Whether no field starts unlike.
+pub fn same_starts(alloc: Global, unlike: Option<&CodeField>) -> Result<(), Stop>
+    ensures { (code : CodeShape) (world : WorldShape) (one other : List (List ℤ)) →
+        MatchOption unlike.entry (StartAlike code world one other)
+        (λ field. (number : ℕ) × IsFirstUnlike code world one other number field.now) →
+        EndsAs (λ _. tt) (SameValues code world one other) result }
+{
+    match unlike {
+        None => Ok(()),
+        Some(field) => Err(stopped(Verdict::starts_differ(alloc, field.name()))),
+    }
+}
+
+/// Whether the events that may be seen are alike, of which the first are those of a file of this name.
+pub fn same_events(alloc: Global, name: &str, one: &Seen<'_>, other: &Seen<'_>) -> Result<(), Stop>
+    ensures { (last last_too : WorldShape) →
+        EndsAs (λ _. tt) (SameEvents name.now (run_with one.now last) (run_with other.now last_too)) result }
+{
+    match going_apart(&one.events, &other.events) {
+        None => Ok(()),
+        Some(line) => Err(stopped(Verdict::events_differ(alloc, name, line))),
+    }
+}
+
+/// The line of the first list on which the events go apart.
+fn going_apart(one: &[&(u32, Event)], other: &[&(u32, Event)]) -> Option<u32>
+    ensures { MatchOption result
+        (AreAlike (events_in (map (λ it. it.now) one.now)) (events_in (map (λ it. it.now) other.now)))
+        (GoApart (map (λ it. it.now) one.now) (map (λ it. it.now) other.now)) }
+{
+    for place in 0..one.len().min(other.len()) {
+        if !is_same_event(&one[place].1, &other[place].1) {
+            return Some(one[place].0);
+        }
+    }
+    None
+}
+
+/// Whether the world was quiet at each event of a script of this name that may be seen.
+pub fn is_prompt(alloc: Global, name: &str, seen: &Seen<'_>) -> Result<(), Stop>
+    ensures { (last : WorldShape) → EndsAs (λ _. tt) (IsPromptRun name.now (run_with seen.now last)) result }
+{
+    match seen.late {
+        None => Ok(()),
+        Some(line) => Err(stopped(Verdict::not_prompt(alloc, name, line))),
+    }
+}
+
+/// What is due for the messages that misbehaving hosts were sent in two runs of a program.
+pub fn compared(
+    alloc: Global,
+    placed: &PlacedSource,
+    one: &[(HostId, HostId, Message)],
+    other: &[(HostId, HostId, Message)],
+) -> Result<Verdict, OutOfMemory>
+    ensures { IfOk result (λ verdict.
+        Compared (placed_shape placed.now) one.now other.now (verdict_shape verdict)) }
+{
+    let Some(place) = first_difference(one, other) else {
+        return agreement(alloc, one, other);
+    };
+    let source = &placed.source;
+    let statement = first_release(alloc, &source.checked.program)?;
+    difference(alloc, place, statement)
+}
+
+/// The report that the messages agree, as far as both lists go.
+fn agreement(
+    alloc: Global,
+    one: &[(HostId, HostId, Message)],
+    other: &[(HostId, HostId, Message)],
+) -> Result<Verdict, OutOfMemory>
+    ensures { IfOk result (λ verdict. verdict_shape verdict ≡ Print Status.Done (agree_text one.now other.now)) }
+{
+    let text = format!(in alloc; "agree {} {}\n", one.len(), other.len())?;
+    Ok(Verdict::Print {
+        status: Status::Done,
+        text,
+    })
+}
+
+/// The report that they differ first at a place, of a program that releases something first in this statement.
+fn difference(alloc: Global, place: usize, statement: u32) -> Result<Verdict, OutOfMemory>
+    ensures { IfOk result (λ verdict. verdict_shape verdict ≡ Print Status.Differ (differ_text place statement)) }
+{
+    let text = format!(in alloc; "differ {place} statement {statement}\n")?;
+    Ok(Verdict::Print {
+        status: Status::Differ,
+        text,
+    })
+}
+
+/// The first place at which the messages differ, of those that both lists have.
+fn first_difference(
+    one: &[(HostId, HostId, Message)],
+    other: &[(HostId, HostId, Message)],
+) -> Option<usize>
+    ensures { MatchOption result (AreAlike one.now other.now) (DifferAt one.now other.now) }
+{
+    for place in 0..one.len().min(other.len()) {
+        if !is_same_sent(&one[place], &other[place]) {
+            return Some(place);
+        }
+    }
+    None
+}
