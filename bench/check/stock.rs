@@ -1300,6 +1300,231 @@ fn cheapest_plan(program: &Program, needs: &Needs, hosts: &Hosts, allowed: &Allo
     plans.min_by_key(|(_, cost)| *cost).expect("a host")
 }
 
+
+// ---- moves
+
+#[derive(Clone, Copy)]
+enum Piece<'a> {
+    Access { weight: u64, statement: usize, field: usize },
+    Giving { weight: u64, statement: usize, var: usize },
+    Calling { weight: u64, statement: usize, method: usize, kept: bool },
+    Walk { weight: u64, home: usize, nested: bool, block: &'a [Stmt] },
+    Ending { method: usize },
+}
+
+struct Pieces<'a> {
+    program: &'a Program,
+    all: Vec<Piece<'a>>,
+}
+
+impl<'a> Pieces<'a> {
+    fn of(program: &'a Program) -> Vec<Piece<'a>> {
+        let mut pieces = Pieces { program, all: Vec::new() };
+        for method in &program.methods {
+            pieces.walk(1, method.head, false, &method.body);
+        }
+        pieces.all.push(Piece::Ending { method: program.main });
+        pieces.all
+    }
+
+    fn walk(&mut self, weight: u64, home: usize, nested: bool, block: &'a [Stmt]) {
+        self.all.push(Piece::Walk { weight, home, nested, block });
+        for statement in block {
+            self.statement(weight, statement);
+        }
+    }
+
+    fn access(&mut self, weight: u64, statement: usize, field: usize) {
+        self.all.push(Piece::Access { weight, statement, field });
+    }
+
+    fn expr(&mut self, weight: u64, id: usize, expr: &Expr) {
+        match expr {
+            Expr::Number(_) | Expr::Local(_) => {}
+            Expr::Scalar(field) => self.access(weight, id, *field),
+            Expr::Element(field, index) => {
+                self.expr(weight, id, index);
+                self.access(weight, id, *field);
+            }
+            Expr::Binary(_, left, right) => {
+                self.expr(weight, id, left);
+                self.expr(weight, id, right);
+            }
+            Expr::Not(operand) | Expr::Negate(operand) => self.expr(weight, id, operand),
+            Expr::Declassify(operand, _) | Expr::Endorse(operand, _) => self.expr(weight, id, operand),
+        }
+    }
+
+    fn statement(&mut self, weight: u64, statement: &'a Stmt) {
+        let id = statement.id;
+        match &statement.kind {
+            StmtKind::Let { var, value } => {
+                self.expr(weight, id, value);
+                self.all.push(Piece::Giving { weight, statement: id, var: *var });
+            }
+            StmtKind::SetField { field, value } => {
+                self.expr(weight, id, value);
+                self.access(weight, id, *field);
+            }
+            StmtKind::SetElement { field, index, value } => {
+                self.expr(weight, id, index);
+                self.expr(weight, id, value);
+                self.access(weight, id, *field);
+            }
+            StmtKind::If { guard, yes, no } => {
+                self.expr(weight, id, guard);
+                self.walk(weight, id, true, yes);
+                self.walk(weight, id, true, no);
+            }
+            StmtKind::While { guard, body } => {
+                let deeper = (8 * weight).min(8u64.pow(6));
+                self.expr(deeper, id, guard);
+                self.walk(deeper, id, true, body);
+            }
+            StmtKind::Call { method, args, into } => {
+                for (arg, param) in args.iter().zip(&self.program.methods[*method].params) {
+                    self.expr(weight, id, arg);
+                    self.all.push(Piece::Giving { weight, statement: id, var: *param });
+                }
+                self.all.push(Piece::Calling { weight, statement: id, method: *method, kept: into.is_some() });
+                if let Some(var) = into {
+                    self.all.push(Piece::Giving { weight, statement: id, var: *var });
+                }
+            }
+            StmtKind::Return { value } => self.expr(weight, id, value),
+        }
+    }
+}
+
+/// By field and by statement, the pieces that depend on its host.
+struct Index<'a> {
+    fields: Vec<Vec<Piece<'a>>>,
+    statements: Vec<Vec<Piece<'a>>>,
+}
+
+impl<'a> Index<'a> {
+    fn of(program: &'a Program, needs: &Needs, fields: usize, statements: usize) -> Index<'a> {
+        let mut index = Index { fields: vec![Vec::new(); fields], statements: vec![Vec::new(); statements] };
+        let mut marks = vec![0; statements];
+        for (turn, piece) in Pieces::of(program).into_iter().enumerate() {
+            let rows = &mut index.statements;
+            let mut note = |statement: usize| {
+                if marks[statement] != turn + 1 {
+                    marks[statement] = turn + 1;
+                    rows[statement].push(piece);
+                }
+            };
+            match piece {
+                Piece::Access { statement, field, .. } => {
+                    note(statement);
+                    index.fields[field].push(piece);
+                }
+                Piece::Giving { statement, var, .. } => {
+                    note(statement);
+                    needs.readers[var].iter().for_each(|reader| note(*reader));
+                }
+                Piece::Calling { statement, method, .. } => {
+                    note(statement);
+                    note(program.methods[method].head);
+                    program.methods[method].body.iter().for_each(|own| note(own.id));
+                }
+                Piece::Walk { home, block, .. } => {
+                    note(home);
+                    block.iter().for_each(|own| note(own.id));
+                }
+                Piece::Ending { method } => {
+                    note(program.methods[method].head);
+                    program.methods[method].body.iter().for_each(|own| note(own.id));
+                }
+            }
+        }
+        index
+    }
+}
+
+impl<'a> Costs<'a> {
+    fn found_end(&self, method: usize) -> usize {
+        self.block_end(self.home(method), &self.program.methods[method].body)
+    }
+
+    fn piece(&self, piece: &Piece) -> u64 {
+        let at = |statement: usize| self.plan.statements[statement];
+        match *piece {
+            Piece::Access { weight, statement, field } => self.field(weight, at(statement), field),
+            Piece::Giving { weight, statement, var } => {
+                let word = self.needs.readers[var].iter().fold(0u16, |word, reader| word | 1 << at(*reader));
+                let host = at(statement);
+                let others = (0..self.hosts.hosts.len()).filter(|other| *other != host && word >> other & 1 == 1);
+                others.map(|other| self.exchange(weight, host, other)).sum()
+            }
+            Piece::Calling { weight, statement, method, kept } => {
+                let (host, end) = (at(statement), self.found_end(method));
+                let both = self.message(weight, host, self.home(method)) + self.message(weight, end, host);
+                both + if kept { self.exchange(weight, end, host) } else { 0 }
+            }
+            Piece::Walk { weight, home, nested, block } => {
+                let home = at(home);
+                let mut total = 0;
+                let mut spot = Spot::on(home);
+                for place in 0..block.len() {
+                    let next = self.next_spot(spot, &block[place..]);
+                    total += self.move_on(weight, spot, next);
+                    spot = next;
+                }
+                total + self.leave(weight, spot) + if nested { self.message(weight, spot.end(), home) } else { 0 }
+            }
+            Piece::Ending { method } => self.message(1, self.found_end(method), self.home(method)),
+        }
+    }
+
+    fn row(&self, row: &[Piece]) -> u64 {
+        row.iter().map(|piece| self.piece(piece)).sum()
+    }
+}
+
+/// The plan to which passes of moves come.
+fn lowered(program: &Program, needs: &Needs, hosts: &Hosts, allowed: &Allowed, start: (Plan, u64)) -> (Plan, u64) {
+    let index = Index::of(program, needs, allowed.fields.len(), allowed.statements.len());
+    let (mut plan, mut cost) = start;
+    let (mut tries, mut moves, mut passes) = (0u64, 0u64, 0u64);
+    loop {
+        let before = cost;
+        passes += 1;
+        for (kind, words, rows) in
+            [(0, &allowed.fields, &index.fields), (1, &allowed.statements, &index.statements)]
+        {
+            for (number, word) in words.iter().enumerate() {
+                for host in 0..hosts.hosts.len() {
+                    if word >> host & 1 == 0 {
+                        continue;
+                    }
+                    let old = if kind == 0 { plan.fields[number] } else { plan.statements[number] };
+                    if SKIP && old == host { continue; }
+                    tries += 1;
+                    let row = &rows[number];
+                    let was = counted(program, needs, hosts, &plan).row(row);
+                    if kind == 0 { plan.fields[number] = host } else { plan.statements[number] = host }
+                    let now = counted(program, needs, hosts, &plan).row(row);
+                    if now < was {
+                        moves += 1;
+                        cost = cost + now - was;
+                    } else if kind == 0 { plan.fields[number] = old } else { plan.statements[number] = old }
+                }
+            }
+        }
+        if cost == before {
+            if std::env::var("TELL").is_ok() { eprintln!("passes {passes} tries {tries} moves {moves}"); }
+            return (plan, cost);
+        }
+    }
+}
+
+const SKIP: bool = true;
+
+fn counted<'a>(program: &'a Program, needs: &'a Needs, hosts: &'a Hosts, plan: &'a Plan) -> Costs<'a> {
+    Costs { program, needs, hosts, plan, reading: Vec::new(), ends: Vec::new() }
+}
+
 // ---- the report
 
 fn push_places(text: &mut String, hosts: &Hosts, word: u16, at: usize) {
@@ -1377,7 +1602,8 @@ fn checked(program: &str, hosts: &str) -> Result<String, Stop> {
     let found = check(&mut program, &principals)?;
     let needs = needs_of(&principals, &program, &found);
     let allowed = allowed_on(&program, &needs, &hosts)?;
-    let (plan, cost) = cheapest_plan(&program, &needs, &hosts, &allowed);
+    let start = cheapest_plan(&program, &needs, &hosts, &allowed);
+    let (plan, cost) = lowered(&program, &needs, &hosts, &allowed, start);
     Ok(report(&program, &hosts, &allowed, &plan, cost))
 }
 

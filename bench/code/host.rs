@@ -5,6 +5,7 @@ use crate::code::{
 };
 use crate::message::{KEY_BYTES, Message, TAG_BYTES, Token, tag};
 use std::collections::TryReserveError;
+use std::ops::Range;
 
 const MOST_NODES: usize = 256;
 
@@ -72,33 +73,57 @@ struct VarCell {
     value: i64,
 }
 
-/// The elements of a host's fields, and the variables of frames.
+/// The elements of a host's fields, behind one another, and the variables of frames in their order.
 struct Stores {
-    rows: Vec<Vec<i64>>,
+    elements: Vec<i64>,
+    /// Where the elements of each field begin, and then where the last end.
+    offsets: Vec<usize>,
     cells: Vec<VarCell>,
 }
 
 impl Stores {
+    fn new(rows: impl Iterator<Item = Vec<i64>>) -> Self {
+        let mut stores = Stores { elements: vec![], offsets: vec![0], cells: vec![] };
+        for row in rows {
+            stores.elements.extend(row);
+            stores.offsets.push(stores.elements.len());
+        }
+        stores
+    }
+
+    fn row(&self, field: FieldId) -> Range<usize> {
+        match self.offsets.get(field.0 as usize..field.0 as usize + 2) {
+            Some(&[start, end]) => start..end,
+            _ => 0..0,
+        }
+    }
+
     fn element(&self, field: FieldId, index: i64) -> i64 {
-        usize::try_from(index).ok().and_then(|index| self.rows.get(field.0 as usize)?.get(index).copied()).unwrap_or(0)
+        let row = &self.elements[self.row(field)];
+        usize::try_from(index).ok().and_then(|index| row.get(index).copied()).unwrap_or(0)
     }
 
     fn set_element(&mut self, field: FieldId, index: i64, value: i64) {
+        let row = self.row(field);
         if let Ok(index) = usize::try_from(index)
-            && let Some(element) = self.rows.get_mut(field.0 as usize).and_then(|row| row.get_mut(index))
+            && let Some(element) = self.elements[row].get_mut(index)
         {
             *element = value;
         }
     }
 
+    fn place(&self, frame: FrameId, var: VarId) -> Result<usize, usize> {
+        self.cells.binary_search_by_key(&(frame, var), |cell| (cell.frame, cell.var))
+    }
+
     fn variable(&self, frame: FrameId, var: VarId) -> i64 {
-        self.cells.iter().find(|cell| cell.frame == frame && cell.var == var).map_or(0, |cell| cell.value)
+        self.place(frame, var).map_or(0, |place| self.cells[place].value)
     }
 
     fn set_variable(&mut self, frame: FrameId, var: VarId, value: i64) {
-        match self.cells.iter_mut().find(|cell| cell.frame == frame && cell.var == var) {
-            Some(cell) => cell.value = value,
-            None => self.cells.push(VarCell { frame, var, value }),
+        match self.place(frame, var) {
+            Ok(place) => self.cells[place].value = value,
+            Err(place) => self.cells.insert(place, VarCell { frame, var, value }),
         }
     }
 }
@@ -213,7 +238,7 @@ impl Host {
         let rows = code.fields.iter().map(|field| if field.host == me { vec![1] } else { vec![] });
         let mut host = Host {
             me,
-            stores: Stores { rows: rows.collect(), cells: vec![] },
+            stores: Stores::new(rows),
             stack: Stack { key, entries: vec![], serials: vec![0; code.entries.len()] },
             running: None,
             waiting: vec![],

@@ -30,7 +30,7 @@ pub fn tag(key: &[u8; KEY_BYTES], host: HostId, frame: FrameId, entry: EntryId, 
     tag
 }
 
-#[derive(Clone, Copy, Debug)]
+#[derive(Clone, Copy, Debug, PartialEq)]
 pub enum Message {
     Get { request: RequestId, field: FieldId, index: i64 },
     Set { request: RequestId, field: FieldId, index: i64, value: i64 },

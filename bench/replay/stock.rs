@@ -1,5 +1,6 @@
-//! A replay in stock Rust: replay EVENTS reads a script on the code that a loop of two hosts is split into, lets its
-//! events happen one by one, and prints what `jifsplit replay` prints.
+//! A replay in stock Rust: stock EVENTS reads a script on the code that a loop of two hosts is split into, lets its
+//! events happen one by one, and prints what `jifsplit replay` prints. With two scripts, stock EVENTS1 EVENTS2 prints what
+//! `jifsplit compare` prints where the same hosts misbehave and all starts alike.
 
 mod code;
 mod host;
@@ -17,7 +18,7 @@ use std::env;
 use std::fs;
 use std::io::{self, BufWriter, Write};
 use std::process::ExitCode;
-use world::{EventError, World};
+use world::{Event, EventError, World};
 
 /// The most bytes of a script.
 const SCRIPT_BYTES: usize = 1 << 24;
@@ -125,36 +126,110 @@ fn put_report(out: &mut impl Write, code: &Code, world: &World) -> io::Result<()
     out.flush()
 }
 
-/// Replays a script, or says why it is refused.
-fn replay(code: &Code, name: &str) -> Result<World, String> {
+/// What is read of a file.
+fn script_of(name: &str) -> Result<Script, String> {
     let bytes = fs::read(name).map_err(|_| format!("{name}: no such file"))?;
     if bytes.len() > SCRIPT_BYTES {
         return Err(format!("{name}: too long"));
     }
-    let read = read_script(&bytes);
-    let Script { bad, settings, events } = read.map_err(|line| format!("{name} line {line}: no form"))?;
-    let mut world = World::start(code, bad);
-    for (field, value) in settings {
+    read_script(&bytes).map_err(|line| format!("{name} line {line}: no form"))
+}
+
+/// The world before the first event of a script.
+fn first_world(code: &Code, script: &Script) -> World {
+    let mut world = World::start(code, script.bad);
+    for &(field, value) in &script.settings {
         world.set_element(code.fields[field.0 as usize].host, field, 0, value);
     }
-    for (line, event) in &events {
-        world.apply(code, event).map_err(|error| match error {
-            EventError::NotThere => format!("{name} line {line}: not there"),
-            EventError::HostBusy => format!("{name} line {line}: host busy"),
-            EventError::NoSuchToken(sent) => format!("{name} line {line}: no such token of {sent}"),
-            EventError::NotBad => format!("{name} line {line}: not misbehaving"),
-            EventError::OutOfMemory | EventError::Stopped => "no memory".to_string(),
-        })?;
+    world
+}
+
+/// Makes an event happen, or says why it is refused.
+fn apply(code: &Code, world: &mut World, name: &str, line: u32, event: &Event) -> Result<(), String> {
+    world.apply(code, event).map_err(|error| match error {
+        EventError::NotThere => format!("{name} line {line}: not there"),
+        EventError::HostBusy => format!("{name} line {line}: host busy"),
+        EventError::NoSuchToken(sent) => format!("{name} line {line}: no such token of {sent}"),
+        EventError::NotBad => format!("{name} line {line}: not misbehaving"),
+        EventError::OutOfMemory | EventError::Stopped => "no memory".to_string(),
+    })
+}
+
+/// Replays a script, or says why it is refused.
+fn replay(code: &Code, name: &str) -> Result<World, String> {
+    let script = script_of(name)?;
+    let mut world = first_world(code, &script);
+    for (line, event) in &script.events {
+        apply(code, &mut world, name, *line, event)?;
     }
     Ok(world)
 }
 
+/// The world that a script leaves, those of its events that may be seen, and the line of the first of them that finds the
+/// world not quiet.
+struct Run<'a> {
+    world: World,
+    seen: Vec<&'a (u32, Event)>,
+    late: Option<u32>,
+}
+
+/// Both labels of this code may be seen by A.
+const READABLE: [bool; 2] = [true, true];
+
+fn follow<'a>(code: &Code, name: &str, script: &'a Script) -> Result<Run<'a>, String> {
+    let mut run = Run { world: first_world(code, script), seen: vec![], late: None };
+    for said in &script.events {
+        let (line, event) = said;
+        if !run.world.is_secret(code, &READABLE, event) {
+            if run.late.is_none() && !run.world.is_quiet(code, &READABLE) {
+                run.late = Some(*line);
+            }
+            run.seen.push(said);
+        }
+        apply(code, &mut run.world, name, *line, event)?;
+    }
+    Ok(run)
+}
+
+/// Compares the messages of two runs, or says why they cannot be compared.
+fn compare(code: &Code, one: &str, other: &str) -> Result<String, String> {
+    let (first, second) = (script_of(one)?, script_of(other)?);
+    let run = follow(code, one, &first)?;
+    let run_too = follow(code, other, &second)?;
+    if let Some((said, _)) = run.seen.iter().zip(&run_too.seen).find(|(said, too)| said.1 != too.1) {
+        return Err(format!("{one} line {}: events differ", said.0));
+    }
+    for (name, late) in [(one, run.late), (other, run_too.late)] {
+        if let Some(line) = late {
+            return Err(format!("{name} line {line}: not prompt"));
+        }
+    }
+    let (told, told_too) = (run.world.told(), run_too.world.told());
+    Ok(match told.iter().zip(told_too).position(|(sent, too)| sent != too) {
+        Some(place) => format!("differ {place} statement 0"),
+        None => format!("agree {} {}", told.len(), told_too.len()),
+    })
+}
+
 fn main() -> ExitCode {
-    let Some(name) = env::args().nth(1) else {
+    let names: Vec<String> = env::args().skip(1).collect();
+    let code = split_loop();
+    if let [one, other] = names.as_slice() {
+        return match compare(&code, one, other) {
+            Ok(line) => {
+                println!("{line}");
+                ExitCode::SUCCESS
+            }
+            Err(why) => {
+                eprintln!("stock: {why}");
+                ExitCode::from(4)
+            }
+        };
+    }
+    let [name] = names.as_slice() else {
         return ExitCode::from(2);
     };
-    let code = split_loop();
-    match replay(&code, &name) {
+    match replay(&code, name) {
         Ok(world) => {
             let put = put_report(&mut BufWriter::new(io::stdout().lock()), &code, &world);
             if put.is_ok() { ExitCode::SUCCESS } else { ExitCode::from(7) }

@@ -6,7 +6,7 @@ use crate::message::{KEY_BYTES, Message, Token};
 use std::collections::{TryReserveError, VecDeque};
 
 /// A token that a misbehaving host may present.
-#[derive(Clone, Copy)]
+#[derive(Clone, Copy, PartialEq)]
 #[allow(dead_code)]
 pub enum BadToken {
     /// The token with this number among those that misbehaving hosts were sent.
@@ -16,7 +16,7 @@ pub enum BadToken {
 }
 
 /// A message as a misbehaving host makes it.
-#[derive(Clone, Copy)]
+#[derive(Clone, Copy, PartialEq)]
 #[allow(dead_code)]
 pub enum BadMessage {
     Get { request: RequestId, field: FieldId, index: i64 },
@@ -30,7 +30,7 @@ pub enum BadMessage {
     Token { request: RequestId, token: BadToken },
 }
 
-#[derive(Clone, Copy)]
+#[derive(Clone, Copy, PartialEq)]
 #[allow(dead_code)]
 pub enum Event {
     Take(HostId, HostId, u64),
@@ -157,6 +157,35 @@ impl World {
     #[allow(dead_code)]
     pub fn told(&self) -> &[(HostId, HostId, Message)] {
         &self.told.messages
+    }
+
+    /// Whether no misbehaving host may see an event, where the list tells it for each label.
+    #[allow(dead_code)]
+    pub fn is_secret(&self, code: &Code, readable: &[bool], event: &Event) -> bool {
+        let hidden = |label: u32| !readable[label as usize];
+        match *event {
+            Event::Take(from, to, place) => self
+                .flying(from, to)
+                .and_then(|queue| queue.get(place as usize))
+                .is_some_and(|flight| hidden(flight.label)),
+            Event::Turn(host) => self
+                .host(host)
+                .and_then(|there| there.instruction(code))
+                .is_some_and(|next| hidden(next.label)),
+            Event::Act(..) => false,
+        }
+    }
+
+    /// Whether misbehaving hosts may see all that is in flight and each instruction that comes next.
+    #[allow(dead_code)]
+    pub fn is_quiet(&self, code: &Code, readable: &[bool]) -> bool {
+        let seen = |label: u32| readable[label as usize];
+        self.hosts
+            .iter()
+            .flatten()
+            .filter_map(|host| host.instruction(code))
+            .all(|next| seen(next.label))
+            && self.queues.iter().flatten().all(|flight| seen(flight.label))
     }
 
     pub fn apply(&mut self, code: &Code, event: &Event) -> Result<(), EventError> {
