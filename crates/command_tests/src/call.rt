@@ -11,10 +11,11 @@ pub const PROGRAM: &str = "int{Alice:} a;\nint{Bob:} b;\nvoid main{}() {\n  a = 
 pub const HOSTS: &str =
     "principals = ['Alice', 'Bob']\n[[host]]\nname = 'A'\nlabel = '{Alice:}'\n[[host]]\nname = 'B'\nlabel = '{Bob:}'\n";
 
-/// What a call answered, and the sinks that it put on.
+/// What a call answered, and the files and the sinks that it left.
 #[derive(Drop)]
 pub struct Ended {
     status: Status,
+    files: MemFiles,
     out: MemSink,
     err: MemSink,
 }
@@ -23,6 +24,11 @@ impl Ended {
     /// What it answered.
     pub fn status(&self) -> Status {
         self.status
+    }
+
+    /// What is held under a name.
+    pub fn held(&self, name: &str) -> Option<&[u8]> {
+        self.files.held(name)
     }
 
     /// Whether it answered this status and put these texts.
@@ -85,7 +91,12 @@ fn call_with(
     let mut out = MemSink::new(alloc, listed(alloc, out_fails)?);
     let mut err = MemSink::new(alloc, listed(alloc, err_fails)?);
     let status = jifsplit(alloc, list.as_slice(), &mut files, &mut out, &mut err);
-    Ok(Ended { status, out, err })
+    Ok(Ended {
+        status,
+        files,
+        out,
+        err,
+    })
 }
 
 /// Calls `jifsplit` on `replay P H E`, with no fault of the outside.

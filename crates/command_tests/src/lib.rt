@@ -23,3 +23,5 @@ mod plans;
 mod programs;
 #[cfg(test)]
 mod runs;
+#[cfg(test)]
+mod splits;

@@ -10,7 +10,7 @@ use Rattle.js_base.specs.declared.sink.PutError.TheVariants as put_error
 use Rattle.js_base.specs.declared.status.Status.{Status}
 use Rattle.js_base.specs.declared.status.Status.TheVariants.{OutFault, NoMemory}
 use Rattle.split_cli.specs.Verdicts.{Refuse, no_memory_line}
-use Rattle.split_cli.specs.Loads.{FilesChange, AreKept}
+use Rattle.split_cli.specs.Loads.{FilesChange}
 use Rattle.split_cli.specs.Due.{IsDue}
 use Rattle.split_cli.specs.Answers.{SinkChange, IsUntouched, AnswersTo}
 
@@ -29,8 +29,7 @@ front_put (Err e) text before after whole front = front
 pub refused : {T : Type 0} (words : List (List ℕ)) (files : FilesChange) (status answer : Status) (line : List ℕ)
     (put : Result T PutError) (out : SinkChange)
     (faults_before faults_between faults_after : ℕ) (taken_before taken_between taken_after : Option (List ℕ)) →
-    AreKept files → IsDue words files (Refuse status line) →
-    IsUntouched out →
+    IsDue words files (Refuse status line) → IsUntouched out →
     OnOk put (Takes line taken_before taken_between) → OnErr put (TakesFront line taken_before taken_between) →
     IsErrOf put put_error.Failed ⊎ (faults_between ≡ faults_before) →
     (IsErrOf put put_error.Failed → Rose faults_before faults_between) →
@@ -47,16 +46,16 @@ pub refused : {T : Type 0} (words : List (List ℕ)) (files : FilesChange) (stat
       taken_after = taken_after;
     })
 refused words files status answer line (Ok x) out faults_before faults_between faults_after taken_before
-    taken_between taken_after kept due same whole front fault cause ok failed memory line_put untouched =
+    taken_between taken_after due same whole front fault cause ok failed memory line_put untouched =
     let no_more = untouched (λ is. cc) in
     let faultless = ⊎_elim (λ fails. absurd (let no : ⊥ = cc in no)) (λ none. none) fault in
-    (kept, inr (Refuse status line, due, (same, inl (ok, no_more.0 ∙ whole, no_more.1 ∙ faultless))))
+    inr (Refuse status line, due, (same, inl (ok, no_more.0 ∙ whole, no_more.1 ∙ faultless)))
 refused words files status answer line (Err put_error.Failed) out faults_before faults_between faults_after
-    taken_before taken_between taken_after kept due same whole front fault cause ok failed memory line_put untouched =
+    taken_before taken_between taken_after due same whole front fault cause ok failed memory line_put untouched =
     let no_more = untouched (λ is. cc) in
     let line_front = subst (λ (t : Option (List ℕ)). TakesFront line taken_before t) (sym no_more.0) front in
     let rose = subst (λ (n : ℕ). Rose faults_before n) (sym no_more.1) (cause refl) in
-    (kept, inr (Refuse status line, due, (same, inr (failed refl, rose, line_front))))
+    inr (Refuse status line, due, (same, inr (failed refl, rose, line_front)))
 refused words files status answer line (Err put_error.OutOfMemory) out faults_before faults_between faults_after
-    taken_before taken_between taken_after kept due same whole front fault cause ok failed memory line_put untouched =
-    (kept, inl (memory refl, inr (Refuse status line, due, (same, (taken_between, front, line_put refl)))))
+    taken_before taken_between taken_after due same whole front fault cause ok failed memory line_put untouched =
+    inl (memory refl, inr (Refuse status line, due, (same, (taken_between, front, line_put refl))))

@@ -2,7 +2,8 @@
 use Rattle.std.proofs.Common.{◌≡◌, ◌≢◌, ℕ, List, [], ◌∷◌, length, get_or, arith, map, sym, ◌∙◌, String, Global}
 use Rattle.std.specs.Prelude.{string_bytes, codes}
 use Rattle.std.specs.Fmt.{decimal}
-use Rattle.split_cli.specs.Commands.{CommandShape, Check, Run, Replay, Drive, Compare, IsCommand, IsStepCount, words_of}
+use Rattle.split_cli.specs.Commands.{CommandShape, Check, Run, Replay, Drive, Compare, Split, IsCommand}
+use Rattle.split_cli.specs.Commands.{IsStepCount, words_of}
 
 -- texts, by their places
 pub three : (xs : List (String Global)) (a b c : String Global) → length xs ≡ 3 → a ≡ get_or xs 0 a →
@@ -70,6 +71,8 @@ no_steps words a b c d e last is not_compare last_is none (Replay program hosts 
 no_steps words a b c d e last is not_compare last_is none (Drive program hosts start events) command same =
     none events command (last_is
     ∙ last_word a b c d e (codes "drive") program hosts start (decimal events) (sym is ∙ same))
+no_steps words a b c d e last is not_compare last_is none (Split program hosts out) command same =
+    let never : ⊥ = cc in never
 no_steps words a b c d e last is not_compare last_is none (Compare program hosts one other) command same =
     not_compare (first_word a b c d e (codes "compare") program hosts one other (sym is ∙ same))
 
@@ -84,3 +87,4 @@ no_verb a b c d e not_compare not_run not_drive (Drive program hosts start event
     not_drive (let first : a ≡ codes "drive" = cc in first)
 no_verb a b c d e not_compare not_run not_drive (Compare program hosts one other) command same =
     not_compare (let first : a ≡ codes "compare" = cc in first)
+no_verb a b c d e not_compare not_run not_drive (Split program hosts out) command same = let never : ⊥ = cc in never

@@ -7,7 +7,7 @@ use Rattle.split_cli.specs.Answers.{SinkChange, IsAnswered, AnswersTo}
 use Rattle.split_cli.specs.Due.{Due, IsDue}
 use Rattle.split_cli.specs.Loads.{FilesChange}
 use Rattle.split_cli.specs.Verdicts.{VerdictShape, Print}
-use Rattle.split_cli.proofs.OneVerdict.{no_fault_and_fault}
+use Rattle.split_cli.proofs.OneVerdict.{fault_rose, no_fault_and_fault}
 
 -- one verdict is due at most
 abbrev pub OneVerdict : Type 0
@@ -24,7 +24,7 @@ due_by_content one words files holds number first second tells due calm below al
     ⊎_elim
     (λ by_files. (one words holds by_files.0 number second first
     (subst (λ (held : Option (List ℕ → Option (List ℕ))). Due words held by_files.0 second) tells by_files.1) due).1)
-    (λ fault. absurd (no_fault_and_fault files.faults_before files.faults_after below calm fault.3.rose))
+    (λ fault. absurd (no_fault_and_fault files.faults_before files.faults_after below calm (fault_rose fault.0 files second fault.3)))
     also
 
 pub complete : OneVerdict → (words : List (List ℕ)) (files : FilesChange) (answer : Status) (out err : SinkChange)
@@ -44,4 +44,4 @@ complete one words files answer out err holds number status text answers tells d
     (λ put. put.0)
     (λ fault. absurd (no_fault_and_fault out.faults_before out.faults_after under quiet fault.1))
     answered.1))
-    answers.1
+    answers

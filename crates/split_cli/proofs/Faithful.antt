@@ -9,7 +9,7 @@ use Rattle.js_base.specs.Sink.{Takes}
 use Rattle.js_base.specs.declared.ids.HostId.{HostId}
 use Rattle.js_base.specs.declared.limits.TheConstants.{SCRIPT_BYTES}
 use Rattle.js_base.specs.declared.status.Status.{Status}
-use Rattle.js_base.specs.declared.status.Status.TheVariants.{Done, Spent, SourceRefused, InputRefused, FileFault, Usage}
+use Rattle.js_base.specs.declared.status.Status.TheVariants.{Done, Spent, InputRefused, FileFault, Usage}
 use Rattle.host_decl.specs.Hosts.{HostsShape}
 use Rattle.jif_tree.specs.declared.program.Field.{Field}
 use Rattle.jif_tree.specs.declared.program.Program.{Program}
@@ -37,10 +37,8 @@ use Rattle.simulation.specs.Obeying.{IsSet, Follows}
 use Rattle.split_cli.specs.Commands.{CommandShape, Replay, Drive, IsCommand, IsStepCount, words_of, files_of}
 use Rattle.split_cli.specs.Verdicts.{VerdictShape, Refuse, Print}
 use Rattle.split_cli.specs.Loads.{FilesChange, Told}
-use Rattle.split_cli.specs.Stages.{Outcome, given, stopped, Then}
-use Rattle.split_cli.specs.Sources.{Lexed, Parsed, Drafted, HostsRead, Resolved, Labelled, Accepted}
-use Rattle.split_cli.specs.Sources.{AcceptedWith, Sources}
-use Rattle.split_cli.specs.PlacedSources.{PlacedSource, OnHosts, PlacedSources, labelled_source}
+use Rattle.split_cli.specs.Stages.{Outcome, given, stopped}
+use Rattle.split_cli.specs.PlacedSources.{PlacedSource, PlacedSources, labelled_source}
 use Rattle.split_cli.specs.Drive.{code_of, first_world, IsDriveReport, DueForDrive}
 use Rattle.split_cli.specs.Driven.{DrivesTo, rested, spent}
 use Rattle.split_cli.specs.Replay.{events_in, replay_text, ScriptRead, EventsHappen, DueForReplay}
@@ -53,10 +51,10 @@ use Rattle.split_cli.specs.Answers.{SinkChange, Puts, IsAnswered, AnswersTo}
 use Rattle.split_cli.specs.Faithful.{IsPlacedAs, IsFaithfulRun, IsReplayed, IsFaithful, IsDrivenTo, IsFaithfulDrive}
 use Rattle.split_cli.specs.Faithful.{PutsText, Only, PutsFaithfully, PutsDriven}
 use Rattle.split_cli.proofs.OneDrive.{driven_run}
-use Rattle.split_cli.proofs.OneVerdict.{one_command}
+use Rattle.split_cli.proofs.OneVerdict.{fault_verdict, one_command}
+use Rattle.split_cli.proofs.RefusedStages.{IsFailure, IsRefusal, placed_refuse}
 use Rattle.split_cli.proofs.ReplayedEvents.{script_starts}
 use Rattle.split_cli.proofs.SetSources.{ReadingLaws, PlanLaws, GrantedLaw, set_there}
-use Rattle.split_cli.proofs.Stages.{stop_with}
 
 -- ---- hosts that all obey
 
@@ -223,52 +221,6 @@ is_faithful_drive laws program hosts start most status text driven =
           (λ event ran comes. laws.next driven.tree labelled placed.needs placed.source.file placed.plan driven.values
           driven.events driven.last event set ran comes) enough;
     }
-
--- ---- what stops a command before its end is no success
-
-abbrev pub IsFailure : Status → Type 0
-IsFailure status = (status ≢ Done) × (status ≢ Spent)
-
-abbrev pub IsRefusal : VerdictShape → Type 0
-IsRefusal verdict = (status : Status) × (line : List ℕ) × (verdict ≡ Refuse status line) × IsFailure status
-
-then_refuses : {X Y : Type 0} (First : Outcome X → Type 0) (Next : X → Outcome Y → Type 0) →
-    ((verdict : VerdictShape) → First (stopped verdict) → IsRefusal verdict) →
-    ((x : X) (verdict : VerdictShape) → Next x (stopped verdict) → IsRefusal verdict) →
-    (verdict : VerdictShape) → Then First Next (stopped verdict) → IsRefusal verdict
-then_refuses {X} {Y} First Next first next verdict ends =
-    ⊎_elim (λ both. next both.0 verdict both.2)
-    (λ no. let same : stop_with {X = Y} verdict ≡ stop_with no.0 = no.2 in
-    let is : no.0 ≡ verdict = cc in
-    subst IsRefusal is (first no.0 no.1))
-    ends
-
-source_refused : (line : List ℕ) (verdict : VerdictShape) → verdict ≡ Refuse SourceRefused line → IsRefusal verdict
-source_refused line verdict is =
-    (SourceRefused, line, is, ((λ same. let no : ⊥ = cc in no), (λ same. let no : ⊥ = cc in no)))
-
-input_refused : (line : List ℕ) (verdict : VerdictShape) → verdict ≡ Refuse InputRefused line → IsRefusal verdict
-input_refused line verdict is =
-    (InputRefused, line, is, ((λ same. let no : ⊥ = cc in no), (λ same. let no : ⊥ = cc in no)))
-
-sources_refuse : (program hosts : List ℕ) (verdict : VerdictShape) → Sources program hosts (stopped verdict) →
-    IsRefusal verdict
-sources_refuse program hosts =
-    then_refuses (Drafted program) (AcceptedWith hosts)
-    (then_refuses (Lexed program) Parsed
-    (λ verdict was. source_refused _ verdict was.3)
-    (λ list verdict was. source_refused _ verdict was.3))
-    (λ draft. then_refuses (HostsRead hosts) (λ file. Accepted file draft)
-    (λ verdict was. input_refused _ verdict was.3)
-    (λ file. then_refuses (Resolved file draft) (Labelled file)
-    (λ verdict was. source_refused _ verdict was.3)
-    (λ tree verdict was. source_refused _ verdict was.3)))
-
-placed_refuse : (program hosts : List ℕ) (verdict : VerdictShape) → PlacedSources program hosts (stopped verdict) →
-    IsRefusal verdict
-placed_refuse program hosts =
-    then_refuses (Sources program hosts) OnHosts (sources_refuse program hosts)
-    (λ source verdict was. source_refused _ verdict was.2)
 
 -- ---- what a verdict says
 
@@ -504,7 +456,8 @@ unfolding SaysOfFiles
 due_says Text command program hosts others words files verdict is names says asked ends =
     ⊎_elim
     (λ whole. words_say Text command program hosts others words files.held is names says whole.0 verdict asked whole.1)
-    (λ fault. subst (SaysOfFiles Text program hosts others files.held) (sym fault.3.verdict_is) fault_fails)
+    (λ fault. subst (SaysOfFiles Text program hosts others files.held) (sym (fault_verdict fault.0 files verdict fault.3))
+    fault_fails)
     ends
 
 -- ---- the answer
@@ -557,7 +510,7 @@ answer_put Text command program hosts others words files answer out err is names
     (λ spent. let out_of = memory.0 in let no : ⊥ = cc in no) success))
     (λ whole. verdict_put Text program hosts others files.held answer out err whole.0 success
     (due_says Text command program hosts others words files whole.0 is names says asked whole.1) whole.2)
-    answers.1
+    answers
 
 -- ---- the headline, from the answer
 

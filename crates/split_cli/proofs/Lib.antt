@@ -2,6 +2,7 @@ pub mod Accepted
 pub mod AlikeLists
 pub mod Answering
 pub mod BlockParts
+pub mod CodeLines
 pub mod CommandWords
 pub mod CompareDue
 pub mod Completeness
@@ -34,14 +35,15 @@ pub mod PlanLines
 pub mod ReadLaws
 pub mod Reading
 pub mod Refusals
+pub mod RefusedStages
 pub mod ReplayDue
 pub mod ReplayedEvents
 pub mod ReportLines
 pub mod Results
 pub mod RunDue
 pub mod RunReport
-pub mod SeenItems
 pub mod SameMessages
+pub mod SeenItems
 pub mod SetSources
 pub mod SomeCompare
 pub mod SomeDrive
@@ -51,6 +53,8 @@ pub mod SomeRun
 pub mod SomeSource
 pub mod SomeStages
 pub mod SomeVerdict
+pub mod SplitDue
+pub mod SplitStages
 pub mod Stages
 pub mod StartingDue
 pub mod StepCounts

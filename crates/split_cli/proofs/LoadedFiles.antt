@@ -7,9 +7,10 @@ use Rattle.split_cli.specs.declared.load.Loaded.{Loaded}
 use Rattle.split_cli.specs.declared.stop.Stop.{Stop}
 use Rattle.split_cli.specs.declared.verdict.Verdict.{Verdict}
 use Rattle.split_cli.specs.Commands.{CommandShape, Check, files_of}
-use Rattle.split_cli.specs.Loads.{FilesChange, Told, counted_by}
+use Rattle.split_cli.specs.Loads.{FilesChange, AreKept, Told, counted_by}
 use Rattle.split_cli.specs.Loading.{IsLoaded, Gives, StopsWith, StopsLoading, EndsIn}
-use Rattle.split_cli.specs.Due.{DueForBytes, loaded, IsDueForCommand}
+use Rattle.split_cli.specs.Due.{DueForBytes, loaded, SavesFor, IsDueForCommand}
+use Rattle.split_cli.specs.Verdicts.{VerdictShape}
 use Rattle.split_cli.proofs.Stages.{ends_weaker, stops_weaker}
 use Rattle.split_cli.proofs.Stops.{GivesAsked, names_asked, loading_due}
 
@@ -37,28 +38,33 @@ four_names one two three four program hosts script other first second third four
 
 -- a command stops where one of its files was not loaded
 pub loading_stops : (command : CommandShape) (names : List (List ℕ)) (files : FilesChange) (why : Stop) →
-    names ≡ files_of command → StopsWith (StopsLoading names files) why →
+    names ≡ files_of command → AreKept files → StopsWith (StopsLoading names files) why →
     StopsWith (IsDueForCommand command files) why
-loading_stops command names files why same stops =
+loading_stops command names files why same kept stops =
     stops_weaker (StopsLoading names files) (IsDueForCommand command files) why
-    (λ verdict is. loading_due command files verdict
+    (λ verdict is. loading_due command files verdict kept
     (subst (λ (all : List (List ℕ)). StopsLoading all files verdict) same is)) stops
 
 abbrev pub AreTold : Option (List ℕ → Option (List ℕ)) → List (List ℕ) → List (List ℕ) → Type 0
 AreTold held names bytes = AllZip (λ file content. Told held file (Some content)) names bytes
 
+-- the command saves nothing, whatever is due
+abbrev pub SavesNothing : CommandShape → FilesChange → Type 0
+SavesNothing command files = (verdict : VerdictShape) → SavesFor command verdict files
+
 -- all were loaded
 all_due : (command : CommandShape) (files : FilesChange) (bytes : List (List ℕ)) (result : Result Verdict Stop) →
     AreTold files.held (files_of command) bytes →
     files.loads_after ≡ counted_by (length (files_of command)) files.loads_before →
-    files.faults_after ≡ files.faults_before → EndsIn (DueForBytes command bytes) result →
+    files.faults_after ≡ files.faults_before → SavesNothing command files → EndsIn (DueForBytes command bytes) result →
     EndsIn (IsDueForCommand command files) result
-all_due command files bytes result told loads faults ends =
+all_due command files bytes result told loads faults kept ends =
     ends_weaker (DueForBytes command bytes) (IsDueForCommand command files) result
     (λ verdict due. inl (
       length (files_of command),
       loaded verdict (record { bytes = bytes; told = told; due = due }),
       record { loads = loads; no_fault = faults },
+      kept verdict,
     )) ends
 
 -- a count after as many more, in other words; for numbers that are no literals, of which the counts would be computed
@@ -73,24 +79,44 @@ given_file held one name most given same_name same_most gives =
     subst (λ (n : ℕ). Gives held name n given) same_most
     (subst (λ (text : List ℕ). Gives held text one.most given) same_name gives)
 
-pub two_due : (program hosts : List ℕ) (one two : Asked) (files : FilesChange) (given : List Loaded) (p h : Loaded)
-    (result : Result Verdict Stop) →
-    AllZip (GivesAsked files.held) (one ∷ two ∷ []) given → p ≡ get_or given 0 p → h ≡ get_or given 1 h →
-    one.name.now ≡ program → one.most ≡ PROGRAM_BYTES → two.name.now ≡ hosts → two.most ≡ HOSTS_BYTES →
-    files.loads_after ≡ counted_by 2 files.loads_before → files.faults_after ≡ files.faults_before →
+-- the bytes of a program and a host file that were loaded
+pub record TwoFiles (held : Option (List ℕ → Option (List ℕ))) (program hosts : List ℕ) (p h : Loaded) : Type 0 where
+  pub program_bytes : List ℕ
+  pub hosts_bytes : List ℕ
+  pub program_told : Told held program (Some program_bytes)
+  pub hosts_told : Told held hosts (Some hosts_bytes)
+  pub program_loaded : IsLoaded PROGRAM_BYTES program_bytes p
+  pub hosts_loaded : IsLoaded HOSTS_BYTES hosts_bytes h
+
+pub two_files : (held : Option (List ℕ → Option (List ℕ))) (program hosts : List ℕ) (one two : Asked)
+    (given : List Loaded) (p h : Loaded) → AllZip (GivesAsked held) (one ∷ two ∷ []) given → p ≡ get_or given 0 p →
+    h ≡ get_or given 1 h → one.name.now ≡ program → one.most ≡ PROGRAM_BYTES → two.name.now ≡ hosts →
+    two.most ≡ HOSTS_BYTES → TwoFiles held program hosts p h
+two_files held program hosts one two [] p h all pa pb na ma nb mb = absurd all
+two_files held program hosts one two (x ∷ []) p h all pa pb na ma nb mb = absurd all.1
+two_files held program hosts one two (x ∷ y ∷ z ∷ more) p h all pa pb na ma nb mb = absurd all.1.1
+two_files held program hosts one two (x ∷ y ∷ []) p h all pa pb na ma nb mb =
+    let first = given_file held one program PROGRAM_BYTES x na ma all.0 in
+    let second = given_file held two hosts HOSTS_BYTES y nb mb all.1.0 in
+    record {
+      program_bytes = first.0;
+      hosts_bytes = second.0;
+      program_told = first.1;
+      hosts_told = second.1;
+      program_loaded = subst (IsLoaded PROGRAM_BYTES first.0) (sym pa) first.2;
+      hosts_loaded = subst (IsLoaded HOSTS_BYTES second.0) (sym pb) second.2;
+    }
+
+pub two_due : (program hosts : List ℕ) (files : FilesChange) (p h : Loaded) (result : Result Verdict Stop) →
+    TwoFiles files.held program hosts p h → files.loads_after ≡ counted_by 2 files.loads_before →
+    files.faults_after ≡ files.faults_before → AreKept files →
     ((b c : List ℕ) → IsLoaded PROGRAM_BYTES b p → IsLoaded HOSTS_BYTES c h →
     EndsIn (DueForBytes (Check program hosts) (b ∷ c ∷ [])) result) →
     EndsIn (IsDueForCommand (Check program hosts) files) result
-two_due program hosts one two files [] p h result all pa pb na ma nb mb loads faults due = absurd all
-two_due program hosts one two files (x ∷ []) p h result all pa pb na ma nb mb loads faults due = absurd all.1
-two_due program hosts one two files (x ∷ y ∷ z ∷ more) p h result all pa pb na ma nb mb loads faults due =
-    absurd all.1.1
-two_due program hosts one two files (x ∷ y ∷ []) p h result all pa pb na ma nb mb loads faults due =
-    let first = given_file files.held one program PROGRAM_BYTES x na ma all.0 in
-    let second = given_file files.held two hosts HOSTS_BYTES y nb mb all.1.0 in
-    all_due (Check program hosts) files (first.0 ∷ second.0 ∷ []) result (first.1, (second.1, tt)) loads faults
-    (due first.0 second.0 (subst (IsLoaded PROGRAM_BYTES first.0) (sym pa) first.2)
-    (subst (IsLoaded HOSTS_BYTES second.0) (sym pb) second.2))
+two_due program hosts files p h result two loads faults kept due =
+    all_due (Check program hosts) files (two.program_bytes ∷ two.hosts_bytes ∷ []) result
+    (two.program_told, (two.hosts_told, tt)) loads faults (λ verdict. kept)
+    (due two.program_bytes two.hosts_bytes two.program_loaded two.hosts_loaded)
 
 -- a command with a program, a host file and a script
 pub three_due : (command : CommandShape) (program hosts script : List ℕ) (one two three : Asked)
@@ -101,19 +127,19 @@ pub three_due : (command : CommandShape) (program hosts script : List ℕ) (one 
     one.name.now ≡ program → one.most ≡ PROGRAM_BYTES → two.name.now ≡ hosts → two.most ≡ HOSTS_BYTES →
     three.name.now ≡ script → three.most ≡ SCRIPT_BYTES →
     files.loads_after ≡ counted_by 3 files.loads_before → files.faults_after ≡ files.faults_before →
-    ((b c d : List ℕ) → IsLoaded PROGRAM_BYTES b p → IsLoaded HOSTS_BYTES c h → IsLoaded SCRIPT_BYTES d s →
+    SavesNothing command files → ((b c d : List ℕ) → IsLoaded PROGRAM_BYTES b p → IsLoaded HOSTS_BYTES c h → IsLoaded SCRIPT_BYTES d s →
     EndsIn (DueForBytes command (b ∷ c ∷ d ∷ [])) result) →
     EndsIn (IsDueForCommand command files) result
 three_due command program hosts script one two three files [] p h s result names all pa pb pc na ma nb mb nc mc loads
-    faults due = absurd all
+    faults kept due = absurd all
 three_due command program hosts script one two three files (x ∷ []) p h s result names all pa pb pc na ma nb mb nc mc
-    loads faults due = absurd all.1
+    loads faults kept due = absurd all.1
 three_due command program hosts script one two three files (x ∷ y ∷ []) p h s result names all pa pb pc na ma nb mb nc
-    mc loads faults due = absurd all.1.1
+    mc loads faults kept due = absurd all.1.1
 three_due command program hosts script one two three files (x ∷ y ∷ z ∷ w ∷ more) p h s result names all pa pb pc na
-    ma nb mb nc mc loads faults due = absurd all.1.1.1
+    ma nb mb nc mc loads faults kept due = absurd all.1.1.1
 three_due command program hosts script one two three files (x ∷ y ∷ z ∷ []) p h s result names all pa pb pc na ma nb
-    mb nc mc loads faults due =
+    mb nc mc loads faults kept due =
     let first = given_file files.held one program PROGRAM_BYTES x na ma all.0 in
     let second = given_file files.held two hosts HOSTS_BYTES y nb mb all.1.0 in
     let third = given_file files.held three script SCRIPT_BYTES z nc mc all.1.1.0 in
@@ -124,7 +150,7 @@ three_due command program hosts script one two three files (x ∷ y ∷ z ∷ []
     told in
     all_due command files (first.0 ∷ second.0 ∷ third.0 ∷ []) result names_told
     (counted_as 3 (length (files_of command)) files.loads_before files.loads_after loads (ap length names)) faults
-    (due first.0 second.0 third.0 (subst (IsLoaded PROGRAM_BYTES first.0) (sym pa) first.2)
+    kept (due first.0 second.0 third.0 (subst (IsLoaded PROGRAM_BYTES first.0) (sym pa) first.2)
     (subst (IsLoaded HOSTS_BYTES second.0) (sym pb) second.2)
     (subst (IsLoaded SCRIPT_BYTES third.0) (sym pc) third.2))
 
@@ -137,21 +163,21 @@ pub four_due : (command : CommandShape) (program hosts script other : List ℕ) 
     one.name.now ≡ program → one.most ≡ PROGRAM_BYTES → two.name.now ≡ hosts → two.most ≡ HOSTS_BYTES →
     three.name.now ≡ script → three.most ≡ SCRIPT_BYTES → four.name.now ≡ other → four.most ≡ SCRIPT_BYTES →
     files.loads_after ≡ counted_by 4 files.loads_before → files.faults_after ≡ files.faults_before →
-    ((b c d e : List ℕ) → IsLoaded PROGRAM_BYTES b p → IsLoaded HOSTS_BYTES c h → IsLoaded SCRIPT_BYTES d s →
+    SavesNothing command files → ((b c d e : List ℕ) → IsLoaded PROGRAM_BYTES b p → IsLoaded HOSTS_BYTES c h → IsLoaded SCRIPT_BYTES d s →
     IsLoaded SCRIPT_BYTES e t → EndsIn (DueForBytes command (b ∷ c ∷ d ∷ e ∷ [])) result) →
     EndsIn (IsDueForCommand command files) result
 four_due command program hosts script other one two three four files [] p h s t result names all pa pb pc pd na ma nb
-    mb nc mc nd md loads faults due = absurd all
+    mb nc mc nd md loads faults kept due = absurd all
 four_due command program hosts script other one two three four files (x ∷ []) p h s t result names all pa pb pc pd na
-    ma nb mb nc mc nd md loads faults due = absurd all.1
+    ma nb mb nc mc nd md loads faults kept due = absurd all.1
 four_due command program hosts script other one two three four files (x ∷ y ∷ []) p h s t result names all pa pb pc pd
-    na ma nb mb nc mc nd md loads faults due = absurd all.1.1
+    na ma nb mb nc mc nd md loads faults kept due = absurd all.1.1
 four_due command program hosts script other one two three four files (x ∷ y ∷ z ∷ []) p h s t result names all pa pb pc
-    pd na ma nb mb nc mc nd md loads faults due = absurd all.1.1.1
+    pd na ma nb mb nc mc nd md loads faults kept due = absurd all.1.1.1
 four_due command program hosts script other one two three four files (x ∷ y ∷ z ∷ w ∷ v ∷ more) p h s t result names all
-    pa pb pc pd na ma nb mb nc mc nd md loads faults due = absurd all.1.1.1.1
+    pa pb pc pd na ma nb mb nc mc nd md loads faults kept due = absurd all.1.1.1.1
 four_due command program hosts script other one two three four files (x ∷ y ∷ z ∷ w ∷ []) p h s t result names all pa pb
-    pc pd na ma nb mb nc mc nd md loads faults due =
+    pc pd na ma nb mb nc mc nd md loads faults kept due =
     let first = given_file files.held one program PROGRAM_BYTES x na ma all.0 in
     let second = given_file files.held two hosts HOSTS_BYTES y nb mb all.1.0 in
     let third = given_file files.held three script SCRIPT_BYTES z nc mc all.1.1.0 in
@@ -163,7 +189,7 @@ four_due command program hosts script other one two three four files (x ∷ y �
     subst (λ (all_names : List (List ℕ)). AreTold files.held all_names bytes) (sym names) told in
     all_due command files bytes result names_told
     (counted_as 4 (length (files_of command)) files.loads_before files.loads_after loads (ap length names)) faults
-    (due first.0 second.0 third.0 fourth.0 (subst (IsLoaded PROGRAM_BYTES first.0) (sym pa) first.2)
+    kept (due first.0 second.0 third.0 fourth.0 (subst (IsLoaded PROGRAM_BYTES first.0) (sym pa) first.2)
     (subst (IsLoaded HOSTS_BYTES second.0) (sym pb) second.2)
     (subst (IsLoaded SCRIPT_BYTES third.0) (sym pc) third.2)
     (subst (IsLoaded SCRIPT_BYTES fourth.0) (sym pd) fourth.2))

@@ -1,15 +1,16 @@
 -- For words and for files that tell what they hold, one verdict is due.
 use Rattle.std.proofs.Common.{◌≡◌, ℕ, zero, suc, ◌+◌, ◌<◌, List, [], ◌∷◌, Option, Some, None, refl, sym, ap, ◌∙◌}
-use Rattle.std.proofs.Common.{codes, subst, ⊎_elim, arith}
+use Rattle.std.proofs.Common.{codes, subst, inl, inr, ⊎_elim, arith}
 use Rattle.std.specs.Prelude.{IsSome}
 use Rattle.std.specs.Fmt.{decimal}
 use Rattle.std.specs.List.{AllZip, AllByRecursion}
 use Rattle.std.proofs.lemmas.Bool.{false≢true}
 use Rattle.std.proofs.lemmas.Fmt.{decimal_injective}
 use Rattle.js_base.specs.Counts.{last_count, Rose}
-use Rattle.split_cli.specs.Commands.{CommandShape, Check, Run, Replay, Drive, Compare, IsStepCount, IsCommand}
-use Rattle.split_cli.specs.Commands.{words_of, files_of}
-use Rattle.split_cli.specs.Verdicts.{VerdictShape, no_such_file}
+use Rattle.js_base.specs.declared.status.Status.TheVariants.{Done}
+use Rattle.split_cli.specs.Commands.{CommandShape, Check, Run, Replay, Drive, Compare, Split, IsStepCount}
+use Rattle.split_cli.specs.Commands.{IsCommand, words_of, files_of}
+use Rattle.split_cli.specs.Verdicts.{VerdictShape, Print, no_such_file, file_fault}
 use Rattle.split_cli.specs.Loads.{FilesChange, Told, IsHeld, counted_by, IsFirstAbsent, IsFileFault}
 use Rattle.split_cli.specs.Sources.{Sources}
 use Rattle.split_cli.specs.PlacedSources.{PlacedSources}
@@ -18,14 +19,16 @@ use Rattle.split_cli.specs.Compare.{DueForCompare}
 use Rattle.split_cli.specs.PlainRun.{DueForRun}
 use Rattle.split_cli.specs.Replay.{DueForReplay}
 use Rattle.split_cli.specs.Drive.{DueForDrive}
+use Rattle.split_cli.specs.Split.{SplitSources}
 use Rattle.split_cli.specs.Due.{DueForBytes, DueForFiles, DueForCommand, absent, loaded, Due, no_words, for_command}
-use Rattle.split_cli.specs.Due.{IsDue}
+use Rattle.split_cli.specs.Due.{IsFault, IsDue}
 use Rattle.split_cli.proofs.OneCompare.{compare_once}
 use Rattle.split_cli.proofs.OneDrive.{drive_once}
 use Rattle.split_cli.proofs.OnePlaced.{PlaceLaws, places_once}
 use Rattle.split_cli.proofs.OneReplay.{StepLaws, replay_once}
 use Rattle.split_cli.proofs.OneRun.{RunLaws, run_once}
 use Rattle.split_cli.proofs.OneSource.{SourceLaws, sources_once}
+use Rattle.split_cli.proofs.SplitStages.{split_once}
 use Rattle.split_cli.proofs.Places.{same_place, same_here, of_front, of_all}
 use Rattle.split_cli.proofs.Stages.{one_due}
 
@@ -58,6 +61,9 @@ bytes_once laws (Compare program hosts name other) (p ∷ h ∷ s ∷ t ∷ []) 
     one_due (PlacedSources p h) (DueForCompare name s other t) first second
     (places_once laws.sources laws.places p h)
     (λ placed was. compare_once laws.steps name s other t placed first second) one two
+bytes_once laws (Split program hosts out) (p ∷ h ∷ []) first second one two =
+    one_due (SplitSources p h) (λ split end. end ≡ Print Done split.text) first second
+    (split_once laws.sources laws.places p h) (λ split was here there. here ∙ sym there) one two
 bytes_once laws (Check program hosts) [] first second one two = absurd one
 bytes_once laws (Check program hosts) (p ∷ []) first second one two = absurd one
 bytes_once laws (Check program hosts) (p ∷ h ∷ s ∷ more) first second one two = absurd one
@@ -78,6 +84,9 @@ bytes_once laws (Compare program hosts name other) (p ∷ []) first second one t
 bytes_once laws (Compare program hosts name other) (p ∷ h ∷ []) first second one two = absurd one
 bytes_once laws (Compare program hosts name other) (p ∷ h ∷ s ∷ []) first second one two = absurd one
 bytes_once laws (Compare program hosts name other) (p ∷ h ∷ s ∷ t ∷ x ∷ more) first second one two = absurd one
+bytes_once laws (Split program hosts out) [] first second one two = absurd one
+bytes_once laws (Split program hosts out) (p ∷ []) first second one two = absurd one
+bytes_once laws (Split program hosts out) (p ∷ h ∷ s ∷ more) first second one two = absurd one
 
 -- ---- what is due for a command
 
@@ -213,6 +222,19 @@ one_command (Compare p h e f) (Replay q i g) one two same = absurd (let no = sam
 one_command (Compare p h e f) (Drive q i t m) one two same =
     absurd (let first : codes "compare" ≡ codes "drive" = cc in cc)
 one_command (Compare p h e f) (Compare q i g j) one two same = cc
+one_command (Check p h) (Split q i o) one two same = absurd (let no = same in cc)
+one_command (Run p h s n) (Split q i o) one two same = absurd (let no = same in cc)
+one_command (Replay p h e) (Split q i o) one two same =
+    absurd (let first : codes "replay" ≡ codes "split" = cc in cc)
+one_command (Drive p h s n) (Split q i o) one two same = absurd (let no = same in cc)
+one_command (Compare p h e f) (Split q i o) one two same = absurd (let no = same in cc)
+one_command (Split p h o) (Check q i) one two same = absurd (let no = same in cc)
+one_command (Split p h o) (Run q i t n) one two same = absurd (let no = same in cc)
+one_command (Split p h o) (Replay q i f) one two same =
+    absurd (let first : codes "split" ≡ codes "replay" = cc in cc)
+one_command (Split p h o) (Drive q i t n) one two same = absurd (let no = same in cc)
+one_command (Split p h o) (Compare q i f g) one two same = absurd (let no = same in cc)
+one_command (Split p h o) (Split q i r) one two same = cc
 
 pub due_once : AllLaws → (words : List (List ℕ)) (holds : List ℕ → Option (List ℕ)) (number other : ℕ)
     (first second : VerdictShape) →
@@ -230,6 +252,28 @@ due_once laws words holds _ _ _ _ (for_command command number first is asked one
 
 -- ---- what is due for words and for what the files did
 
+-- a fault was counted
+pub fault_rose : (command : CommandShape) (files : FilesChange) (verdict : VerdictShape) → IsFault command files verdict →
+    Rose files.faults_before files.faults_after
+fault_rose command files verdict (inl loading) = loading.0.rose
+fault_rose (Check program hosts) files verdict (inr none) = absurd none
+fault_rose (Run program hosts start steps) files verdict (inr none) = absurd none
+fault_rose (Replay program hosts events) files verdict (inr none) = absurd none
+fault_rose (Drive program hosts start events) files verdict (inr none) = absurd none
+fault_rose (Compare program hosts one other) files verdict (inr none) = absurd none
+fault_rose (Split program hosts out) files verdict (inr saving) = saving.3.rose
+
+-- and the file is named
+pub fault_verdict : (command : CommandShape) (files : FilesChange) (verdict : VerdictShape) →
+    IsFault command files verdict → verdict ≡ file_fault files.failed
+fault_verdict command files verdict (inl loading) = loading.0.verdict_is
+fault_verdict (Check program hosts) files verdict (inr none) = absurd none
+fault_verdict (Run program hosts start steps) files verdict (inr none) = absurd none
+fault_verdict (Replay program hosts events) files verdict (inr none) = absurd none
+fault_verdict (Drive program hosts start events) files verdict (inr none) = absurd none
+fault_verdict (Compare program hosts one other) files verdict (inr none) = absurd none
+fault_verdict (Split program hosts out) files verdict (inr saving) = saving.3.verdict_is
+
 pub no_fault_and_fault : (before after : ℕ) → before < last_count → after ≡ before → ¬ Rose before after
 no_fault_and_fault before after below same rose = ⊎_elim (λ lt. omega arith) (λ last. omega arith) rose
 
@@ -244,11 +288,12 @@ answer_once laws words files holds first second tells below one two =
     (subst (λ (held : Option (List ℕ → Option (List ℕ))). Due words held by_files.0 first) tells by_files.1)
     (subst (λ (held : Option (List ℕ → Option (List ℕ))). Due words held also.0 second) tells also.1)).1)
     (λ fault. absurd (no_fault_and_fault files.faults_before files.faults_after below by_files.2.no_fault
-    fault.3.rose))
+    (fault_rose fault.0 files second fault.3)))
     two)
     (λ fault. ⊎_elim
-    (λ also. absurd (no_fault_and_fault files.faults_before files.faults_after below also.2.no_fault fault.3.rose))
-    (λ also. fault.3.verdict_is ∙ sym also.3.verdict_is)
+    (λ also. absurd (no_fault_and_fault files.faults_before files.faults_after below also.2.no_fault
+    (fault_rose fault.0 files first fault.3)))
+    (λ also. fault_verdict fault.0 files first fault.3 ∙ sym (fault_verdict also.0 files second also.3))
     two)
     one
 

@@ -8,19 +8,17 @@ use Rattle.std.specs.Int.{bit_at}
 use Rattle.std.proofs.lemmas.Bool.{ne_eqb}
 use Rattle.std.proofs.lemmas.List.{append-nil, append_assoc, length-take-le, take_more}
 use Rattle.host_decl.specs.Hosts.{HostShape}
-use Rattle.js_base.specs.declared.status.Status.TheVariants.{Done}
 use Rattle.jif_tree.specs.declared.program.Checked.{Checked}
 use Rattle.jif_tree.specs.declared.program.Field.{Field}
 use Rattle.jif_tree.specs.Trees.{field_tree, program_tree}
 use Rattle.msg_cost.specs.Cost.{plan_cost}
 use Rattle.need_labels.specs.Labelled.{labelled_of}
 use Rattle.need_labels.specs.Labelled as needs
-use Rattle.split_cli.specs.Check.{accepted_line, cost_line, plan_report}
+use Rattle.split_cli.specs.Check.{accepted_line, cost_line, plan_lines}
 use Rattle.split_cli.specs.PlacedSources.{PlacedSource, labelled_source}
 use Rattle.split_cli.specs.PlaceLines.{field_place, field_places, names_in, place_lines, statement_place}
 use Rattle.split_cli.specs.PlaceLines.{statement_places}
 use Rattle.split_cli.specs.Text.{line_text, lines_text}
-use Rattle.split_cli.specs.Verdicts.{Print}
 use Rattle.split_cli.proofs.ReportLines.{added, lines_more, numbered_more}
 
 pub field_places_more : (placed : PlacedSource) (fields : List Field) (i : ℕ) (field : Field) → i < length fields →
@@ -85,14 +83,14 @@ names_without word hosts i host start text lt is clear was =
     was ∙ ap (λ more. start ++ more) (sym (append-nil front) ∙ ap (λ more. front ++ more) (sym none)
     ∙ sym (names_more word hosts i host lt is))
 
--- ---- the whole report
+-- ---- all lines
 
 pub report_text : (placed : PlacedSource) (checked : Checked) (first places text : List ℕ) (cost : ℕ) →
     labelled_of checked ≡ labelled_source placed.source →
     first ≡ line_text (accepted_line (program_tree checked.program)) →
     places ≡ first ++ lines_text (place_lines placed) →
     cost ≡ plan_cost (labelled_of checked) placed.needs placed.source.file placed.plan →
-    text ≡ places ++ (codes "cost " ++ (decimal cost ++ codes "\n")) → Print Done text ≡ plan_report placed
+    text ≡ places ++ (codes "cost " ++ (decimal cost ++ codes "\n")) → text ≡ lines_text (plan_lines placed)
 report_text placed checked first places text cost labelled first_is places_are cost_is text_is =
     let accepted = line_text (accepted_line placed.source.tree) in
     let lines = lines_text (place_lines placed) in
@@ -104,7 +102,6 @@ report_text placed checked first places text cost labelled first_is places_are c
     let closing : end ≡ cost_line placed ++ 10 ∷ [] =
     sym (append_assoc (codes "cost ") (decimal cost) (codes "\n"))
     ∙ ap (λ (n : ℕ). codes "cost " ++ decimal n ++ codes "\n") counted in
-    ap (λ (bytes : List ℕ). Print Done bytes) (text_is
-    ∙ ap (λ (front : List ℕ). front ++ end) (places_are ∙ ap (λ (front : List ℕ). front ++ lines) opening)
+    text_is ∙ ap (λ (front : List ℕ). front ++ end) (places_are ∙ ap (λ (front : List ℕ). front ++ lines) opening)
     ∙ append_assoc accepted lines end ∙ ap (λ (last : List ℕ). accepted ++ (lines ++ last)) closing
-    ∙ ap (λ (others : List ℕ). accepted ++ others) (sym (lines_more (place_lines placed) (cost_line placed))))
+    ∙ ap (λ (others : List ℕ). accepted ++ others) (sym (lines_more (place_lines placed) (cost_line placed)))

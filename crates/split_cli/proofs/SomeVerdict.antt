@@ -2,8 +2,9 @@
 use Rattle.std.proofs.Common.{◌≡◌, ◌⊎◌, ℕ, suc, ◌+◌, List, [], ◌∷◌, length, Option, Some, None, refl, ⊎_elim}
 use Rattle.std.proofs.Common.{inl, inr}
 use Rattle.std.specs.List.{AllZip}
+use Rattle.js_base.specs.declared.status.Status.TheVariants.{Done}
 use Rattle.split_cli.specs.Check.{plan_report}
-use Rattle.split_cli.specs.Commands.{CommandShape, Check, Run, Replay, Drive, Compare, files_of}
+use Rattle.split_cli.specs.Commands.{CommandShape, Check, Run, Replay, Drive, Compare, Split, files_of}
 use Rattle.split_cli.specs.Compare.{DueForCompare}
 use Rattle.split_cli.specs.Drive.{DueForDrive}
 use Rattle.split_cli.specs.Due.{DueForBytes, DueForCommand, absent, loaded, Due, no_words, for_command}
@@ -12,8 +13,9 @@ use Rattle.split_cli.specs.PlacedSources.{PlacedSource, PlacedSources}
 use Rattle.split_cli.specs.PlainRun.{DueForRun}
 use Rattle.split_cli.specs.Replay.{DueForReplay}
 use Rattle.split_cli.specs.Sources.{Sources}
+use Rattle.split_cli.specs.Split.{SplitSources}
 use Rattle.split_cli.specs.Stages.{given}
-use Rattle.split_cli.specs.Verdicts.{VerdictShape, usage, no_such_file}
+use Rattle.split_cli.specs.Verdicts.{VerdictShape, Print, usage, no_such_file}
 use Rattle.jif_tree.specs.Trees.{program_tree}
 use Rattle.split_cli.proofs.NativeParts.{IsSeen}
 use Rattle.split_cli.proofs.NativeSources.{NativeLaws, source_seen}
@@ -27,6 +29,7 @@ use Rattle.split_cli.proofs.SomePlaced.{PlaceCauses, places_some}
 use Rattle.split_cli.proofs.SomeRun.{SomeStart, SomeEnd, run_some}
 use Rattle.split_cli.proofs.SomeSource.{SourceCauses, sources_some}
 use Rattle.split_cli.proofs.SomeStages.{HasVerdict, some_due}
+use Rattle.split_cli.proofs.SplitStages.{split_some}
 use Rattle.split_cli.proofs.WordForms.{words_form}
 
 -- what is known of all stages
@@ -77,6 +80,9 @@ bytes_due laws files (Compare program hosts one other) (p ∷ h ∷ s ∷ t ∷ 
     some_due (PlacedSources p h) (DueForCompare one s other t) (places_some laws.sources laws.places p h)
     (λ placed was. compare_some laws.comparing laws.code laws.scripts p h placed was one s other t
     (placed_seen laws.code.native p h placed was))
+bytes_due laws files (Split program hosts out) (p ∷ h ∷ []) held =
+    some_due (SplitSources p h) (λ split end. end ≡ Print Done split.text) (split_some laws.sources laws.places p h)
+    (λ split was. (Print Done split.text, refl))
 bytes_due laws files (Check program hosts) [] held = absurd held
 bytes_due laws files (Check program hosts) (p ∷ []) held = absurd held.1
 bytes_due laws files (Check program hosts) (p ∷ h ∷ s ∷ more) held = absurd held.1.1
@@ -97,6 +103,9 @@ bytes_due laws files (Compare program hosts one other) (p ∷ []) held = absurd 
 bytes_due laws files (Compare program hosts one other) (p ∷ h ∷ []) held = absurd held.1.1
 bytes_due laws files (Compare program hosts one other) (p ∷ h ∷ s ∷ []) held = absurd held.1.1.1
 bytes_due laws files (Compare program hosts one other) (p ∷ h ∷ s ∷ t ∷ x ∷ more) held = absurd held.1.1.1.1
+bytes_due laws files (Split program hosts out) [] held = absurd held
+bytes_due laws files (Split program hosts out) (p ∷ []) held = absurd held.1
+bytes_due laws files (Split program hosts out) (p ∷ h ∷ s ∷ more) held = absurd held.1.1
 
 -- ---- files of which one may be absent
 

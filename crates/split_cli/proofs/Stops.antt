@@ -14,11 +14,14 @@ use Rattle.split_cli.specs.declared.load.Asked.{Asked}
 use Rattle.split_cli.specs.declared.load.Loaded.{Loaded}
 use Rattle.split_cli.specs.declared.load.LoadStop.{LoadStop}
 use Rattle.split_cli.specs.declared.load.LoadStop.TheVariants as load_stop
-use Rattle.split_cli.specs.Commands.{CommandShape, IsCommand, words_of, files_of, HaveNoForm}
-use Rattle.split_cli.specs.Verdicts.{VerdictShape, usage}
-use Rattle.split_cli.specs.Loads.{FilesChange, IsHeld, counted_by}
+use Rattle.js_base.specs.declared.status.Status.{Status}
+use Rattle.js_base.specs.declared.status.Status.TheVariants.{InputRefused}
+use Rattle.split_cli.specs.Commands.{CommandShape, Check, Run, Replay, Drive, Compare, Split}
+use Rattle.split_cli.specs.Commands.{IsCommand, words_of, files_of, HaveNoForm}
+use Rattle.split_cli.specs.Verdicts.{VerdictShape, Refuse, usage}
+use Rattle.split_cli.specs.Loads.{FilesChange, AreKept, IsHeld, counted_by}
 use Rattle.split_cli.specs.Loading.{Gives, LoadStops, StopCounts, IsStopOf, StopsLoading}
-use Rattle.split_cli.specs.Due.{IsDueForCommand, DueForCommand, absent, for_command, no_words, Due, IsDue}
+use Rattle.split_cli.specs.Due.{IsDueForCommand, SavesFor, DueForCommand, absent, for_command, no_words, Due, IsDue}
 
 -- ---- counts
 
@@ -122,17 +125,29 @@ few_loads place most before between after so_far one_more within =
 
 -- ---- commands
 
+-- a refusal saves nothing
+pub saves_refused : (command : CommandShape) (status : Status) (line : List ℕ) (files : FilesChange) → AreKept files →
+    SavesFor command (Refuse status line) files
+saves_refused (Check program hosts) status line files kept = kept
+saves_refused (Run program hosts start steps) status line files kept = kept
+saves_refused (Replay program hosts events) status line files kept = kept
+saves_refused (Drive program hosts start events) status line files kept = kept
+saves_refused (Compare program hosts one other) status line files kept = kept
+saves_refused (Split program hosts out) status line files kept = kept
+
 -- a file of a command that was not loaded
 pub loading_due : (command : CommandShape) (files : FilesChange) (verdict : VerdictShape) →
-    StopsLoading (files_of command) files verdict → IsDueForCommand command files verdict
-loading_due command files verdict stops =
+    AreKept files → StopsLoading (files_of command) files verdict → IsDueForCommand command files verdict
+loading_due command files verdict kept stops =
     ⊎_elim
     (λ none. inl (
       none.0 + 1,
       subst (DueForCommand files.held command (none.0 + 1)) (sym none.4) (absent none.0 none.1 none.2),
       none.3,
+      subst (λ (due : VerdictShape). SavesFor command due files) (sym none.4)
+          (saves_refused command InputRefused _ files kept),
     ))
-    (λ fault. inr fault)
+    (λ fault. inr (inl (fault, kept)))
     stops
 
 -- what is due for a command is due for its words
@@ -140,13 +155,23 @@ pub due_for_words : (words : List (List ℕ)) (command : CommandShape) (files : 
     IsCommand command → words ≡ words_of command → IsDueForCommand command files verdict → IsDue words files verdict
 due_for_words words command files verdict is asked due =
     ⊎_elim
-    (λ whole. inl (whole.0, for_command command whole.0 verdict is asked whole.1, whole.2))
+    (λ whole. inl (
+      whole.0,
+      for_command command whole.0 verdict is asked whole.1,
+      whole.2,
+      inl (command, is, asked, whole.3),
+    ))
     (λ fault. inr (command, is, asked, fault))
     due
 
 -- words that ask for nothing
 pub usage_due : (words : List (List ℕ)) (files : FilesChange) (verdict : VerdictShape) → HaveNoForm words →
-    files.loads_after ≡ files.loads_before → files.faults_after ≡ files.faults_before → verdict ≡ usage →
-    IsDue words files verdict
-usage_due words files verdict none loads faults is =
-    inl (0, subst (Due words files.held 0) (sym is) (no_words none), record { loads = loads; no_fault = faults })
+    files.loads_after ≡ files.loads_before → files.faults_after ≡ files.faults_before → AreKept files →
+    verdict ≡ usage → IsDue words files verdict
+usage_due words files verdict none loads faults kept is =
+    inl (
+      0,
+      subst (Due words files.held 0) (sym is) (no_words none),
+      record { loads = loads; no_fault = faults },
+      inr (none, kept),
+    )

@@ -6,7 +6,7 @@ use Rattle.std.specs.Fmt.{decimal}
 use Rattle.std.specs.Str.Parse.{digits_value}
 use Rattle.std.proofs.lemmas.Fmt.{digits_value-decimal}
 use Rattle.js_base.proofs.Decisions.{Decided, same_text, less_than}
-use Rattle.split_cli.specs.Commands.{CommandShape, Check, Run, Replay, Drive, Compare, IsCommand, IsStepCount}
+use Rattle.split_cli.specs.Commands.{CommandShape, Check, Run, Replay, Drive, Compare, Split, IsCommand, IsStepCount}
 use Rattle.split_cli.specs.Commands.{HaveNoForm, words_of}
 use Rattle.split_cli.specs.declared.words.TheConstants.{STEPS}
 use Rattle.split_cli.proofs.StepCounts.{own, small}
@@ -52,6 +52,7 @@ none_asked (Run program hosts start steps) is same = let never : ⊥ = cc in nev
 none_asked (Replay program hosts events) is same = let never : ⊥ = cc in never
 none_asked (Drive program hosts start events) is same = let never : ⊥ = cc in never
 none_asked (Compare program hosts one other) is same = let never : ⊥ = cc in never
+none_asked (Split program hosts out) is same = let never : ⊥ = cc in never
 
 one_asked : (a : List ℕ) → HaveNoForm (a ∷ [])
 one_asked a (Check program hosts) is same = let never : ⊥ = cc in never
@@ -59,6 +60,7 @@ one_asked a (Run program hosts start steps) is same = let never : ⊥ = cc in ne
 one_asked a (Replay program hosts events) is same = let never : ⊥ = cc in never
 one_asked a (Drive program hosts start events) is same = let never : ⊥ = cc in never
 one_asked a (Compare program hosts one other) is same = let never : ⊥ = cc in never
+one_asked a (Split program hosts out) is same = let never : ⊥ = cc in never
 
 two_asked : (a b : List ℕ) → HaveNoForm (a ∷ b ∷ [])
 two_asked a b (Check program hosts) is same = let never : ⊥ = cc in never
@@ -66,6 +68,7 @@ two_asked a b (Run program hosts start steps) is same = let never : ⊥ = cc in 
 two_asked a b (Replay program hosts events) is same = let never : ⊥ = cc in never
 two_asked a b (Drive program hosts start events) is same = let never : ⊥ = cc in never
 two_asked a b (Compare program hosts one other) is same = let never : ⊥ = cc in never
+two_asked a b (Split program hosts out) is same = let never : ⊥ = cc in never
 
 three_asked : (a b c : List ℕ) → a ≢ codes "check" → HaveNoForm (a ∷ b ∷ c ∷ [])
 three_asked a b c not (Check program hosts) is same = not (let first : a ≡ codes "check" = cc in first)
@@ -73,13 +76,17 @@ three_asked a b c not (Run program hosts start steps) is same = let never : ⊥ 
 three_asked a b c not (Replay program hosts events) is same = let never : ⊥ = cc in never
 three_asked a b c not (Drive program hosts start events) is same = let never : ⊥ = cc in never
 three_asked a b c not (Compare program hosts one other) is same = let never : ⊥ = cc in never
+three_asked a b c not (Split program hosts out) is same = let never : ⊥ = cc in never
 
-four_asked : (a b c d : List ℕ) → a ≢ codes "replay" → HaveNoForm (a ∷ b ∷ c ∷ d ∷ [])
-four_asked a b c d not (Check program hosts) is same = let never : ⊥ = cc in never
-four_asked a b c d not (Run program hosts start steps) is same = let never : ⊥ = cc in never
-four_asked a b c d not (Replay program hosts events) is same = not (let first : a ≡ codes "replay" = cc in first)
-four_asked a b c d not (Drive program hosts start events) is same = let never : ⊥ = cc in never
-four_asked a b c d not (Compare program hosts one other) is same = let never : ⊥ = cc in never
+four_asked : (a b c d : List ℕ) → a ≢ codes "replay" → a ≢ codes "split" → HaveNoForm (a ∷ b ∷ c ∷ d ∷ [])
+four_asked a b c d not neither (Check program hosts) is same = let never : ⊥ = cc in never
+four_asked a b c d not neither (Run program hosts start steps) is same = let never : ⊥ = cc in never
+four_asked a b c d not neither (Replay program hosts events) is same =
+    not (let first : a ≡ codes "replay" = cc in first)
+four_asked a b c d not neither (Drive program hosts start events) is same = let never : ⊥ = cc in never
+four_asked a b c d not neither (Compare program hosts one other) is same = let never : ⊥ = cc in never
+four_asked a b c d not neither (Split program hosts out) is same =
+    neither (let first : a ≡ codes "split" = cc in first)
 
 six_asked : (a b c d e f : List ℕ) (more : List (List ℕ)) → HaveNoForm (a ∷ b ∷ c ∷ d ∷ e ∷ f ∷ more)
 six_asked a b c d e f more (Check program hosts) is same = let never : ⊥ = cc in never
@@ -87,8 +94,15 @@ six_asked a b c d e f more (Run program hosts start steps) is same = let never :
 six_asked a b c d e f more (Replay program hosts events) is same = let never : ⊥ = cc in never
 six_asked a b c d e f more (Drive program hosts start events) is same = let never : ⊥ = cc in never
 six_asked a b c d e f more (Compare program hosts one other) is same = let never : ⊥ = cc in never
+six_asked a b c d e f more (Split program hosts out) is same = let never : ⊥ = cc in never
 
 -- ---- forms
+
+four_form : (a b c d : List ℕ) → Decided (a ≡ codes "replay") → Decided (a ≡ codes "split") →
+    AskFor (a ∷ b ∷ c ∷ d ∷ []) ⊎ HaveNoForm (a ∷ b ∷ c ∷ d ∷ [])
+four_form a b c d (inl is) splits = inl (Replay b c d, tt, ap (λ x. x ∷ b ∷ c ∷ d ∷ []) is)
+four_form a b c d (inr not) (inl is) = inl (Split b c d, tt, ap (λ x. x ∷ b ∷ c ∷ d ∷ []) is)
+four_form a b c d (inr not) (inr neither) = inr (four_asked a b c d not neither)
 
 counted_form : (a b c d e : List ℕ) → a ≢ codes "compare" → Decided (a ≡ codes "run") →
     Decided (a ≡ codes "drive") → IsCountWord e ⊎ ((steps : ℕ) → IsStepCount steps → e ≢ decimal steps) →
@@ -112,8 +126,6 @@ words_form (a ∷ b ∷ []) = inr (two_asked a b)
 words_form (a ∷ b ∷ c ∷ []) =
     ⊎_elim (λ is. inl (Check b c, tt, ap (λ x. x ∷ b ∷ c ∷ []) is)) (λ not. inr (three_asked a b c not))
     (same_text a (codes "check"))
-words_form (a ∷ b ∷ c ∷ d ∷ []) =
-    ⊎_elim (λ is. inl (Replay b c d, tt, ap (λ x. x ∷ b ∷ c ∷ d ∷ []) is)) (λ not. inr (four_asked a b c d not))
-    (same_text a (codes "replay"))
+words_form (a ∷ b ∷ c ∷ d ∷ []) = four_form a b c d (same_text a (codes "replay")) (same_text a (codes "split"))
 words_form (a ∷ b ∷ c ∷ d ∷ e ∷ []) = five_form a b c d e (same_text a (codes "compare"))
 words_form (a ∷ b ∷ c ∷ d ∷ e ∷ f ∷ more) = inr (six_asked a b c d e f more)

@@ -6,8 +6,8 @@ use Rattle.js_base.specs.declared.sink.Sink as sinks
 use Rattle.js_base.specs.declared.status.Status.{Status}
 use Rattle.js_base.specs.declared.status.Status.TheVariants.{OutFault, NoMemory}
 use Rattle.split_cli.specs.Verdicts.{VerdictShape, Refuse, Print, no_memory_line}
-use Rattle.split_cli.specs.Loads.{FilesChange, AreKept}
-use Rattle.split_cli.specs.Due.{IsDue}
+use Rattle.split_cli.specs.Loads.{FilesChange}
+use Rattle.split_cli.specs.Due.{IsDue, MaySave, OfCommand}
 
 -- a sink before and after: its faults, and what it has taken where it tells
 pub record SinkChange : Type 0 where
@@ -61,16 +61,15 @@ abbrev pub IsCutShort : VerdictShape → SinkChange → SinkChange → Type 0
 IsCutShort (Refuse status line) out err = IsUntouched out × PutsFronts line no_memory_line err
 IsCutShort (Print status text) out err = PutsFront text out × PutsFront no_memory_line err
 
--- Memory ran out before anything was due, and no more was put than a front of the line that says so, or it ran out
--- while what was due was put.
+-- Memory ran out before anything was due, perhaps in a save, and no more was put than a front of the line that says so,
+-- or it ran out while what was due was put.
 abbrev pub RanOut : List (List ℕ) → FilesChange → SinkChange → SinkChange → Type 0
 RanOut words files out err =
-    (IsUntouched out × PutsFront no_memory_line err)
+    (OfCommand (λ command. MaySave command files) words files × IsUntouched out × PutsFront no_memory_line err)
     ⊎ ((verdict : VerdictShape) × IsDue words files verdict × IsCutShort verdict out err)
 
--- The answer is that to what is due, or want of memory. No command saves, and none changes what is held.
+-- the answer is that to what is due, or want of memory
 abbrev pub AnswersTo : List (List ℕ) → FilesChange → Status → SinkChange → SinkChange → Type 0
 AnswersTo words files answer out err =
-    AreKept files
-    × (((answer ≡ NoMemory) × RanOut words files out err)
-    ⊎ ((verdict : VerdictShape) × IsDue words files verdict × IsAnswered verdict answer out err))
+    ((answer ≡ NoMemory) × RanOut words files out err)
+    ⊎ ((verdict : VerdictShape) × IsDue words files verdict × IsAnswered verdict answer out err)

@@ -22,6 +22,8 @@ cost_line placed =
     codes "cost "
     ++ decimal (plan_cost (labelled_source placed.source) placed.needs placed.source.file placed.plan)
 
+abbrev pub plan_lines : PlacedSource → List (List ℕ)
+plan_lines placed = accepted_line placed.source.tree ∷ place_lines placed ++ cost_line placed ∷ []
+
 abbrev pub plan_report : PlacedSource → VerdictShape
-plan_report placed =
-    Print Done (lines_text (accepted_line placed.source.tree ∷ place_lines placed ++ cost_line placed ∷ []))
+plan_report placed = Print Done (lines_text (plan_lines placed))

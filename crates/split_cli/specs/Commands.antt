@@ -3,13 +3,14 @@ use Rattle.std.specs.Prelude.{◌≢◌, ℕ, ◌≤◌, List, [], ◌∷◌, co
 use Rattle.std.specs.Fmt.{decimal}
 use Rattle.split_cli.specs.declared.words.TheConstants.{STEPS}
 
--- a command with its files, and with its number of steps or events
+-- a command with its files, and with its number of steps or events; a split is saved under its last name
 pub data CommandShape : Type 0 where
   Check : (program hosts : List ℕ) → CommandShape
   Run : (program hosts start : List ℕ) (steps : ℕ) → CommandShape
   Replay : (program hosts events : List ℕ) → CommandShape
   Drive : (program hosts start : List ℕ) (events : ℕ) → CommandShape
   Compare : (program hosts one other : List ℕ) → CommandShape
+  Split : (program hosts out : List ℕ) → CommandShape
 
 -- a number of steps or events that can be asked for
 pub record IsStepCount (steps : ℕ) : Type 0 where
@@ -23,6 +24,7 @@ IsCommand (Run program hosts start steps) = IsStepCount steps
 IsCommand (Replay program hosts events) = ⊤
 IsCommand (Drive program hosts start events) = IsStepCount events
 IsCommand (Compare program hosts one other) = ⊤
+IsCommand (Split program hosts out) = ⊤
 
 -- the words that ask for it: a number is written in decimal digits, without leading zeros
 abbrev pub words_of : CommandShape → List (List ℕ)
@@ -31,6 +33,7 @@ words_of (Run program hosts start steps) = codes "run" ∷ program ∷ hosts ∷
 words_of (Replay program hosts events) = codes "replay" ∷ program ∷ hosts ∷ events ∷ []
 words_of (Drive program hosts start events) = codes "drive" ∷ program ∷ hosts ∷ start ∷ decimal events ∷ []
 words_of (Compare program hosts one other) = codes "compare" ∷ program ∷ hosts ∷ one ∷ other ∷ []
+words_of (Split program hosts out) = codes "split" ∷ program ∷ hosts ∷ out ∷ []
 
 -- the files that are loaded for it, in order
 abbrev pub files_of : CommandShape → List (List ℕ)
@@ -39,6 +42,7 @@ files_of (Run program hosts start steps) = program ∷ hosts ∷ start ∷ []
 files_of (Replay program hosts events) = program ∷ hosts ∷ events ∷ []
 files_of (Drive program hosts start events) = program ∷ hosts ∷ start ∷ []
 files_of (Compare program hosts one other) = program ∷ hosts ∷ one ∷ other ∷ []
+files_of (Split program hosts out) = program ∷ hosts ∷ []
 
 -- the words ask for no command
 abbrev pub HaveNoForm : List (List ℕ) → Type 0

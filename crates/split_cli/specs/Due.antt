@@ -1,11 +1,13 @@
 -- What is due for words, by what the files hold and did.
 use Rattle.std.specs.Prelude.{◌≡◌, ℕ, ◌+◌, ◌⊎◌, List, [], ◌∷◌, length, Option, Some}
 use Rattle.std.specs.List.{AllZip}
-use Rattle.split_cli.specs.Commands.{CommandShape, Check, Run, Replay, Drive, Compare, IsCommand, words_of}
-use Rattle.split_cli.specs.Commands.{files_of, HaveNoForm}
-use Rattle.split_cli.specs.Verdicts.{VerdictShape, usage, no_such_file}
-use Rattle.split_cli.specs.Loads.{FilesChange, Told, LoadsWell, IsFirstAbsent, IsFileFault}
-use Rattle.split_cli.specs.Stages.{DueThen}
+use Rattle.split_cli.specs.Commands.{CommandShape, Check, Run, Replay, Drive, Compare, Split}
+use Rattle.split_cli.specs.Commands.{IsCommand, words_of, files_of, HaveNoForm}
+use Rattle.js_base.specs.declared.status.Status.TheVariants.{Done}
+use Rattle.split_cli.specs.Verdicts.{VerdictShape, Print, usage, no_such_file}
+use Rattle.split_cli.specs.Loads.{FilesChange, Told, AreKept, LoadsWell, IsFirstAbsent, IsFileFault}
+use Rattle.split_cli.specs.Saves.{SavesUnder, IsSaved, IsSaveFault}
+use Rattle.split_cli.specs.Stages.{given, DueThen}
 use Rattle.split_cli.specs.Sources.{Sources}
 use Rattle.split_cli.specs.PlacedSources.{PlacedSources}
 use Rattle.split_cli.specs.Check.{plan_report}
@@ -13,6 +15,7 @@ use Rattle.split_cli.specs.Compare.{DueForCompare}
 use Rattle.split_cli.specs.PlainRun.{DueForRun}
 use Rattle.split_cli.specs.Replay.{DueForReplay}
 use Rattle.split_cli.specs.Drive.{DueForDrive}
+use Rattle.split_cli.specs.Split.{SplitShape, SplitSources}
 
 -- What is due for a command whose files hold these bytes: each begins with a program and a host file, and has one end
 -- of its own.
@@ -27,6 +30,8 @@ DueForBytes (Drive program hosts start events) (p ∷ h ∷ s ∷ []) verdict =
     DueThen (PlacedSources p h) (DueForDrive start s events) verdict
 DueForBytes (Compare program hosts one other) (p ∷ h ∷ s ∷ t ∷ []) verdict =
     DueThen (PlacedSources p h) (DueForCompare one s other t) verdict
+DueForBytes (Split program hosts out) (p ∷ h ∷ []) verdict =
+    DueThen (SplitSources p h) (λ split end. end ≡ Print Done split.text) verdict
 DueForBytes command bytes verdict = ⊥
 
 -- What is due for a command whose files are all held. Where files do not tell what they hold, they hold some bytes.
@@ -45,11 +50,39 @@ pub data DueForCommand
   loaded : (verdict : VerdictShape) → DueForFiles held command verdict →
       DueForCommand held command (length (files_of command)) verdict
 
+-- ---- what the files do
+
+-- What is saved for a command where this verdict is due: by a split its code, where that is reported, and nothing
+-- otherwise. Where files do not tell what they hold, they hold some bytes.
+abbrev pub SavesFor : CommandShape → VerdictShape → FilesChange → Type 0
+SavesFor (Split program hosts out) (Print status text) files =
+    (p h : List ℕ) × Told files.held program (Some p) × Told files.held hosts (Some h)
+    × (split : SplitShape) × SplitSources p h (given split) × IsSaved out split.bytes files
+SavesFor command verdict files = AreKept files
+
+-- the save of a split failed whose report was due
+abbrev pub FailsToSave : CommandShape → FilesChange → VerdictShape → Type 0
+FailsToSave (Split program hosts out) files verdict =
+    (number : ℕ) × (text : List ℕ) × DueForCommand files.held (Split program hosts out) number (Print Done text)
+    × IsSaveFault out number files verdict
+FailsToSave command files verdict = ⊥
+
+-- the load of a file of the command failed, or its save
+abbrev pub IsFault : CommandShape → FilesChange → VerdictShape → Type 0
+IsFault command files verdict =
+    (IsFileFault (files_of command) files verdict × AreKept files) ⊎ FailsToSave command files verdict
+
 -- what is due for a command, by what the files hold and did
 abbrev pub IsDueForCommand : CommandShape → FilesChange → VerdictShape → Type 0
 IsDueForCommand command files verdict =
-    ((number : ℕ) × DueForCommand files.held command number verdict × LoadsWell number files)
-    ⊎ IsFileFault (files_of command) files verdict
+    ((number : ℕ) × DueForCommand files.held command number verdict × LoadsWell number files
+    × SavesFor command verdict files)
+    ⊎ IsFault command files verdict
+
+-- what a command may do beside its loads, whatever comes of it: nothing, or for a split one save under its last name
+abbrev pub MaySave : CommandShape → FilesChange → Type 0
+MaySave (Split program hosts out) files = AreKept files ⊎ SavesUnder out files
+MaySave command files = AreKept files
 
 -- What is due for the words where no load fails, and the number of loads that come before it.
 pub data Due (words : List (List ℕ)) (held : Option (List ℕ → Option (List ℕ))) : ℕ → VerdictShape →
@@ -58,15 +91,22 @@ pub data Due (words : List (List ℕ)) (held : Option (List ℕ → Option (List
   for_command : (command : CommandShape) (number : ℕ) (verdict : VerdictShape) → IsCommand command →
       words ≡ words_of command → DueForCommand held command number verdict → Due words held number verdict
 
--- after the loads that come before it, none of which failed, this is due for the words
-abbrev pub IsDueByFiles : List (List ℕ) → FilesChange → VerdictShape → Type 0
-IsDueByFiles words files verdict = (number : ℕ) × Due words files.held number verdict × LoadsWell number files
+-- this is so of the command that the words ask for, or of files that are kept where they ask for none
+abbrev pub OfCommand : (CommandShape → Type 0) → List (List ℕ) → FilesChange → Type 0
+OfCommand P words files =
+    ((command : CommandShape) × IsCommand command × (words ≡ words_of command) × P command)
+    ⊎ (HaveNoForm words × AreKept files)
 
--- the load of a file of the words failed
+-- after the loads that come before it, none of which failed, this is due for the words, and what belongs to it is saved
+abbrev pub IsDueByFiles : List (List ℕ) → FilesChange → VerdictShape → Type 0
+IsDueByFiles words files verdict =
+    (number : ℕ) × Due words files.held number verdict × LoadsWell number files
+    × OfCommand (λ command. SavesFor command verdict files) words files
+
+-- the load of a file of the words failed, or their save
 abbrev pub IsFaultOf : List (List ℕ) → FilesChange → VerdictShape → Type 0
 IsFaultOf words files verdict =
-    (command : CommandShape) × IsCommand command × (words ≡ words_of command)
-    × IsFileFault (files_of command) files verdict
+    (command : CommandShape) × IsCommand command × (words ≡ words_of command) × IsFault command files verdict
 
 -- what is due for the words and for what the files did: what is due by what they hold, or a file fault
 abbrev pub IsDue : List (List ℕ) → FilesChange → VerdictShape → Type 0

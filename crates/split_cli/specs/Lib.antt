@@ -1,6 +1,7 @@
 pub mod Answers
 pub mod Asked
 pub mod Check
+pub mod CodeLines
 pub mod Commands
 pub mod Compare
 pub mod Drive
@@ -21,8 +22,10 @@ pub mod Releases
 pub mod ReleasingKinds
 pub mod Replay
 pub mod Report
+pub mod Saves
 pub mod SourceShapes
 pub mod Sources
+pub mod Split
 pub mod Stages
 pub mod Starting
 pub mod StatementLines

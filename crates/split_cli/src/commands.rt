@@ -8,6 +8,7 @@ pub mod compare;
 pub mod drive;
 pub mod replay;
 pub mod run;
+pub mod split;
 
 use crate::load::Asked;
 use js_base::limits::{HOSTS_BYTES, PROGRAM_BYTES, SCRIPT_BYTES};

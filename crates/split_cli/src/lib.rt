@@ -1,6 +1,7 @@
 //! The program `jifsplit`, from words and files to what it puts out.
 #![tactic(auto)]
 
+mod code_lines;
 mod commands;
 mod comparing;
 mod driving;

@@ -8,9 +8,9 @@ ghost use Rattle.js_base.specs.Sink.{TakesFront};
 ghost use Rattle.split_cli.specs.Answers.{AnswersTo, sink_change};
 ghost use Rattle.split_cli.specs.Commands as command;
 ghost use Rattle.split_cli.specs.Asked.{command_shape};
-ghost use Rattle.split_cli.specs.Due.{Due, IsDue, IsDueForCommand};
+ghost use Rattle.split_cli.specs.Due.{Due, IsDue, IsDueForCommand, MaySave, OfCommand};
 ghost use Rattle.split_cli.specs.Faithful.{PutsDriven, PutsFaithfully};
-ghost use Rattle.split_cli.specs.Loads.{AreKept, files_change};
+ghost use Rattle.split_cli.specs.Loads.{files_change};
 ghost use Rattle.split_cli.specs.Verdicts.{Print, verdict_shape, no_memory_line};
 
 use crate::commands::check::due_for_check;
@@ -18,6 +18,7 @@ use crate::commands::compare::due_for_compare;
 use crate::commands::drive::due_for_drive;
 use crate::commands::replay::due_for_replay;
 use crate::commands::run::due_for_run;
+use crate::commands::split::due_for_split;
 use crate::laws::due_laws;
 use crate::stop::Stop;
 use crate::verdict::Verdict;
@@ -79,13 +80,14 @@ pub fn jifsplit<F: Files, S: Sink, E: Sink>(
         F.faults files.new ≡ F.faults files.old → F.faults files.old < last_count →
         S.faults out.new ≡ S.faults out.old → S.faults out.old < last_count →
         (result ≡ status) ⊎ (result ≡ Status.NoMemory) }
-    // Whatever it answers, it asks for no more loads than its words name files, saves nothing, and leaves what is held.
+    // Whatever it answers, it asks for no more loads than its words name files, saves nothing, and leaves what is held,
+    // but for one save of a split, under its last word alone.
     ensures loads { (asked : command.CommandShape) → command.IsCommand asked →
         map string_bytes words.now ≡ command.words_of asked →
         F.loads files.new ≤ F.loads files.old + length (command.files_of asked) }
     ensures no_loads { command.HaveNoForm (map string_bytes words.now) → F.loads files.new ≡ F.loads files.old }
-    ensures saves { F.saves files.new ≡ F.saves files.old }
-    ensures held { F.held files.new ≡ F.held files.old }
+    ensures saves { OfCommand (λ asked. MaySave asked (files_change F.Files files.old files.new))
+        (map string_bytes words.now) (files_change F.Files files.old files.new) }
 {
     host_file_laws();
     named_laws();
@@ -119,6 +121,8 @@ fn answered<F: Files, S: Sink, E: Sink>(
         map string_bytes words.now ≡ command.words_of asked →
         F.loads files.new ≤ F.loads files.old + length (command.files_of asked) }
     ensures no_loads { command.HaveNoForm (map string_bytes words.now) → F.loads files.new ≡ F.loads files.old }
+    ensures saves { OfCommand (λ asked. MaySave asked (files_change F.Files files.old files.new))
+        (map string_bytes words.now) (files_change F.Files files.old files.new) }
 {
     match due(alloc, words, files) {
         Ok(Verdict::Print { status, text }) => {
@@ -142,7 +146,8 @@ fn due<F: Files>(alloc: Global, words: &[String], files: &mut F) -> Result<Verdi
         map string_bytes words.now ≡ command.words_of asked →
         F.loads files.new ≤ F.loads files.old + length (command.files_of asked) }
     ensures no_loads { command.HaveNoForm (map string_bytes words.now) → F.loads files.new ≡ F.loads files.old }
-    ensures kept { AreKept (files_change F.Files files.old files.new) }
+    ensures saves { OfCommand (λ asked. MaySave asked (files_change F.Files files.old files.new))
+        (map string_bytes words.now) (files_change F.Files files.old files.new) }
 {
     match command_of(words) {
         Some(asked) => due_for(alloc, &asked, files),
@@ -161,7 +166,7 @@ fn due_for<F: Files>(
         (files_change F.Files files.old files.new)
         (verdict_shape verdict)) }
     ensures loads { F.loads files.new ≤ F.loads files.old + length (command.files_of (command_shape asked.now)) }
-    ensures kept { AreKept (files_change F.Files files.old files.new) }
+    ensures saves { MaySave (command_shape asked.now) (files_change F.Files files.old files.new) }
 {
     let due = match asked {
         Command::Check { program, hosts } => due_for_check(alloc, program, hosts, files),
@@ -188,6 +193,11 @@ fn due_for<F: Files>(
             one,
             other,
         } => due_for_compare(alloc, program, hosts, one, other, files),
+        Command::Split {
+            program,
+            hosts,
+            out,
+        } => due_for_split(alloc, program, hosts, out, files),
     };
     match due {
         Ok(verdict) => Ok(verdict),

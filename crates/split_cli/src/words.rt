@@ -37,6 +37,12 @@ pub enum Command<'a> {
         one: &'a str,
         other: &'a str,
     },
+    /// `split P H OUT`
+    Split {
+        program: &'a str,
+        hosts: &'a str,
+        out: &'a str,
+    },
     /// `drive P H START N`, for at most N events
     Drive {
         program: &'a str,
@@ -57,14 +63,39 @@ pub fn command_of(words: &[String]) -> Option<Command<'_>>
             program,
             hosts,
         }),
-        [verb, program, hosts, events] if verb.as_str() == "replay" => Some(Command::Replay {
-            program,
-            hosts,
-            events,
-        }),
+        [verb, program, hosts, last] => command_of_four(verb, program, hosts, last),
         [verb, program, hosts, third, last] => command_of_five(verb, program, hosts, third, last),
         _ => None,
     }
+}
+
+/// The command that four words ask for.
+fn command_of_four<'a>(
+    verb: &str,
+    program: &'a str,
+    hosts: &'a str,
+    last: &'a str,
+) -> Option<Command<'a>>
+    ensures command { IfSome result (λ asked. IsCommand (command_shape asked)) }
+    ensures found { IfSome result (λ asked.
+        verb.now ∷ program.now ∷ hosts.now ∷ last.now ∷ [] ≡ words_of (command_shape asked)) }
+    ensures none { IfNone result (HaveNoForm (verb.now ∷ program.now ∷ hosts.now ∷ last.now ∷ [])) }
+{
+    if verb == "replay" {
+        return Some(Command::Replay {
+            program,
+            hosts,
+            events: last,
+        });
+    }
+    if verb == "split" {
+        return Some(Command::Split {
+            program,
+            hosts,
+            out: last,
+        });
+    }
+    None
 }
 
 /// The command that five words ask for: one that compares, or one whose last word is a number.

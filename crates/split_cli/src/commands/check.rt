@@ -5,13 +5,12 @@ ghost use Rattle.js_base.specs.declared.limits.TheConstants.{PROGRAM_BYTES, HOST
 ghost use Rattle.std.specs.String.{string_bytes};
 ghost use Rattle.jif_tree.specs.Trees.{program_tree};
 ghost use Rattle.split_cli.specs.Commands as command;
-ghost use Rattle.split_cli.specs.Check.{accepted_line, plan_report};
+ghost use Rattle.split_cli.specs.Check.{accepted_line, plan_lines};
 ghost use Rattle.split_cli.specs.Due.{DueForBytes, IsDueForCommand};
 ghost use Rattle.split_cli.specs.Loading.{EndsIn, IsLoaded};
 ghost use Rattle.split_cli.specs.Loads.{AreKept, files_change};
 ghost use Rattle.split_cli.specs.PlacedShapes.{placed_shape};
-ghost use Rattle.split_cli.specs.Text.{line_text};
-ghost use Rattle.split_cli.specs.Verdicts.{verdict_shape};
+ghost use Rattle.split_cli.specs.Text.{line_text, lines_text};
 
 use crate::commands::{host_file, program_file};
 use crate::load::{Loaded, load_all};
@@ -52,23 +51,24 @@ fn due_for_loaded(alloc: Global, program: &Loaded, hosts: &Loaded) -> Result<Ver
         EndsIn (DueForBytes (command.Check names others) (p ∷ h ∷ [])) result }
 {
     let placed = read_places(alloc, program, hosts)?;
-    Ok(plan_report(alloc, &placed)?)
+    let text = plan_text(alloc, &placed)?;
+    Ok(Verdict::Print {
+        status: Status::Done,
+        text,
+    })
 }
 
-/// The report of a program in its places: how much there is of it, which hosts may hold what, where it stands, and what
-/// its plan costs.
-fn plan_report(alloc: Global, placed: &PlacedSource) -> Result<Verdict, OutOfMemory>
-    ensures { IfOk result (λ verdict. verdict_shape verdict ≡ plan_report (placed_shape placed.now)) }
+/// What is printed of a program in its places: how much there is of it, which hosts may hold what, where it stands, and
+/// what its plan costs.
+pub fn plan_text(alloc: Global, placed: &PlacedSource) -> Result<String, OutOfMemory>
+    ensures { IfOk result (λ text. string_bytes text ≡ lines_text (plan_lines (placed_shape placed.now))) }
 {
     let source = &placed.source;
     let mut text = accepted(alloc, source)?;
     push_places(alloc, &mut text, placed)?;
     let cost = cost(&source.checked, &placed.needs, &source.hosts, &placed.plan);
     writeln!(text, "cost {cost}").map_err(|_| OutOfMemory)?;
-    Ok(Verdict::Print {
-        status: Status::Done,
-        text,
-    })
+    Ok(text)
 }
 
 /// The line of a program that is accepted: how many fields, methods and statements it has. There is a program label for

@@ -6,7 +6,6 @@ pub returns-in-Ok-Refuse-clause-answer : goal.returns-in-Ok-Refuse-clause-answer
 returns-in-Ok-Refuse-clause-answer g c =
     refused _ _ c.in-Ok-Refuse.status _ _ c.put-put-in-Ok-Refuse.result _ _
     (g.E.Sink.faults c.put-put-in-Ok-Refuse.new.self) _ _ (g.E.Sink.taken c.put-put-in-Ok-Refuse.new.self) _
-    c.in-Ok-Refuse.ensures.kept
     (rw c.in-Ok-Refuse.field-0-is at c.in-Ok-Refuse.ensures.due) (refl, refl)
     (rw c.as_bytes-in-Ok-Refuse.ensures.value at c.put-put-in-Ok-Refuse.ensures.ok)
     (rw c.as_bytes-in-Ok-Refuse.ensures.value at c.put-put-in-Ok-Refuse.ensures.err)

@@ -1,10 +1,11 @@
-use Rattle.std.proofs.Common.{◌≡◌, [], ◌∷◌, inl}
+use Rattle.std.proofs.Common.{◌≡◌, [], ◌∷◌, ap, inl}
+use Rattle.js_base.specs.declared.status.Status.TheVariants.{Done}
 use Rattle.split_cli.specs.Check.{plan_report}
 use Rattle.split_cli.specs.Commands.{Check}
 use Rattle.split_cli.specs.Due.{DueForBytes}
 use Rattle.split_cli.specs.PlacedShapes.{placed_shape}
 use Rattle.split_cli.specs.PlacedSources.{PlacedSource, PlacedSources}
-use Rattle.split_cli.specs.Verdicts.{VerdictShape}
+use Rattle.split_cli.specs.Verdicts.{VerdictShape, Print}
 use Rattle.split_cli.proofs.Stages.{due_handed_on, due_stops, memory_ran_out}
 use Rattle.split_cli.proofs.commands.check.due_for_loaded.Goals as goal
 
@@ -15,15 +16,15 @@ returns-in_err-placed c = λ names others p h loaded_p loaded_h.
     (due_stops (PlacedSources p h) (λ (placed : PlacedSource) (end : VerdictShape). end ≡ plan_report placed)
     c.in_err-placed.field-0.0 (c.in_err-placed.ensures p h loaded_p loaded_h))
 
-pub returns-in_err-plan_report : goal.returns-in_err-plan_report
-returns-in_err-plan_report c = λ names others p h loaded_p loaded_h.
-    memory_ran_out (DueForBytes (Check names others) (p ∷ h ∷ [])) c.from_residual-in_err-plan_report.result
-    c.from_residual-in_err-plan_report.ensures
+pub returns-in_err-text : goal.returns-in_err-text
+returns-in_err-text c = λ names others p h loaded_p loaded_h.
+    memory_ran_out (DueForBytes (Check names others) (p ∷ h ∷ [])) c.from_residual-in_err-text.result
+    c.from_residual-in_err-text.ensures
 
 pub returns : goal.returns
 returns c = λ names others p h loaded_p loaded_h.
     inl (
       placed_shape c.in_ok-placed.placed,
       c.in_ok-placed.ensures p h loaded_p loaded_h,
-      c.in_ok-plan_report.ensures,
+      ap (Print Done) c.in_ok-text.ensures,
     )

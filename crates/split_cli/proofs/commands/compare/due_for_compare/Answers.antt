@@ -13,7 +13,7 @@ returns-in_err-loaded-clause-due g c =
     c.in_err-loaded.field-0.0
     (four_names c.program_file.result c.host_file.result c.script_file.result c.script_file-2.result _ _ _ _
     c.program_file.ensures.name c.host_file.ensures.name c.script_file.ensures.name c.script_file-2.ensures.name)
-    c.in_err-loaded.ensures.stopped)
+    c.in_err-loaded.ensures.kept c.in_err-loaded.ensures.stopped)
 
 pub returns-clause-due : goal.returns-clause-due
 returns-clause-due g c =
@@ -25,5 +25,5 @@ returns-clause-due g c =
     (rw c.as_slice.ensures.value at c.s-item.is) (rw c.as_slice.ensures.value at c.t-item.is)
     c.program_file.ensures.name c.program_file.ensures.most c.host_file.ensures.name c.host_file.ensures.most
     c.script_file.ensures.name c.script_file.ensures.most c.script_file-2.ensures.name c.script_file-2.ensures.most
-    c.in_ok-loaded.ensures.loads c.in_ok-loaded.ensures.faults
+    c.in_ok-loaded.ensures.loads c.in_ok-loaded.ensures.faults (λ verdict. c.in_ok-loaded.ensures.kept)
     (c.due_for_loaded.ensures c.args.program.now c.args.hosts.now)
