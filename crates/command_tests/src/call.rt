@@ -31,6 +31,11 @@ impl Ended {
         self.files.held(name)
     }
 
+    /// What it put on the output.
+    pub fn put(&self) -> &[u8] {
+        self.out.taken()
+    }
+
     /// Whether it answered this status and put these texts.
     pub fn is(&self, status: Status, out: &str, err: &str) -> bool {
         self.status == status

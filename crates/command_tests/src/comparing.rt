@@ -1,7 +1,7 @@
 //! What `compare` answers of two runs.
 
 use crate::call::compare;
-use crate::misbehaving::{COUNTER, FIVE_TURNS, SUM, SUM_HOSTS, THREE_TURNS};
+use crate::misbehaving::{COUNTER, SUM, SUM_HOSTS};
 use js_base::Status;
 use std::test::Fail;
 
@@ -30,8 +30,16 @@ const FIVE_ROUNDS: &str = "bad P\nset k 5\n\
     turn T\nturn T\nturn T\nturn T\nturn T\nturn T\nturn T\nturn T\nturn T\nturn T\n\
     act P T lgoto #0\nturn T\nturn T\n";
 
+/// T goes round once, and the token of the loop head goes to A.
+const ONCE_ROUND: &str = "bad A\nturn T\nturn T\nturn T\nturn T\nturn T\n";
+
+/// A gives it back, and T goes round again.
+const TWICE_ROUND: &str =
+    "bad A\nturn T\nturn T\nturn T\nturn T\nturn T\nact A T lgoto #0\nturn T\nturn T\nturn T\n\
+    turn T\nturn T\nturn T\nturn T\nturn T\n";
+
 /// A program with its hosts, two scripts, what is answered, and what is put on the output and on the error output.
-const COMPARED: [(&str, &str, &str, &str, Status, &str, &str); 12] = [
+const COMPARED: [(&str, &str, &str, &str, Status, &str, &str); 14] = [
     // How often T goes round is Alice's, and P is told the same.
     (
         COUNTER,
@@ -141,6 +149,25 @@ const COMPARED: [(&str, &str, &str, &str, Status, &str, &str); 12] = [
         "",
         "jifsplit: F line 2: no form\n",
     ),
+    // One run may be a front of the other.
+    (
+        SUM,
+        SUM_HOSTS,
+        ONCE_ROUND,
+        TWICE_ROUND,
+        Status::Done,
+        "agree 1 2\n",
+        "",
+    ),
+    (
+        SUM,
+        SUM_HOSTS,
+        TWICE_ROUND,
+        ONCE_ROUND,
+        Status::Done,
+        "agree 2 1\n",
+        "",
+    ),
     // Where all obey, nobody is told anything.
     (
         COUNTER,
@@ -159,19 +186,5 @@ fn compares_two_runs(rt: HostRuntime) -> Result<(), Fail> {
         let ended = compare(rt.alloc(), [program, hosts, one, other])?;
         assert!(rt; ended.is(status, out, err), "at {one:?}, {other:?}");
     }
-    Ok(())
-}
-
-/// One run may be a front of the other.
-#[test]
-fn compares_as_far_as_both_go(rt: HostRuntime) -> Result<(), Fail> {
-    let one = format!(in rt.alloc(); "bad A\n{FIVE_TURNS}")?;
-    let other = format!(in rt.alloc();
-        "bad A\n{FIVE_TURNS}act A T lgoto #0\n{THREE_TURNS}{FIVE_TURNS}"
-    )?;
-    let ended = compare(rt.alloc(), [SUM, SUM_HOSTS, one.as_str(), other.as_str()])?;
-    assert!(rt; ended.is(Status::Done, "agree 1 2\n", ""));
-    let ended = compare(rt.alloc(), [SUM, SUM_HOSTS, other.as_str(), one.as_str()])?;
-    assert!(rt; ended.is(Status::Done, "agree 2 1\n", ""));
     Ok(())
 }

@@ -14,6 +14,8 @@ mod host_files;
 #[cfg(test)]
 mod limits;
 #[cfg(test)]
+mod making;
+#[cfg(test)]
 mod misbehaving;
 #[cfg(test)]
 mod outside;

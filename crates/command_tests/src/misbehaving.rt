@@ -23,10 +23,10 @@ const COUNTER_HOSTS: &str = "principals = ['Alice', 'Bob']\n\
     [[host]]\nname = 'Q'\nlabel = '{?:Alice}'\n";
 
 /// T reads `n`, branches, pushes the loop head and where it goes on, and hands that token to A.
-pub const FIVE_TURNS: &str = "turn T\nturn T\nturn T\nturn T\nturn T\n";
+const FIVE_TURNS: &str = "turn T\nturn T\nturn T\nturn T\nturn T\n";
 
 /// T adds one to `n` and goes back to the loop head.
-pub const THREE_TURNS: &str = "turn T\nturn T\nturn T\n";
+const THREE_TURNS: &str = "turn T\nturn T\nturn T\n";
 
 const FIRST_SENT: &str = "sent 0 T A: rgoto 0.0 e4 T:0.0:e3:0\n";
 

@@ -9,7 +9,7 @@ use Rattle.js_base.specs.declared.sink.PutError.{PutError}
 use Rattle.js_base.specs.declared.sink.PutError.TheVariants as put_error
 use Rattle.js_base.specs.declared.status.Status.{Status}
 use Rattle.js_base.specs.declared.status.Status.TheVariants.{OutFault, NoMemory}
-use Rattle.split_cli.specs.Verdicts.{Refuse, no_memory_line}
+use Rattle.split_cli.specs.Verdicts.{Refuse, Print, no_memory_line}
 use Rattle.split_cli.specs.Loads.{FilesChange}
 use Rattle.split_cli.specs.Due.{IsDue}
 use Rattle.split_cli.specs.Answers.{SinkChange, IsUntouched, AnswersTo}
@@ -24,6 +24,27 @@ front_put (Ok x) text before after whole front = (
       λ t. Takes t before after in subst P (sym (take_all (length text) text (omega arith))) whole,
 )
 front_put (Err e) text before after whole front = front
+
+-- the answer after a put of a report
+pub printed : {T : Type 0} (words : List (List ℕ)) (files : FilesChange) (status answer : Status) (text : List ℕ)
+    (put : Result T PutError) (out err : SinkChange) → IsDue words files (Print status text) →
+    OnOk put (Takes text out.taken_before out.taken_after) →
+    OnErr put (TakesFront text out.taken_before out.taken_after) →
+    IsErrOf put put_error.Failed ⊎ (out.faults_after ≡ out.faults_before) →
+    (IsErrOf put put_error.Failed → Rose out.faults_before out.faults_after) →
+    OnOk put (answer ≡ status) → (IsErrOf put put_error.Failed → answer ≡ OutFault) →
+    (IsErrOf put put_error.OutOfMemory → answer ≡ NoMemory) →
+    (IsErrOf put put_error.OutOfMemory → TakesFront no_memory_line err.taken_before err.taken_after) →
+    ((IsErrOf put put_error.OutOfMemory → ⊥) → IsUntouched err) → AnswersTo words files answer out err
+printed words files status answer text (Ok x) out err due whole front fault cause ok failed memory line untouched =
+    let faultless = ⊎_elim (λ fails. absurd (let no : ⊥ = cc in no)) (λ none. none) fault in
+    inr (Print status text, due, (untouched (λ is. cc), inl (ok, whole, faultless)))
+printed words files status answer text (Err put_error.Failed) out err due whole front fault cause ok failed memory line
+    untouched =
+    inr (Print status text, due, (untouched (λ is. cc), inr (failed refl, cause refl, front)))
+printed words files status answer text (Err put_error.OutOfMemory) out err due whole front fault cause ok failed memory
+    line untouched =
+    inl (memory refl, inr (Print status text, due, (front, line refl)))
 
 -- the answer after a put of a refusal's line
 pub refused : {T : Type 0} (words : List (List ℕ)) (files : FilesChange) (status answer : Status) (line : List ℕ)

@@ -16,6 +16,8 @@ pub mod LineCounts
 pub mod ListLimits
 pub mod LoadedFiles
 pub mod Loading
+pub mod MadeTexts
+pub mod MakeDue
 pub mod NativeBlocks
 pub mod NativeParts
 pub mod NativePrograms

@@ -10,7 +10,7 @@ use Rattle.event_text.specs.declared.event.Event.TheVariants.{Take, Turn, Act}
 use Rattle.host_code.specs.Code.{CodeShape}
 use Rattle.net_world.specs.Choice.{IsNextEvent, IsFirstRunning, IsFirstFrom, IsFirstFlying}
 use Rattle.net_world.specs.World.{WorldShape, IsStep, IsRun}
-use Rattle.split_cli.specs.Drive.{code_of, first_world, drive_text, IsDriveReport, DueForDrive}
+use Rattle.split_cli.specs.Drive.{code_of, first_world, TellsDrive, DueForDriven}
 use Rattle.simulation.specs.Driven.{IsDriven}
 use Rattle.split_cli.specs.Driven.{DrivesTo, rested, spent}
 use Rattle.split_cli.specs.PlacedSources.{PlacedSource}
@@ -159,17 +159,18 @@ one_status code world most events last _ _ (spent next all is more) (rested few 
     absurd (never_both last next more rest)
 one_status code world most events last _ _ (spent next all is more) (spent other also_all also also_more) = refl
 
-same_report : (code : CodeShape) (first second : List Event) (one two : WorldShape) (status other : Status) →
-    first ≡ second → one ≡ two → status ≡ other →
-    Print status (drive_text code (length first) one) ≡ Print other (drive_text code (length second) two)
-same_report code first second one two status other events worlds statuses =
-    ap (λ (s : Status). Print s (drive_text code (length first) one)) statuses
-    ∙ ap (λ (es : List Event). Print other (drive_text code (length es) one)) events
-    ∙ ap (λ (w : WorldShape). Print other (drive_text code (length second) w)) worlds
+same_report : (text : ℕ → WorldShape → List ℕ) (first second : List Event) (one two : WorldShape)
+    (status other : Status) → first ≡ second → one ≡ two → status ≡ other →
+    Print status (text (length first) one) ≡ Print other (text (length second) two)
+same_report text first second one two status other events worlds statuses =
+    ap (λ (s : Status). Print s (text (length first) one)) statuses
+    ∙ ap (λ (es : List Event). Print other (text (length es) one)) events
+    ∙ ap (λ (w : WorldShape). Print other (text (length second) w)) worlds
 
-report_once : OneStep → (placed : PlacedSource) (values : List (List ℤ)) (most : ℕ) (first second : VerdictShape) →
-    IsDriveReport placed values most first → IsDriveReport placed values most second → first ≡ second
-report_once step placed values most first second one two =
+report_once : OneStep → (text : CodeShape → ℕ → WorldShape → List ℕ) (placed : PlacedSource) (values : List (List ℤ))
+    (most : ℕ) (first second : VerdictShape) → TellsDrive text placed values most first →
+    TellsDrive text placed values most second → first ≡ second
+report_once step text placed values most first second one two =
     let code = code_of placed in
     let world = first_world placed 0 values in
     let a = ended code world most one.events one.last one.status one.ends in
@@ -182,18 +183,19 @@ report_once step placed values most first second one two =
     subst (λ (w : WorldShape). DrivesTo code world most one.events w two.status) (sym same.worlds) moved in
     let status = one_status code world most one.events one.last one.status two.status one.ends there in
     one.verdict_is
-    ∙ same_report code one.events two.events one.last two.last one.status two.status same.events same.worlds status
+    ∙ same_report (text code) one.events two.events one.last two.last one.status two.status same.events same.worlds status
     ∙ sym two.verdict_is
 
 -- ---- what is due
 
-pub drive_once : OneStep → (file start : List ℕ) (most : ℕ) (placed : PlacedSource) (first second : VerdictShape) →
-    DueForDrive file start most placed first → DueForDrive file start most placed second → first ≡ second
-drive_once step file start most placed first second one two =
+pub drive_once : OneStep → (text : CodeShape → ℕ → WorldShape → List ℕ) (file start : List ℕ) (most : ℕ)
+    (placed : PlacedSource) (first second : VerdictShape) → DueForDriven text file start most placed first →
+    DueForDriven text file start most placed second → first ≡ second
+drive_once step text file start most placed first second one two =
     let program = one.0 in
-    let report : List (List ℤ) → VerdictShape → Type 0 = λ values. IsDriveReport placed values most in
+    let report : List (List ℤ) → VerdictShape → Type 0 = λ values. TellsDrive text placed values most in
     one_due (StartingValues file start program.fields.items) report first second
     (start_once file start program.fields.items)
-    (λ values was. report_once step placed values most first second) one.2
+    (λ values was. report_once step text placed values most first second) one.2
     (due_moved (StartingValues file start two.0.fields.items) (StartingValues file start program.fields.items) report
     report second (λ end. start_moved file start program two.0 end (one.1 ∙ sym two.1)) (λ values is. is) two.2)

@@ -5,20 +5,22 @@ use Rattle.std.specs.Prelude.{IsSome}
 use Rattle.std.specs.Fmt.{decimal}
 use Rattle.std.specs.List.{AllZip, AllByRecursion}
 use Rattle.std.proofs.lemmas.Bool.{false≢true}
-use Rattle.std.proofs.lemmas.Fmt.{decimal_injective}
 use Rattle.js_base.specs.Counts.{last_count, Rose}
 use Rattle.js_base.specs.declared.status.Status.TheVariants.{Done}
-use Rattle.split_cli.specs.Commands.{CommandShape, Check, Run, Replay, Drive, Compare, Split, IsStepCount}
+use Rattle.split_cli.specs.Commands.{CommandShape, Check, Run, Replay, Drive, Compare, Split, Make}
 use Rattle.split_cli.specs.Commands.{IsCommand, words_of, files_of}
+use Rattle.split_cli.specs.declared.words.TheConstants.{STEPS}
 use Rattle.split_cli.specs.Verdicts.{VerdictShape, Print, no_such_file, file_fault}
 use Rattle.split_cli.specs.Loads.{FilesChange, Told, IsHeld, counted_by, IsFirstAbsent, IsFileFault}
 use Rattle.split_cli.specs.Sources.{Sources}
 use Rattle.split_cli.specs.PlacedSources.{PlacedSources}
-use Rattle.split_cli.specs.Check.{plan_report}
+use Rattle.split_cli.specs.Check.{cost_of, plan_report}
 use Rattle.split_cli.specs.Compare.{DueForCompare}
+use Rattle.split_cli.specs.MadePrograms.{made_hosts, made_program}
+use Rattle.split_cli.specs.Making.{DueForMade, made_text}
 use Rattle.split_cli.specs.PlainRun.{DueForRun}
 use Rattle.split_cli.specs.Replay.{DueForReplay}
-use Rattle.split_cli.specs.Drive.{DueForDrive}
+use Rattle.split_cli.specs.Drive.{DueForDrive, drive_text}
 use Rattle.split_cli.specs.Split.{SplitSources}
 use Rattle.split_cli.specs.Due.{DueForBytes, DueForFiles, DueForCommand, absent, loaded, Due, no_words, for_command}
 use Rattle.split_cli.specs.Due.{IsFault, IsDue}
@@ -31,6 +33,7 @@ use Rattle.split_cli.proofs.OneSource.{SourceLaws, sources_once}
 use Rattle.split_cli.proofs.SplitStages.{split_once}
 use Rattle.split_cli.proofs.Places.{same_place, same_here, of_front, of_all}
 use Rattle.split_cli.proofs.Stages.{one_due}
+use Rattle.split_cli.proofs.StepCounts.{same_steps, as_steps}
 
 -- what is known of the parts of a command
 pub record AllLaws : Type 0 where
@@ -56,7 +59,7 @@ bytes_once laws (Replay program hosts events) (p ∷ h ∷ e ∷ []) first secon
 bytes_once laws (Drive program hosts start events) (p ∷ h ∷ s ∷ []) first second one two =
     one_due (PlacedSources p h) (DueForDrive start s events) first second
     (places_once laws.sources laws.places p h)
-    (λ placed was. drive_once laws.steps.one start s events placed first second) one two
+    (λ placed was. drive_once laws.steps.one drive_text start s events placed first second) one two
 bytes_once laws (Compare program hosts name other) (p ∷ h ∷ s ∷ t ∷ []) first second one two =
     one_due (PlacedSources p h) (DueForCompare name s other t) first second
     (places_once laws.sources laws.places p h)
@@ -64,6 +67,11 @@ bytes_once laws (Compare program hosts name other) (p ∷ h ∷ s ∷ t ∷ []) 
 bytes_once laws (Split program hosts out) (p ∷ h ∷ []) first second one two =
     one_due (SplitSources p h) (λ split end. end ≡ Print Done split.text) first second
     (split_once laws.sources laws.places p h) (λ split was here there. here ∙ sym there) one two
+bytes_once laws (Make statements) [] first second one two =
+    one_due (PlacedSources (made_program statements) made_hosts) (DueForMade statements) first second
+    (places_once laws.sources laws.places (made_program statements) made_hosts)
+    (λ placed was. drive_once laws.steps.one (made_text statements (cost_of placed)) [] [] STEPS placed first second)
+    one two
 bytes_once laws (Check program hosts) [] first second one two = absurd one
 bytes_once laws (Check program hosts) (p ∷ []) first second one two = absurd one
 bytes_once laws (Check program hosts) (p ∷ h ∷ s ∷ more) first second one two = absurd one
@@ -87,6 +95,7 @@ bytes_once laws (Compare program hosts name other) (p ∷ h ∷ s ∷ t ∷ x �
 bytes_once laws (Split program hosts out) [] first second one two = absurd one
 bytes_once laws (Split program hosts out) (p ∷ []) first second one two = absurd one
 bytes_once laws (Split program hosts out) (p ∷ h ∷ s ∷ more) first second one two = absurd one
+bytes_once laws (Make statements) (p ∷ more) first second one two = absurd one
 
 -- ---- what is due for a command
 
@@ -172,12 +181,6 @@ command_once laws holds command _ _ _ _ (loaded first one) (loaded second two) =
 
 -- ---- one command
 
--- a number of steps is written in one way
-same_steps : (n m : ℕ) → IsStepCount n → IsStepCount m → decimal n ≡ decimal m → n ≡ m
-same_steps n m one two same =
-    let few = one.most in let also_few = two.most in
-    decimal_injective n m (omega arith) (omega arith) same
-
 -- words ask for one command
 pub one_command : (first second : CommandShape) → IsCommand first → IsCommand second →
     words_of first ≡ words_of second → first ≡ second
@@ -186,6 +189,7 @@ one_command (Check p h) (Run q i t n) one two same = absurd (let no = same in cc
 one_command (Check p h) (Replay q i f) one two same = absurd (let no = same in cc)
 one_command (Check p h) (Drive q i t n) one two same = absurd (let no = same in cc)
 one_command (Check p h) (Compare q i f g) one two same = absurd (let no = same in cc)
+one_command (Check p h) (Make n) one two same = absurd (let no = same in cc)
 one_command (Run p h s n) (Check q i) one two same = absurd (let no = same in cc)
 one_command (Run p h s n) (Run q i t m) one two same =
     let steps : decimal n ≡ decimal m = cc in
@@ -198,11 +202,13 @@ one_command (Run p h s n) (Replay q i f) one two same = absurd (let no = same in
 one_command (Run p h s n) (Drive q i t m) one two same = absurd (let no = same in cc)
 one_command (Run p h s n) (Compare q i f g) one two same =
     absurd (let first : codes "run" ≡ codes "compare" = cc in cc)
+one_command (Run p h s n) (Make m) one two same = absurd (let no = same in cc)
 one_command (Replay p h e) (Check q i) one two same = absurd (let no = same in cc)
 one_command (Replay p h e) (Run q i t n) one two same = absurd (let no = same in cc)
 one_command (Replay p h e) (Replay q i f) one two same = cc
 one_command (Replay p h e) (Drive q i t n) one two same = absurd (let no = same in cc)
 one_command (Replay p h e) (Compare q i f g) one two same = absurd (let no = same in cc)
+one_command (Replay p h e) (Make n) one two same = absurd (let no = same in cc)
 one_command (Drive p h s n) (Check q i) one two same = absurd (let no = same in cc)
 one_command (Drive p h s n) (Run q i t m) one two same = absurd (let no = same in cc)
 one_command (Drive p h s n) (Replay q i f) one two same = absurd (let no = same in cc)
@@ -215,6 +221,7 @@ one_command (Drive p h s n) (Drive q i t m) one two same =
     cc
 one_command (Drive p h s n) (Compare q i f g) one two same =
     absurd (let first : codes "drive" ≡ codes "compare" = cc in cc)
+one_command (Drive p h s n) (Make m) one two same = absurd (let no = same in cc)
 one_command (Compare p h e f) (Check q i) one two same = absurd (let no = same in cc)
 one_command (Compare p h e f) (Run q i t m) one two same =
     absurd (let first : codes "compare" ≡ codes "run" = cc in cc)
@@ -235,6 +242,17 @@ one_command (Split p h o) (Replay q i f) one two same =
 one_command (Split p h o) (Drive q i t n) one two same = absurd (let no = same in cc)
 one_command (Split p h o) (Compare q i f g) one two same = absurd (let no = same in cc)
 one_command (Split p h o) (Split q i r) one two same = cc
+one_command (Split p h o) (Make n) one two same = absurd (let no = same in cc)
+one_command (Make n) (Split q i o) one two same = absurd (let no = same in cc)
+one_command (Compare p h e f) (Make n) one two same = absurd (let no = same in cc)
+one_command (Make n) (Check q i) one two same = absurd (let no = same in cc)
+one_command (Make n) (Run q i t m) one two same = absurd (let no = same in cc)
+one_command (Make n) (Replay q i f) one two same = absurd (let no = same in cc)
+one_command (Make n) (Drive q i t m) one two same = absurd (let no = same in cc)
+one_command (Make n) (Compare q i f g) one two same = absurd (let no = same in cc)
+one_command (Make n) (Make m) one two same =
+    let statements : decimal n ≡ decimal m = cc in
+    ap Make (same_steps n m (as_steps n one) (as_steps m two) statements)
 
 pub due_once : AllLaws → (words : List (List ℕ)) (holds : List ℕ → Option (List ℕ)) (number other : ℕ)
     (first second : VerdictShape) →
@@ -261,6 +279,7 @@ fault_rose (Run program hosts start steps) files verdict (inr none) = absurd non
 fault_rose (Replay program hosts events) files verdict (inr none) = absurd none
 fault_rose (Drive program hosts start events) files verdict (inr none) = absurd none
 fault_rose (Compare program hosts one other) files verdict (inr none) = absurd none
+fault_rose (Make statements) files verdict (inr none) = absurd none
 fault_rose (Split program hosts out) files verdict (inr saving) = saving.3.rose
 
 -- and the file is named
@@ -272,6 +291,7 @@ fault_verdict (Run program hosts start steps) files verdict (inr none) = absurd 
 fault_verdict (Replay program hosts events) files verdict (inr none) = absurd none
 fault_verdict (Drive program hosts start events) files verdict (inr none) = absurd none
 fault_verdict (Compare program hosts one other) files verdict (inr none) = absurd none
+fault_verdict (Make statements) files verdict (inr none) = absurd none
 fault_verdict (Split program hosts out) files verdict (inr saving) = saving.3.verdict_is
 
 pub no_fault_and_fault : (before after : ℕ) → before < last_count → after ≡ before → ¬ Rose before after

@@ -8,14 +8,10 @@ use Rattle.std.specs.Int.{bit_at}
 use Rattle.std.proofs.lemmas.Bool.{ne_eqb}
 use Rattle.std.proofs.lemmas.List.{append-nil, append_assoc, length-take-le, take_more}
 use Rattle.host_decl.specs.Hosts.{HostShape}
-use Rattle.jif_tree.specs.declared.program.Checked.{Checked}
 use Rattle.jif_tree.specs.declared.program.Field.{Field}
-use Rattle.jif_tree.specs.Trees.{field_tree, program_tree}
-use Rattle.msg_cost.specs.Cost.{plan_cost}
-use Rattle.need_labels.specs.Labelled.{labelled_of}
-use Rattle.need_labels.specs.Labelled as needs
-use Rattle.split_cli.specs.Check.{accepted_line, cost_line, plan_lines}
-use Rattle.split_cli.specs.PlacedSources.{PlacedSource, labelled_source}
+use Rattle.jif_tree.specs.Trees.{field_tree}
+use Rattle.split_cli.specs.Check.{accepted_line, cost_line, cost_of, plan_lines}
+use Rattle.split_cli.specs.PlacedSources.{PlacedSource}
 use Rattle.split_cli.specs.PlaceLines.{field_place, field_places, names_in, place_lines, statement_place}
 use Rattle.split_cli.specs.PlaceLines.{statement_places}
 use Rattle.split_cli.specs.Text.{line_text, lines_text}
@@ -85,23 +81,17 @@ names_without word hosts i host start text lt is clear was =
 
 -- ---- all lines
 
-pub report_text : (placed : PlacedSource) (checked : Checked) (first places text : List ℕ) (cost : ℕ) →
-    labelled_of checked ≡ labelled_source placed.source →
-    first ≡ line_text (accepted_line (program_tree checked.program)) →
-    places ≡ first ++ lines_text (place_lines placed) →
-    cost ≡ plan_cost (labelled_of checked) placed.needs placed.source.file placed.plan →
-    text ≡ places ++ (codes "cost " ++ (decimal cost ++ codes "\n")) → text ≡ lines_text (plan_lines placed)
-report_text placed checked first places text cost labelled first_is places_are cost_is text_is =
+pub report_text : (placed : PlacedSource) (first places text : List ℕ) (cost : ℕ) →
+    first ≡ line_text (accepted_line placed.source.tree) → places ≡ first ++ lines_text (place_lines placed) →
+    cost ≡ cost_of placed → text ≡ places ++ (codes "cost " ++ (decimal cost ++ codes "\n")) →
+    text ≡ lines_text (plan_lines placed)
+report_text placed first places text cost first_is places_are cost_is text_is =
     let accepted = line_text (accepted_line placed.source.tree) in
     let lines = lines_text (place_lines placed) in
     let end = codes "cost " ++ (decimal cost ++ codes "\n") in
-    let opening : first ≡ accepted =
-    first_is ∙ ap (λ (seen : needs.Labelled). line_text (accepted_line seen.program)) labelled in
-    let counted : cost ≡ plan_cost (labelled_source placed.source) placed.needs placed.source.file placed.plan =
-    cost_is ∙ ap (λ (seen : needs.Labelled). plan_cost seen placed.needs placed.source.file placed.plan) labelled in
     let closing : end ≡ cost_line placed ++ 10 ∷ [] =
     sym (append_assoc (codes "cost ") (decimal cost) (codes "\n"))
-    ∙ ap (λ (n : ℕ). codes "cost " ++ decimal n ++ codes "\n") counted in
-    text_is ∙ ap (λ (front : List ℕ). front ++ end) (places_are ∙ ap (λ (front : List ℕ). front ++ lines) opening)
+    ∙ ap (λ (n : ℕ). codes "cost " ++ decimal n ++ codes "\n") cost_is in
+    text_is ∙ ap (λ (front : List ℕ). front ++ end) (places_are ∙ ap (λ (front : List ℕ). front ++ lines) first_is)
     ∙ append_assoc accepted lines end ∙ ap (λ (last : List ℕ). accepted ++ (lines ++ last)) closing
     ∙ ap (λ (others : List ℕ). accepted ++ others) (sym (lines_more (place_lines placed) (cost_line placed)))

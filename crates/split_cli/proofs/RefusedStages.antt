@@ -5,7 +5,7 @@ use Rattle.js_base.specs.declared.status.Status.TheVariants.{Done, Spent, Source
 use Rattle.split_cli.specs.PlacedSources.{OnHosts, PlacedSources}
 use Rattle.split_cli.specs.Sources.{Lexed, Parsed, Drafted, HostsRead, Resolved, Labelled, Accepted}
 use Rattle.split_cli.specs.Sources.{AcceptedWith, Sources}
-use Rattle.split_cli.specs.Stages.{Outcome, given, stopped, Then}
+use Rattle.split_cli.specs.Stages.{Outcome, stopped, Then}
 use Rattle.split_cli.specs.Verdicts.{VerdictShape, Refuse}
 use Rattle.split_cli.proofs.Stages.{stop_with}
 

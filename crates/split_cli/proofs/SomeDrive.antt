@@ -1,4 +1,4 @@
--- For a drive of a program in its places something is due, whatever the file of starting values holds.
+-- For a drive of a program in its places something is due, whatever the file of starting values holds and is told.
 use Rattle.std.proofs.Common.{ℕ, ◌≤◌, List, All, length, refl}
 use Rattle.std.specs.Prelude.{ℤ}
 use Rattle.js_base.specs.declared.limits.TheConstants.{HOSTS_BYTES}
@@ -16,12 +16,12 @@ use Rattle.need_labels.specs.Labelled as needs
 use Rattle.need_labels.specs.Needs.{NeedsShape}
 use Rattle.need_labels.specs.Plan.{PlanShape}
 use Rattle.net_world.specs.Fits.{ShapeFits}
-use Rattle.net_world.specs.World.{AreHostsOf, world_at_start}
+use Rattle.net_world.specs.World.{WorldShape, AreHostsOf, world_at_start}
 use Rattle.place_rules.specs.Allowed.{AllowedShape}
 use Rattle.placement.specs.Placing.{IsPlaced, HasHosts}
 use Rattle.split_rules.specs.SplitCode.{split_code}
 use Rattle.split_rules.specs.Splittable.{IsSplittable}
-use Rattle.split_cli.specs.Drive.{code_of, first_world, drive_text, IsDriveReport, DueForDrive}
+use Rattle.split_cli.specs.Drive.{code_of, first_world, TellsDrive, DueForDriven}
 use Rattle.split_cli.specs.PlacedSources.{PlacedSource, PlacedSources, labelled_source}
 use Rattle.split_cli.specs.Stages.{given}
 use Rattle.split_cli.specs.Starting.{StartingValues}
@@ -70,27 +70,28 @@ sound_code laws program hosts placed accepted =
     laws.sound (labelled_source placed.source) placed.needs placed.source.file placed.plan
     (splits laws program hosts placed accepted)
 
-report_some : StepCauses → (placed : PlacedSource) (values : List (List ℤ)) (most : ℕ) →
+report_some : StepCauses → (text : CodeShape → ℕ → WorldShape → List ℕ) (placed : PlacedSource)
+    (values : List (List ℤ)) (most : ℕ) →
     IsSoundCode (code_of placed) → ShapeFits (code_of placed) (first_world placed 0 values) →
-    HasVerdict (IsDriveReport placed values most)
-report_some steps placed values most sound fits =
+    HasVerdict (TellsDrive text placed values most)
+report_some steps text placed values most sound fits =
     let code = code_of placed in
     let world = first_world placed 0 values in
     let end = drive_ends steps code sound most world fits (obey_at_start code placed.source.file.hosts values) in (
-      Print end.status (drive_text code (length end.events) end.last),
+      Print end.status (text code (length end.events) end.last),
       record { events = end.events; last = end.last; status = end.status; ends = end.ends; verdict_is = refl },
     )
 
 pub drive_some : SomeStart → StepCauses → CodeLaws → (program hosts : List ℕ) (placed : PlacedSource) →
-    PlacedSources program hosts (given placed) → (file start : List ℕ) (most : ℕ) →
-    IsSeen program_tree placed.source.tree → HasVerdict (DueForDrive file start most placed)
-drive_some starts steps laws program hosts placed accepted file start most seen =
+    PlacedSources program hosts (given placed) → (text : CodeShape → ℕ → WorldShape → List ℕ) (file start : List ℕ)
+    (most : ℕ) → IsSeen program_tree placed.source.tree → HasVerdict (DueForDriven text file start most placed)
+drive_some starts steps laws program hosts placed accepted text file start most seen =
     let tree = seen.0 in
     let code = code_of placed in
     let sound = sound_code laws program hosts placed accepted in
     let due =
-    some_due (StartingValues file start tree.fields.items) (λ values. IsDriveReport placed values most)
+    some_due (StartingValues file start tree.fields.items) (λ values. TellsDrive text placed values most)
     (start_some starts file start tree.fields.items)
-    (λ values was. report_some steps placed values most sound
+    (λ values was. report_some steps text placed values most sound
     (laws.start code placed.source.file.hosts 0 values sound (code_hosts placed code refl))) in
     (due.0, (tree, seen.1, due.1))

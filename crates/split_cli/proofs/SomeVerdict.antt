@@ -3,12 +3,15 @@ use Rattle.std.proofs.Common.{◌≡◌, ◌⊎◌, ℕ, suc, ◌+◌, List, [],
 use Rattle.std.proofs.Common.{inl, inr}
 use Rattle.std.specs.List.{AllZip}
 use Rattle.js_base.specs.declared.status.Status.TheVariants.{Done}
-use Rattle.split_cli.specs.Check.{plan_report}
-use Rattle.split_cli.specs.Commands.{CommandShape, Check, Run, Replay, Drive, Compare, Split, files_of}
+use Rattle.split_cli.specs.declared.words.TheConstants.{STEPS}
+use Rattle.split_cli.specs.Check.{cost_of, plan_report}
+use Rattle.split_cli.specs.Commands.{CommandShape, Check, Run, Replay, Drive, Compare, Split, Make, files_of}
 use Rattle.split_cli.specs.Compare.{DueForCompare}
-use Rattle.split_cli.specs.Drive.{DueForDrive}
+use Rattle.split_cli.specs.Drive.{DueForDrive, drive_text}
 use Rattle.split_cli.specs.Due.{DueForBytes, DueForCommand, absent, loaded, Due, no_words, for_command}
 use Rattle.split_cli.specs.Loads.{Told, IsFirstAbsent}
+use Rattle.split_cli.specs.MadePrograms.{made_hosts, made_program}
+use Rattle.split_cli.specs.Making.{DueForMade, made_text}
 use Rattle.split_cli.specs.PlacedSources.{PlacedSource, PlacedSources}
 use Rattle.split_cli.specs.PlainRun.{DueForRun}
 use Rattle.split_cli.specs.Replay.{DueForReplay}
@@ -74,7 +77,7 @@ bytes_due laws files (Replay program hosts events) (p ∷ h ∷ e ∷ []) held =
     (placed_seen laws.code.native p h placed was))
 bytes_due laws files (Drive program hosts start events) (p ∷ h ∷ s ∷ []) held =
     some_due (PlacedSources p h) (DueForDrive start s events) (places_some laws.sources laws.places p h)
-    (λ placed was. drive_some laws.start laws.steps laws.code p h placed was start s events
+    (λ placed was. drive_some laws.start laws.steps laws.code p h placed was drive_text start s events
     (placed_seen laws.code.native p h placed was))
 bytes_due laws files (Compare program hosts one other) (p ∷ h ∷ s ∷ t ∷ []) held =
     some_due (PlacedSources p h) (DueForCompare one s other t) (places_some laws.sources laws.places p h)
@@ -83,6 +86,12 @@ bytes_due laws files (Compare program hosts one other) (p ∷ h ∷ s ∷ t ∷ 
 bytes_due laws files (Split program hosts out) (p ∷ h ∷ []) held =
     some_due (SplitSources p h) (λ split end. end ≡ Print Done split.text) (split_some laws.sources laws.places p h)
     (λ split was. (Print Done split.text, refl))
+bytes_due laws files (Make statements) [] held =
+    some_due (PlacedSources (made_program statements) made_hosts) (DueForMade statements)
+    (places_some laws.sources laws.places (made_program statements) made_hosts)
+    (λ placed was. drive_some laws.start laws.steps laws.code (made_program statements) made_hosts placed was
+    (made_text statements (cost_of placed)) [] [] STEPS
+    (placed_seen laws.code.native (made_program statements) made_hosts placed was))
 bytes_due laws files (Check program hosts) [] held = absurd held
 bytes_due laws files (Check program hosts) (p ∷ []) held = absurd held.1
 bytes_due laws files (Check program hosts) (p ∷ h ∷ s ∷ more) held = absurd held.1.1
@@ -106,6 +115,7 @@ bytes_due laws files (Compare program hosts one other) (p ∷ h ∷ s ∷ t ∷ 
 bytes_due laws files (Split program hosts out) [] held = absurd held
 bytes_due laws files (Split program hosts out) (p ∷ []) held = absurd held.1
 bytes_due laws files (Split program hosts out) (p ∷ h ∷ s ∷ more) held = absurd held.1.1
+bytes_due laws files (Make statements) (p ∷ more) held = absurd held
 
 -- ---- files of which one may be absent
 

@@ -1,21 +1,20 @@
 -- What is due for a split, by what was loaded for it and what its save did.
-use Rattle.std.proofs.Common.{◌≡◌, ℕ, List, [], ◌∷◌, Option, Some, IfSome, refl, sym, ap, ◌∙◌, subst, inl, inr}
+use Rattle.std.proofs.Common.{◌≡◌, ℕ, List, [], ◌∷◌, Option, refl, sym, ap, ◌∙◌, subst, inl, inr}
 use Rattle.std.proofs.Common.{Result, Ok, Err}
 use Rattle.std.specs.Prelude.{IfOk, IfErr, OnOk}
 use Rattle.js_base.specs.Counts.{counted, Rose}
 use Rattle.js_base.specs.Files.{ChangesOnly}
 use Rattle.js_base.specs.declared.status.Status.TheVariants.{Done}
 use Rattle.split_cli.specs.Commands.{Split}
-use Rattle.split_cli.specs.Due.{DueForBytes, DueForCommand, loaded, SavesFor, IsDueForCommand, MaySave}
+use Rattle.split_cli.specs.Due.{DueForCommand, loaded, SavesFor, IsDueForCommand}
 use Rattle.split_cli.specs.Loading.{StopsWith, EndsIn}
 use Rattle.split_cli.specs.Loads.{FilesChange, AreKept, counted_by}
-use Rattle.split_cli.specs.Saves.{SavesUnder, IsSaved, IsSaveFault}
+use Rattle.split_cli.specs.Saves.{SavesUnder, IsSaved}
 use Rattle.split_cli.specs.Split.{SplitShape, SplitSources}
 use Rattle.split_cli.specs.Stages.{given, stopped}
 use Rattle.split_cli.specs.Verdicts.{VerdictShape, Print, verdict_shape, file_fault}
 use Rattle.split_cli.specs.declared.load.Loaded.{Loaded}
 use Rattle.split_cli.specs.declared.stop.Stop.{Stop}
-use Rattle.split_cli.specs.declared.stop.Stop.TheVariants as stop
 use Rattle.split_cli.specs.declared.verdict.Verdict.{Verdict}
 use Rattle.split_cli.proofs.LoadedFiles.{TwoFiles}
 use Rattle.split_cli.proofs.SplitStages.{split_refuses}

@@ -16,7 +16,7 @@ use Rattle.split_cli.specs.declared.load.LoadStop.{LoadStop}
 use Rattle.split_cli.specs.declared.load.LoadStop.TheVariants as load_stop
 use Rattle.js_base.specs.declared.status.Status.{Status}
 use Rattle.js_base.specs.declared.status.Status.TheVariants.{InputRefused}
-use Rattle.split_cli.specs.Commands.{CommandShape, Check, Run, Replay, Drive, Compare, Split}
+use Rattle.split_cli.specs.Commands.{CommandShape, Check, Run, Replay, Drive, Compare, Split, Make}
 use Rattle.split_cli.specs.Commands.{IsCommand, words_of, files_of, HaveNoForm}
 use Rattle.split_cli.specs.Verdicts.{VerdictShape, Refuse, usage}
 use Rattle.split_cli.specs.Loads.{FilesChange, AreKept, IsHeld, counted_by}
@@ -134,6 +134,7 @@ saves_refused (Replay program hosts events) status line files kept = kept
 saves_refused (Drive program hosts start events) status line files kept = kept
 saves_refused (Compare program hosts one other) status line files kept = kept
 saves_refused (Split program hosts out) status line files kept = kept
+saves_refused (Make statements) status line files kept = kept
 
 -- a file of a command that was not loaded
 pub loading_due : (command : CommandShape) (files : FilesChange) (verdict : VerdictShape) →

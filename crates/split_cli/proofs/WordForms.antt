@@ -6,11 +6,11 @@ use Rattle.std.specs.Fmt.{decimal}
 use Rattle.std.specs.Str.Parse.{digits_value}
 use Rattle.std.proofs.lemmas.Fmt.{digits_value-decimal}
 use Rattle.js_base.proofs.Decisions.{Decided, same_text, less_than}
-use Rattle.split_cli.specs.Commands.{CommandShape, Check, Run, Replay, Drive, Compare, Split, IsCommand, IsStepCount}
-use Rattle.split_cli.specs.Commands.{HaveNoForm, words_of}
-use Rattle.split_cli.specs.declared.words.TheConstants.{STEPS}
-use Rattle.split_cli.proofs.StepCounts.{own, small}
-use Rattle.split_cli.proofs.CommandWords.{no_steps, no_verb}
+use Rattle.split_cli.specs.Commands.{CommandShape, Check, Run, Replay, Drive, Compare, Split, Make}
+use Rattle.split_cli.specs.Commands.{IsCommand, IsMadeCount, IsStepCount, HaveNoForm, words_of}
+use Rattle.split_cli.specs.declared.words.TheConstants.{STEPS, MADE_STATEMENTS}
+use Rattle.split_cli.proofs.StepCounts.{own, small, none_made, more_made}
+use Rattle.split_cli.proofs.CommandWords.{no_count, no_make, no_steps, no_verb}
 
 -- the words ask for this command
 abbrev pub AskFor : List (List ℕ) → Type 0
@@ -44,6 +44,19 @@ count_word word =
     let value = digits_value 10 word in
     count_by_value word (less_than value 1) (less_than STEPS value) (same_text word (decimal value))
 
+-- what writes a number of statements
+abbrev IsMadeWord : List ℕ → Type 0
+IsMadeWord word = (statements : ℕ) × IsMadeCount statements × (word ≡ decimal statements)
+
+made_by_count : (word : List ℕ) → IsCountWord word ⊎ ((steps : ℕ) → IsStepCount steps → word ≢ decimal steps) →
+    IsMadeWord word ⊎ ((statements : ℕ) → IsMadeCount statements → word ≢ decimal statements)
+made_by_count word (inr none) = inr (none_made word none)
+made_by_count word (inl (steps, count, written)) =
+    ⊎_elim
+    (λ many. inr (more_made word steps count written many))
+    (λ few. inl (steps, record { least = count.least; most = omega (arith, few) }, written))
+    (less_than MADE_STATEMENTS steps)
+
 -- ---- so many words
 
 pub none_asked : HaveNoForm []
@@ -53,6 +66,7 @@ none_asked (Replay program hosts events) is same = let never : ⊥ = cc in never
 none_asked (Drive program hosts start events) is same = let never : ⊥ = cc in never
 none_asked (Compare program hosts one other) is same = let never : ⊥ = cc in never
 none_asked (Split program hosts out) is same = let never : ⊥ = cc in never
+none_asked (Make statements) is same = let never : ⊥ = cc in never
 
 one_asked : (a : List ℕ) → HaveNoForm (a ∷ [])
 one_asked a (Check program hosts) is same = let never : ⊥ = cc in never
@@ -61,14 +75,7 @@ one_asked a (Replay program hosts events) is same = let never : ⊥ = cc in neve
 one_asked a (Drive program hosts start events) is same = let never : ⊥ = cc in never
 one_asked a (Compare program hosts one other) is same = let never : ⊥ = cc in never
 one_asked a (Split program hosts out) is same = let never : ⊥ = cc in never
-
-two_asked : (a b : List ℕ) → HaveNoForm (a ∷ b ∷ [])
-two_asked a b (Check program hosts) is same = let never : ⊥ = cc in never
-two_asked a b (Run program hosts start steps) is same = let never : ⊥ = cc in never
-two_asked a b (Replay program hosts events) is same = let never : ⊥ = cc in never
-two_asked a b (Drive program hosts start events) is same = let never : ⊥ = cc in never
-two_asked a b (Compare program hosts one other) is same = let never : ⊥ = cc in never
-two_asked a b (Split program hosts out) is same = let never : ⊥ = cc in never
+one_asked a (Make statements) is same = let never : ⊥ = cc in never
 
 three_asked : (a b c : List ℕ) → a ≢ codes "check" → HaveNoForm (a ∷ b ∷ c ∷ [])
 three_asked a b c not (Check program hosts) is same = not (let first : a ≡ codes "check" = cc in first)
@@ -77,6 +84,7 @@ three_asked a b c not (Replay program hosts events) is same = let never : ⊥ = 
 three_asked a b c not (Drive program hosts start events) is same = let never : ⊥ = cc in never
 three_asked a b c not (Compare program hosts one other) is same = let never : ⊥ = cc in never
 three_asked a b c not (Split program hosts out) is same = let never : ⊥ = cc in never
+three_asked a b c not (Make statements) is same = let never : ⊥ = cc in never
 
 four_asked : (a b c d : List ℕ) → a ≢ codes "replay" → a ≢ codes "split" → HaveNoForm (a ∷ b ∷ c ∷ d ∷ [])
 four_asked a b c d not neither (Check program hosts) is same = let never : ⊥ = cc in never
@@ -87,6 +95,7 @@ four_asked a b c d not neither (Drive program hosts start events) is same = let 
 four_asked a b c d not neither (Compare program hosts one other) is same = let never : ⊥ = cc in never
 four_asked a b c d not neither (Split program hosts out) is same =
     neither (let first : a ≡ codes "split" = cc in first)
+four_asked a b c d not neither (Make statements) is same = let never : ⊥ = cc in never
 
 six_asked : (a b c d e f : List ℕ) (more : List (List ℕ)) → HaveNoForm (a ∷ b ∷ c ∷ d ∷ e ∷ f ∷ more)
 six_asked a b c d e f more (Check program hosts) is same = let never : ⊥ = cc in never
@@ -95,8 +104,16 @@ six_asked a b c d e f more (Replay program hosts events) is same = let never : �
 six_asked a b c d e f more (Drive program hosts start events) is same = let never : ⊥ = cc in never
 six_asked a b c d e f more (Compare program hosts one other) is same = let never : ⊥ = cc in never
 six_asked a b c d e f more (Split program hosts out) is same = let never : ⊥ = cc in never
+six_asked a b c d e f more (Make statements) is same = let never : ⊥ = cc in never
 
 -- ---- forms
+
+two_form : (a b : List ℕ) → Decided (a ≡ codes "make") →
+    IsMadeWord b ⊎ ((statements : ℕ) → IsMadeCount statements → b ≢ decimal statements) →
+    AskFor (a ∷ b ∷ []) ⊎ HaveNoForm (a ∷ b ∷ [])
+two_form a b makes (inr none) = inr (no_count a b none)
+two_form a b (inl is) (inl (statements, count, written)) = inl (Make statements, count, cc)
+two_form a b (inr not) (inl count) = inr (no_make a b not)
 
 four_form : (a b c d : List ℕ) → Decided (a ≡ codes "replay") → Decided (a ≡ codes "split") →
     AskFor (a ∷ b ∷ c ∷ d ∷ []) ⊎ HaveNoForm (a ∷ b ∷ c ∷ d ∷ [])
@@ -122,7 +139,7 @@ five_form a b c d e (inr not) =
 pub words_form : (words : List (List ℕ)) → AskFor words ⊎ HaveNoForm words
 words_form [] = inr none_asked
 words_form (a ∷ []) = inr (one_asked a)
-words_form (a ∷ b ∷ []) = inr (two_asked a b)
+words_form (a ∷ b ∷ []) = two_form a b (same_text a (codes "make")) (made_by_count b (count_word b))
 words_form (a ∷ b ∷ c ∷ []) =
     ⊎_elim (λ is. inl (Check b c, tt, ap (λ x. x ∷ b ∷ c ∷ []) is)) (λ not. inr (three_asked a b c not))
     (same_text a (codes "check"))

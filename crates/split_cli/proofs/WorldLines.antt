@@ -1,7 +1,7 @@
 -- What one more line adds to the report of a world.
 use Rattle.std.proofs.Common.{◌≡◌, ℕ, zero, suc, ◌+◌, ◌<◌, List, [], ◌∷◌, ◌++◌, length, get_or, take, map, refl, ap}
 use Rattle.std.proofs.Common.{sym, ◌∙◌, add-one, arith, All, Option, Some, None}
-use Rattle.std.specs.Prelude.{ℤ, pos}
+use Rattle.std.specs.Prelude.{ℤ, pos, codes}
 use Rattle.std.specs.Option.{option_map}
 use Rattle.std.specs.List.{flat_map, range_with_len}
 use Rattle.std.proofs.lemmas.List.{append-nil, append_assoc, flat_map_more, length-take-le, take_more}
@@ -24,11 +24,12 @@ use Rattle.split_cli.specs.Replay.{replay_text}
 use Rattle.split_cli.specs.Text.{line_text, lines_text}
 use Rattle.split_cli.specs.WorldReport.{halted_line, field_line, field_lines, host_lines, flying_line, queue_lines}
 use Rattle.split_cli.specs.WorldReport.{flying_lines, sent_line, sent_lines, host_line, state_line, elements_of}
-use Rattle.split_cli.specs.Report.{row_line}
-use Rattle.split_cli.proofs.ReportLines.{numbered_more}
+use Rattle.split_cli.specs.Making.{field_value, field_values}
+use Rattle.split_cli.specs.Report.{row_line, row_text}
+use Rattle.split_cli.proofs.ReportLines as report
 
--- F gives each element lines, by its number
-numbered_push : {X : Type 0} (F : ℕ → List X → List (List ℕ)) (f : ℕ → X → List (List ℕ)) → ((n : ℕ) → F n [] ≡ []) →
+-- F gives each element lines or bytes, by its number
+numbered_push : {X Y : Type 0} (F : ℕ → List X → List Y) (f : ℕ → X → List Y) → ((n : ℕ) → F n [] ≡ []) →
     ((n : ℕ) (x : X) (xs : List X) → F n (x ∷ xs) ≡ f n x ++ F (n + 1) xs) →
     (n : ℕ) (xs : List X) (x : X) (place : ℕ) → place ≡ n + length xs → F n (xs ++ x ∷ []) ≡ F n xs ++ f place x
 numbered_push F f nil cons n [] x place is =
@@ -36,18 +37,25 @@ numbered_push F f nil cons n [] x place is =
     rw (cons n x [], nil (n + 1), nil n) (append-nil (f n x) ∙ ap (λ m. f m x) same)
 numbered_push F f nil cons n (y ∷ xs) x place is =
     rw (cons n y (xs ++ x ∷ []), cons n y xs)
-    (ap (λ lines. f n y ++ lines) (numbered_push F f nil cons (n + 1) xs x place (omega arith))
+    (ap (λ more. f n y ++ more) (numbered_push F f nil cons (n + 1) xs x place (omega arith))
     ∙ sym (append_assoc (f n y) (F (n + 1) xs) (f place x)))
 
--- so F of one element more adds its lines
+-- so F of one element more adds what it gives that element
+numbered_more : {X Y : Type 0} (F : ℕ → List X → List Y) (f : ℕ → X → List Y) → ((n : ℕ) → F n [] ≡ []) →
+    ((n : ℕ) (x : X) (xs : List X) → F n (x ∷ xs) ≡ f n x ++ F (n + 1) xs) →
+    (xs : List X) (i : ℕ) (d : X) → i < length xs → F 0 (take (i + 1) xs) ≡ F 0 (take i xs) ++ f i (get_or xs i d)
+numbered_more F f nil cons xs i d lt =
+    let count = length-take-le i xs (omega arith) in
+    ap (λ front. F 0 front) (take_more xs i d lt)
+    ∙ numbered_push F f nil cons 0 (take i xs) (get_or xs i d) i (omega arith)
+
+-- and their text
 pub all_numbered_more : {X : Type 0} (F : ℕ → List X → List (List ℕ)) (f : ℕ → X → List (List ℕ)) →
     ((n : ℕ) → F n [] ≡ []) → ((n : ℕ) (x : X) (xs : List X) → F n (x ∷ xs) ≡ f n x ++ F (n + 1) xs) →
     (xs : List X) (i : ℕ) (d : X) → i < length xs →
     lines_text (F 0 (take (i + 1) xs)) ≡ lines_text (F 0 (take i xs)) ++ lines_text (f i (get_or xs i d))
 all_numbered_more F f nil cons xs i d lt =
-    let count = length-take-le i xs (omega arith) in
-    ap (λ front. lines_text (F 0 front)) (take_more xs i d lt)
-    ∙ ap lines_text (numbered_push F f nil cons 0 (take i xs) (get_or xs i d) i (omega arith))
+    ap lines_text (numbered_more F f nil cons xs i d lt)
     ∙ flat_map-append line_text (F 0 (take i xs)) (f i (get_or xs i d))
 
 pub field_lines_more : (w : WorldShape) (fields : List CodeFieldShape) (i : ℕ) (field : CodeFieldShape) →
@@ -57,6 +65,14 @@ field_lines_more w fields i field lt is =
     all_numbered_more (field_lines w) (λ n one. field_line (state_at w one.host) n one) (λ n. refl) (λ n x xs. refl)
     fields i field lt
     ∙ ap (λ f. lines_text (field_lines w 0 (take i fields)) ++ lines_text (field_line (state_at w f.host) i f)) (sym is)
+
+pub field_values_more : (w : WorldShape) (fields : List CodeFieldShape) (i : ℕ) (field : CodeFieldShape) →
+    i < length fields → field ≡ get_or fields i field → field_values w 0 (take (i + 1) fields)
+    ≡ field_values w 0 (take i fields) ++ field_value (state_at w field.host) i field
+field_values_more w fields i field lt is =
+    numbered_more (field_values w) (λ n one. field_value (state_at w one.host) n one) (λ n. refl) (λ n x xs. refl)
+    fields i field lt
+    ∙ ap (λ f. field_values w 0 (take i fields) ++ field_value (state_at w f.host) i f) (sym is)
 
 -- the item at a place, whatever stands past the end
 pub item_at : {X : Type 0} (items : List X) (i : ℕ) → i < length items → (item : X) × ((d : X) → get_or items i d ≡ item)
@@ -69,7 +85,7 @@ pub queue_lines_more : (code : CodeShape) (from to : ℕ) (queue : List Message)
     lines_text (queue_lines code from to 0 (take (i + 1) queue))
     ≡ lines_text (queue_lines code from to 0 (take i queue)) ++ (flying_line code from to i message ++ 10 ∷ [])
 queue_lines_more code from to queue i message lt is =
-    numbered_more (queue_lines code from to) (flying_line code from to) (λ n. refl) (λ n x xs. refl) queue i message lt
+    report.numbered_more (queue_lines code from to) (flying_line code from to) (λ n. refl) (λ n x xs. refl) queue i message lt
     ∙ ap (λ m. lines_text (queue_lines code from to 0 (take i queue)) ++ (flying_line code from to i m ++ 10 ∷ [])) is
 
 pub sent_lines_more : (code : CodeShape) (sent : List SentMessage) (i : ℕ) (one : SentMessage) → i < length sent →
@@ -77,7 +93,7 @@ pub sent_lines_more : (code : CodeShape) (sent : List SentMessage) (i : ℕ) (on
     lines_text (sent_lines code 0 (take (i + 1) sent))
     ≡ lines_text (sent_lines code 0 (take i sent)) ++ (sent_line code i one ++ 10 ∷ [])
 sent_lines_more code sent i one lt is =
-    numbered_more (sent_lines code) (sent_line code) (λ n. refl) (λ n x xs. refl) sent i one lt
+    report.numbered_more (sent_lines code) (sent_line code) (λ n. refl) (λ n x xs. refl) sent i one lt
     ∙ ap (λ m. lines_text (sent_lines code 0 (take i sent)) ++ (sent_line code i m ++ 10 ∷ [])) is
 
 range_push : (a n j : ℕ) → a + n ≡ j → range_with_len a (suc n) ≡ range_with_len a n ++ j ∷ []
@@ -141,20 +157,39 @@ messages_fit code from to (flight ∷ flights) all =
 
 -- ---- fields
 
+-- what is told of the name and the elements of a field, by what its host holds
+elements_shown : (tell : List ℕ → List ℤ → List ℕ) (field : CodeFieldShape) (place : ℕ) (name : List ℕ) (size : ℕ)
+    (row : List ℤ) (host : HostModel) → name ≡ field.name → size ≡ field.size →
+    row ≡ elements_of (state_of host) place size →
+    tell name row ≡ tell field.name (elements_of (state_of host) place field.size)
+elements_shown tell field place name size row host named sized are =
+    ap (λ (one : List ℕ). tell one row) named
+    ∙ ap (λ (one : List ℤ). tell field.name one)
+    (are ∙ ap (λ (n : ℕ). elements_of (state_of host) place n) sized)
+
+field_there : (world : WorldModel) (field : CodeFieldShape) (at : HostId) (host : HostModel) →
+    Some host ≡ host_at world at → at ≡ field.host → state_at (world_of world) field.host ≡ Some (state_of host)
+field_there world field at host there here =
+    state_there world field.host (Some host) (there ∙ ap (λ (one : HostId). host_at world one) here)
+
+pub value_shown : (world : WorldModel) (place : ℕ) (field : CodeFieldShape) (at : HostId) (name : List ℕ) (size : ℕ)
+    (row : List ℤ) (host : HostModel) → Some host ≡ host_at world at → at ≡ field.host → name ≡ field.name →
+    size ≡ field.size → row ≡ elements_of (state_of host) place size →
+    codes " " ++ name ++ codes " " ++ row_text row ≡ field_value (state_at (world_of world) field.host) place field
+value_shown world place field at name size row host there here named sized are =
+    elements_shown (λ one elements. codes " " ++ one ++ codes " " ++ row_text elements) field place name size row host
+    named sized are
+    ∙ ap (λ (state : Option HostShape). field_value state place field) (sym (field_there world field at host there here))
+
 pub field_shown : (world : WorldModel) (place : ℕ) (field : CodeFieldShape) (at : HostId) (name : List ℕ) (size : ℕ)
     (row : List ℤ) (host : HostModel) → Some host ≡ host_at world at → at ≡ field.host → name ≡ field.name →
     size ≡ field.size → row ≡ elements_of (state_of host) place size →
     line_text (row_line name row) ≡ lines_text (field_line (state_at (world_of world) field.host) place field)
 field_shown world place field at name size row host there here named sized are =
-    let found : Some host ≡ host_at world field.host =
-    there ∙ ap (λ (one : HostId). host_at world one) here in
-    let elements : row ≡ elements_of (state_of host) place field.size =
-    are ∙ ap (λ (n : ℕ). elements_of (state_of host) place n) sized in
-    ap (λ (one : List ℕ). line_text (row_line one row)) named
-    ∙ ap (λ (one : List ℤ). line_text (row_line field.name one)) elements
+    elements_shown (λ one elements. line_text (row_line one elements)) field place name size row host named sized are
     ∙ sym (append-nil (line_text (row_line field.name (elements_of (state_of host) place field.size))))
     ∙ ap (λ (state : Option HostShape). lines_text (field_line state place field))
-    (sym (state_there world field.host (Some host) found))
+    (sym (field_there world field at host there here))
 
 pub one_element : (host : HostModel) (field : ℕ) (index : ℕ) (row next : List ℤ) (value : ℤ) →
     row ≡ elements_of (state_of host) field index → value ≡ element_at (row_of host.stores.rows field) (pos index) →

@@ -16,11 +16,13 @@ accepted_line tree =
     codes "accepted " ++ decimal (length tree.fields) ++ codes " fields " ++ decimal (length tree.methods)
     ++ codes " methods " ++ decimal (length (statement_numbers tree)) ++ codes " statements"
 
+-- what the plan costs
+abbrev pub cost_of : PlacedSource → ℕ
+cost_of placed = plan_cost (labelled_source placed.source) placed.needs placed.source.file placed.plan
+
 -- `cost C`, of the plan
 abbrev pub cost_line : PlacedSource → List ℕ
-cost_line placed =
-    codes "cost "
-    ++ decimal (plan_cost (labelled_source placed.source) placed.needs placed.source.file placed.plan)
+cost_line placed = codes "cost " ++ decimal (cost_of placed)
 
 abbrev pub plan_lines : PlacedSource → List (List ℕ)
 plan_lines placed = accepted_line placed.source.tree ∷ place_lines placed ++ cost_line placed ∷ []

@@ -1,9 +1,9 @@
 -- What words ask for. A word is the list of its bytes.
 use Rattle.std.specs.Prelude.{◌≢◌, ℕ, ◌≤◌, List, [], ◌∷◌, codes, ⊤}
 use Rattle.std.specs.Fmt.{decimal}
-use Rattle.split_cli.specs.declared.words.TheConstants.{STEPS}
+use Rattle.split_cli.specs.declared.words.TheConstants.{STEPS, MADE_STATEMENTS}
 
--- a command with its files, and with its number of steps or events; a split is saved under its last name
+-- a command with its files, and with its number of steps, events or statements; a split is saved under its last name
 pub data CommandShape : Type 0 where
   Check : (program hosts : List ℕ) → CommandShape
   Run : (program hosts start : List ℕ) (steps : ℕ) → CommandShape
@@ -11,11 +11,17 @@ pub data CommandShape : Type 0 where
   Drive : (program hosts start : List ℕ) (events : ℕ) → CommandShape
   Compare : (program hosts one other : List ℕ) → CommandShape
   Split : (program hosts out : List ℕ) → CommandShape
+  Make : (statements : ℕ) → CommandShape
 
 -- a number of steps or events that can be asked for
 pub record IsStepCount (steps : ℕ) : Type 0 where
   pub least : 1 ≤ steps
   pub most : steps ≤ STEPS
+
+-- a number of statements of a program that can be made
+pub record IsMadeCount (statements : ℕ) : Type 0 where
+  pub least : 1 ≤ statements
+  pub most : statements ≤ MADE_STATEMENTS
 
 -- the command can be asked for
 abbrev pub IsCommand : CommandShape → Type 0
@@ -25,6 +31,7 @@ IsCommand (Replay program hosts events) = ⊤
 IsCommand (Drive program hosts start events) = IsStepCount events
 IsCommand (Compare program hosts one other) = ⊤
 IsCommand (Split program hosts out) = ⊤
+IsCommand (Make statements) = IsMadeCount statements
 
 -- the words that ask for it: a number is written in decimal digits, without leading zeros
 abbrev pub words_of : CommandShape → List (List ℕ)
@@ -34,6 +41,7 @@ words_of (Replay program hosts events) = codes "replay" ∷ program ∷ hosts �
 words_of (Drive program hosts start events) = codes "drive" ∷ program ∷ hosts ∷ start ∷ decimal events ∷ []
 words_of (Compare program hosts one other) = codes "compare" ∷ program ∷ hosts ∷ one ∷ other ∷ []
 words_of (Split program hosts out) = codes "split" ∷ program ∷ hosts ∷ out ∷ []
+words_of (Make statements) = codes "make" ∷ decimal statements ∷ []
 
 -- the files that are loaded for it, in order
 abbrev pub files_of : CommandShape → List (List ℕ)
@@ -43,6 +51,7 @@ files_of (Replay program hosts events) = program ∷ hosts ∷ events ∷ []
 files_of (Drive program hosts start events) = program ∷ hosts ∷ start ∷ []
 files_of (Compare program hosts one other) = program ∷ hosts ∷ one ∷ other ∷ []
 files_of (Split program hosts out) = program ∷ hosts ∷ []
+files_of (Make statements) = []
 
 -- the words ask for no command
 abbrev pub HaveNoForm : List (List ℕ) → Type 0

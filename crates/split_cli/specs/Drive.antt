@@ -32,19 +32,29 @@ events_line made = codes "events " ++ decimal made
 abbrev pub drive_text : CodeShape → ℕ → WorldShape → List ℕ
 drive_text code made w = lines_text (events_line made ∷ world_lines code w)
 
--- the report of at most so many events from these starting values, each the one that comes next; no host misbehaves
-pub record IsDriveReport (placed : PlacedSource) (values : List (List ℤ)) (most : ℕ) (verdict : VerdictShape) : Type 0
-  where
-    pub events : List Event
-    pub last : WorldShape
-    pub status : Status
-    pub ends : DrivesTo (code_of placed) (first_world placed 0 values) most events last status
-    pub verdict_is : verdict ≡ Print status (drive_text (code_of placed) (length events) last)
+-- What is told of at most so many events from these starting values, each the one that comes next; no host misbehaves.
+-- The text is one of the code, the number of events, and the world that they leave.
+pub record TellsDrive
+    (text : CodeShape → ℕ → WorldShape → List ℕ) (placed : PlacedSource) (values : List (List ℤ)) (most : ℕ)
+    (verdict : VerdictShape) : Type 0 where
+  pub events : List Event
+  pub last : WorldShape
+  pub status : Status
+  pub ends : DrivesTo (code_of placed) (first_world placed 0 values) most events last status
+  pub verdict_is : verdict ≡ Print status (text (code_of placed) (length events) last)
 
--- ---- what is due, where the third file has this name and holds these bytes
+-- the report of such events
+abbrev pub IsDriveReport : PlacedSource → List (List ℤ) → ℕ → VerdictShape → Type 0
+IsDriveReport = TellsDrive drive_text
 
--- hosts are driven through the program, by all programs with the same tree alike
-abbrev pub DueForDrive : List ℕ → List ℕ → ℕ → PlacedSource → VerdictShape → Type 0
-DueForDrive file start most placed verdict =
+-- ---- what is due, where the file of starting values has this name and holds these bytes
+
+-- hosts are driven through the program, and so much is told, by all programs with the same tree alike
+abbrev pub DueForDriven : (CodeShape → ℕ → WorldShape → List ℕ) → List ℕ → List ℕ → ℕ → PlacedSource →
+    VerdictShape → Type 0
+DueForDriven text file start most placed verdict =
     (program : Program) × (program_tree program ≡ placed.source.tree)
-    × DueThen (StartingValues file start program.fields.items) (λ values. IsDriveReport placed values most) verdict
+    × DueThen (StartingValues file start program.fields.items) (λ values. TellsDrive text placed values most) verdict
+
+abbrev pub DueForDrive : List ℕ → List ℕ → ℕ → PlacedSource → VerdictShape → Type 0
+DueForDrive = DueForDriven drive_text

@@ -1,9 +1,9 @@
 -- What is due for words, by what the files hold and did.
 use Rattle.std.specs.Prelude.{◌≡◌, ℕ, ◌+◌, ◌⊎◌, List, [], ◌∷◌, length, Option, Some}
 use Rattle.std.specs.List.{AllZip}
-use Rattle.split_cli.specs.Commands.{CommandShape, Check, Run, Replay, Drive, Compare, Split}
-use Rattle.split_cli.specs.Commands.{IsCommand, words_of, files_of, HaveNoForm}
 use Rattle.js_base.specs.declared.status.Status.TheVariants.{Done}
+use Rattle.split_cli.specs.Commands.{CommandShape, Check, Run, Replay, Drive, Compare, Split, Make}
+use Rattle.split_cli.specs.Commands.{IsCommand, words_of, files_of, HaveNoForm}
 use Rattle.split_cli.specs.Verdicts.{VerdictShape, Print, usage, no_such_file}
 use Rattle.split_cli.specs.Loads.{FilesChange, Told, AreKept, LoadsWell, IsFirstAbsent, IsFileFault}
 use Rattle.split_cli.specs.Saves.{SavesUnder, IsSaved, IsSaveFault}
@@ -12,13 +12,14 @@ use Rattle.split_cli.specs.Sources.{Sources}
 use Rattle.split_cli.specs.PlacedSources.{PlacedSources}
 use Rattle.split_cli.specs.Check.{plan_report}
 use Rattle.split_cli.specs.Compare.{DueForCompare}
+use Rattle.split_cli.specs.Making.{DueForMake}
 use Rattle.split_cli.specs.PlainRun.{DueForRun}
 use Rattle.split_cli.specs.Replay.{DueForReplay}
 use Rattle.split_cli.specs.Drive.{DueForDrive}
 use Rattle.split_cli.specs.Split.{SplitShape, SplitSources}
 
--- What is due for a command whose files hold these bytes: each begins with a program and a host file, and has one end
--- of its own.
+-- What is due for a command whose files hold these bytes: each begins with a program and a host file, which `make` has
+-- without loading any, and has one end of its own.
 abbrev pub DueForBytes : CommandShape → List (List ℕ) → VerdictShape → Type 0
 DueForBytes (Check program hosts) (p ∷ h ∷ []) verdict =
     DueThen (PlacedSources p h) (λ placed end. end ≡ plan_report placed) verdict
@@ -32,6 +33,7 @@ DueForBytes (Compare program hosts one other) (p ∷ h ∷ s ∷ t ∷ []) verdi
     DueThen (PlacedSources p h) (DueForCompare one s other t) verdict
 DueForBytes (Split program hosts out) (p ∷ h ∷ []) verdict =
     DueThen (SplitSources p h) (λ split end. end ≡ Print Done split.text) verdict
+DueForBytes (Make statements) [] verdict = DueForMake statements verdict
 DueForBytes command bytes verdict = ⊥
 
 -- What is due for a command whose files are all held. Where files do not tell what they hold, they hold some bytes.

@@ -12,6 +12,8 @@ pub mod Followed
 pub mod FollowedRuns
 pub mod Loading
 pub mod Loads
+pub mod MadePrograms
+pub mod Making
 pub mod MessageParts
 pub mod PlaceLines
 pub mod PlacedShapes

@@ -6,6 +6,7 @@ ghost use Rattle.js_base.specs.declared.limits.TheConstants.{HOSTS_BYTES, PROGRA
 pub mod check;
 pub mod compare;
 pub mod drive;
+pub mod make;
 pub mod replay;
 pub mod run;
 pub mod split;

@@ -1,6 +1,6 @@
 //! The laws of what is due.
 
-ghost use Rattle.std.specs.Prelude.{◌≡◌, ◌<◌, ℕ, List, [], ◌∷◌, Option, Some, None, codes};
+ghost use Rattle.std.specs.Prelude.{◌≡◌, ◌<◌, ℕ, List, [], ◌∷◌, ◌++◌, Option, Some, None, codes};
 ghost use Rattle.js_base.specs.Counts.{last_count};
 ghost use Rattle.event_text.specs.declared.event.Event.{Event};
 ghost use Rattle.host_code.specs.Code.{CodeShape};
@@ -9,9 +9,11 @@ ghost use Rattle.simulation.specs.Driven.{IsDriven};
 ghost use Rattle.split_cli.specs.Verdicts.{VerdictShape, usage, no_such_file};
 ghost use Rattle.split_cli.specs.Loads.{FilesChange, IsFileFault};
 ghost use Rattle.split_cli.specs.Due.{Due, IsDue};
+ghost use Rattle.split_cli.specs.MadePrograms.{made_head, made_program};
 ghost use Rattle.split_cli.specs.PlacedSources.{PlacedSource, PlacedSources};
 ghost use Rattle.split_cli.specs.Sources.{Source, Sources};
 ghost use Rattle.split_cli.specs.Stages.{Outcome};
+ghost use Rattle.split_cli.specs.Text.{lines_text};
 
 use event_text::script_laws;
 use host_decl::host_file_laws;
@@ -64,6 +66,10 @@ pub fn due_laws()
     ensures worked_no_words { (held : Option (List ℕ → Option (List ℕ))) → Due [] held 0 usage }
     ensures worked_absent { Due (codes "check" ∷ codes "P" ∷ codes "H" ∷ []) (Some (λ name. None)) 1
         (no_such_file (codes "P")) }
+
+    // Worked: the program of two statements.
+    ensures worked_made { made_program 2
+        ≡ lines_text (made_head ++ codes "a = a + 0;" ∷ codes "b = b + 1;" ∷ codes "}" ∷ []) }
 
     // The events of a drive are a run of the world.
     ensures driven_runs { (code : CodeShape) (world after : WorldShape) (events : List Event) →

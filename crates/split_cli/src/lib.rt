@@ -8,6 +8,7 @@ mod driving;
 mod following;
 mod laws;
 mod load;
+mod making;
 mod message_parts;
 mod place_lines;
 mod placed;

@@ -2,8 +2,9 @@
 
 ghost use Rattle.std.specs.Prelude.{◌≡◌, ◌≤◌, ◌+◌, length, map, IfOk, IfErr, OnOk, MatchResult};
 ghost use Rattle.std.specs.List.{AllZip};
+ghost use Rattle.std.specs.String.{string_bytes};
 ghost use Rattle.js_base.specs.Counts.{counted};
-ghost use Rattle.split_cli.specs.Loading.{Gives, IsStopOf, LoadStops, StopCounts, StopsWith, StopsLoading};
+ghost use Rattle.split_cli.specs.Loading.{Gives, IsLoaded, IsStopOf, LoadStops, StopCounts, StopsWith, StopsLoading};
 ghost use Rattle.split_cli.specs.Loads.{AreKept, counted_by, files_change};
 
 use crate::stop::{Stop, stopped};
@@ -79,6 +80,17 @@ fn load<F: Files>(alloc: Global, files: &mut F, name: &str, most: usize) -> Resu
         Err(LoadError::Absent) => Err(LoadStop::Absent),
         Err(LoadError::Failed) => Err(LoadStop::Failed),
         Err(LoadError::OutOfMemory) => Err(LoadStop::OutOfMemory),
+    }
+}
+
+/// What is loaded of a file that holds this text, where no more than so many bytes are read.
+pub fn as_loaded(text: String, most: usize) -> Loaded
+    ensures { IsLoaded most (string_bytes text) result }
+{
+    if text.len() <= most {
+        Loaded::Bytes(text.into_bytes())
+    } else {
+        Loaded::TooLong
     }
 }
 

@@ -2,6 +2,7 @@
 
 ghost use Rattle.std.specs.Prelude.{◌≡◌, ℕ, List};
 ghost use Rattle.js_base.specs.declared.limits.TheConstants.{PROGRAM_BYTES, HOSTS_BYTES};
+ghost use Rattle.split_cli.specs.Check.{cost_of};
 ghost use Rattle.split_cli.specs.Loading.{EndsAs, IsLoaded};
 ghost use Rattle.split_cli.specs.PlacedShapes.{placed_shape};
 ghost use Rattle.split_cli.specs.PlacedSources.{OnHosts, PlacedSources};
@@ -12,6 +13,7 @@ use crate::sources::{Source, read_sources};
 use crate::stop::{Stop, stopped};
 use crate::verdict::Verdict;
 use host_decl::Hosts;
+use msg_cost::cost;
 use need_labels::{Needs, Plan, needs_of};
 use place_rules::Allowed;
 use placement::{place, placement_laws};
@@ -49,6 +51,14 @@ impl PlacedSource {
     {
         let source = &self.source;
         &source.hosts
+    }
+
+    /// What its plan costs.
+    pub fn cost(&self) -> u64
+        ensures { result ≡ cost_of (placed_shape self.now) }
+    {
+        let source = &self.source;
+        cost(&source.checked, &self.needs, &source.hosts, &self.plan)
     }
 }
 

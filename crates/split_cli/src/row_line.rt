@@ -1,10 +1,10 @@
-//! The line of a field and its elements.
+//! The elements of a field, and its line.
 
-ghost use Rattle.std.specs.Prelude.{◌≡◌, ◌∷◌, ◌++◌, OnOk, map};
+ghost use Rattle.std.specs.Prelude.{◌≡◌, ◌∷◌, ◌++◌, OnOk};
 ghost use Rattle.std.specs.Fmt.{signed_decimal};
-ghost use Rattle.std.specs.List.{flat_map, join_with_byte};
+ghost use Rattle.std.specs.List.{flat_map};
 ghost use Rattle.std.specs.String.{string_bytes};
-ghost use Rattle.split_cli.specs.Report.{row_line};
+ghost use Rattle.split_cli.specs.Report.{row_line, row_text};
 ghost use Rattle.split_cli.specs.Text.{line_text};
 
 use js_base::OutOfMemory;
@@ -22,9 +22,8 @@ pub fn push_row_line(text: &mut String, name: &str, row: &[i64]) -> Result<(), O
 
 /// Adds elements, parted by spaces.
 #[tactic(auto, using(crate::proofs::ReportLines::join_with_byte_cons))]
-fn push_row(text: &mut String, row: &[i64]) -> Result<(), OutOfMemory>
-    ensures { OnOk result (
-        string_bytes text.new ≡ string_bytes text.old ++ join_with_byte 32 (map signed_decimal row.now)) }
+pub fn push_row(text: &mut String, row: &[i64]) -> Result<(), OutOfMemory>
+    ensures { OnOk result (string_bytes text.new ≡ string_bytes text.old ++ row_text row.now) }
 {
     let Some((first, rest)) = row.split_first() else {
         return Ok(());

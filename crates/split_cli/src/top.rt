@@ -10,12 +10,14 @@ ghost use Rattle.split_cli.specs.Commands as command;
 ghost use Rattle.split_cli.specs.Asked.{command_shape};
 ghost use Rattle.split_cli.specs.Due.{Due, IsDue, IsDueForCommand, MaySave, OfCommand};
 ghost use Rattle.split_cli.specs.Faithful.{PutsDriven, PutsFaithfully};
+ghost use Rattle.split_cli.specs.Loading.{EndsIn};
 ghost use Rattle.split_cli.specs.Loads.{files_change};
 ghost use Rattle.split_cli.specs.Verdicts.{Print, verdict_shape, no_memory_line};
 
 use crate::commands::check::due_for_check;
 use crate::commands::compare::due_for_compare;
 use crate::commands::drive::due_for_drive;
+use crate::commands::make::due_for_make;
 use crate::commands::replay::due_for_replay;
 use crate::commands::run::due_for_run;
 use crate::commands::split::due_for_split;
@@ -168,7 +170,21 @@ fn due_for<F: Files>(
     ensures loads { F.loads files.new ≤ F.loads files.old + length (command.files_of (command_shape asked.now)) }
     ensures saves { MaySave (command_shape asked.now) (files_change F.Files files.old files.new) }
 {
-    let due = match asked {
+    match ended(alloc, asked, files) {
+        Ok(verdict) => Ok(verdict),
+        Err(Stop::Due(verdict)) => Ok(verdict),
+        Err(Stop::OutOfMemory) => Err(OutOfMemory),
+    }
+}
+
+/// How a command ends: what is due for it, whether it stops early or not.
+fn ended<F: Files>(alloc: Global, asked: &Command<'_>, files: &mut F) -> Result<Verdict, Stop>
+    requires { command.IsCommand (command_shape asked.now) }
+    ensures due { EndsIn (IsDueForCommand (command_shape asked.now) (files_change F.Files files.old files.new)) result }
+    ensures loads { F.loads files.new ≤ F.loads files.old + length (command.files_of (command_shape asked.now)) }
+    ensures saves { MaySave (command_shape asked.now) (files_change F.Files files.old files.new) }
+{
+    match asked {
         Command::Check { program, hosts } => due_for_check(alloc, program, hosts, files),
         Command::Run {
             program,
@@ -198,11 +214,7 @@ fn due_for<F: Files>(
             hosts,
             out,
         } => due_for_split(alloc, program, hosts, out, files),
-    };
-    match due {
-        Ok(verdict) => Ok(verdict),
-        Err(Stop::Due(verdict)) => Ok(verdict),
-        Err(Stop::OutOfMemory) => Err(OutOfMemory),
+        Command::Make { statements } => due_for_make(alloc, *statements, files),
     }
 }
 

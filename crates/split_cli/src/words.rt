@@ -3,11 +3,13 @@
 ghost use Rattle.std.specs.Prelude.{◌≡◌, ◌≢◌, ◌↔◌, ◌∷◌, [], ℕ, map, string_bytes, IfSome, IfNone, IsTrue};
 ghost use Rattle.std.specs.Fmt.{decimal};
 ghost use Rattle.split_cli.specs.Asked.{command_shape};
-ghost use Rattle.split_cli.specs.Commands.{IsCommand, IsStepCount, words_of, HaveNoForm};
+ghost use Rattle.split_cli.specs.Commands.{IsCommand, IsMadeCount, IsStepCount, words_of, HaveNoForm};
 ghost use Rattle.split_cli.specs.StepCounts.{BeginsWithCount};
 
 /// The most steps or events that can be asked for.
 pub const STEPS: u64 = 1_000_000_000;
+/// The most statements of a program that can be made.
+pub const MADE_STATEMENTS: u64 = 2_000;
 
 /// A command with the names of its files.
 #[derive(Drop)]
@@ -50,6 +52,10 @@ pub enum Command<'a> {
         start: &'a str,
         events: u64,
     },
+    /// `make N`
+    Make {
+        statements: u64,
+    },
 }
 
 /// The command that the words ask for, or `None` where they ask for none.
@@ -59,6 +65,7 @@ pub fn command_of(words: &[String]) -> Option<Command<'_>>
     ensures none { IfNone result (HaveNoForm (map string_bytes words.now)) }
 {
     match words {
+        [verb, last] => command_of_two(verb, last),
         [verb, program, hosts] if verb.as_str() == "check" => Some(Command::Check {
             program,
             hosts,
@@ -94,6 +101,19 @@ fn command_of_four<'a>(
             hosts,
             out: last,
         });
+    }
+    None
+}
+
+/// The command that two words ask for, of which the second is a number.
+fn command_of_two<'a>(verb: &str, last: &str) -> Option<Command<'a>>
+    ensures command { IfSome result (λ asked. IsCommand (command_shape asked)) }
+    ensures found { IfSome result (λ asked. verb.now ∷ last.now ∷ [] ≡ words_of (command_shape asked)) }
+    ensures none { IfNone result (HaveNoForm (verb.now ∷ last.now ∷ [])) }
+{
+    if verb == "make" {
+        let statements = made_count(last)?;
+        return Some(Command::Make { statements });
     }
     None
 }
@@ -151,6 +171,20 @@ fn step_count(word: &str) -> Option<u64>
     }
     let steps = word.parse::<u64>().ok()?;
     if steps <= STEPS { Some(steps) } else { None }
+}
+
+/// The number of statements that a word writes so, where a program of so many can be made.
+fn made_count(word: &str) -> Option<u64>
+    ensures count { IfSome result IsMadeCount }
+    ensures found { IfSome result (λ statements. word.now ≡ decimal statements) }
+    ensures none { IfNone result ((statements : ℕ) → IsMadeCount statements → word.now ≢ decimal statements) }
+{
+    let statements = step_count(word)?;
+    if statements <= MADE_STATEMENTS {
+        Some(statements)
+    } else {
+        None
+    }
 }
 
 /// Whether bytes begin with a decimal digit other than 0.

@@ -6,6 +6,7 @@ ghost use Rattle.std.specs.Fmt.{decimal};
 ghost use Rattle.std.specs.Prelude.{codes};
 ghost use Rattle.net_world.specs.Fits.{WorldFits, world_of};
 ghost use Rattle.split_cli.specs.Drive.{drive_text, events_line};
+ghost use Rattle.split_cli.specs.Making.{made_text};
 ghost use Rattle.split_cli.specs.Replay.{replay_text};
 ghost use Rattle.split_cli.specs.Text.{line_text};
 ghost use Rattle.split_cli.specs.WorldReport.{halted_line};
@@ -15,7 +16,7 @@ mod flying;
 mod hosts;
 mod sent;
 
-use fields::push_fields;
+use fields::{push_fields, push_values};
 use flying::push_flying;
 use host_code::Code;
 use hosts::push_hosts;
@@ -60,6 +61,26 @@ pub fn replay_text(alloc: Global, code: &Code, world: &World) -> Result<String, 
     push_hosts(&mut text, code, world)?;
     push_flying(alloc, &mut text, code, world)?;
     push_sent(alloc, &mut text, code, world)?;
+    Ok(text)
+}
+
+/// The line of a drive of so many events of a program that was made, whose plan has this cost, and the values of the
+/// fields that it left.
+pub fn made_text(
+    alloc: Global,
+    statements: u64,
+    cost: u64,
+    code: &Code,
+    made: u64,
+    world: &World,
+) -> Result<String, OutOfMemory>
+    requires { WorldFits code.now world.now }
+    ensures { IfOk result (λ text.
+        string_bytes text ≡ made_text statements cost code.now made (world_of world.now)) }
+{
+    let mut text = format!(in alloc; "make {statements}: cost {cost} events {made}")?;
+    push_values(alloc, &mut text, code, world)?;
+    text.push('\n')?;
     Ok(text)
 }
 

@@ -20,7 +20,6 @@ use crate::sources::Source;
 use crate::stop::Stop;
 use crate::verdict::Verdict;
 use js_base::{Files, OutOfMemory, Status};
-use msg_cost::cost;
 use std::alloc::Global;
 use std::fmt::Write;
 
@@ -66,7 +65,7 @@ pub fn plan_text(alloc: Global, placed: &PlacedSource) -> Result<String, OutOfMe
     let source = &placed.source;
     let mut text = accepted(alloc, source)?;
     push_places(alloc, &mut text, placed)?;
-    let cost = cost(&source.checked, &placed.needs, &source.hosts, &placed.plan);
+    let cost = placed.cost();
     writeln!(text, "cost {cost}").map_err(|_| OutOfMemory)?;
     Ok(text)
 }

@@ -1,5 +1,6 @@
 use Rattle.std.proofs.Common.{codes, refl, zero}
 use Rattle.split_cli.proofs.DriveEnds.{StepCauses}
+use Rattle.split_cli.proofs.MadeTexts.{two_made}
 use Rattle.split_cli.proofs.OneDrive.{driven_run}
 use Rattle.split_cli.proofs.OnePlaced.{PlaceLaws, places_once}
 use Rattle.split_cli.proofs.OneSource.{SourceLaws, sources_once}
@@ -151,6 +152,9 @@ returns-clause-one_fault c = one_fault_place
 
 pub returns-clause-driven_runs : goal.returns-clause-driven_runs
 returns-clause-driven_runs c = driven_run
+
+pub returns-clause-worked_made : goal.returns-clause-worked_made
+returns-clause-worked_made c = two_made
 
 pub returns-clause-worked_no_words : goal.returns-clause-worked_no_words
 returns-clause-worked_no_words c held = no_words none_asked

@@ -18,4 +18,5 @@ returns-in-Some-clause-no_loads g c = λ none.
 pub returns-in-None-clause-due : goal.returns-in-None-clause-due
 returns-in-None-clause-due g c =
     IfOk-weaker c.usage.result _ _
-    (λ verdict is. usage_due _ _ (verdict_shape verdict) c.in-None.ensures.none refl refl is) c.usage.ensures
+    (λ verdict is. usage_due _ _ (verdict_shape verdict) c.in-None.ensures.none refl refl
+    (record { saves = refl; held = refl }) is) c.usage.ensures

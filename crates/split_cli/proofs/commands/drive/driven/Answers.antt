@@ -1,4 +1,5 @@
 use Rattle.net_world.specs.Fits.{world_of}
+use Rattle.split_cli.specs.Drive.{drive_text}
 use Rattle.split_cli.specs.PlacedShapes.{placed_shape}
 use Rattle.split_cli.proofs.DriveDue.{code_hosts, obey_from, report_made}
 use Rattle.split_cli.proofs.commands.drive.driven.Goals as goal
@@ -13,6 +14,6 @@ drive-requires-clause-obey c =
 
 pub returns : goal.returns
 returns c =
-    report_made (placed_shape c.args.placed.now) c.in_ok-code.code c.args.store.now c.args.most
+    report_made drive_text (placed_shape c.args.placed.now) c.in_ok-code.code c.args.store.now c.args.most
     (world_of c.in_ok-world.world) _ c.in_ok-driven.driven _ c.in_ok-code.ensures
     (rw c.hosts.ensures at c.in_ok-world.ensures.start) c.in_ok-driven.ensures.driven c.in_ok-text.ensures

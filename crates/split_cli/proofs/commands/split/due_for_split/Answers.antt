@@ -18,7 +18,7 @@ returns-in_err-loaded-clause-due g c =
 pub returns-in_err-split-clause-due : goal.returns-in_err-split-clause-due
 returns-in_err-split-clause-due g c =
     let two : TwoFiles (g.F.Files.held c.args.files.now) c.args.program.now c.args.hosts.now c.p-item.result
-        c.h-item.result =
+    c.h-item.result =
     two_files _ c.args.program.now c.args.hosts.now c.program_file.result c.host_file.result
     c.in_ok-loaded.loaded.items c.p-item.result c.h-item.result c.in_ok-loaded.ensures.loaded
     (rw c.as_slice.ensures.value at c.p-item.is) (rw c.as_slice.ensures.value at c.h-item.is)
@@ -33,7 +33,7 @@ returns-in_err-split-clause-due g c =
 pub returns-clause-due : goal.returns-clause-due
 returns-clause-due g c =
     let two : TwoFiles (g.F.Files.held c.args.files.now) c.args.program.now c.args.hosts.now c.p-item.result
-        c.h-item.result =
+    c.h-item.result =
     two_files _ c.args.program.now c.args.hosts.now c.program_file.result c.host_file.result
     c.in_ok-loaded.loaded.items c.p-item.result c.h-item.result c.in_ok-loaded.ensures.loaded
     (rw c.as_slice.ensures.value at c.p-item.is) (rw c.as_slice.ensures.value at c.h-item.is)

@@ -1,0 +1,10 @@
+use Rattle.std.proofs.Common.{◌≡◌, ◌++◌, take}
+use Rattle.std.specs.String.{string_bytes}
+use Rattle.net_world.specs.Fits.{world_of}
+use Rattle.split_cli.specs.Making.{field_values}
+use Rattle.split_cli.proofs.world_report.fields.push_values.Given as goal
+
+-- the values of the fields so far were added
+abbrev pub invariant-loop-number : goal.invariant-loop-number
+invariant-loop-number l =
+    string_bytes l.text ≡ string_bytes l.initial.text ++ field_values (world_of l.world) 0 (take l.number l.code.fields)
