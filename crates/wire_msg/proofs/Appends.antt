@@ -1,0 +1,5 @@
+-- Bytes put behind others in turn.
+use Rattle.std.proofs.Common.{append_assoc}
+use Rattle.std.proofs.lemmas.List.{append-nil}
+
+pub ruleset appends = (append_assoc, append-nil)

@@ -1,0 +1,117 @@
+-- The first fault is what reading refuses bytes for.
+use Rattle.std.proofs.Common.{◌≡◌, inl, inr, ℕ, Bool, true, false, List, [], ◌∷◌, length, take, drop, Option, Some, None, Result, Ok, Err, refl, sym, ap, ◌∙◌}
+use Rattle.std.specs.Prelude.{if◌then◌else◌, nat_lt, nat_le}
+use Rattle.std.specs.Int.{w32, from_be_bytes}
+use Rattle.std.proofs.lemmas.Bool.{cases_lt, lt-ltb, le-ltb}
+use Rattle.js_base.specs.declared.ids.HostId.{HostId}
+use Rattle.js_base.specs.declared.limits.TheConstants.{HOSTS, FRAME_BYTES}
+use Rattle.wire_msg.specs.declared.error.WireError.{WireError}
+use Rattle.wire_msg.specs.declared.error.WireError.TheVariants as refusal
+use Rattle.wire_msg.specs.declared.frame.Frame.{Frame}
+use Rattle.wire_msg.specs.Frames.{has_host}
+use Rattle.wire_msg.specs.Reader.{Reader, Gives, handed_on, sequel, given, require, known, byte_at, bytes_at, number_at, to_the_end, whole}
+use Rattle.wire_msg.specs.Reading.{fields_at, sent_at, body_at, frame_at, reading_of}
+use Rattle.wire_msg.specs.Faults.{Layout, layout_of, left_fault, fields_fault, body_fault, or_else, sized_fault, first_fault, fault_in}
+use Rattle.wire_msg.proofs.Sizes.{IsLayout, fields_sized}
+
+-- ---- a body
+
+-- what is read behind the fields
+abbrev named_by : HostId → Frame → Reader (HostId × Frame)
+named_by from sent = sequel (require (has_host sent) refusal.BadField) (λ _. given (from, sent))
+
+ends : (from : HostId) (sent : Frame) (test : Bool) (left : List ℕ) →
+    fault_in (to_the_end (handed_on (require test refusal.BadField left)
+    (λ _. given {A = HostId × Frame} (from, sent)))) ≡ (if test then left_fault left else Some refusal.BadField)
+unfolding require given
+ends from sent true [] = refl
+ends from sent true (byte ∷ bytes) = refl
+ends from sent false left = refl
+
+fields_are : (from : HostId) (layout : Option Layout) (reader : Reader Frame) (fields : List ℕ) →
+    IsLayout has_host layout reader fields →
+    fault_in (to_the_end (handed_on (reader fields) (named_by from))) ≡ fields_fault layout fields
+unfolding sequel
+fields_are from None reader fields is =
+    ap (λ reading. fault_in (to_the_end (handed_on reading (named_by from)))) is
+fields_are from (Some layout) reader fields is =
+    elim (cases_lt (length fields) layout.0) [
+      | inl few ↦
+          rw (lt-ltb (length fields) layout.0 few)
+          (ap (λ reading. fault_in (to_the_end (handed_on reading (named_by from)))) (is.short few))
+      | inr many ↦
+          let found = is.long many in
+          rw (le-ltb (length fields) layout.0 many, sym found.2)
+          (ap (λ reading. fault_in (to_the_end (handed_on reading (named_by from)))) found.1
+          ∙ ends from found.0 (has_host found.0) (drop layout.0 fields))
+    ]
+
+-- what is read behind the kind
+abbrev kinded : HostId → ℕ → Reader (HostId × Frame)
+kinded from kind = sequel (fields_at kind) (named_by from)
+
+sender_is : (test : Bool) (from : HostId) (kind : ℕ) (fields : List ℕ) →
+    fault_in (to_the_end (handed_on (require test refusal.BadField fields) (λ _. kinded from kind)))
+    ≡ (if test then fields_fault (layout_of kind fields) fields else Some refusal.BadField)
+unfolding require sequel
+sender_is true from kind fields =
+    fields_are from (layout_of kind fields) (fields_at kind) fields (fields_sized kind fields).is
+sender_is false from kind fields = refl
+
+body_is : (body : List ℕ) → fault_in (whole sent_at body) ≡ body_fault body
+unfolding whole sent_at sequel byte_at
+body_is [] = refl
+body_is (from ∷ []) = refl
+body_is (from ∷ kind ∷ fields) = sender_is (nat_lt from HOSTS) (record { 0 = from }) kind fields
+
+-- ---- a frame
+
+abbrev opened : List ℕ → Reader (HostId × Frame)
+opened body = known (whole sent_at body)
+
+left_is : (reading : Result (HostId × Frame) WireError) (rest : List ℕ) →
+    fault_in (to_the_end (known reading rest)) ≡ or_else (fault_in reading) (left_fault rest)
+unfolding known
+left_is (Ok x) [] = refl
+left_is (Ok x) (byte ∷ bytes) = refl
+left_is (Err what) rest = refl
+
+there_is : (test : Bool) (body rest : List ℕ) →
+    fault_in (to_the_end (handed_on (if test then Err refusal.Short else Ok (body, rest)) opened))
+    ≡ (if test then Some refusal.Short else or_else (body_fault body) (left_fault rest))
+there_is true body rest = refl
+there_is false body rest =
+    left_is (whole sent_at body) rest ∙ ap (λ fault. or_else fault (left_fault rest)) (body_is body)
+
+sized_is : (test : Bool) (len : ℕ) (rest : List ℕ) →
+    fault_in (to_the_end (handed_on (handed_on (require test refusal.TooLong rest) (λ _. bytes_at len)) opened))
+    ≡ (if test then (if nat_lt (length rest) len then Some refusal.Short
+    else or_else (body_fault (take len rest)) (left_fault (drop len rest))) else Some refusal.TooLong)
+unfolding require bytes_at
+sized_is true len rest = there_is (nat_lt (length rest) len) (take len rest) (drop len rest)
+sized_is false len rest = refl
+
+-- what is read behind the length
+abbrev body_behind : ℕ → Reader (List ℕ)
+body_behind len = sequel (require (nat_le len FRAME_BYTES) refusal.TooLong) (λ _. bytes_at len)
+
+length_is : (test : Bool) (len : ℕ) (rest : List ℕ) →
+    fault_in (to_the_end (handed_on (handed_on (if test then Err refusal.Short else Ok (len, rest)) body_behind)
+    opened)) ≡ (if test then Some refusal.Short else sized_fault len rest)
+unfolding sequel
+length_is true len rest = refl
+length_is false len rest = sized_is (nat_le len FRAME_BYTES) len rest
+
+pub first_fault_is : (bytes : List ℕ) → fault_in (reading_of bytes) ≡ first_fault bytes
+unfolding reading_of first_fault whole frame_at body_at sequel number_at
+first_fault_is bytes = length_is (nat_lt (length bytes) 4) (from_be_bytes w32 (take 4 bytes)) (drop 4 bytes)
+
+-- what a call answers that reads all of the bytes
+answered : (answer reading : Result (HostId × Frame) WireError) → Gives (λ x. x) answer reading →
+    fault_in answer ≡ fault_in reading
+answered (Ok x) reading is = ap fault_in (sym is)
+answered (Err what) reading is = ap fault_in (sym is)
+
+pub cause_in : (bytes : List ℕ) (answer : Result (HostId × Frame) WireError) →
+    Gives (λ x. x) answer (reading_of bytes) → fault_in answer ≡ first_fault bytes
+cause_in bytes answer is = answered answer (reading_of bytes) is ∙ first_fault_is bytes

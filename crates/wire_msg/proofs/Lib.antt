@@ -1,0 +1,8 @@
+pub mod Appends
+pub mod FaultLaws
+pub mod FieldLaws
+pub mod FrameLaws
+pub mod MessageLaws
+pub mod NumberLaws
+pub mod Sequels
+pub mod Sizes

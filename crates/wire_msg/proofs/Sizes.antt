@@ -1,0 +1,293 @@
+-- How many bytes each reader takes, and that it refuses only fewer.
+use Rattle.std.proofs.Common.{◌≡◌, inl, inr, ℕ, ◌+◌, ◌<◌, ◌≤◌, Bool, true, false, List, [], ◌∷◌, length, take, drop, Option, Some, None, Ok, Err, refl, ap, ◌∙◌, arith}
+use Rattle.std.specs.Prelude.{if◌then◌else◌, ⊤, ◌==◌, nat_lt, slice_index}
+use Rattle.std.specs.Int.{Width, w32, w64, byte_len, from_be_bytes}
+use Rattle.std.proofs.lemmas.Bool.{cases_lt, lt-ltb, le-ltb}
+use Rattle.std.proofs.lemmas.List.{length-drop, drop-drop, get_or-drop}
+use Rattle.js_base.specs.declared.limits.TheConstants.{HOSTS}
+use Rattle.capability.specs.declared.tags.TheConstants.{TAG_BYTES}
+use Rattle.capability.specs.declared.token.Token.{Token}
+use Rattle.host_code.specs.declared.message.Message.{Message}
+use Rattle.wire_msg.specs.declared.error.WireError.TheVariants as refusal
+use Rattle.wire_msg.specs.declared.frame.Frame.{Frame}
+use Rattle.wire_msg.specs.declared.frame.Frame.TheVariants as frame
+use Rattle.wire_msg.specs.Frames.{has_host}
+use Rattle.wire_msg.specs.Reader.{Reader, handed_on, sequel, given, refused, byte_at, bytes_at, number_at, integer_at}
+use Rattle.wire_msg.specs.Reading.{field_at, variable_at, entry_at, request_at, frame_id_at, token_at, get_at, set_at, forward_at, sync_at, rgoto_at, lgoto_at, value_at, ack_at, answer_at, message_at, some_message_at, fields_at}
+use Rattle.wire_msg.specs.Faults.{Layout, message_layout, layout_of, has_host_at}
+
+-- a reader takes so many of these bytes, of which what it reads is known, or finds too few
+pub record Takes {A : Type 0} (reader : Reader A) (count : ℕ) (P : A → List ℕ → Type 0) (bytes : List ℕ) : Type 0 where
+  pub short : length bytes < count → reader bytes ≡ Err refusal.Short
+  pub long : count ≤ length bytes → (x : A) × (reader bytes ≡ Ok (x, drop count bytes)) × P x bytes
+
+-- of any bytes
+abbrev pub Sized : {A : Type 0} → Reader A → ℕ → (A → List ℕ → Type 0) → Type 0
+Sized reader count P = (bytes : List ℕ) → Takes reader count P bytes
+
+abbrev pub Any : {A : Type 0} → A → List ℕ → Type 0
+Any x bytes = ⊤
+
+-- ---- readers in a row
+
+pub sized_then : {A B : Type 0} {first : Reader A} {next : A → Reader B} {n m : ℕ} {P : A → List ℕ → Type 0}
+    {Q : A → B → List ℕ → Type 0} (R : B → List ℕ → Type 0) → Sized first n P → ((x : A) → Sized (next x) m (Q x)) →
+    ((x : A) (y : B) (bytes : List ℕ) → P x bytes → Q x y (drop n bytes) → R y bytes) →
+    Sized (sequel first next) (n + m) R
+unfolding sequel
+sized_then {first = first} {next = next} {n = n} {m = m} R one others then_is bytes = record {
+  short = λ lt.
+      elim (cases_lt (length bytes) n) [
+        | inl few ↦ ap (λ reading. handed_on reading next) ((one bytes).short few)
+        | inr many ↦
+            let found = (one bytes).long many in
+            ap (λ reading. handed_on reading next) found.1
+            ∙ (others found.0 (drop n bytes)).short (omega (arith, length-drop n bytes))
+      ];
+  long = λ le.
+      let found = (one bytes).long (omega arith) in
+      let more = (others found.0 (drop n bytes)).long (omega (arith, length-drop n bytes)) in (
+        more.0,
+        ap (λ reading. handed_on reading next) found.1 ∙ more.1 ∙ ap (λ rest. Ok (more.0, rest)) (drop-drop m n bytes),
+        then_is found.0 more.0 bytes found.2 more.2,
+      );
+}
+
+-- the last reader of a row
+pub sized_last : {A B : Type 0} {first : Reader A} (f : A → B) {n : ℕ} {P : A → List ℕ → Type 0}
+    (R : B → List ℕ → Type 0) → Sized first n P → ((x : A) (bytes : List ℕ) → P x bytes → R (f x) bytes) →
+    Sized (sequel first (λ x. given (f x))) n R
+unfolding sequel given
+sized_last f R one then_is bytes = record {
+  short = λ lt. ap (λ reading. handed_on reading (λ x. given (f x))) ((one bytes).short lt);
+  long = λ le.
+      let found = (one bytes).long le in (
+        f found.0,
+        ap (λ reading. handed_on reading (λ x. given (f x))) found.1,
+        then_is found.0 bytes found.2,
+      );
+}
+
+any_then : {A B : Type 0} {first : Reader A} {next : A → Reader B} {n m : ℕ} → Sized first n Any →
+    ((x : A) → Sized (next x) m Any) → Sized (sequel first next) (n + m) Any
+any_then one others = sized_then Any one others (λ x y bytes p q. tt)
+
+any_last : {A B : Type 0} {first : Reader A} (f : A → B) {n : ℕ} → Sized first n Any →
+    Sized (sequel first (λ x. given (f x))) n Any
+any_last f one = sized_last f Any one (λ x bytes p. tt)
+
+-- ---- numbers
+
+byte_sized : Sized byte_at 1 (λ byte bytes. byte ≡ slice_index bytes 0)
+unfolding byte_at
+byte_sized [] = record { short = λ lt. refl; long = λ le. absurd (omega arith) }
+byte_sized (byte ∷ bytes) = record { short = λ lt. absurd (omega arith); long = λ le. (byte, refl, refl) }
+
+pub bytes_sized : (count : ℕ) → Sized (bytes_at count) count (λ xs bytes. xs ≡ take count bytes)
+unfolding bytes_at
+bytes_sized count bytes = record {
+  short = λ lt. rw (lt-ltb (length bytes) count lt) refl;
+  long = λ le. (take count bytes, rw (le-ltb (length bytes) count le) refl, refl);
+}
+
+number_sized : (width : Width) → Sized (number_at width) (byte_len width) Any
+unfolding number_at
+number_sized width bytes = record {
+  short = λ lt. rw (lt-ltb (length bytes) (byte_len width) lt) refl;
+  long = λ le. (
+    from_be_bytes width (take (byte_len width) bytes),
+    rw (le-ltb (length bytes) (byte_len width) le) refl,
+    tt,
+  );
+}
+
+four : Sized (number_at w32) 4 Any
+four = number_sized w32
+
+eight : Sized (number_at w64) 8 Any
+eight = number_sized w64
+
+integer_sized : Sized integer_at 8 Any
+unfolding integer_at
+integer_sized = any_last _ eight
+
+-- ---- what messages name
+
+field_sized : Sized field_at 4 Any
+unfolding field_at
+field_sized = any_last _ four
+
+variable_sized : Sized variable_at 4 Any
+unfolding variable_at
+variable_sized = any_last _ four
+
+entry_sized : Sized entry_at 4 Any
+unfolding entry_at
+entry_sized = any_last _ four
+
+request_sized : Sized request_at 12 Any
+unfolding request_at
+request_sized = any_then four (λ at. any_last _ eight)
+
+frame_id_sized : Sized frame_id_at 12 Any
+unfolding frame_id_at
+frame_id_sized = any_then four (λ site. any_last _ eight)
+
+-- the host comes first
+token_sized : Sized token_at 41 (λ token bytes. token.host.0 ≡ slice_index bytes 0)
+unfolding token_at
+token_sized =
+    sized_then (λ token bytes. token.host.0 ≡ slice_index bytes 0) byte_sized (λ host.
+    sized_then (IsOn host) frame_id_sized (λ id.
+    sized_then (IsOn host) entry_sized (λ entry.
+    sized_then (IsOn host) eight (λ serial.
+    sized_last _ (IsOn host) (bytes_sized TAG_BYTES) (λ tag bytes p. refl))
+    (λ x y bytes p q. q)) (λ x y bytes p q. q)) (λ x y bytes p q. q)) (λ host token bytes p q. q ∙ p)
+  where
+    IsOn : ℕ → Token → List ℕ → Type 0
+    IsOn host token bytes = token.host.0 ≡ host
+
+-- ---- messages
+
+-- a frame names a host that there may be just where the byte at the place is one
+abbrev pub Named : {A : Type 0} → (A → Bool) → Option ℕ → A → List ℕ → Type 0
+Named has place x bytes = has x ≡ has_host_at place bytes
+
+abbrev has_message_host : Message → Bool
+has_message_host sent = has_host (frame.Message sent)
+
+-- a place behind so many bytes
+abbrev behind : ℕ → Option ℕ → Option ℕ
+behind n None = None
+behind n (Some place) = Some (n + place)
+
+has_host_behind : (n : ℕ) (place : Option ℕ) (bytes : List ℕ) →
+    has_host_at place (drop n bytes) ≡ has_host_at (behind n place) bytes
+has_host_behind n None bytes = refl
+has_host_behind n (Some place) bytes = ap (λ byte. nat_lt byte HOSTS) (get_or-drop n bytes place 0)
+
+named_then : {A : Type 0} {first : Reader A} {next : A → Reader Message} {n m : ℕ} (place : Option ℕ) →
+    Sized first n Any → ((x : A) → Sized (next x) m (Named has_message_host place)) →
+    Sized (sequel first next) (n + m) (Named has_message_host (behind n place))
+named_then {n = n} place one others =
+    sized_then (Named has_message_host (behind n place)) one others
+    (λ x y bytes p q. q ∙ has_host_behind n place bytes)
+
+-- the last of a message without a token, and the token of a message
+named_last : {A : Type 0} {first : Reader A} (f : A → Message) {n : ℕ} → Sized first n Any →
+    ((x : A) → has_message_host (f x) ≡ true) →
+    Sized (sequel first (λ x. given (f x))) n (Named has_message_host None)
+named_last f one is = sized_last f (Named has_message_host None) one (λ x bytes p. is x)
+
+named_token : (f : Token → Message) → ((x : Token) → has_message_host (f x) ≡ nat_lt x.host.0 HOSTS) →
+    Sized (sequel token_at (λ x. given (f x))) 41 (Named has_message_host (Some 0))
+named_token f is =
+    sized_last f (Named has_message_host (Some 0)) token_sized (λ x bytes p. is x ∙ ap (λ byte. nat_lt byte HOSTS) p)
+
+get_sized : Sized get_at 24 (Named has_message_host None)
+unfolding get_at
+get_sized =
+    named_then None request_sized (λ request. named_then None field_sized (λ field.
+    named_last _ integer_sized (λ index. refl)))
+
+set_sized : Sized set_at 32 (Named has_message_host None)
+unfolding set_at
+set_sized =
+    named_then None request_sized (λ request. named_then None field_sized (λ field.
+    named_then None integer_sized (λ index. named_last _ integer_sized (λ value. refl))))
+
+forward_sized : Sized forward_at 36 (Named has_message_host None)
+unfolding forward_at
+forward_sized =
+    named_then None request_sized (λ request. named_then None frame_id_sized (λ id.
+    named_then None variable_sized (λ variable. named_last _ integer_sized (λ value. refl))))
+
+sync_sized : Sized sync_at 69 (Named has_message_host (Some 28))
+unfolding sync_at
+sync_sized =
+    named_then (Some 16) request_sized (λ request. named_then (Some 4) frame_id_sized (λ id.
+    named_then (Some 0) entry_sized (λ entry. named_token _ (λ token. refl))))
+
+rgoto_sized : Sized rgoto_at 57 (Named has_message_host (Some 16))
+unfolding rgoto_at
+rgoto_sized =
+    named_then (Some 4) frame_id_sized (λ id. named_then (Some 0) entry_sized (λ entry.
+    named_token _ (λ token. refl)))
+
+lgoto_sized : Sized lgoto_at 41 (Named has_message_host (Some 0))
+unfolding lgoto_at
+lgoto_sized = named_token _ (λ token. refl)
+
+value_sized : Sized value_at 20 (Named has_message_host None)
+unfolding value_at
+value_sized = named_then None request_sized (λ request. named_last _ integer_sized (λ value. refl))
+
+ack_sized : Sized ack_at 12 (Named has_message_host None)
+unfolding ack_at
+ack_sized = named_last _ request_sized (λ request. refl)
+
+answer_sized : Sized answer_at 53 (Named has_message_host (Some 12))
+unfolding answer_at
+answer_sized = named_then (Some 0) request_sized (λ request. named_token _ (λ token. refl))
+
+-- ---- layouts
+
+-- a reader takes bytes of this layout, or refuses the kind
+abbrev pub IsLayout : {A : Type 0} → (A → Bool) → Option Layout → Reader A → List ℕ → Type 0
+IsLayout has None reader bytes = reader bytes ≡ Err refusal.BadKind
+IsLayout has (Some layout) reader bytes = Takes reader layout.0 (Named has layout.1) bytes
+
+pub record HasLayout {A : Type 0} (has : A → Bool) (layout : Option Layout) (reader : Reader A) (bytes : List ℕ) :
+    Type 0 where
+  pub is : IsLayout has layout reader bytes
+
+layout_if : {A : Type 0} {has : A → Bool} {one other : Option Layout} {first second : Reader A} {bytes : List ℕ}
+    (test : Bool) → HasLayout has one first bytes → HasLayout has other second bytes →
+    HasLayout has (if test then one else other) (if test then first else second) bytes
+layout_if true yes' no' = yes'
+layout_if false yes' no' = no'
+
+laid_out : {reader : Reader Message} {bytes : List ℕ} (count : ℕ) (place : Option ℕ) →
+    Sized reader count (Named has_message_host place) → HasLayout has_message_host (Some (count, place)) reader bytes
+laid_out {bytes = bytes} count place sized = record { is = sized bytes }
+
+message_sized : (kind : ℕ) (bytes : List ℕ) →
+    HasLayout has_message_host (message_layout kind bytes) (message_at kind) bytes
+unfolding message_at refused
+message_sized kind bytes =
+    layout_if (kind == 1) (laid_out 24 None get_sized)
+    (layout_if (kind == 2) (laid_out 32 None set_sized)
+    (layout_if (kind == 3) (laid_out 36 None forward_sized)
+    (layout_if (kind == 4) (laid_out 69 (Some 28) sync_sized)
+    (layout_if (kind == 5) (laid_out 57 (Some 16) rgoto_sized)
+    (layout_if (kind == 6) (laid_out 41 (Some 0) lgoto_sized)
+    (layout_if (kind == 7) (laid_out 20 None value_sized)
+    (layout_if (kind == 8) (laid_out 12 None ack_sized)
+    (layout_if (kind == 9) (laid_out 53 (Some 12) answer_sized) (record { is = refl })))))))))
+
+abbrev as_frame : Message → Reader Frame
+as_frame sent = given (frame.Message sent)
+
+some_message_sized : (layout : Option Layout) (reader : Reader Message) (bytes : List ℕ) →
+    IsLayout has_message_host layout reader bytes → IsLayout has_host layout (sequel reader as_frame) bytes
+unfolding sequel given
+some_message_sized None reader bytes is = ap (λ reading. handed_on reading as_frame) is
+some_message_sized (Some layout) reader bytes is = record {
+  short = λ lt. ap (λ reading. handed_on reading as_frame) (is.short lt);
+  long = λ le.
+      let found = is.long le in
+      (frame.Message found.0, ap (λ reading. handed_on reading as_frame) found.1, found.2);
+}
+
+nothing_sized : Sized (given frame.Done) 0 (Named has_host None)
+unfolding given
+nothing_sized bytes = record {
+  short = λ lt. absurd (omega arith);
+  long = λ le. (frame.Done, refl, refl);
+}
+
+pub fields_sized : (kind : ℕ) (bytes : List ℕ) → HasLayout has_host (layout_of kind bytes) (fields_at kind) bytes
+unfolding fields_at some_message_at
+fields_sized kind bytes =
+    layout_if (kind == 10) (record { is = nothing_sized bytes })
+    (record { is = some_message_sized (message_layout kind bytes) (message_at kind) bytes (message_sized kind bytes).is })

@@ -1,0 +1,45 @@
+//! The frames in which hosts send each other messages: one spelling for each.
+//!
+//! `write` gives the bytes of a frame, and `read` the frame of some bytes. What is no frame is refused at its first
+//! fault.
+//!
+//! A frame is a length of four bytes, and a body of so many bytes. The body has the number of the host that sends it, a
+//! byte below 16, then the kind of the message, a byte, and then the fields of that kind:
+//!
+//! | kind | message | fields |
+//! |---|---|---|
+//! | 1 | get | the request, the field, the index |
+//! | 2 | set | the request, the field, the index, the value |
+//! | 3 | forward | the request, the frame, the variable, the value |
+//! | 4 | sync | the request, the frame, the entry, the token |
+//! | 5 | rgoto | the frame, the entry, the token |
+//! | 6 | lgoto | the token |
+//! | 7 | value | the request, the value |
+//! | 8 | ack | the request |
+//! | 9 | token | the request, the token |
+//! | 10 | done | none |
+//!
+//! A field, a variable and an entry are numbers of four bytes, and an index and a value signed numbers of eight. A
+//! request is the place that asks, in four bytes, and a count of eight. A frame of the program is its call site, in
+//! four bytes, and a count of eight. A token is its host, a byte below 16, its frame, its entry, its serial number of
+//! eight bytes, and the 16 bytes of its tag. All numbers have their highest byte first, signed ones in two's
+//! complement.
+#![tactic(auto)]
+
+mod appending;
+mod error;
+mod fields;
+mod frame;
+mod laws;
+mod message_bytes;
+mod messages;
+mod numbers;
+mod ranges;
+mod reading;
+mod writing;
+
+pub use error::WireError;
+pub use frame::Frame;
+pub use laws::wire_laws;
+pub use reading::read;
+pub use writing::write;
