@@ -32,8 +32,8 @@ impl Label {
     ghost use Rattle.label_lattice.specs.Lattice.{join_of, meet_of};
     ghost use Rattle.label_lattice.specs.Over.{IsLabelOver};
 
-    /// The label of these words: one for each owner, with a bit for each reader that the owner allows, and one with a bit
-    /// for each principal that trusts.
+    /// The label of these words: one for each owner, with a bit for each reader that the owner allows, and one with a
+    /// bit for each principal that trusts.
     pub fn from_words(rows: [u64; PRINCIPALS], trust: u64) -> Self
         ensures { result ≡ record { rows = rows; trust = trust } }
     {

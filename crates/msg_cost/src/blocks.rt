@@ -71,8 +71,8 @@ fn nested_cost(
 fn statement_cost(planned: &Seated<'_>, kept: &Kept<'_>, weight: u64, statement: &Stmt) -> u64
     requires { IsKept (seated_shape planned.now) kept.now }
     ensures { result ≡ capped (cost_of planned.now.hosts.now
-        (block_terms (seated_shape planned.now) weight (on (statement_host (seated_shape planned.now).plan statement.now.id))
-        (tree_before statement.now done))) }
+        (block_terms (seated_shape planned.now) weight
+        (on (statement_host (seated_shape planned.now).plan statement.now.id)) (tree_before statement.now done))) }
 {
     tree_laws();
     let host = planned.host_of(statement.id);

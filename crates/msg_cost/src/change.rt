@@ -21,8 +21,8 @@ use host_decl::Hosts;
 use jif_tree::Checked;
 use need_labels::{Needs, Plan};
 
-/// What a move adds to the cost, less what it saves, as `delta` has it. Only those pieces are counted that depend on the
-/// moved part: the reads and writes and the definitions of a statement, the definitions of what it reads, the walk over
+/// What a move adds to the cost, less what it saves, as `delta` has it. Only those pieces are counted that depend on
+/// the moved part: the reads and writes and the definitions of a statement, the definitions of what it reads, the walk over
 /// its block and those over the blocks inside it, and the calls of its method where it is one of the statements of the
 /// body itself.
 pub fn delta_by_pieces(
@@ -58,8 +58,9 @@ fn delta_of_row(
     step: Step,
 ) -> i64
     requires within { IsWithinLimits (program_tree checked.now.program) }
-    requires row { all_pieces row.now ≡ pieces_with (numbers_of (kind_of step) (program_tree checked.now.program) needs.now)
-        (number_of step) (program_pieces (program_tree checked.now.program)) }
+    requires row { all_pieces row.now
+        ≡ pieces_with (numbers_of (kind_of step) (program_tree checked.now.program) needs.now) (number_of step)
+        (program_pieces (program_tree checked.now.program)) }
     ensures { result ≡ pos (plan_cost (labelled_of checked.now) needs.now hosts.now (moved plan.now step))
         -ℤ pos (plan_cost (labelled_of checked.now) needs.now hosts.now plan.now) }
 {

@@ -1,7 +1,7 @@
 //! Which pieces depend on which parts.
 
-ghost use Rattle.std.specs.Prelude.{◌≡◌, ◌≢◌, ◌↔◌, ℕ, ◌<◌, [], ◌∷◌, ◌++◌, IsTrue, IfOk, OnOk, map, replicate, length, slice_set};
-ghost use Rattle.std.specs.Prelude.{slice_index, slice_index_or};
+ghost use Rattle.std.specs.Prelude.{◌≡◌, ◌≢◌, ◌↔◌, ℕ, ◌<◌, [], ◌∷◌, ◌++◌, IsTrue, IfOk, OnOk, map, replicate};
+ghost use Rattle.std.specs.Prelude.{length, slice_set, slice_index, slice_index_or};
 ghost use Rattle.jif_tree.specs.LabelRules.{method_at};
 ghost use Rattle.jif_tree.specs.Trees.{program_tree};
 ghost use Rattle.msg_cost.specs.Pieces.{program_pieces};
@@ -69,7 +69,8 @@ fn pieces_by_part<'a>(
     Ok(rows)
 }
 
-/// Adds each piece to the rows of the parts on which it depends. A row is marked with the last turn in which it got one.
+/// Adds each piece to the rows of the parts on which it depends. A row is marked with the last turn in which it got
+/// one.
 fn fill_rows<'a>(
     alloc: Global,
     kind: Kind,

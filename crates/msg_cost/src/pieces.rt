@@ -84,8 +84,8 @@ fn add_statement<'a>(
     weight: u64,
     statement: &'a Stmt,
 ) -> Result<(), OutOfMemory>
-    ensures { OnOk result (all_pieces pieces.new.items
-        ≡ all_pieces pieces.old.items ++ block_pieces (program_tree program.now) weight (tree_before statement.now done)) }
+    ensures { OnOk result (all_pieces pieces.new.items ≡ all_pieces pieces.old.items
+        ++ block_pieces (program_tree program.now) weight (tree_before statement.now done)) }
 {
     tree_laws();
     let id = statement.id;
@@ -212,7 +212,8 @@ fn add_access(
     statement: StmtId,
     field: FieldId,
 ) -> Result<(), OutOfMemory>
-    ensures { OnOk result (all_pieces pieces.new.items ≡ all_pieces pieces.old.items ++ access weight statement field ∷ []) }
+    ensures { OnOk result (all_pieces pieces.new.items
+        ≡ all_pieces pieces.old.items ++ access weight statement field ∷ []) }
 {
     Ok(pieces.push(Piece::Access {
         weight,
@@ -228,7 +229,8 @@ fn add_giving(
     statement: StmtId,
     variable: VarId,
 ) -> Result<(), OutOfMemory>
-    ensures { OnOk result (all_pieces pieces.new.items ≡ all_pieces pieces.old.items ++ giving weight statement variable ∷ []) }
+    ensures { OnOk result (all_pieces pieces.new.items
+        ≡ all_pieces pieces.old.items ++ giving weight statement variable ∷ []) }
 {
     Ok(pieces.push(Piece::Giving {
         weight,

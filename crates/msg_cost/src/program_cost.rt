@@ -75,8 +75,8 @@ pub fn cost(checked: &Checked, needs: &Needs, hosts: &Hosts, plan: &Plan) -> u64
     program_cost(&planned)
 }
 
-/// What a move adds to the cost, less what it saves. This is the plain call, which counts the program twice and wants no
-/// memory. Whoever tries many moves keeps the pieces of the program and counts those that a move touches.
+/// What a move adds to the cost, less what it saves. This is the plain call, which counts the program twice and wants
+/// no memory. Whoever tries many moves keeps the pieces of the program and counts those that a move touches.
 pub fn delta(checked: &Checked, needs: &Needs, hosts: &Hosts, plan: &Plan, step: Step) -> i64
     requires { IsWithinLimits (program_tree checked.now.program) }
     ensures { result ≡ pos (plan_cost (labelled_of checked.now) needs.now hosts.now (moved plan.now step))

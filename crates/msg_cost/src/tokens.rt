@@ -130,7 +130,8 @@ pub fn block_end(planned: &Seated<'_>, home: HostId, block: &[Stmt]) -> HostId
 
 /// The home of a method: the host of its head.
 pub fn called_home(planned: &Seated<'_>, method: MethodId) -> HostId
-    ensures { result ≡ called_home (seated_shape planned.now) (method_at (program_tree planned.now.program.now) method) }
+    ensures { result
+        ≡ called_home (seated_shape planned.now) (method_at (program_tree planned.now.program.now) method) }
 {
     match planned.program.methods.get(method.0 as usize) {
         Some(called) => planned.host_of(called.head),

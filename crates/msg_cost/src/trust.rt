@@ -38,7 +38,8 @@ fn is_trusted_for(planned: &Seated<'_>, host: HostId, statement: StmtId) -> bool
 fn trusted_to(planned: &Seated<'_>, host: HostId, block: &[Stmt], first: usize) -> usize
     ensures between { IsTrustedBetween (seated_shape planned.now) host block.now first result }
     ensures later { first ≤ result }
-    ensures stops { is_trusted_from (seated_shape planned.now) host block.now result ≡ nat_le (length block.now) result }
+    ensures stops { is_trusted_from (seated_shape planned.now) host block.now result
+        ≡ nat_le (length block.now) result }
 {
     let mut end = first;
     for place in first..block.len() {

@@ -65,7 +65,8 @@ pub fn reading_hosts(planned: &Seated<'_>, x: VarId) -> u64
 /// Notes the words of the first variables of a program, as many as there is room for, and answers of how many.
 pub fn note_reading(planned: &Seated<'_>, words: &mut [u64]) -> usize
     ensures words { AreReadingWords (seated_shape planned.now) result words.new }
-    ensures count { result ≡ min (min (length (seated_shape planned.now).program.vars) (length words.old)) KEPT_VARIABLES }
+    ensures count { result
+        ≡ min (min (length (seated_shape planned.now).program.vars) (length words.old)) KEPT_VARIABLES }
 {
     let count = planned
         .program

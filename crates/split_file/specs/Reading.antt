@@ -400,8 +400,8 @@ is_leaving op.Back = true
 is_leaving (op.Go entry on) = true
 is_leaving _ = false
 
--- The instruction of this number, of a host that has so many, where a thread has so many temporaries. The last one has to
--- leave the host, and is out of range as a whole where it does not.
+-- The instruction of this number, of a host that has so many, where a thread has so many temporaries. The last one has
+-- to leave the host, and is out of range as a whole where it does not.
 unfoldable pub instruction_at : CodeShape → HostId → ℕ → ℕ → ℕ → Reader Instr
 instruction_at code me places temporaries number = do
   at ← place

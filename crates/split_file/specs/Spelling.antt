@@ -1,5 +1,5 @@
--- The bytes of a split file: one spelling for each code. All numbers have their highest byte first, signed ones in two's
--- complement.
+-- The bytes of a split file: one spelling for each code. All numbers have their highest byte first, signed ones in
+-- two's complement.
 use Rattle.std.specs.Prelude.{ℕ, ℤ, Bool, false, true, List, [], ◌∷◌, ◌++◌, length, codes}
 use Rattle.std.specs.List.{flat_map, concat}
 use Rattle.std.specs.Int.{w16, w32, w64, to_be_bytes, cast_unsigned}

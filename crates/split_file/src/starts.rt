@@ -5,7 +5,8 @@ ghost use Rattle.std.specs.Prelude.{◌≡◌, ◌≤◌, ◌<◌, ◌^◌, ◌=
 ghost use Rattle.std.specs.Int.{w32};
 ghost use Rattle.host_code.specs.declared.code.TheConstants.{MOST_ITEMS};
 ghost use Rattle.split_file.specs.Reader.{Gives, in_range, items_at, list_at, number_at};
-ghost use Rattle.split_file.specs.Reading.{host_id_at, is_empty, entry_row_at, is_entry_on, root_at, main_at, starts_at};
+ghost use Rattle.split_file.specs.Reading.{host_id_at, is_empty, entry_row_at, is_entry_on, root_at, main_at};
+ghost use Rattle.split_file.specs.Reading.{starts_at};
 ghost use Rattle.split_file.specs.Shapes.{starts_shape};
 
 use crate::fault::ReadError;

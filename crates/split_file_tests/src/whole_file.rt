@@ -18,8 +18,8 @@ const SECOND_HOST: [u8; 5] = [0, 0, 0, 1, 66];
 /// Two labels.
 const LABEL_COUNT: [u8; 4] = [0, 0, 0, 2];
 
-/// The fields `x`, an array, and `y`; the variables `main.v` and `f.return`; four entries and a site; and two parts, the
-/// first with each of the operations.
+/// The fields `x`, an array, and `y`; the variables `main.v` and `f.return`; four entries and a site; and two parts,
+/// the first with each of the operations.
 const BEHIND_LABELS: [u8; 492] = [
     0, 0, 0, 2, 0, 0, 0, 1, 120, 0, 0, 0, 0, 0, 0, 0, 3, 1, 255, 255, 255, 255, 255, 255, 255, 255,
     0, 0, 0, 0, 1, 121, 0, 0, 0, 1, 0, 0, 0, 1, 0, 0, 0, 0, 0, 0, 0, 0, 5, 1, 0, 0, 0, 2, 0, 0, 0,

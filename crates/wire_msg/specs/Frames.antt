@@ -1,5 +1,6 @@
 -- Which frames there are.
-use Rattle.std.specs.Prelude.{◌≡◌, ℕ, ◌<◌, ◌^◌, Bool, true, List, length, nat_lt, slice_index, FitsSigned, Option, Some, None, ⊤}
+use Rattle.std.specs.Prelude.{◌≡◌, ℕ, ◌<◌, ◌^◌, Bool, true, List, length, nat_lt, slice_index, FitsSigned, ⊤}
+use Rattle.std.specs.Prelude.{Option, Some, None}
 use Rattle.std.specs.Option.{option_map_or}
 use Rattle.std.specs.Int.{w64}
 use Rattle.js_base.specs.declared.ids.HostId.{HostId}
