@@ -1,0 +1,15 @@
+//! What a node has of the outside beside its files: links to the other nodes, and a journal, as traits, in memory and
+//! over the system.
+#![tactic(auto)]
+
+mod journal;
+mod links;
+mod mem_links;
+mod real_journal;
+mod unix_links;
+
+pub use journal::Journal;
+pub use links::{Arrived, LinkError, Links};
+pub use mem_links::MemLinks;
+pub use real_journal::RealJournal;
+pub use unix_links::UnixLinks;
