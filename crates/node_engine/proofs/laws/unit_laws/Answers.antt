@@ -1,0 +1,11 @@
+use Rattle.node_engine.proofs.UnitParts.{some_arrival, some_parts, some_taking}
+use Rattle.node_engine.proofs.laws.unit_laws.Goals as goal
+
+pub returns-clause-some_arrival : goal.returns-clause-some_arrival
+returns-clause-some_arrival c = some_arrival
+
+pub returns-clause-some_taking : goal.returns-clause-some_taking
+returns-clause-some_taking c = some_taking c.step_laws.ensures.some_taking
+
+pub returns-clause-some_parts : goal.returns-clause-some_parts
+returns-clause-some_parts c = some_parts c.step_laws.ensures.some_taking c.step_laws.ensures.some_turn

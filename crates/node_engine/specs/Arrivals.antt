@@ -1,0 +1,41 @@
+-- What a frame comes to that arrives at a node. It is for the node where another host of the code sent it and all that
+-- it names is in the code; what is not is dropped.
+use Rattle.std.specs.Prelude.{◌≡◌, ◌⊎◌, ⊤, ℕ, List, Result, Ok, Err}
+use Rattle.js_base.specs.declared.ids.HostId.{HostId}
+use Rattle.host_code.specs.declared.message.Message.{Message}
+use Rattle.host_code.specs.Code.{CodeShape}
+use Rattle.host_code.specs.Messages.{MessageFits}
+use Rattle.host_code.specs.Sound.{IsOther}
+use Rattle.wire_msg.specs.declared.error.WireError.{WireError}
+use Rattle.wire_msg.specs.declared.error.WireError.TheVariants.{BadField}
+use Rattle.wire_msg.specs.declared.frame.Frame.{Frame}
+use Rattle.wire_msg.specs.declared.frame.Frame.TheVariants as frame
+use Rattle.wire_msg.specs.Reading.{reading_of}
+use Rattle.node_engine.specs.declared.arrivals.Arrival.{Arrival}
+use Rattle.node_engine.specs.declared.arrivals.Arrival.TheVariants.{Dropped, Taken, Done}
+
+-- another host of the code sent the frame, and it names only what is in the code
+abbrev pub IsForNode : CodeShape → HostId → HostId → Frame → Type 0
+IsForNode code me from (frame.Message sent) = IsOther code me from × MessageFits code sent
+IsForNode code me from frame.Done = IsOther code me from
+
+abbrev pub arrival_of : HostId → Frame → Arrival
+arrival_of from (frame.Message sent) = Taken from sent
+arrival_of from frame.Done = Done from
+
+-- bytes that are no frame are dropped for their first fault, and a frame that is not for the node as one of bad fields
+abbrev pub ArrivesAs : CodeShape → HostId → Result (HostId × Frame) WireError → Arrival → Type 0
+ArrivesAs code me (Err why) arrival = arrival ≡ Dropped why
+ArrivesAs code me (Ok read) arrival =
+    (IsForNode code me read.0 read.1 × (arrival ≡ arrival_of read.0 read.1))
+    ⊎ ((¬ IsForNode code me read.0 read.1) × (arrival ≡ Dropped BadField))
+
+-- what these bytes come to
+abbrev pub Arrives : CodeShape → HostId → List ℕ → Arrival → Type 0
+Arrives code me bytes arrival = ArrivesAs code me (reading_of bytes) arrival
+
+-- what arrives is from another host of the code, and names only what is in it
+abbrev pub ArrivalFits : CodeShape → HostId → Arrival → Type 0
+ArrivalFits code me (Dropped why) = ⊤
+ArrivalFits code me (Taken from message) = IsOther code me from × MessageFits code message
+ArrivalFits code me (Done from) = IsOther code me from

@@ -1,0 +1,39 @@
+-- The lines of a journal. Each ends with a line feed.
+use Rattle.std.specs.Prelude.{ℕ, List, [], ◌∷◌, ◌++◌, codes}
+use Rattle.js_base.specs.declared.ids.HostId.{HostId}
+use Rattle.js_base.specs.declared.text.TheConstants.{LINE_FEED}
+use Rattle.host_code.specs.declared.message.Message.{Message}
+use Rattle.host_code.specs.Code.{CodeShape}
+use Rattle.host_code.specs.MessageText.{host_text, message_text}
+use Rattle.wire_msg.specs.declared.error.WireError.{WireError}
+use Rattle.wire_msg.specs.declared.error.WireError.TheVariants.{Short, BadKind, BadField, TooLong, Trailing}
+
+abbrev pub line : List ℕ → List ℕ
+line text = text ++ LINE_FEED ∷ []
+
+-- the host ran an instruction
+abbrev pub turn_line : List ℕ
+turn_line = line (codes "turn")
+
+-- the host took a message
+abbrev pub take_line : CodeShape → HostId → Message → List ℕ
+take_line code from message = line (codes "take " ++ host_text code from ++ codes " " ++ message_text code message)
+
+-- the host sent a message, by what it did in the line before
+abbrev pub send_line : CodeShape → HostId → Message → List ℕ
+send_line code to message = line (codes "send " ++ host_text code to ++ codes " " ++ message_text code message)
+
+-- a host said that it is done
+abbrev pub done_line : CodeShape → HostId → List ℕ
+done_line code from = line (codes "done " ++ host_text code from)
+
+abbrev pub reason : WireError → List ℕ
+reason Short = codes "short"
+reason BadKind = codes "kind"
+reason BadField = codes "field"
+reason TooLong = codes "long"
+reason Trailing = codes "trailing"
+
+-- what arrived was dropped
+abbrev pub drop_line : WireError → List ℕ
+drop_line why = line (codes "bad " ++ reason why)

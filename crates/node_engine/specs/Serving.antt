@@ -1,0 +1,86 @@
+-- What a node does in so many units, and how it ends.
+use Rattle.std.specs.Prelude.{◌≡◌, ◌⊎◌, ⊤, ℕ, zero, suc, ◌+◌, Bool, true, false, ◌==◌, ◌&&◌, if◌then◌else◌}
+use Rattle.std.specs.Prelude.{List, [], ◌∷◌, ◌++◌}
+use Rattle.js_base.specs.declared.ids.HostId.{HostId}
+use Rattle.js_base.specs.declared.status.Status.{Status}
+use Rattle.js_base.specs.declared.status.Status.TheVariants as status
+use Rattle.host_code.specs.Code.{CodeShape, CodeHostShape}
+use Rattle.host_core.specs.Host.{HostShape}
+use Rattle.wire_msg.specs.declared.frame.Frame.TheVariants as frame
+use Rattle.wire_msg.specs.Spelling.{frame_bytes}
+use Rattle.node_engine.specs.declared.node_error.NodeError.{NodeError}
+use Rattle.node_engine.specs.declared.node_error.NodeError.TheVariants as node_error
+use Rattle.node_engine.specs.NodeWorlds.{NodeWorld, Part, Sending, do_all, BreaksIn}
+use Rattle.node_engine.specs.Units.{AreUnitParts}
+
+-- the status of an error
+abbrev pub status_of : NodeError → Status
+status_of node_error.OutOfMemory = status.NoMemory
+status_of node_error.LinkFault = status.LinkFault
+status_of node_error.OutFault = status.OutFault
+
+-- parts break, by an error of this status
+abbrev pub StopsIn : Status → List Part → NodeWorld → NodeWorld → Type 0
+StopsIn answer parts world new = (error : NodeError) × (answer ≡ status_of error) × BreaksIn error parts world new
+
+-- ---- the end of the program
+
+-- a host is told that the program is done, unless it is the node's own
+abbrev pub telling : HostId → ℕ → List Part
+telling me number = if number == me.0 then [] else Sending (record { 0 = number }) (frame_bytes me frame.Done) ∷ []
+
+-- the closing frames: from some number on each other host is told
+abbrev pub closing_from : HostId → ℕ → List CodeHostShape → List Part
+closing_from me number [] = []
+closing_from me number (host ∷ hosts) = telling me number ++ closing_from me (number + 1) hosts
+
+abbrev pub closing_parts : CodeShape → HostId → List Part
+closing_parts code me = closing_from me 0 code.hosts
+
+-- the closing frames are sent, or some of them are and one breaks
+abbrev pub Closes : CodeShape → HostId → Status → NodeWorld → NodeWorld → Type 0
+Closes code me answer world new =
+    ((answer ≡ status.Done) × (new ≡ do_all (closing_parts code me) world))
+    ⊎ StopsIn answer (closing_parts code me) world new
+
+-- the node is the root's, and its host has halted
+abbrev pub has_ended : CodeShape → HostId → HostShape → Bool
+has_ended code me host = (me.0 == code.root.0) && host.halted
+
+-- How far the program is for a node: the root said that it is done; the node is the root's, and it has halted; or it
+-- goes on.
+pub data Stage : Type 0 where
+  is_told : Stage
+  halts : Stage
+  goes_on : Stage
+
+abbrev pub stage_of : CodeShape → HostId → NodeWorld → Stage
+stage_of code me world =
+    if world.ended then is_told else (if has_ended code me world.host then halts else goes_on)
+
+-- ---- so many units
+
+-- where the program goes on, it is otherwise
+abbrev pub EndsAt : CodeShape → HostId → Stage → Status → NodeWorld → NodeWorld → (Otherwise : Type 0) → Type 0
+EndsAt code me is_told answer world new Otherwise = (answer ≡ status.Done) × (new ≡ world)
+EndsAt code me halts answer world new Otherwise = Closes code me answer world new
+EndsAt code me goes_on answer world new Otherwise = Otherwise
+
+-- At most so many units are done one after the other, before each of which the program goes on. Then the program is at
+-- its end for the node, the units are used up, or one of them breaks.
+abbrev pub Serves : CodeShape → HostId → ℕ → Status → NodeWorld → NodeWorld → Type 0
+Serves code me zero answer world new =
+    EndsAt code me (stage_of code me world) answer world new ((answer ≡ status.Spent) × (new ≡ world))
+Serves code me (suc units) answer world new =
+    EndsAt code me (stage_of code me world) answer world new
+    ((parts : List Part) × AreUnitParts code me world parts
+    × (StopsIn answer parts world new ⊎ Serves code me units answer (do_all parts world) new))
+
+-- with these a node ends that has begun
+abbrev pub IsServed : Status → Type 0
+IsServed status.Done = ⊤
+IsServed status.Spent = ⊤
+IsServed status.LinkFault = ⊤
+IsServed status.OutFault = ⊤
+IsServed status.NoMemory = ⊤
+IsServed _ = ⊥

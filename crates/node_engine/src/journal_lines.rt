@@ -1,0 +1,65 @@
+//! The lines of a journal.
+
+ghost use Rattle.std.specs.Prelude.{◌≡◌, IfOk, codes};
+ghost use Rattle.std.specs.String.{string_bytes};
+ghost use Rattle.host_code.specs.Messages.{MessageFits};
+ghost use Rattle.node_engine.specs.JournalLines as lines;
+
+use host_code::{Code, Message, host_name, message_text};
+use js_base::{HostId, OutOfMemory};
+use std::alloc::Global;
+use wire_msg::WireError;
+
+/// The line of an instruction that ran.
+pub const TURN_LINE: &str = "turn\n";
+
+/// The line of a message that was taken from a host.
+pub fn take_line(
+    alloc: Global,
+    code: &Code,
+    from: HostId,
+    message: &Message,
+) -> Result<String, OutOfMemory>
+    requires { MessageFits code.now message.now }
+    ensures { IfOk result (λ line. string_bytes line ≡ lines.take_line code.now from message.now) }
+{
+    let name = host_name(code, from);
+    let said = message_text(alloc, code, message)?;
+    Ok(format!(in alloc; "take {name} {said}\n")?)
+}
+
+/// The line of a message that was sent to a host.
+pub fn send_line(
+    alloc: Global,
+    code: &Code,
+    to: HostId,
+    message: &Message,
+) -> Result<String, OutOfMemory>
+    requires { MessageFits code.now message.now }
+    ensures { IfOk result (λ line. string_bytes line ≡ lines.send_line code.now to message.now) }
+{
+    let name = host_name(code, to);
+    let said = message_text(alloc, code, message)?;
+    Ok(format!(in alloc; "send {name} {said}\n")?)
+}
+
+/// The line of a host that said that it is done.
+pub fn done_line(alloc: Global, code: &Code, from: HostId) -> Result<String, OutOfMemory>
+    ensures { IfOk result (λ line. string_bytes line ≡ lines.done_line code.now from) }
+{
+    let name = host_name(code, from);
+    Ok(format!(in alloc; "done {name}\n")?)
+}
+
+/// The line of what arrived and was dropped.
+pub fn drop_line(why: WireError) -> &'static str
+    ensures { result.now ≡ lines.drop_line why }
+{
+    match why {
+        WireError::Short => "bad short\n",
+        WireError::BadKind => "bad kind\n",
+        WireError::BadField => "bad field\n",
+        WireError::TooLong => "bad long\n",
+        WireError::Trailing => "bad trailing\n",
+    }
+}

@@ -1,0 +1,15 @@
+//! A node: one host of a program with its links and its journal.
+#![tactic(auto)]
+
+mod arrivals;
+mod journal_lines;
+mod laws;
+mod node_error;
+mod outside;
+mod serving;
+mod units;
+
+pub use arrivals::Arrival;
+pub use laws::unit_laws;
+pub use node_error::NodeError;
+pub use serving::serve;
