@@ -1,2 +1,4 @@
 pub mod Breaking
+pub mod Closing
+pub mod Served
 pub mod UnitParts

@@ -1,10 +1,10 @@
 -- What a node does in so many units, and how it ends.
 use Rattle.std.specs.Prelude.{◌≡◌, ◌⊎◌, ⊤, ℕ, zero, suc, ◌+◌, Bool, true, false, ◌==◌, ◌&&◌, if◌then◌else◌}
-use Rattle.std.specs.Prelude.{List, [], ◌∷◌, ◌++◌}
+use Rattle.std.specs.Prelude.{List, [], ◌∷◌, ◌++◌, length}
 use Rattle.js_base.specs.declared.ids.HostId.{HostId}
 use Rattle.js_base.specs.declared.status.Status.{Status}
 use Rattle.js_base.specs.declared.status.Status.TheVariants as status
-use Rattle.host_code.specs.Code.{CodeShape, CodeHostShape}
+use Rattle.host_code.specs.Code.{CodeShape}
 use Rattle.host_core.specs.Host.{HostShape}
 use Rattle.wire_msg.specs.declared.frame.Frame.TheVariants as frame
 use Rattle.wire_msg.specs.Spelling.{frame_bytes}
@@ -29,13 +29,14 @@ StopsIn answer parts world new = (error : NodeError) × (answer ≡ status_of er
 abbrev pub telling : HostId → ℕ → List Part
 telling me number = if number == me.0 then [] else Sending (record { 0 = number }) (frame_bytes me frame.Done) ∷ []
 
--- the closing frames: from some number on each other host is told
-abbrev pub closing_from : HostId → ℕ → List CodeHostShape → List Part
-closing_from me number [] = []
-closing_from me number (host ∷ hosts) = telling me number ++ closing_from me (number + 1) hosts
+-- so many hosts are told, from some number on
+abbrev pub closing_from : HostId → ℕ → ℕ → List Part
+closing_from me number zero = []
+closing_from me number (suc left) = telling me number ++ closing_from me (number + 1) left
 
+-- the closing frames: each other host is told
 abbrev pub closing_parts : CodeShape → HostId → List Part
-closing_parts code me = closing_from me 0 code.hosts
+closing_parts code me = closing_from me 0 (length code.hosts)
 
 -- the closing frames are sent, or some of them are and one breaks
 abbrev pub Closes : CodeShape → HostId → Status → NodeWorld → NodeWorld → Type 0
@@ -54,9 +55,13 @@ pub data Stage : Type 0 where
   halts : Stage
   goes_on : Stage
 
+abbrev pub stage_by : (told ended : Bool) → Stage
+stage_by true ended = is_told
+stage_by false true = halts
+stage_by false false = goes_on
+
 abbrev pub stage_of : CodeShape → HostId → NodeWorld → Stage
-stage_of code me world =
-    if world.ended then is_told else (if has_ended code me world.host then halts else goes_on)
+stage_of code me world = stage_by world.ended (has_ended code me world.host)
 
 -- ---- so many units
 

@@ -7,7 +7,7 @@ ghost use Rattle.host_code.specs.Sound.{IsHost};
 ghost use Rattle.host_core.specs.Fits.{HostFits};
 ghost use Rattle.host_core.specs.Host.{HostShape, state_of};
 ghost use Rattle.node_engine.specs.NodeWorlds.{NodeWorld};
-ghost use Rattle.node_engine.specs.Serving.{Closes, IsServed, Serves, closing_from, has_ended, telling};
+ghost use Rattle.node_engine.specs.Serving.{Closes, IsServed, Serves, closing_parts, has_ended, telling};
 ghost use Rattle.node_engine.specs.Told.{Does, Outside, Stops, Told, TellsOf, links_told, outside};
 
 use crate::laws::unit_laws;
@@ -104,11 +104,11 @@ fn close<L: Links>(
 ) -> Result<(), NodeError>
     requires { IsHost code.now me }
     ensures ok { OnOk result ((journal : Option (List ℕ)) →
-        Does (closing_from me 0 code.now.hosts)
+        Does (closing_parts code.now me)
         (record { links = links_told L.Links links.old; journal = journal })
         (record { links = links_told L.Links links.new; journal = journal })) }
     ensures err { IfErr result (λ error. (journal : Option (List ℕ)) →
-        Stops error (closing_from me 0 code.now.hosts)
+        Stops error (closing_parts code.now me)
         (record { links = links_told L.Links links.old; journal = journal })
         (record { links = links_told L.Links links.new; journal = journal })) }
     ensures faults { L.faults links.old ≤ L.faults links.new }

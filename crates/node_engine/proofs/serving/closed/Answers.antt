@@ -1,0 +1,14 @@
+use Rattle.std.proofs.Common.{inl, inr, refl}
+use Rattle.node_engine.specs.NodeWorlds.{do_all}
+use Rattle.node_engine.specs.Serving.{closing_parts}
+use Rattle.node_engine.proofs.serving.closed.Goals as goal
+
+pub returns-in-Ok-clause-closes : goal.returns-in-Ok-clause-closes
+returns-in-Ok-clause-closes g c = λ journal world host told.
+    (do_all (closing_parts c.args.code.now c.args.me) world, (c.in-Ok.ensures.ok journal).after world host told,
+    inl (refl, refl))
+
+pub returns-in-Err-clause-closes : goal.returns-in-Err-clause-closes
+returns-in-Err-clause-closes g c = λ journal world host told.
+    let end = (c.in-Err.ensures.err journal).after world host told in
+    (end.0, end.1, inr (c.in-Err.error, c.status.ensures, end.2))

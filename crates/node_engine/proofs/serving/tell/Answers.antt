@@ -1,0 +1,14 @@
+use Rattle.std.proofs.lemmas.Result.{on_ok_weaker, IfErr-weaker}
+use Rattle.node_engine.proofs.Closing.{told_does, told_stops}
+use Rattle.node_engine.proofs.serving.tell.Goals as goal
+
+pub returns-clause-ok : goal.returns-clause-ok
+returns-clause-ok g c =
+    on_ok_weaker c.sent.result (λ does journal. told_does c.args.me c.args.to.0 _ _ c.if-to-me.false (does journal))
+    c.sent.ensures.ok
+
+pub returns-clause-err : goal.returns-clause-err
+returns-clause-err g c =
+    IfErr-weaker c.sent.result _ _
+    (λ error stops journal. told_stops error c.args.me c.args.to.0 _ _ c.if-to-me.false (stops journal))
+    c.sent.ensures.err
