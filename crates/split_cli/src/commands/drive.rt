@@ -15,7 +15,9 @@ ghost use Rattle.front_end.specs.Verdicts.{verdict_shape};
 use crate::commands::{host_file, program_file, script_file};
 use crate::driving::drive;
 use crate::world_report::drive_text;
-use front_end::{Loaded, PlacedSource, Stop, Verdict, code_of, load_all, read_places, starting_values};
+use front_end::{
+    Loaded, PlacedSource, Stop, Verdict, code_of, load_all, read_places, starting_values,
+};
 use jif_tree::Store;
 use js_base::{Files, OutOfMemory};
 use net_world::World;

@@ -18,7 +18,9 @@ use crate::driving::drive;
 use crate::making::{made_hosts, made_program};
 use crate::words::STEPS;
 use crate::world_report::made_text;
-use front_end::{Loaded, PlacedSource, Stop, Verdict, as_loaded, code_of, read_places, starting_values};
+use front_end::{
+    Loaded, PlacedSource, Stop, Verdict, as_loaded, code_of, read_places, starting_values,
+};
 use jif_tree::Store;
 use js_base::limits::{HOSTS_BYTES, PROGRAM_BYTES, SCRIPT_BYTES};
 use js_base::{Files, OutOfMemory};
