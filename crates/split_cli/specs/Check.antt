@@ -4,6 +4,7 @@ use Rattle.std.specs.Fmt.{decimal}
 use Rattle.js_base.specs.declared.status.Status.TheVariants.{Done}
 use Rattle.jif_tree.specs.Trees.{ProgramTree}
 use Rattle.jif_tree.specs.Numbering.{statement_numbers}
+use Rattle.front_end.specs.PlacedCode.{cost_of}
 use Rattle.front_end.specs.PlacedSources.{PlacedSource}
 use Rattle.split_cli.specs.PlaceLines.{place_lines}
 use Rattle.front_end.specs.Text.{lines_text}

@@ -8,6 +8,7 @@ use Rattle.event_text.specs.declared.event.Event.{Event}
 use Rattle.host_code.specs.Code.{CodeShape}
 use Rattle.net_world.specs.World.{WorldShape, world_at_start}
 use Rattle.split_cli.specs.Driven.{DrivesTo}
+use Rattle.front_end.specs.PlacedCode.{code_of}
 use Rattle.front_end.specs.PlacedSources.{PlacedSource}
 use Rattle.front_end.specs.Stages.{DueThen}
 use Rattle.front_end.specs.Starting.{StartingValues}
