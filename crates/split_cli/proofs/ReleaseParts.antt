@@ -1,5 +1,5 @@
 -- What a walk of a program collects of releases: of each statement its own, and then those in its blocks.
-use Rattle.std.proofs.Common.{◌≡◌, ℕ, ◌+◌, List, [], ◌∷◌, ◌++◌}
+use Rattle.std.proofs.Common.{◌≡◌, ℕ, List, [], ◌∷◌, ◌++◌}
 use Rattle.std.proofs.Common.{refl, sym, ap, ◌∙◌}
 use Rattle.std.proofs.Common.{◌||◌, Bool, append_assoc, append-nil, map}
 use Rattle.std.specs.List.{flat_map, list_any}
