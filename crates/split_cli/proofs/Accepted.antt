@@ -5,7 +5,7 @@ use Rattle.std.specs.Fmt.{decimal}
 use Rattle.jif_tree.specs.Trees.{ProgramTree}
 use Rattle.jif_tree.specs.Numbering.{statement_numbers}
 use Rattle.split_cli.specs.Check.{accepted_line}
-use Rattle.split_cli.specs.Text.{line_text}
+use Rattle.front_end.specs.Text.{line_text}
 
 eight_parts : (a b c d e f g h : List ℕ) →
     a ++ (b ++ (c ++ (d ++ (e ++ (f ++ (g ++ h)))))) ≡ (a ++ b ++ c ++ d ++ e ++ f ++ g) ++ h

@@ -9,8 +9,8 @@ use Rattle.js_base.specs.declared.sink.PutError.{PutError}
 use Rattle.js_base.specs.declared.sink.PutError.TheVariants as put_error
 use Rattle.js_base.specs.declared.status.Status.{Status}
 use Rattle.js_base.specs.declared.status.Status.TheVariants.{OutFault, NoMemory}
-use Rattle.split_cli.specs.Verdicts.{Refuse, Print, no_memory_line}
-use Rattle.split_cli.specs.Loads.{FilesChange}
+use Rattle.front_end.specs.Verdicts.{Refuse, Print, no_memory_line}
+use Rattle.front_end.specs.Loads.{FilesChange}
 use Rattle.split_cli.specs.Due.{IsDue}
 use Rattle.split_cli.specs.Answers.{SinkChange, IsUntouched, AnswersTo}
 

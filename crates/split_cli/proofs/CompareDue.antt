@@ -12,17 +12,18 @@ use Rattle.net_world.specs.Told.{SentMessage}
 use Rattle.net_world.specs.World.{WorldShape}
 use Rattle.split_cli.specs.Compare.{Premise, fails, SameBits, SameMisbehave, SameValues, SameStarts, Compared}
 use Rattle.split_cli.specs.Compare.{DueForRuns, DueForSaid, DueForCompare}
-use Rattle.split_cli.specs.Drive.{code_of, first_world}
+use Rattle.split_cli.specs.Drive.{first_world}
+use Rattle.front_end.specs.PlacedCode.{code_of}
 use Rattle.split_cli.specs.Followed.{Followed, EventsFollowed}
-use Rattle.split_cli.specs.Loading.{StopsWith}
-use Rattle.split_cli.specs.PlacedSources.{PlacedSource}
+use Rattle.front_end.specs.Loading.{StopsWith}
+use Rattle.front_end.specs.PlacedSources.{PlacedSource}
 use Rattle.split_cli.specs.Replay.{ScriptRead}
-use Rattle.split_cli.specs.Stages.{Outcome, given, stopped}
-use Rattle.split_cli.specs.Verdicts.{VerdictShape, verdict_shape}
-use Rattle.split_cli.specs.declared.stop.Stop.{Stop}
-use Rattle.split_cli.specs.declared.stop.Stop.TheVariants as stop
-use Rattle.split_cli.specs.declared.verdict.Verdict.{Verdict}
-use Rattle.split_cli.proofs.Stages.{stopped_with}
+use Rattle.front_end.specs.Stages.{Outcome, given, stopped}
+use Rattle.front_end.specs.Verdicts.{VerdictShape, verdict_shape}
+use Rattle.front_end.specs.declared.stop.Stop.{Stop}
+use Rattle.front_end.specs.declared.stop.Stop.TheVariants as stop
+use Rattle.front_end.specs.declared.verdict.Verdict.{Verdict}
+use Rattle.front_end.proofs.Stages.{stopped_with}
 
 -- what was followed in a world that is the first, by a code that is that of the program
 pub followed_as : (file : List ℕ) (placed : PlacedSource) (code : CodeShape) (said : ScriptShape) (first : WorldShape)

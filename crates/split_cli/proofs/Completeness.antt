@@ -5,8 +5,8 @@ use Rattle.js_base.specs.declared.status.Status.{Status}
 use Rattle.js_base.specs.declared.status.Status.TheVariants.{NoMemory}
 use Rattle.split_cli.specs.Answers.{SinkChange, IsAnswered, AnswersTo}
 use Rattle.split_cli.specs.Due.{Due, IsDue}
-use Rattle.split_cli.specs.Loads.{FilesChange}
-use Rattle.split_cli.specs.Verdicts.{VerdictShape, Print}
+use Rattle.front_end.specs.Loads.{FilesChange}
+use Rattle.front_end.specs.Verdicts.{VerdictShape, Print}
 use Rattle.split_cli.proofs.OneVerdict.{fault_rose, no_fault_and_fault}
 
 -- one verdict is due at most

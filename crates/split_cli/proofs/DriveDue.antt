@@ -5,10 +5,11 @@ use Rattle.host_decl.specs.Hosts.{HostsShape}
 use Rattle.host_code.specs.Code.{CodeShape}
 use Rattle.net_world.specs.World.{WorldShape, AreHostsOf, world_at_start}
 use Rattle.split_cli.specs.declared.driving.Driven.{Driven}
-use Rattle.split_cli.specs.Drive.{code_of, first_world, TellsDrive}
+use Rattle.split_cli.specs.Drive.{first_world, TellsDrive}
+use Rattle.front_end.specs.PlacedCode.{code_of}
 use Rattle.split_cli.specs.Driven.{AllObey, HasDriven}
-use Rattle.split_cli.specs.PlacedSources.{PlacedSource}
-use Rattle.split_cli.specs.Verdicts.{Print}
+use Rattle.front_end.specs.PlacedSources.{PlacedSource}
+use Rattle.front_end.specs.Verdicts.{Print}
 use Rattle.split_cli.proofs.NextEvents.{obey_at_start}
 
 -- the hosts of the code are those of the file

@@ -35,16 +35,17 @@ use Rattle.split_rules.specs.SplitCode.{split_code, placed_code_fields}
 use Rattle.simulation.specs.Ending.{EVENTS}
 use Rattle.simulation.specs.Obeying.{IsSet, Follows}
 use Rattle.split_cli.specs.Commands.{CommandShape, Replay, Drive, IsCommand, IsStepCount, words_of, files_of}
-use Rattle.split_cli.specs.Verdicts.{VerdictShape, Refuse, Print}
-use Rattle.split_cli.specs.Loads.{FilesChange, Told}
-use Rattle.split_cli.specs.Stages.{Outcome, given, stopped}
-use Rattle.split_cli.specs.PlacedSources.{PlacedSource, PlacedSources, labelled_source}
-use Rattle.split_cli.specs.Drive.{code_of, first_world, IsDriveReport, DueForDrive}
+use Rattle.front_end.specs.Verdicts.{VerdictShape, Refuse, Print}
+use Rattle.front_end.specs.Loads.{FilesChange, Told}
+use Rattle.front_end.specs.Stages.{Outcome, given, stopped}
+use Rattle.front_end.specs.PlacedSources.{PlacedSource, PlacedSources, labelled_source}
+use Rattle.split_cli.specs.Drive.{first_world, IsDriveReport, DueForDrive}
+use Rattle.front_end.specs.PlacedCode.{code_of}
 use Rattle.split_cli.specs.Driven.{DrivesTo, rested, spent}
 use Rattle.split_cli.specs.Replay.{events_in, replay_text, ScriptRead, EventsHappen, DueForReplay}
 use Rattle.split_cli.specs.Replay as replay
-use Rattle.split_cli.specs.Starting.{StartingValues}
-use Rattle.split_cli.specs.Starting as starting
+use Rattle.front_end.specs.Starting.{StartingValues}
+use Rattle.front_end.specs.Starting as starting
 use Rattle.split_cli.specs.Due.{DueForBytes, DueForCommand, Due, no_words, for_command, IsDue}
 use Rattle.split_cli.specs.Due as due
 use Rattle.split_cli.specs.Answers.{SinkChange, Puts, IsAnswered, AnswersTo}
@@ -52,7 +53,7 @@ use Rattle.split_cli.specs.Faithful.{IsPlacedAs, IsFaithfulRun, IsReplayed, IsFa
 use Rattle.split_cli.specs.Faithful.{PutsText, Only, PutsFaithfully, PutsDriven}
 use Rattle.split_cli.proofs.OneDrive.{driven_run}
 use Rattle.split_cli.proofs.OneVerdict.{fault_verdict, one_command}
-use Rattle.split_cli.proofs.RefusedStages.{IsFailure, IsRefusal, placed_refuse}
+use Rattle.front_end.proofs.RefusedStages.{IsFailure, IsRefusal, placed_refuse}
 use Rattle.split_cli.proofs.ReplayedEvents.{script_starts}
 use Rattle.split_cli.proofs.SetSources.{ReadingLaws, PlanLaws, GrantedLaw, set_there}
 

@@ -1,13 +1,13 @@
 -- What is due for a program that is made is due for the command that makes it.
 use Rattle.std.proofs.Common.{ℕ, [], inl, Result}
-use Rattle.split_cli.specs.declared.stop.Stop.{Stop}
-use Rattle.split_cli.specs.declared.verdict.Verdict.{Verdict}
+use Rattle.front_end.specs.declared.stop.Stop.{Stop}
+use Rattle.front_end.specs.declared.verdict.Verdict.{Verdict}
 use Rattle.split_cli.specs.Commands.{Make}
 use Rattle.split_cli.specs.Due.{IsDueForCommand, loaded}
-use Rattle.split_cli.specs.Loading.{EndsIn}
-use Rattle.split_cli.specs.Loads.{FilesChange, AreKept, LoadsWell}
+use Rattle.front_end.specs.Loading.{EndsIn}
+use Rattle.front_end.specs.Loads.{FilesChange, AreKept, LoadsWell}
 use Rattle.split_cli.specs.Making.{DueForMake}
-use Rattle.split_cli.proofs.Stages.{ends_weaker}
+use Rattle.front_end.proofs.Stages.{ends_weaker}
 
 pub made_due : (statements : ℕ) (files : FilesChange) (result : Result Verdict Stop) → LoadsWell 0 files →
     AreKept files → EndsIn (DueForMake statements) result → EndsIn (IsDueForCommand (Make statements) files) result

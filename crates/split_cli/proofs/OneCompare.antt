@@ -10,18 +10,19 @@ use Rattle.net_world.specs.World.{WorldShape, Refusal}
 use Rattle.split_cli.specs.Compare.{AreAlike, DifferAt, IsFirstUnlike, Premise, holds}
 use Rattle.split_cli.specs.Compare.{fails, SameMisbehave, SameStarts, GoApart, SameEvents, IsPromptRun, Compared, agree}
 use Rattle.split_cli.specs.Compare.{differ, differ_text, DueForRuns, DueForSaid, DueForCompare}
-use Rattle.split_cli.specs.Drive.{code_of, first_world}
+use Rattle.split_cli.specs.Drive.{first_world}
+use Rattle.front_end.specs.PlacedCode.{code_of}
 use Rattle.split_cli.specs.Followed.{Followed, IsKept, hidden, prompt, untimely, IsFollowed, EventsFollowed, followed, refused}
-use Rattle.split_cli.specs.PlacedSources.{PlacedSource}
+use Rattle.front_end.specs.PlacedSources.{PlacedSource}
 use Rattle.split_cli.specs.Releases.{first_release}
 use Rattle.split_cli.specs.Replay.{events_in, event_refused, ScriptRead}
-use Rattle.split_cli.specs.Stages.{DueThen}
-use Rattle.split_cli.specs.Verdicts.{VerdictShape, Print, starts_differ, events_differ, not_prompt}
+use Rattle.front_end.specs.Stages.{DueThen}
+use Rattle.front_end.specs.Verdicts.{VerdictShape, Print, starts_differ, events_differ, not_prompt}
 use Rattle.js_base.specs.declared.status.Status.TheVariants.{Differ}
 use Rattle.split_cli.proofs.FollowedEvents.{followed_ran}
 use Rattle.split_cli.proofs.OneReplay.{StepLaws, refused_once, ran_or_refused, script_once}
-use Rattle.split_cli.proofs.Places.{same_place, same_here}
-use Rattle.split_cli.proofs.Stages.{IsOne, give, stop_with, one_due}
+use Rattle.front_end.proofs.Places.{same_place, same_here}
+use Rattle.front_end.proofs.Stages.{IsOne, give, stop_with, one_due}
 
 -- ---- lists
 

@@ -10,14 +10,15 @@ use Rattle.event_text.specs.declared.event.Event.TheVariants.{Take, Turn, Act}
 use Rattle.host_code.specs.Code.{CodeShape}
 use Rattle.net_world.specs.Choice.{IsNextEvent, IsFirstRunning, IsFirstFrom, IsFirstFlying}
 use Rattle.net_world.specs.World.{WorldShape, IsStep, IsRun}
-use Rattle.split_cli.specs.Drive.{code_of, first_world, TellsDrive, DueForDriven}
+use Rattle.split_cli.specs.Drive.{first_world, TellsDrive, DueForDriven}
+use Rattle.front_end.specs.PlacedCode.{code_of}
 use Rattle.simulation.specs.Driven.{IsDriven}
 use Rattle.split_cli.specs.Driven.{DrivesTo, rested, spent}
-use Rattle.split_cli.specs.PlacedSources.{PlacedSource}
-use Rattle.split_cli.specs.Starting.{StartingValues}
-use Rattle.split_cli.specs.Verdicts.{VerdictShape, Print}
-use Rattle.split_cli.proofs.OneStart.{start_moved, start_once}
-use Rattle.split_cli.proofs.Stages.{one_due, due_moved}
+use Rattle.front_end.specs.PlacedSources.{PlacedSource}
+use Rattle.front_end.specs.Starting.{StartingValues}
+use Rattle.front_end.specs.Verdicts.{VerdictShape, Print}
+use Rattle.front_end.proofs.OneStart.{start_moved, start_once}
+use Rattle.front_end.proofs.Stages.{one_due, due_moved}
 
 -- what is known of steps
 abbrev pub OneStep : Type 0

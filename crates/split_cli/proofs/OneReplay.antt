@@ -6,13 +6,14 @@ use Rattle.event_text.specs.declared.event.Event.{Event}
 use Rattle.event_text.specs.Script.{ScriptShape}
 use Rattle.host_code.specs.Code.{CodeShape}
 use Rattle.net_world.specs.World.{WorldShape, IsStep, IsRun, Refusal, refusal_of}
-use Rattle.split_cli.specs.Drive.{code_of, first_world}
-use Rattle.split_cli.specs.PlacedSources.{PlacedSource}
+use Rattle.split_cli.specs.Drive.{first_world}
+use Rattle.front_end.specs.PlacedCode.{code_of}
+use Rattle.front_end.specs.PlacedSources.{PlacedSource}
 use Rattle.split_cli.specs.Replay.{events_in, IsRefusedAt, event_refused, replay_text, EventsHappen, happened, refused}
 use Rattle.split_cli.specs.Replay.{ScriptRead, long, bad_line, read, DueForEvents, DueForReplay}
-use Rattle.split_cli.specs.Verdicts.{VerdictShape, Print, no_form}
+use Rattle.front_end.specs.Verdicts.{VerdictShape, Print, no_form}
 use Rattle.split_cli.proofs.OneDrive.{OneStep}
-use Rattle.split_cli.proofs.Stages.{IsOne, give, stop_with, one_due}
+use Rattle.front_end.proofs.Stages.{IsOne, give, stop_with, one_due}
 
 -- what is known of steps
 pub record StepLaws : Type 0 where

@@ -8,10 +8,10 @@ use Rattle.source_run.specs.declared.plain.RunEnd.TheVariants.{Ended, NotYet}
 use Rattle.source_run.specs.Alike.{RunAlike}
 use Rattle.source_run.specs.Runs.{RunsTo}
 use Rattle.split_cli.specs.PlainRun.{run_report, IsRunReport, DueForRun}
-use Rattle.split_cli.specs.Starting.{StartingValues}
-use Rattle.split_cli.specs.Verdicts.{VerdictShape}
-use Rattle.split_cli.proofs.OneStart.{start_moved, start_once}
-use Rattle.split_cli.proofs.Stages.{one_due, due_moved}
+use Rattle.front_end.specs.Starting.{StartingValues}
+use Rattle.front_end.specs.Verdicts.{VerdictShape}
+use Rattle.front_end.proofs.OneStart.{start_moved, start_once}
+use Rattle.front_end.proofs.Stages.{one_due, due_moved}
 
 -- what is known of runs
 pub record RunLaws : Type 0 where

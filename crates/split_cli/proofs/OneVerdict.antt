@@ -1,5 +1,5 @@
 -- For words and for files that tell what they hold, one verdict is due.
-use Rattle.std.proofs.Common.{◌≡◌, ℕ, zero, suc, ◌+◌, ◌<◌, List, [], ◌∷◌, Option, Some, None, refl, sym, ap, ◌∙◌}
+use Rattle.std.proofs.Common.{◌≡◌, ℕ, ◌+◌, ◌<◌, List, [], ◌∷◌, Option, Some, None, refl, sym, ap, ◌∙◌}
 use Rattle.std.proofs.Common.{codes, subst, inl, inr, ⊎_elim, arith}
 use Rattle.std.specs.Prelude.{IsSome}
 use Rattle.std.specs.Fmt.{decimal}
@@ -10,11 +10,12 @@ use Rattle.js_base.specs.declared.status.Status.TheVariants.{Done}
 use Rattle.split_cli.specs.Commands.{CommandShape, Check, Run, Replay, Drive, Compare, Split, Make}
 use Rattle.split_cli.specs.Commands.{IsCommand, words_of, files_of}
 use Rattle.split_cli.specs.declared.words.TheConstants.{STEPS}
-use Rattle.split_cli.specs.Verdicts.{VerdictShape, Print, no_such_file, file_fault}
-use Rattle.split_cli.specs.Loads.{FilesChange, Told, IsHeld, counted_by, IsFirstAbsent, IsFileFault}
-use Rattle.split_cli.specs.Sources.{Sources}
-use Rattle.split_cli.specs.PlacedSources.{PlacedSources}
-use Rattle.split_cli.specs.Check.{cost_of, plan_report}
+use Rattle.front_end.specs.Verdicts.{VerdictShape, Print, no_such_file, file_fault}
+use Rattle.front_end.specs.Loads.{FilesChange, Told, IsHeld, IsFirstAbsent}
+use Rattle.front_end.specs.Sources.{Sources}
+use Rattle.front_end.specs.PlacedSources.{PlacedSources}
+use Rattle.split_cli.specs.Check.{plan_report}
+use Rattle.front_end.specs.PlacedCode.{cost_of}
 use Rattle.split_cli.specs.Compare.{DueForCompare}
 use Rattle.split_cli.specs.MadePrograms.{made_hosts, made_program}
 use Rattle.split_cli.specs.Making.{DueForMade, made_text}
@@ -26,19 +27,17 @@ use Rattle.split_cli.specs.Due.{DueForBytes, DueForFiles, DueForCommand, absent,
 use Rattle.split_cli.specs.Due.{IsFault, IsDue}
 use Rattle.split_cli.proofs.OneCompare.{compare_once}
 use Rattle.split_cli.proofs.OneDrive.{drive_once}
-use Rattle.split_cli.proofs.OnePlaced.{PlaceLaws, places_once}
 use Rattle.split_cli.proofs.OneReplay.{StepLaws, replay_once}
 use Rattle.split_cli.proofs.OneRun.{RunLaws, run_once}
-use Rattle.split_cli.proofs.OneSource.{SourceLaws, sources_once}
 use Rattle.split_cli.proofs.SplitStages.{split_once}
-use Rattle.split_cli.proofs.Places.{same_place, same_here, of_front, of_all}
-use Rattle.split_cli.proofs.Stages.{one_due}
+use Rattle.front_end.proofs.Places.{same_place, same_here, of_front, of_all}
+use Rattle.front_end.proofs.Stages.{IsOne, one_due}
 use Rattle.split_cli.proofs.StepCounts.{same_steps, as_steps}
 
 -- what is known of the parts of a command
 pub record AllLaws : Type 0 where
-  pub sources : SourceLaws
-  pub places : PlaceLaws
+  pub sources : (program hosts : List ℕ) → IsOne (Sources program hosts)
+  pub places : (program hosts : List ℕ) → IsOne (PlacedSources program hosts)
   pub runs : RunLaws
   pub steps : StepLaws
 
@@ -48,28 +47,28 @@ bytes_once : AllLaws → (command : CommandShape) (bytes : List (List ℕ)) (fir
     DueForBytes command bytes first → DueForBytes command bytes second → first ≡ second
 bytes_once laws (Check program hosts) (p ∷ h ∷ []) first second one two =
     one_due (PlacedSources p h) (λ placed end. end ≡ plan_report placed) first second
-    (places_once laws.sources laws.places p h) (λ placed was here there. here ∙ sym there) one two
+    (laws.places p h) (λ placed was here there. here ∙ sym there) one two
 bytes_once laws (Run program hosts start steps) (p ∷ h ∷ s ∷ []) first second one two =
     one_due (Sources p h) (λ source. DueForRun start s steps source.tree) first second
-    (sources_once laws.sources p h) (λ source was. run_once laws.runs start s steps source.tree first second) one two
+    (laws.sources p h) (λ source was. run_once laws.runs start s steps source.tree first second) one two
 bytes_once laws (Replay program hosts events) (p ∷ h ∷ e ∷ []) first second one two =
     one_due (PlacedSources p h) (DueForReplay events e) first second
-    (places_once laws.sources laws.places p h)
+    (laws.places p h)
     (λ placed was. replay_once laws.steps events e placed first second) one two
 bytes_once laws (Drive program hosts start events) (p ∷ h ∷ s ∷ []) first second one two =
     one_due (PlacedSources p h) (DueForDrive start s events) first second
-    (places_once laws.sources laws.places p h)
+    (laws.places p h)
     (λ placed was. drive_once laws.steps.one drive_text start s events placed first second) one two
 bytes_once laws (Compare program hosts name other) (p ∷ h ∷ s ∷ t ∷ []) first second one two =
     one_due (PlacedSources p h) (DueForCompare name s other t) first second
-    (places_once laws.sources laws.places p h)
+    (laws.places p h)
     (λ placed was. compare_once laws.steps name s other t placed first second) one two
 bytes_once laws (Split program hosts out) (p ∷ h ∷ []) first second one two =
     one_due (SplitSources p h) (λ split end. end ≡ Print Done split.text) first second
-    (split_once laws.sources laws.places p h) (λ split was here there. here ∙ sym there) one two
+    (split_once laws.places p h) (λ split was here there. here ∙ sym there) one two
 bytes_once laws (Make statements) [] first second one two =
     one_due (PlacedSources (made_program statements) made_hosts) (DueForMade statements) first second
-    (places_once laws.sources laws.places (made_program statements) made_hosts)
+    (laws.places (made_program statements) made_hosts)
     (λ placed was. drive_once laws.steps.one (made_text statements (cost_of placed)) [] [] STEPS placed first second)
     one two
 bytes_once laws (Check program hosts) [] first second one two = absurd one
@@ -316,19 +315,3 @@ answer_once laws words files holds first second tells below one two =
     (λ also. fault_verdict fault.0 files first fault.3 ∙ sym (fault_verdict also.0 files second also.3))
     two)
     one
-
--- a count below its end tells how often it rose
-counted_exactly : (more count : ℕ) → counted_by more count < last_count → counted_by more count ≡ count + more
-counted_exactly zero count below = omega arith
-counted_exactly (suc more) count below =
-    let before : counted_by more count < last_count = omega arith in
-    let exact = counted_exactly more count before in omega arith
-
-pub one_fault_place : (names : List (List ℕ)) (files : FilesChange) (first second : VerdictShape)
-    (one : IsFileFault names files first) (two : IsFileFault names files second) →
-    files.loads_after < last_count → one.place ≡ two.place
-one_fault_place names files first second one two below =
-    let left = counted_exactly (one.place + 1) files.loads_before (subst (λ (n : ℕ). n < last_count) one.loads below) in
-    let right =
-    counted_exactly (two.place + 1) files.loads_before (subst (λ (n : ℕ). n < last_count) two.loads below) in
-    let a = one.loads in let b = two.loads in omega arith

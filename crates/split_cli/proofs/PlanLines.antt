@@ -10,11 +10,12 @@ use Rattle.std.proofs.lemmas.List.{append-nil, append_assoc, length-take-le, tak
 use Rattle.host_decl.specs.Hosts.{HostShape}
 use Rattle.jif_tree.specs.declared.program.Field.{Field}
 use Rattle.jif_tree.specs.Trees.{field_tree}
-use Rattle.split_cli.specs.Check.{accepted_line, cost_line, cost_of, plan_lines}
-use Rattle.split_cli.specs.PlacedSources.{PlacedSource}
+use Rattle.split_cli.specs.Check.{accepted_line, cost_line, plan_lines}
+use Rattle.front_end.specs.PlacedCode.{cost_of}
+use Rattle.front_end.specs.PlacedSources.{PlacedSource}
 use Rattle.split_cli.specs.PlaceLines.{field_place, field_places, names_in, place_lines, statement_place}
 use Rattle.split_cli.specs.PlaceLines.{statement_places}
-use Rattle.split_cli.specs.Text.{line_text, lines_text}
+use Rattle.front_end.specs.Text.{line_text, lines_text}
 use Rattle.split_cli.proofs.ReportLines.{added, lines_more, numbered_more}
 
 pub field_places_more : (placed : PlacedSource) (fields : List Field) (i : ℕ) (field : Field) → i < length fields →

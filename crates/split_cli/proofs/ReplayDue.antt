@@ -12,15 +12,16 @@ use Rattle.jif_tree.specs.declared.program.Program.{Program}
 use Rattle.jif_tree.specs.Trees.{program_tree}
 use Rattle.net_world.specs.Fits.{HasOwnToken}
 use Rattle.net_world.specs.World.{WorldShape, AreHostsOf, world_at_start}
-use Rattle.split_cli.specs.declared.load.Loaded.{Loaded}
-use Rattle.split_cli.specs.declared.load.Loaded.TheVariants.{TooLong}
-use Rattle.split_cli.specs.Drive.{code_of, first_world}
-use Rattle.split_cli.specs.Loading.{IsLoaded}
-use Rattle.split_cli.specs.PlacedSources.{PlacedSource}
+use Rattle.front_end.specs.declared.load.Loaded.{Loaded}
+use Rattle.front_end.specs.declared.load.Loaded.TheVariants.{TooLong}
+use Rattle.split_cli.specs.Drive.{first_world}
+use Rattle.front_end.specs.PlacedCode.{code_of}
+use Rattle.front_end.specs.Loading.{IsLoaded}
+use Rattle.front_end.specs.PlacedSources.{PlacedSource}
 use Rattle.split_cli.specs.Replay.{replay_text, ScriptRead, long, bad_line, read, EventsHappen, DueForReplay, DueForSaid}
-use Rattle.split_cli.specs.Stages.{Outcome, given, stopped}
-use Rattle.split_cli.specs.Verdicts.{VerdictShape, Print, too_long, no_form}
-use Rattle.split_cli.proofs.StartingDue.{AreBytes}
+use Rattle.front_end.specs.Stages.{Outcome, given, stopped}
+use Rattle.front_end.specs.Verdicts.{VerdictShape, Print, too_long, no_form}
+use Rattle.front_end.proofs.StartingDue.{AreBytes}
 
 -- ---- the script
 

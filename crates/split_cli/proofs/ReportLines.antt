@@ -5,7 +5,7 @@ use Rattle.std.specs.Prelude.{ℤ, true, Result, Ok, Err, OnOk, is_ok}
 use Rattle.std.specs.Fmt.{signed_decimal}
 use Rattle.std.specs.List.{flat_map, join_with_byte}
 use Rattle.std.proofs.lemmas.List.{append-nil, append_assoc, flat_map_more, length-take-le, take_more}
-use Rattle.split_cli.specs.Text.{lines_text}
+use Rattle.front_end.specs.Text.{lines_text}
 
 -- what a text has after one more piece
 pub added : (start front piece : List ℕ) {before after next : List ℕ} → before ≡ start ++ front →

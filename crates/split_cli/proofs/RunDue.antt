@@ -7,7 +7,7 @@ use Rattle.jif_tree.specs.Trees.{field_tree}
 use Rattle.source_run.specs.declared.plain.RunEnd.{RunEnd}
 use Rattle.source_run.specs.Runs.{RunsTo}
 use Rattle.split_cli.specs.PlainRun.{IsRunReport, run_report}
-use Rattle.split_cli.specs.Verdicts.{VerdictShape}
+use Rattle.front_end.specs.Verdicts.{VerdictShape}
 
 pub run_reported : (program : Program) (steps : ℕ) (fields : List Field) (values rows : List (List ℤ)) (end : RunEnd)
     (verdict : VerdictShape) → RunsTo program values steps end rows → fields ≡ program.fields.items →

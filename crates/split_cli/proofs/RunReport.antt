@@ -7,7 +7,7 @@ use Rattle.jif_tree.specs.Trees.{field_tree}
 use Rattle.source_run.specs.declared.plain.RunEnd.{RunEnd}
 use Rattle.source_run.specs.declared.plain.RunEnd.TheVariants.{Ended, NotYet}
 use Rattle.split_cli.specs.PlainRun.{end_line, store_lines}
-use Rattle.split_cli.specs.Text.{line_text, lines_text}
+use Rattle.front_end.specs.Text.{line_text, lines_text}
 
 -- what holds where a result is `Ok` holds where another is, which is `Ok` no more often
 pub on_ok_from : {T U E F : Type 0} (P : Type 0) (r : Result T E) (s : Result U F) → is_ok s ≡ is_ok r → OnOk r P →

@@ -21,22 +21,23 @@ use Rattle.net_world.specs.World.{WorldShape, IsStep, state_at}
 use Rattle.split_cli.specs.Compare.{AreAlike, DifferAt, StartsUnlike, Premise, holds, fails}
 use Rattle.split_cli.specs.Compare.{SameMisbehave, SameStarts, SameEvents, IsPromptRun, Compared, agree, differ}
 use Rattle.split_cli.specs.Compare.{agree_text, differ_text, DueForRuns, DueForScripts, DueForCompare}
-use Rattle.split_cli.specs.Drive.{code_of, first_world}
+use Rattle.split_cli.specs.Drive.{first_world}
+use Rattle.front_end.specs.PlacedCode.{code_of}
 use Rattle.split_cli.specs.Followed.{Followed, IsKept, hidden, prompt, untimely, EventsFollowed, followed, refused}
-use Rattle.split_cli.specs.PlacedSources.{PlacedSource, PlacedSources}
+use Rattle.front_end.specs.PlacedSources.{PlacedSource, PlacedSources}
 use Rattle.split_cli.specs.Releases.{first_release}
 use Rattle.split_cli.specs.Replay.{events_in, event_refused, ScriptRead, read}
-use Rattle.split_cli.specs.Stages.{given, stopped}
-use Rattle.split_cli.specs.Verdicts.{VerdictShape, Print, bad_differ, starts_differ, events_differ, not_prompt}
+use Rattle.front_end.specs.Stages.{given, stopped}
+use Rattle.front_end.specs.Verdicts.{VerdictShape, Print, bad_differ, starts_differ, events_differ, not_prompt}
 use Rattle.split_cli.proofs.DriveDue.{code_hosts}
 use Rattle.split_cli.proofs.DriveEnds.{StepCauses}
 use Rattle.split_cli.proofs.FirstHosts.{first_number_or_none}
-use Rattle.split_cli.proofs.NativeParts.{IsSeen}
+use Rattle.front_end.proofs.NativeParts.{IsSeen}
 use Rattle.split_cli.proofs.ReplayDue.{OwnAtStart, own_in_first}
 use Rattle.split_cli.proofs.SameMessages.{same_event, same_option, same_sent}
 use Rattle.split_cli.proofs.SomeDrive.{CodeLaws, sound_code}
 use Rattle.split_cli.proofs.SomeReplay.{SomeScript, script_some}
-use Rattle.split_cli.proofs.SomeStages.{HasOutcome, HasVerdict, some_due}
+use Rattle.front_end.proofs.SomeStages.{HasOutcome, HasVerdict, some_due}
 
 -- what is known of events, of what misbehaving hosts may see, and of what they present
 pub record CompareCauses : Type 0 where

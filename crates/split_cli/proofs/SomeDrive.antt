@@ -21,20 +21,21 @@ use Rattle.place_rules.specs.Allowed.{AllowedShape}
 use Rattle.placement.specs.Placing.{IsPlaced, HasHosts}
 use Rattle.split_rules.specs.SplitCode.{split_code}
 use Rattle.split_rules.specs.Splittable.{IsSplittable}
-use Rattle.split_cli.specs.Drive.{code_of, first_world, TellsDrive, DueForDriven}
-use Rattle.split_cli.specs.PlacedSources.{PlacedSource, PlacedSources, labelled_source}
-use Rattle.split_cli.specs.Stages.{given}
-use Rattle.split_cli.specs.Starting.{StartingValues}
-use Rattle.split_cli.specs.Verdicts.{Print}
+use Rattle.split_cli.specs.Drive.{first_world, TellsDrive, DueForDriven}
+use Rattle.front_end.specs.PlacedCode.{code_of}
+use Rattle.front_end.specs.PlacedSources.{PlacedSource, PlacedSources, labelled_source}
+use Rattle.front_end.specs.Stages.{given}
+use Rattle.front_end.specs.Starting.{StartingValues}
+use Rattle.front_end.specs.Verdicts.{Print}
 use Rattle.split_cli.proofs.DriveDue.{code_hosts}
-use Rattle.split_cli.proofs.NativeParts.{IsSeen}
-use Rattle.split_cli.proofs.NativeSources.{NativeLaws, is_read}
+use Rattle.front_end.proofs.NativeParts.{IsSeen}
+use Rattle.front_end.proofs.NativeSources.{NativeLaws, is_read}
 use Rattle.split_cli.proofs.NextEvents.{obey_at_start}
-use Rattle.split_cli.proofs.ReadLaws.{splittable}
-use Rattle.split_cli.proofs.SetSources.{read_source, source_given, chosen}
+use Rattle.front_end.proofs.ReadLaws.{splittable}
+use Rattle.front_end.proofs.ReadSources.{read_source, source_given, chosen}
 use Rattle.split_cli.proofs.DriveEnds.{StepCauses, drive_ends}
-use Rattle.split_cli.proofs.SomeRun.{SomeStart, start_some}
-use Rattle.split_cli.proofs.SomeStages.{HasVerdict, some_due}
+use Rattle.front_end.proofs.SomeStart.{SomeStart, start_some}
+use Rattle.front_end.proofs.SomeStages.{HasVerdict, some_due}
 
 -- what is known of the code of split programs, and of the world before the first event
 pub record CodeLaws : Type 0 where

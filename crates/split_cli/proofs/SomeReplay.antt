@@ -9,15 +9,16 @@ use Rattle.event_text.specs.declared.script.EventsError.TheVariants as error
 use Rattle.event_text.specs.Script.{ScriptShape, script_of, EventsFail}
 use Rattle.host_code.specs.Code.{CodeShape}
 use Rattle.net_world.specs.World.{WorldShape, IsStep}
-use Rattle.split_cli.specs.Drive.{code_of, first_world}
-use Rattle.split_cli.specs.PlacedSources.{PlacedSource}
+use Rattle.split_cli.specs.Drive.{first_world}
+use Rattle.front_end.specs.PlacedCode.{code_of}
+use Rattle.front_end.specs.PlacedSources.{PlacedSource}
 use Rattle.split_cli.specs.Replay.{ScriptRead, long, bad_line, read, EventsHappen, happened, refused, event_refused}
 use Rattle.split_cli.specs.Replay.{replay_text, DueForEvents, DueForScript, DueForReplay}
-use Rattle.split_cli.specs.Stages.{given, stopped}
-use Rattle.split_cli.specs.Verdicts.{Print, too_long, no_form}
-use Rattle.split_cli.proofs.NativeParts.{IsSeen}
+use Rattle.front_end.specs.Stages.{given, stopped}
+use Rattle.front_end.specs.Verdicts.{Print, too_long, no_form}
+use Rattle.front_end.proofs.NativeParts.{IsSeen}
 use Rattle.split_cli.proofs.DriveEnds.{SomeStep}
-use Rattle.split_cli.proofs.SomeStages.{HasOutcome, HasVerdict, some_due}
+use Rattle.front_end.proofs.SomeStages.{HasOutcome, HasVerdict, some_due}
 
 -- all bytes are a script, or are refused
 abbrev pub SomeScript : Type 0

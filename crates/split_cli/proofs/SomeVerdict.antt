@@ -4,41 +4,41 @@ use Rattle.std.proofs.Common.{inl, inr}
 use Rattle.std.specs.List.{AllZip}
 use Rattle.js_base.specs.declared.status.Status.TheVariants.{Done}
 use Rattle.split_cli.specs.declared.words.TheConstants.{STEPS}
-use Rattle.split_cli.specs.Check.{cost_of, plan_report}
+use Rattle.split_cli.specs.Check.{plan_report}
+use Rattle.front_end.specs.PlacedCode.{cost_of}
 use Rattle.split_cli.specs.Commands.{CommandShape, Check, Run, Replay, Drive, Compare, Split, Make, files_of}
 use Rattle.split_cli.specs.Compare.{DueForCompare}
 use Rattle.split_cli.specs.Drive.{DueForDrive, drive_text}
 use Rattle.split_cli.specs.Due.{DueForBytes, DueForCommand, absent, loaded, Due, no_words, for_command}
-use Rattle.split_cli.specs.Loads.{Told, IsFirstAbsent}
+use Rattle.front_end.specs.Loads.{Told, IsFirstAbsent}
 use Rattle.split_cli.specs.MadePrograms.{made_hosts, made_program}
 use Rattle.split_cli.specs.Making.{DueForMade, made_text}
-use Rattle.split_cli.specs.PlacedSources.{PlacedSource, PlacedSources}
+use Rattle.front_end.specs.PlacedSources.{PlacedSource, PlacedSources}
 use Rattle.split_cli.specs.PlainRun.{DueForRun}
 use Rattle.split_cli.specs.Replay.{DueForReplay}
-use Rattle.split_cli.specs.Sources.{Sources}
+use Rattle.front_end.specs.Sources.{Sources}
 use Rattle.split_cli.specs.Split.{SplitSources}
-use Rattle.split_cli.specs.Stages.{given}
-use Rattle.split_cli.specs.Verdicts.{VerdictShape, Print, usage, no_such_file}
+use Rattle.front_end.specs.Stages.{given}
+use Rattle.front_end.specs.Verdicts.{VerdictShape, Print, usage, no_such_file}
 use Rattle.jif_tree.specs.Trees.{program_tree}
-use Rattle.split_cli.proofs.NativeParts.{IsSeen}
-use Rattle.split_cli.proofs.NativeSources.{NativeLaws, source_seen}
+use Rattle.front_end.proofs.NativeParts.{IsSeen}
+use Rattle.front_end.proofs.NativeSources.{NativeLaws, source_seen}
 use Rattle.split_cli.proofs.OneVerdict.{told_held}
 use Rattle.split_cli.proofs.SomeCompare.{CompareCauses, compare_some}
 use Rattle.split_cli.proofs.SomeDrive.{CodeLaws, drive_some}
-use Rattle.split_cli.proofs.SetSources.{source_given}
+use Rattle.front_end.proofs.ReadSources.{source_given}
 use Rattle.split_cli.proofs.DriveEnds.{StepCauses}
 use Rattle.split_cli.proofs.SomeReplay.{SomeScript, replay_some}
-use Rattle.split_cli.proofs.SomePlaced.{PlaceCauses, places_some}
-use Rattle.split_cli.proofs.SomeRun.{SomeStart, SomeEnd, run_some}
-use Rattle.split_cli.proofs.SomeSource.{SourceCauses, sources_some}
-use Rattle.split_cli.proofs.SomeStages.{HasVerdict, some_due}
+use Rattle.split_cli.proofs.SomeRun.{SomeEnd, run_some}
+use Rattle.front_end.proofs.SomeStart.{SomeStart}
+use Rattle.front_end.proofs.SomeStages.{HasOutcome, HasVerdict, some_due}
 use Rattle.split_cli.proofs.SplitStages.{split_some}
 use Rattle.split_cli.proofs.WordForms.{words_form}
 
 -- what is known of all stages
 pub record AllCauses : Type 0 where
-  pub sources : SourceCauses
-  pub places : PlaceCauses
+  pub sources : (program hosts : List ℕ) → HasOutcome (Sources program hosts)
+  pub places : (program hosts : List ℕ) → HasOutcome (PlacedSources program hosts)
   pub code : CodeLaws
   pub start : SomeStart
   pub ends : SomeEnd
@@ -65,30 +65,30 @@ AreHeld held files bytes = AllZip (λ file content. Told held file (Some content
 bytes_due : AllCauses → (files : Held) (command : CommandShape) (bytes : List (List ℕ)) →
     AreHeld files (files_of command) bytes → HasVerdict (DueForBytes command bytes)
 bytes_due laws files (Check program hosts) (p ∷ h ∷ []) held =
-    some_due (PlacedSources p h) (λ placed end. end ≡ plan_report placed) (places_some laws.sources laws.places p h)
+    some_due (PlacedSources p h) (λ placed end. end ≡ plan_report placed) (laws.places p h)
     (λ placed was. (plan_report placed, refl))
 bytes_due laws files (Run program hosts start steps) (p ∷ h ∷ s ∷ []) held =
-    some_due (Sources p h) (λ source. DueForRun start s steps source.tree) (sources_some laws.sources p h)
+    some_due (Sources p h) (λ source. DueForRun start s steps source.tree) (laws.sources p h)
     (λ source was. run_some laws.start laws.ends start s steps source.tree
     (source_seen laws.code.native p h source was))
 bytes_due laws files (Replay program hosts events) (p ∷ h ∷ e ∷ []) held =
-    some_due (PlacedSources p h) (DueForReplay events e) (places_some laws.sources laws.places p h)
+    some_due (PlacedSources p h) (DueForReplay events e) (laws.places p h)
     (λ placed was. replay_some laws.scripts laws.steps.some events e placed
     (placed_seen laws.code.native p h placed was))
 bytes_due laws files (Drive program hosts start events) (p ∷ h ∷ s ∷ []) held =
-    some_due (PlacedSources p h) (DueForDrive start s events) (places_some laws.sources laws.places p h)
+    some_due (PlacedSources p h) (DueForDrive start s events) (laws.places p h)
     (λ placed was. drive_some laws.start laws.steps laws.code p h placed was drive_text start s events
     (placed_seen laws.code.native p h placed was))
 bytes_due laws files (Compare program hosts one other) (p ∷ h ∷ s ∷ t ∷ []) held =
-    some_due (PlacedSources p h) (DueForCompare one s other t) (places_some laws.sources laws.places p h)
+    some_due (PlacedSources p h) (DueForCompare one s other t) (laws.places p h)
     (λ placed was. compare_some laws.comparing laws.code laws.scripts p h placed was one s other t
     (placed_seen laws.code.native p h placed was))
 bytes_due laws files (Split program hosts out) (p ∷ h ∷ []) held =
-    some_due (SplitSources p h) (λ split end. end ≡ Print Done split.text) (split_some laws.sources laws.places p h)
+    some_due (SplitSources p h) (λ split end. end ≡ Print Done split.text) (split_some laws.places p h)
     (λ split was. (Print Done split.text, refl))
 bytes_due laws files (Make statements) [] held =
     some_due (PlacedSources (made_program statements) made_hosts) (DueForMade statements)
-    (places_some laws.sources laws.places (made_program statements) made_hosts)
+    (laws.places (made_program statements) made_hosts)
     (λ placed was. drive_some laws.start laws.steps laws.code (made_program statements) made_hosts placed was
     (made_text statements (cost_of placed)) [] [] STEPS
     (placed_seen laws.code.native (made_program statements) made_hosts placed was))

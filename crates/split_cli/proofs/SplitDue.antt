@@ -7,18 +7,18 @@ use Rattle.js_base.specs.Files.{ChangesOnly}
 use Rattle.js_base.specs.declared.status.Status.TheVariants.{Done}
 use Rattle.split_cli.specs.Commands.{Split}
 use Rattle.split_cli.specs.Due.{DueForCommand, loaded, SavesFor, IsDueForCommand}
-use Rattle.split_cli.specs.Loading.{StopsWith, EndsIn}
-use Rattle.split_cli.specs.Loads.{FilesChange, AreKept, counted_by}
+use Rattle.front_end.specs.Loading.{StopsWith, EndsIn}
+use Rattle.front_end.specs.Loads.{FilesChange, AreKept, counted_by}
 use Rattle.split_cli.specs.Saves.{SavesUnder, IsSaved}
 use Rattle.split_cli.specs.Split.{SplitShape, SplitSources}
-use Rattle.split_cli.specs.Stages.{given, stopped}
-use Rattle.split_cli.specs.Verdicts.{VerdictShape, Print, verdict_shape, file_fault}
-use Rattle.split_cli.specs.declared.load.Loaded.{Loaded}
-use Rattle.split_cli.specs.declared.stop.Stop.{Stop}
-use Rattle.split_cli.specs.declared.verdict.Verdict.{Verdict}
-use Rattle.split_cli.proofs.LoadedFiles.{TwoFiles}
+use Rattle.front_end.specs.Stages.{given, stopped}
+use Rattle.front_end.specs.Verdicts.{VerdictShape, Print, verdict_shape, file_fault}
+use Rattle.front_end.specs.declared.load.Loaded.{Loaded}
+use Rattle.front_end.specs.declared.stop.Stop.{Stop}
+use Rattle.front_end.specs.declared.verdict.Verdict.{Verdict}
+use Rattle.front_end.proofs.LoadedFiles.{TwoFiles}
 use Rattle.split_cli.proofs.SplitStages.{split_refuses}
-use Rattle.split_cli.proofs.Stages.{stops_weaker}
+use Rattle.front_end.proofs.Stages.{stops_weaker}
 use Rattle.split_cli.proofs.Stops.{saves_refused}
 
 -- ---- one change of files after another

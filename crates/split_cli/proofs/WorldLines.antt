@@ -21,7 +21,7 @@ use Rattle.net_world.specs.World.{WorldShape, state_at}
 use Rattle.net_world.proofs.Present.{present_states}
 use Rattle.split_cli.specs.Drive.{events_line, drive_text}
 use Rattle.split_cli.specs.Replay.{replay_text}
-use Rattle.split_cli.specs.Text.{line_text, lines_text}
+use Rattle.front_end.specs.Text.{line_text, lines_text}
 use Rattle.split_cli.specs.WorldReport.{halted_line, field_line, field_lines, host_lines, flying_line, queue_lines}
 use Rattle.split_cli.specs.WorldReport.{flying_lines, sent_line, sent_lines, host_line, state_line, elements_of}
 use Rattle.split_cli.specs.Making.{field_value, field_values}

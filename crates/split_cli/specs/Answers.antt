@@ -5,8 +5,8 @@ use Rattle.js_base.specs.Sink.{Takes, TakesFront}
 use Rattle.js_base.specs.declared.sink.Sink as sinks
 use Rattle.js_base.specs.declared.status.Status.{Status}
 use Rattle.js_base.specs.declared.status.Status.TheVariants.{OutFault, NoMemory}
-use Rattle.split_cli.specs.Verdicts.{VerdictShape, Refuse, Print, no_memory_line}
-use Rattle.split_cli.specs.Loads.{FilesChange}
+use Rattle.front_end.specs.Verdicts.{VerdictShape, Refuse, Print, no_memory_line}
+use Rattle.front_end.specs.Loads.{FilesChange}
 use Rattle.split_cli.specs.Due.{IsDue, MaySave, OfCommand}
 
 -- a sink before and after: its faults, and what it has taken where it tells

@@ -4,21 +4,17 @@ use Rattle.std.specs.Fmt.{decimal}
 use Rattle.js_base.specs.declared.status.Status.TheVariants.{Done}
 use Rattle.jif_tree.specs.Trees.{ProgramTree}
 use Rattle.jif_tree.specs.Numbering.{statement_numbers}
-use Rattle.msg_cost.specs.Cost.{plan_cost}
-use Rattle.split_cli.specs.PlacedSources.{PlacedSource, labelled_source}
+use Rattle.front_end.specs.PlacedCode.{cost_of}
+use Rattle.front_end.specs.PlacedSources.{PlacedSource}
 use Rattle.split_cli.specs.PlaceLines.{place_lines}
-use Rattle.split_cli.specs.Text.{lines_text}
-use Rattle.split_cli.specs.Verdicts.{VerdictShape, Print}
+use Rattle.front_end.specs.Text.{lines_text}
+use Rattle.front_end.specs.Verdicts.{VerdictShape, Print}
 
 -- `accepted F fields M methods S statements`, where the heads of methods count as statements
 abbrev pub accepted_line : ProgramTree → List ℕ
 accepted_line tree =
     codes "accepted " ++ decimal (length tree.fields) ++ codes " fields " ++ decimal (length tree.methods)
     ++ codes " methods " ++ decimal (length (statement_numbers tree)) ++ codes " statements"
-
--- what the plan costs
-abbrev pub cost_of : PlacedSource → ℕ
-cost_of placed = plan_cost (labelled_source placed.source) placed.needs placed.source.file placed.plan
 
 -- `cost C`, of the plan
 abbrev pub cost_line : PlacedSource → List ℕ

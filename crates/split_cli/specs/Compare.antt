@@ -13,14 +13,15 @@ use Rattle.host_code.specs.Code.{CodeShape, CodeFieldShape}
 use Rattle.net_world.specs.Secret.{IsReadable}
 use Rattle.net_world.specs.Told.{SentMessage}
 use Rattle.net_world.specs.World.{WorldShape, state_at}
-use Rattle.split_cli.specs.Drive.{code_of, first_world}
+use Rattle.split_cli.specs.Drive.{first_world}
+use Rattle.front_end.specs.PlacedCode.{code_of}
 use Rattle.split_cli.specs.Followed.{Followed, EventsFollowed}
-use Rattle.split_cli.specs.PlacedSources.{PlacedSource}
+use Rattle.front_end.specs.PlacedSources.{PlacedSource}
 use Rattle.split_cli.specs.Releases.{first_release}
 use Rattle.split_cli.specs.Replay.{ScriptRead, events_in}
-use Rattle.split_cli.specs.Stages.{Outcome, given, stopped, DueThen}
-use Rattle.split_cli.specs.Text.{line_text}
-use Rattle.split_cli.specs.Verdicts.{VerdictShape, Print, bad_differ, starts_differ, events_differ, not_prompt}
+use Rattle.front_end.specs.Stages.{Outcome, given, stopped, DueThen}
+use Rattle.front_end.specs.Text.{line_text}
+use Rattle.front_end.specs.Verdicts.{VerdictShape, Print, bad_differ, starts_differ, events_differ, not_prompt}
 
 -- ---- lists
 

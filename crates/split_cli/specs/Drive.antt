@@ -6,19 +6,15 @@ use Rattle.jif_tree.specs.declared.program.Program.{Program}
 use Rattle.jif_tree.specs.Trees.{program_tree}
 use Rattle.event_text.specs.declared.event.Event.{Event}
 use Rattle.host_code.specs.Code.{CodeShape}
-use Rattle.split_rules.specs.SplitCode.{split_code}
 use Rattle.net_world.specs.World.{WorldShape, world_at_start}
 use Rattle.split_cli.specs.Driven.{DrivesTo}
-use Rattle.split_cli.specs.PlacedSources.{PlacedSource, labelled_source}
-use Rattle.split_cli.specs.Stages.{DueThen}
-use Rattle.split_cli.specs.Starting.{StartingValues}
-use Rattle.split_cli.specs.Text.{lines_text}
-use Rattle.split_cli.specs.Verdicts.{VerdictShape, Print}
+use Rattle.front_end.specs.PlacedCode.{code_of}
+use Rattle.front_end.specs.PlacedSources.{PlacedSource}
+use Rattle.front_end.specs.Stages.{DueThen}
+use Rattle.front_end.specs.Starting.{StartingValues}
+use Rattle.front_end.specs.Text.{lines_text}
+use Rattle.front_end.specs.Verdicts.{VerdictShape, Print}
 use Rattle.split_cli.specs.WorldReport.{world_lines}
-
--- the code of all hosts
-abbrev pub code_of : PlacedSource → CodeShape
-code_of placed = split_code (labelled_source placed.source) placed.needs placed.source.file placed.plan
 
 -- the world before the first event; bit h of the word says that host h misbehaves
 abbrev pub first_world : PlacedSource → ℕ → List (List ℤ) → WorldShape

@@ -4,12 +4,12 @@ use Rattle.std.specs.List.{AllZip}
 use Rattle.js_base.specs.declared.status.Status.TheVariants.{Done}
 use Rattle.split_cli.specs.Commands.{CommandShape, Check, Run, Replay, Drive, Compare, Split, Make}
 use Rattle.split_cli.specs.Commands.{IsCommand, words_of, files_of, HaveNoForm}
-use Rattle.split_cli.specs.Verdicts.{VerdictShape, Print, usage, no_such_file}
-use Rattle.split_cli.specs.Loads.{FilesChange, Told, AreKept, LoadsWell, IsFirstAbsent, IsFileFault}
+use Rattle.front_end.specs.Verdicts.{VerdictShape, Print, usage, no_such_file}
+use Rattle.front_end.specs.Loads.{FilesChange, Told, AreKept, LoadsWell, IsFirstAbsent, IsFileFault}
 use Rattle.split_cli.specs.Saves.{SavesUnder, IsSaved, IsSaveFault}
-use Rattle.split_cli.specs.Stages.{given, DueThen}
-use Rattle.split_cli.specs.Sources.{Sources}
-use Rattle.split_cli.specs.PlacedSources.{PlacedSources}
+use Rattle.front_end.specs.Stages.{given, DueThen}
+use Rattle.front_end.specs.Sources.{Sources}
+use Rattle.front_end.specs.PlacedSources.{PlacedSources}
 use Rattle.split_cli.specs.Check.{plan_report}
 use Rattle.split_cli.specs.Compare.{DueForCompare}
 use Rattle.split_cli.specs.Making.{DueForMake}

@@ -22,12 +22,13 @@ use Rattle.net_world.specs.Choice.{NoneRuns, NothingFlies}
 use Rattle.net_world.specs.World.{WorldShape, IsRun, state_at, has_halted}
 use Rattle.simulation.specs.Ending.{EVENTS}
 use Rattle.simulation.specs.Obeying.{FieldsAre, Follows}
-use Rattle.split_cli.specs.Drive.{code_of, first_world, drive_text}
+use Rattle.split_cli.specs.Drive.{first_world, drive_text}
+use Rattle.front_end.specs.PlacedCode.{code_of}
 use Rattle.split_cli.specs.Driven.{DrivesTo}
-use Rattle.split_cli.specs.Loads.{Told}
-use Rattle.split_cli.specs.PlacedSources.{PlacedSource, PlacedSources}
+use Rattle.front_end.specs.Loads.{Told}
+use Rattle.front_end.specs.PlacedSources.{PlacedSource, PlacedSources}
 use Rattle.split_cli.specs.Replay.{events_in, replay_text}
-use Rattle.split_cli.specs.Stages.{given}
+use Rattle.front_end.specs.Stages.{given}
 
 -- What a program and a host file of these bytes say and what is chosen for it, with the program as a tree.
 pub record IsPlacedAs (program hosts : List ℕ) (placed : PlacedSource) (tree : Program) : Type 0 where

@@ -5,7 +5,7 @@ use Rattle.host_code.specs.Code.{CodeShape}
 use Rattle.net_world.specs.Secret.{IsSecret, IsQuiet}
 use Rattle.net_world.specs.World.{WorldShape, IsStep, Refusal}
 use Rattle.split_cli.specs.Replay.{IsRefusedAt, event_refused}
-use Rattle.split_cli.specs.Stages.{Outcome, given, stopped}
+use Rattle.front_end.specs.Stages.{Outcome, given, stopped}
 
 -- The events that misbehaving hosts may see, each with its line; the line of the first of these at whose moment the
 -- world was not quiet; and the world that all events leave.

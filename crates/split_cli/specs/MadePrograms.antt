@@ -2,7 +2,7 @@
 use Rattle.std.specs.Prelude.{ℕ, ◌%◌, ◌==◌, if◌then◌else◌, List, [], ◌∷◌, ◌++◌, codes, map}
 use Rattle.std.specs.Fmt.{decimal}
 use Rattle.std.specs.List.{range_with_len}
-use Rattle.split_cli.specs.Text.{lines_text}
+use Rattle.front_end.specs.Text.{lines_text}
 
 -- T is trusted by both, and each of the others sees what is its owner's, who alone trusts it
 abbrev pub made_hosts : List ℕ

@@ -5,14 +5,14 @@ use Rattle.host_code.specs.Code.{CodeShape, CodeFieldShape}
 use Rattle.host_core.specs.Host.{HostShape}
 use Rattle.net_world.specs.World.{WorldShape, state_at}
 use Rattle.split_cli.specs.declared.words.TheConstants.{STEPS}
-use Rattle.split_cli.specs.Check.{cost_of}
+use Rattle.front_end.specs.PlacedCode.{cost_of}
 use Rattle.split_cli.specs.Drive.{DueForDriven}
 use Rattle.split_cli.specs.MadePrograms.{made_hosts, made_program}
-use Rattle.split_cli.specs.PlacedSources.{PlacedSource, PlacedSources}
+use Rattle.front_end.specs.PlacedSources.{PlacedSource, PlacedSources}
 use Rattle.split_cli.specs.Report.{row_text}
-use Rattle.split_cli.specs.Stages.{DueThen}
-use Rattle.split_cli.specs.Text.{line_text}
-use Rattle.split_cli.specs.Verdicts.{VerdictShape}
+use Rattle.front_end.specs.Stages.{DueThen}
+use Rattle.front_end.specs.Text.{line_text}
+use Rattle.front_end.specs.Verdicts.{VerdictShape}
 use Rattle.split_cli.specs.WorldReport.{elements_of}
 
 -- ---- what is told

@@ -8,7 +8,7 @@ use Rattle.host_decl.specs.Hosts.{HostShape}
 use Rattle.jif_tree.specs.Numbering.{statement_lines}
 use Rattle.jif_tree.specs.Trees.{FieldTree}
 use Rattle.need_labels.specs.Plan.{field_host, statement_host}
-use Rattle.split_cli.specs.PlacedSources.{PlacedSource}
+use Rattle.front_end.specs.PlacedSources.{PlacedSource}
 
 -- the names of the hosts whose bit is set in a word, each after a blank; the first of them has this number
 abbrev pub names_in : ℕ → ℕ → List HostShape → List ℕ

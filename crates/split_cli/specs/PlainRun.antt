@@ -9,10 +9,10 @@ use Rattle.source_run.specs.declared.plain.RunEnd.{RunEnd}
 use Rattle.source_run.specs.declared.plain.RunEnd.TheVariants.{Ended, NotYet}
 use Rattle.source_run.specs.Runs.{RunsTo}
 use Rattle.split_cli.specs.Report.{row_line}
-use Rattle.split_cli.specs.Stages.{DueThen}
-use Rattle.split_cli.specs.Starting.{StartingValues}
-use Rattle.split_cli.specs.Text.{lines_text}
-use Rattle.split_cli.specs.Verdicts.{VerdictShape, Print}
+use Rattle.front_end.specs.Stages.{DueThen}
+use Rattle.front_end.specs.Starting.{StartingValues}
+use Rattle.front_end.specs.Text.{lines_text}
+use Rattle.front_end.specs.Verdicts.{VerdictShape, Print}
 
 -- ---- the report
 

@@ -18,12 +18,13 @@ use Rattle.net_world.specs.declared.world.EventError.{EventError}
 use Rattle.net_world.specs.declared.world.EventError.TheVariants as answer
 use Rattle.split_cli.specs.declared.replaying.ReplayError.{ReplayError}
 use Rattle.split_cli.specs.declared.replaying.ReplayError.TheVariants as error
-use Rattle.split_cli.specs.Drive.{code_of, first_world}
-use Rattle.split_cli.specs.PlacedSources.{PlacedSource}
-use Rattle.split_cli.specs.Stages.{Outcome, given, stopped, DueThen}
-use Rattle.split_cli.specs.Text.{lines_text}
-use Rattle.split_cli.specs.Verdicts.{VerdictShape, Print, too_long, no_form, event_not_there}
-use Rattle.split_cli.specs.Verdicts.{event_host_busy, event_not_misbehaving, event_no_token}
+use Rattle.split_cli.specs.Drive.{first_world}
+use Rattle.front_end.specs.PlacedCode.{code_of}
+use Rattle.front_end.specs.PlacedSources.{PlacedSource}
+use Rattle.front_end.specs.Stages.{Outcome, given, stopped, DueThen}
+use Rattle.front_end.specs.Text.{lines_text}
+use Rattle.front_end.specs.Verdicts.{VerdictShape, Print, too_long, no_form, event_not_there}
+use Rattle.front_end.specs.Verdicts.{event_host_busy, event_not_misbehaving, event_no_token}
 use Rattle.split_cli.specs.WorldReport.{world_lines}
 
 -- events that stand on the lines of a script, each with the number of its line

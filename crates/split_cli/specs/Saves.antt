@@ -2,8 +2,8 @@
 use Rattle.std.specs.Prelude.{◌≡◌, ℕ, List, Some, IfSome}
 use Rattle.js_base.specs.Counts.{counted, Rose}
 use Rattle.js_base.specs.Files.{ChangesOnly}
-use Rattle.split_cli.specs.Loads.{FilesChange, counted_by}
-use Rattle.split_cli.specs.Verdicts.{VerdictShape, file_fault}
+use Rattle.front_end.specs.Loads.{FilesChange, counted_by}
+use Rattle.front_end.specs.Verdicts.{VerdictShape, file_fault}
 
 -- one save was asked for, and nothing has changed but what is held under this name
 pub record SavesUnder (name : List ℕ) (files : FilesChange) : Type 0 where

@@ -3,10 +3,10 @@ use Rattle.std.specs.Prelude.{◌≡◌, ℕ, List, ◌++◌, string_bytes}
 use Rattle.split_file.specs.Spelling.{split_file}
 use Rattle.split_cli.specs.Check.{plan_lines}
 use Rattle.split_cli.specs.CodeLines.{code_lines}
-use Rattle.split_cli.specs.Drive.{code_of}
-use Rattle.split_cli.specs.PlacedSources.{PlacedSource, PlacedSources}
-use Rattle.split_cli.specs.Stages.{Outcome, given, Then}
-use Rattle.split_cli.specs.Text.{lines_text}
+use Rattle.front_end.specs.PlacedCode.{code_of}
+use Rattle.front_end.specs.PlacedSources.{PlacedSource, PlacedSources}
+use Rattle.front_end.specs.Stages.{Outcome, given, Then}
+use Rattle.front_end.specs.Text.{lines_text}
 use Rattle.split_cli.specs.declared.commands.split.Split.{Split}
 
 -- the bytes that are saved, and the text that is printed

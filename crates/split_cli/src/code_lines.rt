@@ -5,7 +5,7 @@ ghost use Rattle.std.specs.List.{flat_map, range_with_len};
 ghost use Rattle.std.specs.String.{string_bytes};
 ghost use Rattle.split_cli.specs.CodeLines.{code_lines, entry_line, entry_lines, instruction_line, instruction_lines};
 ghost use Rattle.split_cli.specs.CodeLines.{part_lines};
-ghost use Rattle.split_cli.specs.Text.{line_text, lines_text};
+ghost use Rattle.front_end.specs.Text.{line_text, lines_text};
 
 use host_code::{Code, Entry, Instr, host_name, instruction_text};
 use js_base::limits::HOSTS;

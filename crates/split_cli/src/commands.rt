@@ -11,7 +11,7 @@ pub mod replay;
 pub mod run;
 pub mod split;
 
-use crate::load::Asked;
+use front_end::Asked;
 use js_base::limits::{HOSTS_BYTES, PROGRAM_BYTES, SCRIPT_BYTES};
 
 /// A program.

@@ -10,18 +10,16 @@ ghost use Rattle.split_cli.specs.Compare.{AreAlike, Compared, DifferAt, GoApart,
 ghost use Rattle.split_cli.specs.Compare.{SameBits, SameEvents, SameValues, StartAlike, StartsUnlike, agree_text};
 ghost use Rattle.split_cli.specs.Compare.{differ_text};
 ghost use Rattle.split_cli.specs.FollowedRuns.{run_with};
-ghost use Rattle.split_cli.specs.Loading.{EndsAs};
-ghost use Rattle.split_cli.specs.PlacedShapes.{placed_shape};
+ghost use Rattle.front_end.specs.Loading.{EndsAs};
+ghost use Rattle.front_end.specs.PlacedShapes.{placed_shape};
 ghost use Rattle.split_cli.specs.Replay.{events_in};
-ghost use Rattle.split_cli.specs.Verdicts.{Print, verdict_shape};
+ghost use Rattle.front_end.specs.Verdicts.{Print, verdict_shape};
 
 use crate::following::Seen;
 use crate::message_parts::{is_same_event, is_same_sent};
-use crate::placed::PlacedSource;
 use crate::releasing::first_release;
-use crate::stop::{Stop, stopped};
-use crate::verdict::Verdict;
 use event_text::Event;
+use front_end::{PlacedSource, Stop, Verdict, stopped};
 use host_code::{Code, CodeField, Message};
 use jif_tree::{Row, Store};
 use js_base::{HostId, OutOfMemory, Status};

@@ -6,13 +6,13 @@ ghost use Rattle.net_world.specs.Steps.{HaveMade};
 ghost use Rattle.net_world.specs.World.{WorldShape};
 ghost use Rattle.split_cli.specs.Followed.{IsFollowed, EventsFollowed};
 ghost use Rattle.split_cli.specs.FollowedRuns.{IsAdded, first_late, run_of, run_with};
-ghost use Rattle.split_cli.specs.Loading.{EndsAs};
+ghost use Rattle.front_end.specs.Loading.{EndsAs};
 ghost use Rattle.split_cli.specs.Replay.{IsReplayError};
 
 use crate::replaying::{ReplayError, refused};
 use crate::scripts::events_refused;
-use crate::stop::Stop;
 use event_text::Event;
+use front_end::Stop;
 use host_code::Code;
 use js_base::OutOfMemory;
 use net_world::World;

@@ -6,45 +6,25 @@ ghost use Rattle.event_text.specs.declared.event.Event.{Event};
 ghost use Rattle.host_code.specs.Code.{CodeShape};
 ghost use Rattle.net_world.specs.World.{WorldShape, IsRun};
 ghost use Rattle.simulation.specs.Driven.{IsDriven};
-ghost use Rattle.split_cli.specs.Verdicts.{VerdictShape, usage, no_such_file};
-ghost use Rattle.split_cli.specs.Loads.{FilesChange, IsFileFault};
+ghost use Rattle.front_end.specs.Verdicts.{VerdictShape, usage, no_such_file};
+ghost use Rattle.front_end.specs.Loads.{FilesChange};
 ghost use Rattle.split_cli.specs.Due.{Due, IsDue};
 ghost use Rattle.split_cli.specs.MadePrograms.{made_head, made_program};
-ghost use Rattle.split_cli.specs.PlacedSources.{PlacedSource, PlacedSources};
-ghost use Rattle.split_cli.specs.Sources.{Source, Sources};
-ghost use Rattle.split_cli.specs.Stages.{Outcome};
-ghost use Rattle.split_cli.specs.Text.{lines_text};
+ghost use Rattle.front_end.specs.Text.{lines_text};
 
 use event_text::script_laws;
+use front_end::source_laws;
 use host_decl::host_file_laws;
-use jif_grammar::{grammar_laws, verdict_laws as token_verdicts};
-use jif_lex::{lex_laws, reading_laws, token_laws};
+use jif_lex::token_laws;
 use jif_parse::named_laws;
-use jif_resolve::{limit_laws, program_laws, resolve_laws, verdict_laws as name_verdicts};
-use label_check::failure_laws;
-use need_labels::need_laws;
+use jif_resolve::{limit_laws, program_laws};
 use net_world::laws::{fits_laws, secret_laws, step_laws};
-use place_rules::place_rule_laws;
 use placement::placement_laws;
 use source_run::run_laws;
 use split_rules::split_laws;
 
 /// Laws of what is due, for who reasons about answers. The call does nothing.
 pub fn due_laws()
-    // A program and a host file say one program and its hosts, or are refused for one cause.
-    ensures one_source { (program hosts : List ℕ) (first second : Outcome Source) →
-        Sources program hosts first → Sources program hosts second → first ≡ second }
-
-    // One of the two comes of all bytes.
-    ensures some_source { (program hosts : List ℕ) → (end : Outcome Source) × Sources program hosts end }
-
-    // Its parts get one row of places, or the first that no host may hold is named.
-    ensures one_plan { (program hosts : List ℕ) (first second : Outcome PlacedSource) →
-        PlacedSources program hosts first → PlacedSources program hosts second → first ≡ second }
-
-    // One of the two comes of all bytes.
-    ensures some_plan { (program hosts : List ℕ) → (end : Outcome PlacedSource) × PlacedSources program hosts end }
-
     // For words and files that tell what they hold one verdict is due, after one number of loads.
     ensures one_verdict { (words : List (List ℕ)) (holds : List ℕ → Option (List ℕ))
         (number other : ℕ) (first second : VerdictShape) →
@@ -74,26 +54,13 @@ pub fn due_laws()
     // The events of a drive are a run of the world.
     ensures driven_runs { (code : CodeShape) (world after : WorldShape) (events : List Event) →
         IsDriven code world events after → IsRun code world events after }
-
-    // A file fault is due for one place of the names, as long as the count of loads tells it.
-    ensures one_fault { (names : List (List ℕ)) (files : FilesChange) (first second : VerdictShape)
-        (one : IsFileFault names files first) (two : IsFileFault names files second) →
-        files.loads_after < last_count → one.place ≡ two.place }
 {
-    lex_laws();
-    reading_laws();
+    source_laws();
     token_laws();
     named_laws();
-    grammar_laws();
-    token_verdicts();
     host_file_laws();
-    resolve_laws();
     program_laws();
     limit_laws();
-    name_verdicts();
-    failure_laws();
-    need_laws();
-    place_rule_laws();
     placement_laws();
     run_laws();
     split_laws();

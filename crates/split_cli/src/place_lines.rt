@@ -3,13 +3,12 @@
 ghost use Rattle.std.specs.Prelude.{◌≡◌, ◌≤◌, ◌<◌, ◌^◌, ◌++◌, ◌∷◌, ℕ, OnOk, length, map};
 ghost use Rattle.std.specs.String.{string_bytes};
 ghost use Rattle.jif_tree.specs.Trees.{field_tree};
-ghost use Rattle.split_cli.specs.PlacedShapes.{placed_shape};
+ghost use Rattle.front_end.specs.PlacedShapes.{placed_shape};
 ghost use Rattle.split_cli.specs.PlaceLines.{field_place, field_places, name_at, names_in, place_lines, placing};
 ghost use Rattle.split_cli.specs.PlaceLines.{statement_place, statement_places};
-ghost use Rattle.split_cli.specs.Text.{line_text, lines_text};
+ghost use Rattle.front_end.specs.Text.{line_text, lines_text};
 
-use crate::placed::PlacedSource;
-use crate::statement_lines::statement_lines;
+use front_end::{PlacedSource, statement_lines};
 use host_decl::HostRow;
 use jif_tree::Field;
 use js_base::bits::has_bit;

@@ -5,7 +5,7 @@ ghost use Rattle.std.specs.Fmt.{signed_decimal};
 ghost use Rattle.std.specs.List.{flat_map};
 ghost use Rattle.std.specs.String.{string_bytes};
 ghost use Rattle.split_cli.specs.Report.{row_line, row_text};
-ghost use Rattle.split_cli.specs.Text.{line_text};
+ghost use Rattle.front_end.specs.Text.{line_text};
 
 use js_base::OutOfMemory;
 use std::fmt::Write;

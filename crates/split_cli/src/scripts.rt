@@ -1,6 +1,6 @@
-//! What a script says, and the world that its events leave.
+//! What a script says, the world that it begins with, and the world that its events leave.
 
-ghost use Rattle.std.specs.Prelude.{ℕ, List, All, IfOk};
+ghost use Rattle.std.specs.Prelude.{◌≡◌, ℕ, List, All, IfOk};
 ghost use Rattle.js_base.specs.declared.limits.TheConstants.{SCRIPT_BYTES};
 ghost use Rattle.event_text.specs.OwnTokens.{IsOwnEvent};
 ghost use Rattle.net_world.specs.Fits.{WorldFits, HasOwnToken, world_of};
@@ -8,16 +8,19 @@ ghost use Rattle.net_world.specs.Steps.{HaveMade};
 ghost use Rattle.event_text.specs.declared.event.Event.{Event};
 ghost use Rattle.host_code.specs.Code.{CodeShape};
 ghost use Rattle.net_world.specs.World.{WorldShape};
-ghost use Rattle.split_cli.specs.Loading.{EndsAs, IsLoaded, StopsWith};
+ghost use Rattle.front_end.specs.Loading.{EndsAs, IsLoaded, StopsWith};
+ghost use Rattle.front_end.specs.PlacedCode.{code_of};
+ghost use Rattle.front_end.specs.PlacedShapes.{placed_shape};
+ghost use Rattle.split_cli.specs.Drive.{first_world};
 ghost use Rattle.split_cli.specs.Replay.{AreRefused, EventsHappen, IsReplayError, ScriptRead};
 
-use crate::load::Loaded;
 use crate::replaying::{ReplayError, replay};
-use crate::stop::{Stop, stopped};
-use crate::verdict::Verdict;
 use event_text::{Event, EventsError, Script, read_events};
+use front_end::{Loaded, PlacedSource, Stop, Verdict, stopped};
 use host_code::Code;
+use js_base::OutOfMemory;
 use net_world::World;
+use net_world::laws::fits_laws;
 use std::alloc::Global;
 
 /// What a script of this name says of the hosts and fields of a code.
@@ -38,6 +41,27 @@ pub fn read_script(alloc: Global, name: &str, code: &Code, script: &Loaded) -> R
         Err(EventsError::TooLong) => Err(stopped(Verdict::too_long(alloc, name))),
         Err(EventsError::OutOfMemory) => Err(Stop::OutOfMemory),
     }
+}
+
+/// The world before the first event of a script, of a program in its places and its code.
+pub fn first_world(
+    alloc: Global,
+    placed: &PlacedSource,
+    code: &Code,
+    said: &Script,
+) -> Result<World, OutOfMemory>
+    requires code { code.now ≡ code_of (placed_shape placed.now) }
+    requires own { All (λ one. IsOwnEvent code.now.hosts said.now.bad one.1) said.now.events }
+    ensures first { IfOk result (λ world.
+        world_of world ≡ first_world (placed_shape placed.now) said.now.bad said.now.start) }
+    ensures fits { IfOk result (WorldFits code.now) }
+    ensures fresh { IfOk result (λ world. HaveMade 0 world.hosts) }
+    ensures own { IfOk result (λ world. All (λ one. HasOwnToken (world_of world) one.1) said.now.events) }
+{
+    fits_laws();
+    let bad = said.bad();
+    let store = said.start();
+    World::start(alloc, code, placed.hosts(), bad, store)
 }
 
 /// The world that the events of a script of this name leave, from a world that has just started.

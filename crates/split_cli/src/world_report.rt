@@ -8,7 +8,7 @@ ghost use Rattle.net_world.specs.Fits.{WorldFits, world_of};
 ghost use Rattle.split_cli.specs.Drive.{drive_text, events_line};
 ghost use Rattle.split_cli.specs.Making.{made_text};
 ghost use Rattle.split_cli.specs.Replay.{replay_text};
-ghost use Rattle.split_cli.specs.Text.{line_text};
+ghost use Rattle.front_end.specs.Text.{line_text};
 ghost use Rattle.split_cli.specs.WorldReport.{halted_line};
 
 mod fields;

@@ -5,24 +5,20 @@ ghost use Rattle.js_base.specs.declared.limits.TheConstants.{PROGRAM_BYTES, HOST
 ghost use Rattle.event_text.specs.OwnTokens.{IsOwnEvent};
 ghost use Rattle.split_cli.specs.Commands as command;
 ghost use Rattle.split_cli.specs.Compare.{DueForSaid};
-ghost use Rattle.split_cli.specs.Drive.{code_of};
+ghost use Rattle.front_end.specs.PlacedCode.{code_of};
 ghost use Rattle.split_cli.specs.Due.{DueForBytes, IsDueForCommand};
-ghost use Rattle.split_cli.specs.Loading.{EndsIn, IsLoaded};
-ghost use Rattle.split_cli.specs.Loads.{AreKept, files_change};
-ghost use Rattle.split_cli.specs.PlacedShapes.{placed_shape};
+ghost use Rattle.front_end.specs.Loading.{EndsIn, IsLoaded};
+ghost use Rattle.front_end.specs.Loads.{AreKept, files_change};
+ghost use Rattle.front_end.specs.PlacedShapes.{placed_shape};
 
 use crate::commands::{host_file, program_file, script_file};
 use crate::comparing::{
     compared, is_prompt, same_events, same_misbehave, same_starts, unlike_field,
 };
 use crate::following::follow;
-use crate::load::{Loaded, load_all};
-use crate::placed::{PlacedSource, read_places};
-use crate::placed_code::{code_of, first_world};
-use crate::scripts::read_script;
-use crate::stop::Stop;
-use crate::verdict::Verdict;
+use crate::scripts::{first_world, read_script};
 use event_text::Script;
+use front_end::{Loaded, PlacedSource, Stop, Verdict, code_of, load_all, read_places};
 use host_code::Code;
 use js_base::Files;
 use std::alloc::Global;

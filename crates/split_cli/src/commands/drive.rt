@@ -7,20 +7,17 @@ ghost use Rattle.split_cli.specs.Commands as command;
 ghost use Rattle.split_cli.specs.Commands.{IsStepCount};
 ghost use Rattle.split_cli.specs.Drive.{IsDriveReport};
 ghost use Rattle.split_cli.specs.Due.{DueForBytes, IsDueForCommand};
-ghost use Rattle.split_cli.specs.Loading.{EndsIn, IsLoaded};
-ghost use Rattle.split_cli.specs.Loads.{AreKept, files_change};
-ghost use Rattle.split_cli.specs.PlacedShapes.{placed_shape};
-ghost use Rattle.split_cli.specs.Verdicts.{verdict_shape};
+ghost use Rattle.front_end.specs.Loading.{EndsIn, IsLoaded};
+ghost use Rattle.front_end.specs.Loads.{AreKept, files_change};
+ghost use Rattle.front_end.specs.PlacedShapes.{placed_shape};
+ghost use Rattle.front_end.specs.Verdicts.{verdict_shape};
 
 use crate::commands::{host_file, program_file, script_file};
 use crate::driving::drive;
-use crate::load::{Loaded, load_all};
-use crate::placed::{PlacedSource, read_places};
-use crate::placed_code::code_of;
-use crate::starting::starting_values;
-use crate::stop::Stop;
-use crate::verdict::Verdict;
 use crate::world_report::drive_text;
+use front_end::{
+    Loaded, PlacedSource, Stop, Verdict, code_of, load_all, read_places, starting_values,
+};
 use jif_tree::Store;
 use js_base::{Files, OutOfMemory};
 use net_world::World;

@@ -3,27 +3,24 @@
 ghost use Rattle.std.specs.Prelude.{◌≡◌, [], IfOk};
 ghost use Rattle.js_base.specs.declared.limits.TheConstants.{PROGRAM_BYTES, HOSTS_BYTES};
 ghost use Rattle.split_cli.specs.declared.words.TheConstants.{STEPS};
-ghost use Rattle.split_cli.specs.Check.{cost_of};
+ghost use Rattle.front_end.specs.PlacedCode.{cost_of};
 ghost use Rattle.split_cli.specs.Commands as command;
 ghost use Rattle.split_cli.specs.Drive.{TellsDrive};
 ghost use Rattle.split_cli.specs.Due.{IsDueForCommand};
-ghost use Rattle.split_cli.specs.Loading.{EndsIn, IsLoaded};
-ghost use Rattle.split_cli.specs.Loads.{files_change};
+ghost use Rattle.front_end.specs.Loading.{EndsIn, IsLoaded};
+ghost use Rattle.front_end.specs.Loads.{files_change};
 ghost use Rattle.split_cli.specs.MadePrograms as made;
 ghost use Rattle.split_cli.specs.Making.{DueForMake, made_text};
-ghost use Rattle.split_cli.specs.PlacedShapes.{placed_shape};
-ghost use Rattle.split_cli.specs.Verdicts.{verdict_shape};
+ghost use Rattle.front_end.specs.PlacedShapes.{placed_shape};
+ghost use Rattle.front_end.specs.Verdicts.{verdict_shape};
 
 use crate::driving::drive;
-use crate::load::{Loaded, as_loaded};
 use crate::making::{made_hosts, made_program};
-use crate::placed::{PlacedSource, read_places};
-use crate::placed_code::code_of;
-use crate::starting::starting_values;
-use crate::stop::Stop;
-use crate::verdict::Verdict;
 use crate::words::STEPS;
 use crate::world_report::made_text;
+use front_end::{
+    Loaded, PlacedSource, Stop, Verdict, as_loaded, code_of, read_places, starting_values,
+};
 use jif_tree::Store;
 use js_base::limits::{HOSTS_BYTES, PROGRAM_BYTES, SCRIPT_BYTES};
 use js_base::{Files, OutOfMemory};

@@ -4,22 +4,18 @@ ghost use Rattle.std.specs.Prelude.{◌≡◌, ◌≤◌, ◌+◌, ◌∷◌, []
 ghost use Rattle.js_base.specs.declared.limits.TheConstants.{PROGRAM_BYTES, HOSTS_BYTES, SCRIPT_BYTES};
 ghost use Rattle.event_text.specs.OwnTokens.{IsOwnEvent};
 ghost use Rattle.split_cli.specs.Commands as command;
-ghost use Rattle.split_cli.specs.Drive.{code_of};
+ghost use Rattle.front_end.specs.PlacedCode.{code_of};
 ghost use Rattle.split_cli.specs.Due.{DueForBytes, IsDueForCommand};
-ghost use Rattle.split_cli.specs.Loading.{EndsIn, IsLoaded};
-ghost use Rattle.split_cli.specs.Loads.{AreKept, files_change};
-ghost use Rattle.split_cli.specs.PlacedShapes.{placed_shape};
+ghost use Rattle.front_end.specs.Loading.{EndsIn, IsLoaded};
+ghost use Rattle.front_end.specs.Loads.{AreKept, files_change};
+ghost use Rattle.front_end.specs.PlacedShapes.{placed_shape};
 ghost use Rattle.split_cli.specs.Replay.{DueForSaid};
 
 use crate::commands::{host_file, program_file, script_file};
-use crate::load::{Loaded, load_all};
-use crate::placed::{PlacedSource, read_places};
-use crate::placed_code::{code_of, first_world};
-use crate::scripts::{events_happen, read_script};
-use crate::stop::Stop;
-use crate::verdict::Verdict;
+use crate::scripts::{events_happen, first_world, read_script};
 use crate::world_report::replay_text;
 use event_text::Script;
+use front_end::{Loaded, PlacedSource, Stop, Verdict, code_of, load_all, read_places};
 use host_code::Code;
 use js_base::{Files, Status};
 use std::alloc::Global;

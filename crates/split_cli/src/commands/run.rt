@@ -6,19 +6,15 @@ ghost use Rattle.js_base.specs.declared.limits.TheConstants.{PROGRAM_BYTES, HOST
 ghost use Rattle.jif_tree.specs.Trees.{field_tree};
 ghost use Rattle.split_cli.specs.Commands as command;
 ghost use Rattle.split_cli.specs.Due.{DueForBytes, IsDueForCommand};
-ghost use Rattle.split_cli.specs.Loading.{EndsIn, IsLoaded};
-ghost use Rattle.split_cli.specs.Loads.{AreKept, files_change};
+ghost use Rattle.front_end.specs.Loading.{EndsIn, IsLoaded};
+ghost use Rattle.front_end.specs.Loads.{AreKept, files_change};
 ghost use Rattle.split_cli.specs.PlainRun.{IsRunReport, end_line, end_status, run_report, store_lines};
-ghost use Rattle.split_cli.specs.Text.{line_text, lines_text};
-ghost use Rattle.split_cli.specs.Verdicts.{verdict_shape};
+ghost use Rattle.front_end.specs.Text.{line_text, lines_text};
+ghost use Rattle.front_end.specs.Verdicts.{verdict_shape};
 
 use crate::commands::{host_file, program_file, script_file};
-use crate::load::{Loaded, load_all};
 use crate::row_line::push_row_line;
-use crate::sources::read_sources;
-use crate::starting::starting_values;
-use crate::stop::Stop;
-use crate::verdict::Verdict;
+use front_end::{Loaded, Stop, Verdict, load_all, read_sources, starting_values};
 use jif_tree::{Field, Program, Row, Store};
 use js_base::{Files, OutOfMemory, Status};
 use source_run::RunEnd;

@@ -6,21 +6,17 @@ ghost use Rattle.js_base.specs.declared.limits.TheConstants.{PROGRAM_BYTES, HOST
 ghost use Rattle.js_base.specs.declared.status.Status.{Status};
 ghost use Rattle.split_cli.specs.Commands as command;
 ghost use Rattle.split_cli.specs.Due.{IsDueForCommand, MaySave};
-ghost use Rattle.split_cli.specs.Loading.{EndsAs, EndsIn, IsLoaded, StopsWith};
-ghost use Rattle.split_cli.specs.Loads.{files_change};
-ghost use Rattle.split_cli.specs.PlacedShapes.{placed_shape};
+ghost use Rattle.front_end.specs.Loading.{EndsAs, EndsIn, IsLoaded, StopsWith};
+ghost use Rattle.front_end.specs.Loads.{files_change};
+ghost use Rattle.front_end.specs.PlacedShapes.{placed_shape};
 ghost use Rattle.split_cli.specs.Saves.{IsSaved, SavesUnder};
 ghost use Rattle.split_cli.specs.Split.{SplitSources, split_of, split_shape};
-ghost use Rattle.split_cli.specs.Verdicts.{Print, file_fault, verdict_shape};
+ghost use Rattle.front_end.specs.Verdicts.{Print, file_fault, verdict_shape};
 
 use crate::code_lines::push_code;
 use crate::commands::check::plan_text;
 use crate::commands::{host_file, program_file};
-use crate::load::{Loaded, load_all};
-use crate::placed::{PlacedSource, read_places};
-use crate::placed_code::code_of;
-use crate::stop::{Stop, stopped};
-use crate::verdict::Verdict;
+use front_end::{Loaded, PlacedSource, Stop, Verdict, code_of, load_all, read_places, stopped};
 use js_base::{Files, OutOfMemory, SaveError, Status};
 use split_file::write;
 use std::alloc::Global;

@@ -7,7 +7,7 @@ ghost use Rattle.net_world.specs.Fits.{world_of};
 ghost use Rattle.net_world.specs.World.{state_at};
 ghost use Rattle.split_cli.specs.Making.{field_value, field_values};
 ghost use Rattle.split_cli.specs.WorldReport.{elements_of, field_line, field_lines};
-ghost use Rattle.split_cli.specs.Text.{lines_text};
+ghost use Rattle.front_end.specs.Text.{lines_text};
 
 use crate::row_line::{push_row, push_row_line};
 use host_code::{Code, CodeField};

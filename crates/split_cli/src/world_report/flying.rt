@@ -5,7 +5,7 @@ ghost use Rattle.std.specs.String.{string_bytes};
 ghost use Rattle.host_code.specs.Messages.{MessageFits};
 ghost use Rattle.net_world.specs.Fits.{WorldFits, world_of};
 ghost use Rattle.split_cli.specs.WorldReport.{flying_line, flying_lines, lines_from, queue_lines};
-ghost use Rattle.split_cli.specs.Text.{line_text, lines_text};
+ghost use Rattle.front_end.specs.Text.{line_text, lines_text};
 
 use host_code::{Code, Message, host_name, message_text};
 use js_base::limits::HOSTS;

@@ -7,7 +7,7 @@ ghost use Rattle.host_core.specs.Host.{state_of};
 ghost use Rattle.net_world.specs.Fits.{world_of};
 ghost use Rattle.net_world.specs.World.{state_at};
 ghost use Rattle.split_cli.specs.WorldReport.{host_line, host_lines, state_line};
-ghost use Rattle.split_cli.specs.Text.{line_text, lines_text};
+ghost use Rattle.front_end.specs.Text.{line_text, lines_text};
 
 use host_code::{Code, host_name};
 use host_core::Host;

@@ -2,7 +2,7 @@ use Rattle.std.proofs.Common.{◌≡◌, ◌++◌}
 use Rattle.std.specs.List.{flat_map, range_with_len}
 use Rattle.std.specs.String.{string_bytes}
 use Rattle.split_cli.specs.CodeLines.{part_lines}
-use Rattle.split_cli.specs.Text.{lines_text}
+use Rattle.front_end.specs.Text.{lines_text}
 use Rattle.split_cli.proofs.code_lines.push_parts.Given as goal
 
 -- the lines of the hosts so far were added

@@ -2,10 +2,10 @@ use Rattle.std.proofs.Common.{◌≡◌, ℕ, sym, ap, ◌∙◌, subst}
 use Rattle.std.proofs.lemmas.Result.{IfOk-weaker}
 use Rattle.js_base.specs.declared.status.Status.TheVariants.{Differ}
 use Rattle.split_cli.specs.Compare.{Compared, agree, differ, differ_text}
-use Rattle.split_cli.specs.PlacedShapes.{PlacedModel, placed_shape}
+use Rattle.front_end.specs.PlacedShapes.{PlacedModel, placed_shape}
 use Rattle.split_cli.specs.Releases.{first_release}
-use Rattle.split_cli.specs.SourceShapes.{SourceModel}
-use Rattle.split_cli.specs.Verdicts.{VerdictShape, Print}
+use Rattle.front_end.specs.SourceShapes.{SourceModel}
+use Rattle.front_end.specs.Verdicts.{VerdictShape, Print}
 use Rattle.split_cli.proofs.comparing.compared.Goals as goal
 
 pub returns-in_default : goal.returns-in_default

@@ -1,7 +1,7 @@
 use Rattle.std.proofs.Common.{◌≡◌, ℕ, Some, None}
 use Rattle.std.proofs.lemmas.Result.{IfOk-weaker}
 use Rattle.split_cli.specs.Compare.{holds}
-use Rattle.split_cli.specs.Verdicts.{not_prompt}
+use Rattle.front_end.specs.Verdicts.{not_prompt}
 use Rattle.split_cli.proofs.CompareDue.{premise_stops}
 use Rattle.split_cli.proofs.comparing.is_prompt.Goals as goal
 

@@ -1,7 +1,7 @@
 use Rattle.std.proofs.Common.{◌≡◌, ◌≢◌}
 use Rattle.std.proofs.lemmas.Result.{IfOk-weaker}
 use Rattle.split_cli.specs.Compare.{holds}
-use Rattle.split_cli.specs.Verdicts.{bad_differ}
+use Rattle.front_end.specs.Verdicts.{bad_differ}
 use Rattle.split_cli.proofs.CompareDue.{premise_stops}
 use Rattle.split_cli.proofs.comparing.same_misbehave.Goals as goal
 

@@ -2,7 +2,7 @@ use Rattle.std.proofs.Common.{◌≡◌, ℕ}
 use Rattle.std.proofs.lemmas.Result.{IfOk-weaker}
 use Rattle.host_code.specs.Code.{CodeFieldShape}
 use Rattle.split_cli.specs.Compare.{StartAlike, IsFirstUnlike, holds}
-use Rattle.split_cli.specs.Verdicts.{starts_differ}
+use Rattle.front_end.specs.Verdicts.{starts_differ}
 use Rattle.split_cli.proofs.CompareDue.{premise_stops}
 use Rattle.split_cli.proofs.comparing.same_starts.Goals as goal
 

@@ -3,9 +3,9 @@ use Rattle.net_world.specs.Fits.{world_of}
 use Rattle.split_cli.specs.Followed.{EventsFollowed, followed, refused}
 use Rattle.split_cli.specs.FollowedRuns.{run_with}
 use Rattle.split_cli.specs.Replay.{AreRefused}
-use Rattle.split_cli.specs.Stages.{stopped}
-use Rattle.split_cli.specs.Verdicts.{VerdictShape}
-use Rattle.split_cli.proofs.Stages.{stops_weaker}
+use Rattle.front_end.specs.Stages.{stopped}
+use Rattle.front_end.specs.Verdicts.{VerdictShape}
+use Rattle.front_end.proofs.Stages.{stops_weaker}
 use Rattle.split_cli.proofs.following.follow.Goals as goal
 
 pub returns-in-Ok : goal.returns-in-Ok

@@ -2,74 +2,14 @@ use Rattle.std.proofs.Common.{codes, refl, zero}
 use Rattle.split_cli.proofs.DriveEnds.{StepCauses}
 use Rattle.split_cli.proofs.MadeTexts.{two_made}
 use Rattle.split_cli.proofs.OneDrive.{driven_run}
-use Rattle.split_cli.proofs.OnePlaced.{PlaceLaws, places_once}
-use Rattle.split_cli.proofs.OneSource.{SourceLaws, sources_once}
-use Rattle.split_cli.proofs.OneVerdict.{AllLaws, due_once, answer_once, one_fault_place}
-use Rattle.split_cli.proofs.NativeSources.{NativeLaws}
+use Rattle.split_cli.proofs.OneVerdict.{AllLaws, due_once, answer_once}
+use Rattle.front_end.proofs.NativeSources.{NativeLaws}
 use Rattle.split_cli.proofs.SomeVerdict.{AllCauses, due_some}
-use Rattle.split_cli.proofs.SomePlaced.{PlaceCauses, places_some}
-use Rattle.split_cli.proofs.SomeSource.{SourceCauses, sources_some}
 use Rattle.split_cli.proofs.WordForms.{none_asked}
 use Rattle.split_cli.specs.Commands.{Check}
 use Rattle.split_cli.specs.Due.{no_words, for_command, absent}
-use Rattle.split_cli.specs.Verdicts.{no_such_file}
+use Rattle.front_end.specs.Verdicts.{no_such_file}
 use Rattle.split_cli.proofs.laws.due_laws.Goals as goal
-
-source_laws : (c : goal.After-step_laws) → SourceLaws
-source_laws c = record {
-  lexing = c.lex_laws.ensures;
-  grammar = record {
-    one_draft = c.grammar_laws.ensures.one_draft;
-    one_refusal = c.grammar_laws.ensures.one_refusal;
-    never_both = c.grammar_laws.ensures.never_both;
-  };
-  hosts = record {
-    one_meaning = c.host_file_laws.ensures.one_meaning;
-    one_refusal = c.host_file_laws.ensures.one_refusal;
-    never_both = c.host_file_laws.ensures.never_both;
-    sound = c.host_file_laws.ensures.sound;
-  };
-  names = record {
-    one_program = c.program_laws.ensures.one_program;
-    one_refusal = c.resolve_laws.ensures.one_refusal;
-    never_both = c.resolve_laws.ensures.never_both;
-  };
-  labels = record {
-    one_refusal = c.failure_laws.ensures.one_refusal;
-    never_both = c.failure_laws.ensures.never_both;
-  };
-}
-
-place_laws : (c : goal.After-step_laws) → PlaceLaws
-place_laws c = record {
-  one_needs = c.need_laws.ensures.one_needs;
-  one_plan = c.placement_laws.ensures.one_plan;
-  one_refusal = c.place_rule_laws.ensures.one_refusal;
-  never_both = c.place_rule_laws.ensures.never_both;
-}
-
--- the first laws of verdicts are those of tokens, the second those of names
-source_causes : (c : goal.After-step_laws) → SourceCauses
-source_causes c = record {
-  lexing = c.reading_laws.ensures.tokens_or_fault;
-  grammar = record {
-    refused = c.verdict_laws.ensures.refused;
-    whole = c.verdict_laws.ensures.whole;
-  };
-  hosts = record {
-    some = c.host_file_laws.ensures.meaning_or_refusal;
-    sound = c.host_file_laws.ensures.sound;
-  };
-  names = c.verdict_laws-2.ensures.program_or_refusal;
-  labels = c.failure_laws.ensures.accepted_or_refused;
-}
-
-place_causes : (c : goal.After-step_laws) → PlaceCauses
-place_causes c = record {
-  some_needs = c.need_laws.ensures.some_needs;
-  allowed_or_refused = c.place_rule_laws.ensures.allowed_or_refused;
-  some_plan = c.placement_laws.ensures.some_plan;
-}
 
 native_laws : (c : goal.After-step_laws) → NativeLaws
 native_laws c = record {
@@ -89,8 +29,8 @@ step_causes c = record {
 
 all_causes : (c : goal.After-step_laws) → AllCauses
 all_causes c = record {
-  sources = source_causes c;
-  places = place_causes c;
+  sources = c.source_laws.ensures.some_source;
+  places = c.source_laws.ensures.some_plan;
   code = record {
     native = native_laws c;
     sites = c.program_laws.ensures.sites;
@@ -117,26 +57,14 @@ all_causes c = record {
 
 all_laws : (c : goal.After-step_laws) → AllLaws
 all_laws c = record {
-  sources = source_laws c;
-  places = place_laws c;
+  sources = c.source_laws.ensures.one_source;
+  places = c.source_laws.ensures.one_plan;
   runs = record {
     same_runs = c.run_laws.ensures.same_runs;
     one_answer = c.run_laws.ensures.one_answer;
   };
   steps = record { one = c.step_laws.ensures.one; not_refused = c.step_laws.ensures.not_refused };
 }
-
-pub returns-clause-one_source : goal.returns-clause-one_source
-returns-clause-one_source c = sources_once (source_laws c)
-
-pub returns-clause-some_source : goal.returns-clause-some_source
-returns-clause-some_source c = sources_some (source_causes c)
-
-pub returns-clause-some_plan : goal.returns-clause-some_plan
-returns-clause-some_plan c = places_some (source_causes c) (place_causes c)
-
-pub returns-clause-one_plan : goal.returns-clause-one_plan
-returns-clause-one_plan c = places_once (source_laws c) (place_laws c)
 
 pub returns-clause-one_verdict : goal.returns-clause-one_verdict
 returns-clause-one_verdict c = due_once (all_laws c)
@@ -146,9 +74,6 @@ returns-clause-some_verdict c = due_some (all_causes c)
 
 pub returns-clause-one_answer : goal.returns-clause-one_answer
 returns-clause-one_answer c = answer_once (all_laws c)
-
-pub returns-clause-one_fault : goal.returns-clause-one_fault
-returns-clause-one_fault c = one_fault_place
 
 pub returns-clause-driven_runs : goal.returns-clause-driven_runs
 returns-clause-driven_runs c = driven_run

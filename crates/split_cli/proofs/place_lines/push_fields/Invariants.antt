@@ -1,9 +1,9 @@
 use Rattle.std.proofs.Common.{◌≡◌, ◌++◌, take, map}
 use Rattle.std.specs.String.{string_bytes}
 use Rattle.jif_tree.specs.Trees.{field_tree}
-use Rattle.split_cli.specs.PlacedShapes.{placed_shape}
+use Rattle.front_end.specs.PlacedShapes.{placed_shape}
 use Rattle.split_cli.specs.PlaceLines.{field_places}
-use Rattle.split_cli.specs.Text.{lines_text}
+use Rattle.front_end.specs.Text.{lines_text}
 use Rattle.split_cli.proofs.place_lines.push_fields.Given as goal
 
 -- the lines of the fields so far were added

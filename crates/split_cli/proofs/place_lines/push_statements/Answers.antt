@@ -1,4 +1,4 @@
-use Rattle.split_cli.specs.PlacedShapes.{placed_shape}
+use Rattle.front_end.specs.PlacedShapes.{placed_shape}
 use Rattle.split_cli.proofs.ReportLines.{added}
 use Rattle.split_cli.proofs.PlanLines.{statement_places_at}
 use Rattle.split_cli.proofs.place_lines.push_statements.Goals as goal

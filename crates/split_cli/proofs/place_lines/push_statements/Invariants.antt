@@ -1,8 +1,8 @@
 use Rattle.std.proofs.Common.{◌≡◌, ◌++◌, take}
 use Rattle.std.specs.String.{string_bytes}
-use Rattle.split_cli.specs.PlacedShapes.{placed_shape}
+use Rattle.front_end.specs.PlacedShapes.{placed_shape}
 use Rattle.split_cli.specs.PlaceLines.{statement_places}
-use Rattle.split_cli.specs.Text.{lines_text}
+use Rattle.front_end.specs.Text.{lines_text}
 use Rattle.split_cli.proofs.place_lines.push_statements.Given as goal
 
 -- the lines of the statements so far were added

@@ -3,8 +3,8 @@ use Rattle.jif_tree.specs.Trees.{block_tree}
 use Rattle.jif_tree.specs.declared.program.Stmt.{Stmt}
 use Rattle.split_cli.specs.Releases.{if_releasing, block_releases}
 use Rattle.split_cli.specs.ReleasingKinds.{own_exprs, kind_releases}
-use Rattle.split_cli.proofs.BlockParts.{releases_of, releases_are, releases_nest, if_parts, while_parts, parts_more}
-use Rattle.split_cli.proofs.BlockParts.{whole_parts}
+use Rattle.front_end.proofs.BlockParts.{if_parts, while_parts, parts_more, whole_parts}
+use Rattle.split_cli.proofs.ReleaseParts.{releases_of, releases_are, releases_nest}
 use Rattle.split_cli.proofs.releasing.+found.Goals as goal
 
 pub push_block-loop-statement-preserved : goal.push_block-loop-statement-preserved

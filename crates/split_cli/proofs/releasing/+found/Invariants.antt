@@ -1,6 +1,6 @@
 use Rattle.std.proofs.Common.{◌≡◌, ◌++◌, take}
 use Rattle.std.specs.List.{flat_map}
-use Rattle.split_cli.proofs.BlockParts.{releases_of}
+use Rattle.split_cli.proofs.ReleaseParts.{releases_of}
 use Rattle.split_cli.proofs.releasing.+found.Given as goal
 
 -- those of the statements so far were added

@@ -5,7 +5,7 @@ use Rattle.jif_tree.specs.declared.program.Method.{Method}
 use Rattle.jif_tree.specs.declared.program.Stmt.{Stmt}
 use Rattle.jif_tree.specs.Trees.{block_tree, method_tree}
 use Rattle.split_cli.specs.Releases.{block_releases, method_releases}
-use Rattle.split_cli.proofs.BlockParts.{parts_more, program_parts}
+use Rattle.front_end.proofs.BlockParts.{parts_more, program_parts}
 use Rattle.split_cli.proofs.releasing.first_release.Goals as goal
 
 pub loop-method-preserved : goal.loop-method-preserved

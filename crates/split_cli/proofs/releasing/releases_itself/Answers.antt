@@ -5,7 +5,7 @@ use Rattle.jif_tree.specs.declared.program.StmtKind.{StmtKind}
 use Rattle.jif_tree.specs.Trees.{expr_tree}
 use Rattle.need_labels.specs.Needs.{releases}
 use Rattle.split_cli.specs.ReleasingKinds.{own_exprs}
-use Rattle.split_cli.proofs.BlockParts.{any_of}
+use Rattle.split_cli.proofs.ReleaseParts.{any_of}
 use Rattle.split_cli.proofs.releasing.releases_itself.Goals as goal
 
 pub returns-in-Call : goal.returns-in-Call

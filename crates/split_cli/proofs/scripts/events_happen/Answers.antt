@@ -1,9 +1,9 @@
 use Rattle.std.proofs.Common.{subst, sym}
 use Rattle.net_world.specs.Fits.{world_of}
 use Rattle.split_cli.specs.Replay.{AreRefused, EventsHappen, happened, refused}
-use Rattle.split_cli.specs.Stages.{stopped}
-use Rattle.split_cli.specs.Verdicts.{VerdictShape}
-use Rattle.split_cli.proofs.Stages.{stops_weaker}
+use Rattle.front_end.specs.Stages.{stopped}
+use Rattle.front_end.specs.Verdicts.{VerdictShape}
+use Rattle.front_end.proofs.Stages.{stops_weaker}
 use Rattle.split_cli.proofs.scripts.events_happen.Goals as goal
 
 pub returns-in-Ok-clause-happen : goal.returns-in-Ok-clause-happen

@@ -2,8 +2,8 @@ use Rattle.std.proofs.Common.{ℕ, sym, ap, ◌∙◌}
 use Rattle.std.proofs.lemmas.Result.{IfOk-weaker}
 use Rattle.net_world.specs.World.{not_bad, not_there, host_busy, no_such_token}
 use Rattle.split_cli.specs.Replay.{AreRefused}
-use Rattle.split_cli.specs.Verdicts.{event_no_token}
-use Rattle.split_cli.proofs.Stages.{stopped_with}
+use Rattle.front_end.specs.Verdicts.{event_no_token}
+use Rattle.front_end.proofs.Stages.{stopped_with}
 use Rattle.split_cli.proofs.scripts.events_refused.Goals as goal
 
 pub returns-in-NotThere : goal.returns-in-NotThere

@@ -1,11 +1,11 @@
 use Rattle.std.proofs.Common.{sym, subst}
 use Rattle.std.proofs.lemmas.Result.{IfOk-weaker}
 use Rattle.split_cli.specs.Replay.{ScriptRead}
-use Rattle.split_cli.specs.Stages.{stopped}
-use Rattle.split_cli.specs.Verdicts.{VerdictShape}
+use Rattle.front_end.specs.Stages.{stopped}
+use Rattle.front_end.specs.Verdicts.{VerdictShape}
 use Rattle.split_cli.proofs.ReplayDue.{script_too_long, script_has_bad_line, script_says}
-use Rattle.split_cli.proofs.Stages.{stopped_with}
-use Rattle.split_cli.proofs.StartingDue.{are_bytes}
+use Rattle.front_end.proofs.Stages.{stopped_with}
+use Rattle.front_end.proofs.StartingDue.{are_bytes}
 use Rattle.split_cli.proofs.scripts.read_script.Goals as goal
 
 pub returns-in_default-clause-read : goal.returns-in_default-clause-read

@@ -1,7 +1,8 @@
 use Rattle.split_cli.specs.Commands.{Check}
 use Rattle.split_cli.specs.Due.{IsDueForCommand}
-use Rattle.split_cli.proofs.LoadedFiles.{loading_stops, two_due, two_files, two_names}
-use Rattle.split_cli.proofs.Stages.{due_handed_on}
+use Rattle.split_cli.proofs.LoadedFiles.{loading_stops, two_due}
+use Rattle.front_end.proofs.LoadedFiles.{two_files, two_names}
+use Rattle.front_end.proofs.Stages.{due_handed_on}
 use Rattle.split_cli.proofs.commands.check.due_for_check.Goals as goal
 
 pub returns-in_err-loaded-clause-due : goal.returns-in_err-loaded-clause-due

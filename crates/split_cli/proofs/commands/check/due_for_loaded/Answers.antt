@@ -3,10 +3,10 @@ use Rattle.js_base.specs.declared.status.Status.TheVariants.{Done}
 use Rattle.split_cli.specs.Check.{plan_report}
 use Rattle.split_cli.specs.Commands.{Check}
 use Rattle.split_cli.specs.Due.{DueForBytes}
-use Rattle.split_cli.specs.PlacedShapes.{placed_shape}
-use Rattle.split_cli.specs.PlacedSources.{PlacedSource, PlacedSources}
-use Rattle.split_cli.specs.Verdicts.{VerdictShape, Print}
-use Rattle.split_cli.proofs.Stages.{due_handed_on, due_stops, memory_ran_out}
+use Rattle.front_end.specs.PlacedShapes.{placed_shape}
+use Rattle.front_end.specs.PlacedSources.{PlacedSource, PlacedSources}
+use Rattle.front_end.specs.Verdicts.{VerdictShape, Print}
+use Rattle.front_end.proofs.Stages.{due_handed_on, due_stops, memory_ran_out}
 use Rattle.split_cli.proofs.commands.check.due_for_loaded.Goals as goal
 
 pub returns-in_err-placed : goal.returns-in_err-placed

@@ -1,7 +1,7 @@
 use Rattle.std.proofs.Common.{◌∙◌, ap}
 use Rattle.split_cli.specs.Check.{accepted_line}
-use Rattle.split_cli.specs.PlacedShapes.{PlacedModel, placed_shape}
-use Rattle.split_cli.specs.Text.{line_text}
+use Rattle.front_end.specs.PlacedShapes.{PlacedModel, placed_shape}
+use Rattle.front_end.specs.Text.{line_text}
 use Rattle.split_cli.proofs.PlanLines.{report_text}
 use Rattle.split_cli.proofs.ReportLines.{from_ok}
 use Rattle.split_cli.proofs.commands.check.plan_text.Goals as goal

@@ -1,6 +1,6 @@
 use Rattle.net_world.specs.Fits.{world_of}
 use Rattle.split_cli.specs.Drive.{drive_text}
-use Rattle.split_cli.specs.PlacedShapes.{placed_shape}
+use Rattle.front_end.specs.PlacedShapes.{placed_shape}
 use Rattle.split_cli.proofs.DriveDue.{code_hosts, obey_from, report_made}
 use Rattle.split_cli.proofs.commands.drive.driven.Goals as goal
 

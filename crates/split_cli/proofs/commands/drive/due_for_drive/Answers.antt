@@ -1,8 +1,9 @@
 use Rattle.std.proofs.Common.{refl}
 use Rattle.split_cli.specs.Commands.{Drive}
 use Rattle.split_cli.specs.Due.{IsDueForCommand}
-use Rattle.split_cli.proofs.LoadedFiles.{loading_stops, three_due, three_names}
-use Rattle.split_cli.proofs.Stages.{due_handed_on}
+use Rattle.split_cli.proofs.LoadedFiles.{loading_stops, three_due}
+use Rattle.front_end.proofs.LoadedFiles.{three_names}
+use Rattle.front_end.proofs.Stages.{due_handed_on}
 use Rattle.split_cli.proofs.commands.drive.due_for_drive.Goals as goal
 
 pub returns-in_err-loaded-clause-due : goal.returns-in_err-loaded-clause-due

@@ -2,13 +2,13 @@ use Rattle.std.proofs.Common.{[], ◌∷◌, ◌∙◌, ap, inl, inr}
 use Rattle.jif_tree.specs.Trees.{program_tree}
 use Rattle.split_cli.specs.Commands.{Drive}
 use Rattle.split_cli.specs.Due.{DueForBytes}
-use Rattle.split_cli.specs.PlacedShapes.{PlacedModel, placed_shape}
-use Rattle.split_cli.specs.PlacedSources.{PlacedSources}
+use Rattle.front_end.specs.PlacedShapes.{PlacedModel, placed_shape}
+use Rattle.front_end.specs.PlacedSources.{PlacedSources}
 use Rattle.split_cli.specs.Drive.{DueForDrive}
-use Rattle.split_cli.specs.SourceShapes.{SourceModel}
-use Rattle.split_cli.specs.Stages.{stopped}
-use Rattle.split_cli.specs.Starting.{StartingValues}
-use Rattle.split_cli.proofs.Stages.{due_handed_on, due_stops, memory_ran_out, stops_weaker}
+use Rattle.front_end.specs.SourceShapes.{SourceModel}
+use Rattle.front_end.specs.Stages.{stopped}
+use Rattle.front_end.specs.Starting.{StartingValues}
+use Rattle.front_end.proofs.Stages.{due_handed_on, due_stops, memory_ran_out, stops_weaker}
 use Rattle.split_cli.proofs.commands.drive.due_for_loaded.Goals as goal
 
 pub returns-in_err-placed : goal.returns-in_err-placed

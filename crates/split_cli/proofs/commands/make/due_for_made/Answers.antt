@@ -2,12 +2,12 @@ use Rattle.std.proofs.Common.{[], ◌∙◌, ap, inl, inr}
 use Rattle.jif_tree.specs.Trees.{program_tree}
 use Rattle.split_cli.specs.MadePrograms.{made_hosts, made_program}
 use Rattle.split_cli.specs.Making.{DueForMade, DueForMake}
-use Rattle.split_cli.specs.PlacedShapes.{PlacedModel, placed_shape}
-use Rattle.split_cli.specs.PlacedSources.{PlacedSources}
-use Rattle.split_cli.specs.SourceShapes.{SourceModel}
-use Rattle.split_cli.specs.Stages.{stopped}
-use Rattle.split_cli.specs.Starting.{StartingValues}
-use Rattle.split_cli.proofs.Stages.{due_handed_on, due_stops, memory_ran_out, stops_weaker}
+use Rattle.front_end.specs.PlacedShapes.{PlacedModel, placed_shape}
+use Rattle.front_end.specs.PlacedSources.{PlacedSources}
+use Rattle.front_end.specs.SourceShapes.{SourceModel}
+use Rattle.front_end.specs.Stages.{stopped}
+use Rattle.front_end.specs.Starting.{StartingValues}
+use Rattle.front_end.proofs.Stages.{due_handed_on, due_stops, memory_ran_out, stops_weaker}
 use Rattle.split_cli.proofs.commands.make.due_for_made.Goals as goal
 
 pub returns-in_err-placed : goal.returns-in_err-placed

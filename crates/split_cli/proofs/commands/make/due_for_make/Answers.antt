@@ -1,5 +1,5 @@
 use Rattle.std.proofs.Common.{refl}
-use Rattle.split_cli.specs.Loads.{files_change}
+use Rattle.front_end.specs.Loads.{files_change}
 use Rattle.split_cli.proofs.MakeDue.{made_due}
 use Rattle.split_cli.proofs.commands.make.due_for_make.Goals as goal
 

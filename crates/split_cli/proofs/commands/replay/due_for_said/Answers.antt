@@ -1,9 +1,9 @@
 use Rattle.net_world.specs.Fits.{world_of}
-use Rattle.split_cli.specs.PlacedShapes.{placed_shape}
+use Rattle.front_end.specs.PlacedShapes.{placed_shape}
 use Rattle.split_cli.specs.Replay.{DueForSaid, EventsHappen}
-use Rattle.split_cli.specs.Stages.{given, stopped}
+use Rattle.front_end.specs.Stages.{given, stopped}
 use Rattle.split_cli.proofs.ReplayDue.{events_as, events_stop, events_reported}
-use Rattle.split_cli.proofs.Stages.{due_handed_on, memory_ran_out, stops_weaker}
+use Rattle.front_end.proofs.Stages.{due_handed_on, memory_ran_out, stops_weaker}
 use Rattle.split_cli.proofs.commands.replay.due_for_said.Goals as goal
 
 pub returns-in_err-first : goal.returns-in_err-first

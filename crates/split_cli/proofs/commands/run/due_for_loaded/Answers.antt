@@ -3,11 +3,11 @@ use Rattle.jif_tree.specs.Trees.{program_tree}
 use Rattle.split_cli.specs.Commands.{Run}
 use Rattle.split_cli.specs.Due.{DueForBytes}
 use Rattle.split_cli.specs.PlainRun.{DueForRun}
-use Rattle.split_cli.specs.SourceShapes.{SourceModel, source_shape}
-use Rattle.split_cli.specs.Sources.{Source, Sources}
-use Rattle.split_cli.specs.Stages.{stopped}
-use Rattle.split_cli.specs.Starting.{StartingValues}
-use Rattle.split_cli.proofs.Stages.{due_handed_on, due_stops, memory_ran_out, stops_weaker}
+use Rattle.front_end.specs.SourceShapes.{SourceModel, source_shape}
+use Rattle.front_end.specs.Sources.{Source, Sources}
+use Rattle.front_end.specs.Stages.{stopped}
+use Rattle.front_end.specs.Starting.{StartingValues}
+use Rattle.front_end.proofs.Stages.{due_handed_on, due_stops, memory_ran_out, stops_weaker}
 use Rattle.split_cli.proofs.commands.run.due_for_loaded.Goals as goal
 
 pub returns-in_err-source : goal.returns-in_err-source

@@ -1,5 +1,5 @@
 use Rattle.std.proofs.lemmas.Result.{IfOk-weaker}
-use Rattle.split_cli.specs.Verdicts.{verdict_shape}
+use Rattle.front_end.specs.Verdicts.{verdict_shape}
 use Rattle.split_cli.proofs.RunDue.{run_reported}
 use Rattle.split_cli.proofs.commands.run.run_from.Goals as goal
 

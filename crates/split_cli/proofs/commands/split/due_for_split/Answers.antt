@@ -2,9 +2,10 @@ use Rattle.std.proofs.Common.{refl}
 use Rattle.split_cli.specs.Commands.{Split}
 use Rattle.split_cli.specs.Due.{IsDueForCommand}
 use Rattle.split_cli.specs.Split.{split_shape}
-use Rattle.split_cli.proofs.LoadedFiles.{TwoFiles, loading_stops, two_files, two_names}
+use Rattle.split_cli.proofs.LoadedFiles.{loading_stops}
+use Rattle.front_end.proofs.LoadedFiles.{TwoFiles, two_files, two_names}
 use Rattle.split_cli.proofs.SplitDue.{no_split, split_due}
-use Rattle.split_cli.proofs.Stages.{due_handed_on}
+use Rattle.front_end.proofs.Stages.{due_handed_on}
 use Rattle.split_cli.proofs.commands.split.due_for_split.Goals as goal
 
 pub returns-in_err-loaded-clause-due : goal.returns-in_err-loaded-clause-due

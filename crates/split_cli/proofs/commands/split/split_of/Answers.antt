@@ -1,10 +1,10 @@
 use Rattle.std.proofs.Common.{◌≡◌, ap, inl}
-use Rattle.split_cli.specs.PlacedShapes.{placed_shape}
-use Rattle.split_cli.specs.PlacedSources.{PlacedSource, PlacedSources}
+use Rattle.front_end.specs.PlacedShapes.{placed_shape}
+use Rattle.front_end.specs.PlacedSources.{PlacedSource, PlacedSources}
 use Rattle.split_cli.specs.Split.{SplitShape, SplitSources, split_of, split_shape}
-use Rattle.split_cli.specs.Stages.{Outcome, given}
-use Rattle.split_cli.specs.declared.stop.Stop.TheVariants as stop
-use Rattle.split_cli.proofs.Stages.{give, handed_on, then_stops}
+use Rattle.front_end.specs.Stages.{Outcome, given}
+use Rattle.front_end.specs.declared.stop.Stop.TheVariants as stop
+use Rattle.front_end.proofs.Stages.{give, handed_on, then_stops}
 use Rattle.split_cli.proofs.commands.split.split_of.Goals as goal
 
 pub returns-in_err-placed : goal.returns-in_err-placed

@@ -2,7 +2,7 @@ use Rattle.std.proofs.Common.{◌≡◌, ◌++◌, take}
 use Rattle.std.specs.String.{string_bytes}
 use Rattle.net_world.specs.Fits.{world_of}
 use Rattle.split_cli.specs.WorldReport.{field_lines}
-use Rattle.split_cli.specs.Text.{lines_text}
+use Rattle.front_end.specs.Text.{lines_text}
 use Rattle.split_cli.proofs.world_report.fields.push_fields.Given as goal
 
 -- the lines of the fields so far were added

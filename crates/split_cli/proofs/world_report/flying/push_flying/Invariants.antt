@@ -3,7 +3,7 @@ use Rattle.std.specs.List.{flat_map, range_with_len}
 use Rattle.std.specs.String.{string_bytes}
 use Rattle.net_world.specs.Fits.{world_of}
 use Rattle.split_cli.specs.WorldReport.{lines_from}
-use Rattle.split_cli.specs.Text.{lines_text}
+use Rattle.front_end.specs.Text.{lines_text}
 use Rattle.split_cli.proofs.world_report.flying.push_flying.Given as goal
 
 -- the lines of what the hosts so far sent were added

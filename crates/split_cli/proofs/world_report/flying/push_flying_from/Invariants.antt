@@ -3,7 +3,7 @@ use Rattle.std.specs.List.{flat_map, range_with_len}
 use Rattle.std.specs.String.{string_bytes}
 use Rattle.net_world.specs.Fits.{world_of}
 use Rattle.split_cli.specs.WorldReport.{messages_in, queue_lines}
-use Rattle.split_cli.specs.Text.{lines_text}
+use Rattle.front_end.specs.Text.{lines_text}
 use Rattle.split_cli.proofs.world_report.flying.push_flying_from.Given as goal
 
 -- the lines of what is in flight to the hosts so far were added

@@ -5,7 +5,7 @@ use Rattle.net_world.specs.Fits.{world_of}
 use Rattle.net_world.specs.World.{state_at}
 use Rattle.host_code.specs.MessageText.{host_text}
 use Rattle.split_cli.specs.WorldReport.{host_line}
-use Rattle.split_cli.specs.Text.{lines_text}
+use Rattle.front_end.specs.Text.{lines_text}
 use Rattle.split_cli.proofs.world_report.hosts.push_hosts.Given as goal
 
 -- the lines of the hosts so far were added

@@ -1,0 +1,10 @@
+use Rattle.std.proofs.Common.{ℕ, List, ap, ◌∙◌}
+use Rattle.std.proofs.lemmas.Result.{IfOk-weaker}
+use Rattle.js_base.specs.declared.status.Status.TheVariants.{InputRefused}
+use Rattle.front_end.specs.Verdicts.{Refuse, error_line}
+use Rattle.front_end.proofs.verdict.Verdict.starts_differ.Goals as goal
+
+pub returns : goal.returns
+returns c =
+    IfOk-weaker c.refusal.result _ _ (λ verdict is. is ∙ ap (λ (text : List ℕ). Refuse InputRefused (error_line text))
+    (c.as_str.ensures.value ∙ c.in_ok-text.ensures.ok)) c.refusal.ensures

@@ -1,0 +1,13 @@
+pub mod Loading
+pub mod Loads
+pub mod PlacedCode
+pub mod PlacedShapes
+pub mod PlacedSources
+pub mod ReadPrograms
+pub mod SourceShapes
+pub mod Sources
+pub mod Stages
+pub mod Starting
+pub mod StatementLines
+pub mod Text
+pub mod Verdicts

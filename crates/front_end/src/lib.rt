@@ -1,0 +1,22 @@
+//! What commands begin with: from files to an accepted program in its places and its code, and what refuses it.
+#![tactic(auto)]
+
+mod laws;
+mod load;
+mod placed;
+mod placed_code;
+mod sources;
+mod starting;
+mod statements;
+mod stop;
+mod verdict;
+
+pub use laws::source_laws;
+pub use load::{Asked, Loaded, as_loaded, load_all};
+pub use placed::{PlacedSource, read_places};
+pub use placed_code::code_of;
+pub use sources::{Source, read_sources};
+pub use starting::starting_values;
+pub use statements::statement_lines;
+pub use stop::{Stop, stopped};
+pub use verdict::Verdict;

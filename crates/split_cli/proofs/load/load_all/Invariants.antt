@@ -1,8 +1,0 @@
-use Rattle.split_cli.specs.Loads.{files_change}
-use Rattle.split_cli.proofs.Loading.{HaveLoaded}
-use Rattle.split_cli.proofs.load.load_all.Given as goal
-
-abbrev pub invariant-loop-one : goal.invariant-loop-one
-invariant-loop-one g l =
-    HaveLoaded l.one-index l.asked l.all.items
-    (files_change g.F.Files l.initial.files l.files)
