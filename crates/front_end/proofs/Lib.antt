@@ -25,4 +25,5 @@ pub mod SomeStages
 pub mod SomeStart
 pub mod Stages
 pub mod StartingDue
+pub mod StepCounts
 pub mod Stops

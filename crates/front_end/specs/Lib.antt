@@ -9,5 +9,6 @@ pub mod Sources
 pub mod Stages
 pub mod Starting
 pub mod StatementLines
+pub mod StepCounts
 pub mod Text
 pub mod Verdicts

@@ -8,6 +8,7 @@ mod placed_code;
 mod sources;
 mod starting;
 mod statements;
+mod step_counts;
 mod stop;
 mod verdict;
 
@@ -18,5 +19,6 @@ pub use placed_code::code_of;
 pub use sources::{Source, read_sources};
 pub use starting::starting_values;
 pub use statements::statement_lines;
+pub use step_counts::{STEPS, step_count};
 pub use stop::{Stop, stopped};
 pub use verdict::Verdict;

@@ -3,7 +3,8 @@ use Rattle.std.proofs.Common.{◌≡◌, ◌≢◌, ℕ, List, [], ◌∷◌, le
 use Rattle.std.specs.Prelude.{string_bytes, codes}
 use Rattle.std.specs.Fmt.{decimal}
 use Rattle.split_cli.specs.Commands.{CommandShape, Check, Run, Replay, Drive, Compare, Split, Make}
-use Rattle.split_cli.specs.Commands.{IsCommand, IsMadeCount, IsStepCount, words_of}
+use Rattle.split_cli.specs.Commands.{IsCommand, IsMadeCount, words_of}
+use Rattle.front_end.specs.StepCounts.{IsStepCount}
 
 -- texts, by their places
 pub two : (xs : List (String Global)) (a b : String Global) → length xs ≡ 2 → a ≡ get_or xs 0 a → b ≡ get_or xs 1 b →

@@ -34,7 +34,8 @@ use Rattle.net_world.specs.World.{not_bad, not_there, host_busy, no_such_token}
 use Rattle.split_rules.specs.SplitCode.{split_code, placed_code_fields}
 use Rattle.simulation.specs.Ending.{EVENTS}
 use Rattle.simulation.specs.Obeying.{IsSet, Follows}
-use Rattle.split_cli.specs.Commands.{CommandShape, Replay, Drive, IsCommand, IsStepCount, words_of, files_of}
+use Rattle.split_cli.specs.Commands.{CommandShape, Replay, Drive, IsCommand, words_of, files_of}
+use Rattle.front_end.specs.StepCounts.{IsStepCount}
 use Rattle.front_end.specs.Verdicts.{VerdictShape, Refuse, Print}
 use Rattle.front_end.specs.Loads.{FilesChange, Told}
 use Rattle.front_end.specs.Stages.{Outcome, given, stopped}

@@ -13,6 +13,7 @@ pub mod FollowedEvents
 pub mod LabelCounts
 pub mod LineCounts
 pub mod LoadedFiles
+pub mod MadeCounts
 pub mod MadeTexts
 pub mod MakeDue
 pub mod NextEvents
@@ -37,7 +38,6 @@ pub mod SomeRun
 pub mod SomeVerdict
 pub mod SplitDue
 pub mod SplitStages
-pub mod StepCounts
 pub mod Stops
 pub mod WordForms
 pub mod WorldLines

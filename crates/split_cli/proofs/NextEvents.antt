@@ -26,7 +26,7 @@ use Rattle.net_world.specs.World.{hosts_before, world_at_start}
 use Rattle.net_world.specs.Fits.{WorldModel, WorldFits, FlightFits, MailFits, HasOwnToken, host_at, world_of}
 use Rattle.net_world.specs.Steps.{HasMade, HaveMade, IsStuck}
 use Rattle.net_world.specs.Choice.{IsNextEvent}
-use Rattle.split_cli.specs.declared.words.TheConstants.{STEPS}
+use Rattle.front_end.specs.declared.step_counts.TheConstants.{STEPS}
 use Rattle.simulation.specs.Driven.{IsDriven}
 use Rattle.split_cli.specs.Driven.{rested, spent, AllObey, LeavesWith, at_rest, unended, HasDriven}
 

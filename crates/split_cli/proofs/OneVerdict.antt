@@ -9,7 +9,7 @@ use Rattle.js_base.specs.Counts.{last_count, Rose}
 use Rattle.js_base.specs.declared.status.Status.TheVariants.{Done}
 use Rattle.split_cli.specs.Commands.{CommandShape, Check, Run, Replay, Drive, Compare, Split, Make}
 use Rattle.split_cli.specs.Commands.{IsCommand, words_of, files_of}
-use Rattle.split_cli.specs.declared.words.TheConstants.{STEPS}
+use Rattle.front_end.specs.declared.step_counts.TheConstants.{STEPS}
 use Rattle.front_end.specs.Verdicts.{VerdictShape, Print, no_such_file, file_fault}
 use Rattle.front_end.specs.Loads.{FilesChange, Told, IsHeld, IsFirstAbsent}
 use Rattle.front_end.specs.Sources.{Sources}
@@ -32,7 +32,8 @@ use Rattle.split_cli.proofs.OneRun.{RunLaws, run_once}
 use Rattle.split_cli.proofs.SplitStages.{split_once}
 use Rattle.front_end.proofs.Places.{same_place, same_here, of_front, of_all}
 use Rattle.front_end.proofs.Stages.{IsOne, one_due}
-use Rattle.split_cli.proofs.StepCounts.{same_steps, as_steps}
+use Rattle.front_end.proofs.StepCounts.{same_steps}
+use Rattle.split_cli.proofs.MadeCounts.{as_steps}
 
 -- what is known of the parts of a command
 pub record AllLaws : Type 0 where

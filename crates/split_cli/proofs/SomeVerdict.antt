@@ -3,7 +3,7 @@ use Rattle.std.proofs.Common.{◌≡◌, ◌⊎◌, ℕ, suc, ◌+◌, List, [],
 use Rattle.std.proofs.Common.{inl, inr}
 use Rattle.std.specs.List.{AllZip}
 use Rattle.js_base.specs.declared.status.Status.TheVariants.{Done}
-use Rattle.split_cli.specs.declared.words.TheConstants.{STEPS}
+use Rattle.front_end.specs.declared.step_counts.TheConstants.{STEPS}
 use Rattle.split_cli.specs.Check.{plan_report}
 use Rattle.front_end.specs.PlacedCode.{cost_of}
 use Rattle.split_cli.specs.Commands.{CommandShape, Check, Run, Replay, Drive, Compare, Split, Make, files_of}

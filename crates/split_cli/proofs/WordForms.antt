@@ -7,9 +7,12 @@ use Rattle.std.specs.Str.Parse.{digits_value}
 use Rattle.std.proofs.lemmas.Fmt.{digits_value-decimal}
 use Rattle.js_base.proofs.Decisions.{Decided, same_text, less_than}
 use Rattle.split_cli.specs.Commands.{CommandShape, Check, Run, Replay, Drive, Compare, Split, Make}
-use Rattle.split_cli.specs.Commands.{IsCommand, IsMadeCount, IsStepCount, HaveNoForm, words_of}
-use Rattle.split_cli.specs.declared.words.TheConstants.{STEPS, MADE_STATEMENTS}
-use Rattle.split_cli.proofs.StepCounts.{own, small, none_made, more_made}
+use Rattle.split_cli.specs.Commands.{IsCommand, IsMadeCount, HaveNoForm, words_of}
+use Rattle.front_end.specs.StepCounts.{IsStepCount}
+use Rattle.front_end.specs.declared.step_counts.TheConstants.{STEPS}
+use Rattle.split_cli.specs.declared.words.TheConstants.{MADE_STATEMENTS}
+use Rattle.front_end.proofs.StepCounts.{own, small}
+use Rattle.split_cli.proofs.MadeCounts.{none_made, more_made}
 use Rattle.split_cli.proofs.CommandWords.{no_count, no_make, no_steps, no_verb}
 
 -- the words ask for this command

@@ -1,7 +1,8 @@
 -- What words ask for. A word is the list of its bytes.
 use Rattle.std.specs.Prelude.{◌≢◌, ℕ, ◌≤◌, List, [], ◌∷◌, codes, ⊤}
 use Rattle.std.specs.Fmt.{decimal}
-use Rattle.split_cli.specs.declared.words.TheConstants.{STEPS, MADE_STATEMENTS}
+use Rattle.front_end.specs.StepCounts.{IsStepCount}
+use Rattle.split_cli.specs.declared.words.TheConstants.{MADE_STATEMENTS}
 
 -- a command with its files, and with its number of steps, events or statements; a split is saved under its last name
 pub data CommandShape : Type 0 where
@@ -12,11 +13,6 @@ pub data CommandShape : Type 0 where
   Compare : (program hosts one other : List ℕ) → CommandShape
   Split : (program hosts out : List ℕ) → CommandShape
   Make : (statements : ℕ) → CommandShape
-
--- a number of steps or events that can be asked for
-pub record IsStepCount (steps : ℕ) : Type 0 where
-  pub least : 1 ≤ steps
-  pub most : steps ≤ STEPS
 
 -- a number of statements of a program that can be made
 pub record IsMadeCount (statements : ℕ) : Type 0 where

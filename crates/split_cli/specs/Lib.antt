@@ -21,5 +21,4 @@ pub mod Replay
 pub mod Report
 pub mod Saves
 pub mod Split
-pub mod StepCounts
 pub mod WorldReport

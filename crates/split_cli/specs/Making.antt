@@ -4,7 +4,7 @@ use Rattle.std.specs.Fmt.{decimal}
 use Rattle.host_code.specs.Code.{CodeShape, CodeFieldShape}
 use Rattle.host_core.specs.Host.{HostShape}
 use Rattle.net_world.specs.World.{WorldShape, state_at}
-use Rattle.split_cli.specs.declared.words.TheConstants.{STEPS}
+use Rattle.front_end.specs.declared.step_counts.TheConstants.{STEPS}
 use Rattle.front_end.specs.PlacedCode.{cost_of}
 use Rattle.split_cli.specs.Drive.{DueForDriven}
 use Rattle.split_cli.specs.MadePrograms.{made_hosts, made_program}

@@ -3,10 +3,10 @@
 ghost use Rattle.std.specs.Prelude.{◌≡◌, ◌≤◌, IfOk};
 ghost use Rattle.net_world.specs.Fits.{WorldFits, world_of};
 ghost use Rattle.net_world.specs.Steps.{HaveMade};
-ghost use Rattle.split_cli.specs.declared.words.TheConstants.{STEPS};
+ghost use Rattle.front_end.specs.declared.step_counts.TheConstants.{STEPS};
 ghost use Rattle.split_cli.specs.Driven.{AllObey, HasDriven, LeavesWith};
 
-use crate::words::STEPS;
+use front_end::STEPS;
 use host_code::Code;
 use js_base::{OutOfMemory, Status};
 use net_world::laws::step_laws;

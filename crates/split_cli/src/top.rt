@@ -12,6 +12,7 @@ ghost use Rattle.split_cli.specs.Due.{Due, IsDue, IsDueForCommand, MaySave, OfCo
 ghost use Rattle.split_cli.specs.Faithful.{PutsDriven, PutsFaithfully};
 ghost use Rattle.front_end.specs.Loading.{EndsIn};
 ghost use Rattle.front_end.specs.Loads.{files_change};
+ghost use Rattle.front_end.specs.StepCounts.{IsStepCount};
 ghost use Rattle.front_end.specs.Verdicts.{Print, verdict_shape, no_memory_line};
 
 use crate::commands::check::due_for_check;
@@ -70,7 +71,7 @@ pub fn jifsplit<F: Files, S: Sink, E: Sink>(
         PutsFaithfully program hosts events (F.held files.old) (S.taken out.old) (S.taken out.new) }
     // So it is where hosts were driven, to their rest or by all their events. At rest the program has halted, and 4096
     // events for each step of the plain run, and for one more, are enough to come to rest.
-    ensures driven { (program hosts start : List ℕ) (events : ℕ) → command.IsStepCount events →
+    ensures driven { (program hosts start : List ℕ) (events : ℕ) → IsStepCount events →
         map string_bytes words.now ≡ command.words_of (command.Drive program hosts start events) →
         (result ≡ Status.Done) ⊎ (result ≡ Status.Spent) →
         PutsDriven program hosts start events result (F.held files.old) (S.taken out.old) (S.taken out.new) }

@@ -3,11 +3,10 @@
 ghost use Rattle.std.specs.Prelude.{◌≡◌, ◌≢◌, ◌↔◌, ◌∷◌, [], ℕ, map, string_bytes, IfSome, IfNone, IsTrue};
 ghost use Rattle.std.specs.Fmt.{decimal};
 ghost use Rattle.split_cli.specs.Asked.{command_shape};
-ghost use Rattle.split_cli.specs.Commands.{IsCommand, IsMadeCount, IsStepCount, words_of, HaveNoForm};
-ghost use Rattle.split_cli.specs.StepCounts.{BeginsWithCount};
+ghost use Rattle.split_cli.specs.Commands.{IsCommand, IsMadeCount, words_of, HaveNoForm};
 
-/// The most steps or events that can be asked for.
-pub const STEPS: u64 = 1_000_000_000;
+use front_end::step_count;
+
 /// The most statements of a program that can be made.
 pub const MADE_STATEMENTS: u64 = 2_000;
 
@@ -159,20 +158,6 @@ fn command_of_five<'a>(
     None
 }
 
-/// The number of steps or events that a word writes in decimal digits, without leading zeros, where so many can be
-/// asked for.
-fn step_count(word: &str) -> Option<u64>
-    ensures count { IfSome result IsStepCount }
-    ensures found { IfSome result (λ steps. word.now ≡ decimal steps) }
-    ensures none { IfNone result ((steps : ℕ) → IsStepCount steps → word.now ≢ decimal steps) }
-{
-    if !begins_with_count(word.as_bytes()) {
-        return None;
-    }
-    let steps = word.parse::<u64>().ok()?;
-    if steps <= STEPS { Some(steps) } else { None }
-}
-
 /// The number of statements that a word writes so, where a program of so many can be made.
 fn made_count(word: &str) -> Option<u64>
     ensures count { IfSome result IsMadeCount }
@@ -184,15 +169,5 @@ fn made_count(word: &str) -> Option<u64>
         Some(statements)
     } else {
         None
-    }
-}
-
-/// Whether bytes begin with a decimal digit other than 0.
-fn begins_with_count(bytes: &[u8]) -> bool
-    ensures { IsTrue result ↔ BeginsWithCount bytes.now }
-{
-    match bytes.first() {
-        Some(first) => b'1' <= *first && *first <= b'9',
-        None => false,
     }
 }

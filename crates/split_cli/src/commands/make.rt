@@ -2,7 +2,7 @@
 
 ghost use Rattle.std.specs.Prelude.{◌≡◌, [], IfOk};
 ghost use Rattle.js_base.specs.declared.limits.TheConstants.{PROGRAM_BYTES, HOSTS_BYTES};
-ghost use Rattle.split_cli.specs.declared.words.TheConstants.{STEPS};
+ghost use Rattle.front_end.specs.declared.step_counts.TheConstants.{STEPS};
 ghost use Rattle.front_end.specs.PlacedCode.{cost_of};
 ghost use Rattle.split_cli.specs.Commands as command;
 ghost use Rattle.split_cli.specs.Drive.{TellsDrive};
@@ -16,10 +16,9 @@ ghost use Rattle.front_end.specs.Verdicts.{verdict_shape};
 
 use crate::driving::drive;
 use crate::making::{made_hosts, made_program};
-use crate::words::STEPS;
 use crate::world_report::made_text;
 use front_end::{
-    Loaded, PlacedSource, Stop, Verdict, as_loaded, code_of, read_places, starting_values,
+    Loaded, PlacedSource, STEPS, Stop, Verdict, as_loaded, code_of, read_places, starting_values,
 };
 use jif_tree::Store;
 use js_base::limits::{HOSTS_BYTES, PROGRAM_BYTES, SCRIPT_BYTES};

@@ -1,4 +1,4 @@
-use Rattle.split_cli.proofs.StepCounts.{more_made}
+use Rattle.split_cli.proofs.MadeCounts.{more_made}
 use Rattle.split_cli.proofs.words.made_count.Goals as goal
 
 pub returns-else-statements-le-MADE_STATEMENTS-clause-none :

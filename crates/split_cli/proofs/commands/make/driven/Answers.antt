@@ -2,7 +2,7 @@ use Rattle.net_world.specs.Fits.{world_of}
 use Rattle.front_end.specs.PlacedCode.{cost_of}
 use Rattle.split_cli.specs.Making.{made_text}
 use Rattle.front_end.specs.PlacedShapes.{placed_shape}
-use Rattle.split_cli.specs.declared.words.TheConstants.{STEPS}
+use Rattle.front_end.specs.declared.step_counts.TheConstants.{STEPS}
 use Rattle.split_cli.proofs.DriveDue.{code_hosts, obey_from, report_made}
 use Rattle.split_cli.proofs.commands.make.driven.Goals as goal
 

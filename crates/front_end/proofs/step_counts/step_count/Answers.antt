@@ -1,7 +1,7 @@
 use Rattle.std.proofs.Common.{◌≡◌, refl, sym, subst, true, false}
-use Rattle.split_cli.specs.StepCounts.{BeginsWithCount}
-use Rattle.split_cli.proofs.StepCounts.{begins, written, positive, ok_from, none_read, many_read, where_none}
-use Rattle.split_cli.proofs.words.step_count.Goals as goal
+use Rattle.front_end.specs.StepCounts.{BeginsWithCount}
+use Rattle.front_end.proofs.StepCounts.{begins, written, positive, ok_from, none_read, many_read, where_none}
+use Rattle.front_end.proofs.step_counts.step_count.Goals as goal
 
 pub returns-then-not-begins_with_count-clause-none : goal.returns-then-not-begins_with_count-clause-none
 returns-then-not-begins_with_count-clause-none c = λ steps is same.

@@ -1,4 +1,4 @@
--- Numbers of steps, and of statements, in decimal digits.
+-- Numbers of steps, in decimal digits.
 use Rattle.std.proofs.Common.{◌≡◌, ◌≢◌, ℕ, zero, suc, ◌<◌, ◌≤◌, ◌^◌, List, length, get_or, sym, ap, ◌∙◌}
 use Rattle.std.proofs.Common.{arith, subst, Option, Some, None, Result, Ok, Err}
 use Rattle.std.specs.Prelude.{IfNone}
@@ -8,9 +8,8 @@ use Rattle.std.specs.Str.Parse.{AllDigits, digits_value, ParsesUnsigned}
 use Rattle.std.proofs.lemmas.Str.Parse.{IsNumeralModel, numerals_by_value, tells_digits, parse_plain, digit_at}
 use Rattle.std.proofs.lemmas.Fmt.{decimal_nonempty, first_decimal, digits_decimal, decimal-digits_value, parse-decimal}
 use Rattle.std.proofs.lemmas.Fmt.{decimal_digit, decimal_injective}
-use Rattle.split_cli.specs.declared.words.TheConstants.{STEPS, MADE_STATEMENTS}
-use Rattle.split_cli.specs.Commands.{IsStepCount, IsMadeCount}
-use Rattle.split_cli.specs.StepCounts.{BeginsWithCount}
+use Rattle.front_end.specs.declared.step_counts.TheConstants.{STEPS}
+use Rattle.front_end.specs.StepCounts.{BeginsWithCount, IsStepCount}
 
 pub own : IsNumeralModel (AllDigits 10) (digits_value 10)
 own = numerals_by_value (AllDigits 10) tells_digits
@@ -72,24 +71,6 @@ many_read {E} word r many reads was more steps is same =
     let few = small steps is in
     let read = parse-decimal 64 steps word r few few same reads in
     let equal : many ≡ steps = let both = sym was ∙ read in cc in
-    let never : ⊥ = omega (arith, is.most) in never
-
--- ---- numbers of statements
-
--- so many steps could be asked for too
-pub as_steps : (statements : ℕ) → IsMadeCount statements → IsStepCount statements
-as_steps statements is = record { least = is.least; most = omega (arith, is.most) }
-
--- no number of statements was written where no number of steps was
-pub none_made : (word : List ℕ) → ((steps : ℕ) → IsStepCount steps → word ≢ decimal steps) →
-    (statements : ℕ) → IsMadeCount statements → word ≢ decimal statements
-none_made word none statements is = none statements (as_steps statements is)
-
--- and where a larger one was
-pub more_made : (word : List ℕ) (many : ℕ) → IsStepCount many → word ≡ decimal many → MADE_STATEMENTS < many →
-    (statements : ℕ) → IsMadeCount statements → word ≢ decimal statements
-more_made word many count was more statements is same =
-    let equal : many ≡ statements = same_steps many statements count (as_steps statements is) (sym was ∙ same) in
     let never : ⊥ = omega (arith, is.most) in never
 
 pub where_none : {T : Type 0} (found : Option T) (P : Type 0) → P → IfNone found P
