@@ -16,7 +16,7 @@ pub use laws::source_laws;
 pub use load::{Asked, Loaded, as_loaded, load_all};
 pub use placed::{PlacedSource, read_places};
 pub use placed_code::code_of;
-pub use sources::{Source, read_sources};
+pub use sources::{Source, hosts_read, read_sources};
 pub use starting::starting_values;
 pub use statements::statement_lines;
 pub use step_counts::{STEPS, step_count};

@@ -53,6 +53,15 @@ impl PlacedSource {
         &source.hosts
     }
 
+    /// The hosts alone.
+    pub fn into_hosts(self) -> Hosts
+        ensures { result ≡ self.source.hosts }
+    {
+        let PlacedSource { source, .. } = self;
+        let Source { hosts, .. } = source;
+        hosts
+    }
+
     /// What its plan costs.
     pub fn cost(&self) -> u64
         ensures { result ≡ cost_of (placed_shape self.now) }

@@ -106,8 +106,8 @@ fn parsed(alloc: Global, tokens: &[Token]) -> Result<Draft, Stop>
     }
 }
 
-/// The hosts of a host file.
-fn hosts_read(alloc: Global, file: &Loaded) -> Result<Hosts, Stop>
+/// The hosts of a host file, or what is due where it is refused.
+pub fn hosts_read(alloc: Global, file: &Loaded) -> Result<Hosts, Stop>
     ensures read { (h : List ℕ) → IsLoaded HOSTS_BYTES h file.now → EndsAs (λ hosts. hosts) (HostsRead h) result }
     ensures short { IfOk result AreShort }
 {

@@ -1,6 +1,8 @@
 pub mod Arrivals
 pub mod JournalLines
+pub mod NodeSources
 pub mod NodeWorlds
+pub mod Options
 pub mod Serving
 pub mod Told
 pub mod Units

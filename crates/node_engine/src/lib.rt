@@ -5,6 +5,8 @@ mod arrivals;
 mod journal_lines;
 mod laws;
 mod node_error;
+mod node_source;
+mod node_start;
 mod outside;
 mod serving;
 mod units;

@@ -1,0 +1,118 @@
+-- What a node begins with: the code of all hosts, the hosts of a host file, and starting values. The code comes from a
+-- program, which is placed on the hosts, or from a split file.
+use Rattle.std.specs.Prelude.{◌≡◌, ◌≢◌, ◌⊎◌, ℕ, ◌<◌, ◌≤◌, ℤ, List, [], length, map, Some, Ok, Err, All, slice_get}
+use Rattle.js_base.specs.declared.ids.HostId.{HostId}
+use Rattle.js_base.specs.declared.limits.TheConstants.{SPLIT_FILE_BYTES}
+use Rattle.js_base.specs.declared.status.Status.{Status}
+use Rattle.js_base.specs.declared.status.Status.TheVariants.{InputRefused}
+use Rattle.host_code.specs.Code.{CodeShape, CodeHostShape}
+use Rattle.host_decl.specs.Hosts.{HostsShape, HostShape}
+use Rattle.jif_tree.specs.declared.program.Field.{Field}
+use Rattle.jif_tree.specs.declared.program.Program.{Program}
+use Rattle.jif_tree.specs.Trees.{program_tree}
+use Rattle.event_text.specs.Settings.{form_of}
+use Rattle.event_text.specs.Start.{program_form}
+use Rattle.split_file.specs.declared.error.SplitError.{SplitError}
+use Rattle.split_file.specs.Reading.{file_code}
+use Rattle.front_end.specs.PlacedCode.{code_of}
+use Rattle.front_end.specs.PlacedSources.{PlacedSource, PlacedSources}
+use Rattle.front_end.specs.Sources.{HostsRead}
+use Rattle.front_end.specs.Stages.{Outcome, given, stopped, Then}
+use Rattle.front_end.specs.Starting.{StartingValues}
+use Rattle.front_end.specs.Verdicts.{VerdictShape, Refuse, Print}
+use Rattle.node_engine.specs.declared.node_source.NodeSource as native
+use Rattle.node_engine.specs.declared.node_start.NodeStart as native_start
+use Rattle.node_engine.specs.Options.{SourceName, Program as from_program, Code as from_code, Asked}
+
+-- the status of what is due; a node puts no line
+abbrev pub status_due : VerdictShape → Status
+status_due (Refuse status line) = status
+status_due (Print status text) = status
+
+-- a file of the node is refused
+abbrev pub input_refused : VerdictShape
+input_refused = Refuse InputRefused []
+
+pub record NodeSource : Type 0 where
+  pub code : CodeShape
+  pub hosts : HostsShape
+  pub values : List (List ℤ)
+
+-- ---- the stages
+
+-- the values that a file of this name gives to fields, with their code and hosts
+abbrev pub Valued : (file start : List ℕ) → List Field → CodeShape → HostsShape → Outcome NodeSource → Type 0
+Valued file start fields code hosts =
+    Then (StartingValues file start fields)
+    (λ values end. end ≡ given (record { code = code; hosts = hosts; values = values }))
+
+-- a program in its places; the tree is that of some program
+abbrev pub PlacedNode : (file start : List ℕ) → PlacedSource → Outcome NodeSource → Type 0
+PlacedNode file start placed end =
+    (program : Program) × (program_tree program ≡ placed.source.tree)
+    × Valued file start program.fields.items (code_of placed) placed.source.file end
+
+abbrev pub FromProgram : (program hosts file start : List ℕ) → Outcome NodeSource → Type 0
+FromProgram program hosts file start = Then (PlacedSources program hosts) (PlacedNode file start)
+
+-- the code of a split file
+abbrev pub CodeRead : List ℕ → Outcome CodeShape → Type 0
+CodeRead bytes (given code) = (length bytes ≤ SPLIT_FILE_BYTES) × (file_code bytes ≡ Ok code)
+CodeRead bytes (stopped verdict) =
+    ((SPLIT_FILE_BYTES < length bytes)
+    ⊎ ((length bytes ≤ SPLIT_FILE_BYTES) × (why : SplitError) × (file_code bytes ≡ Err why)))
+    × (verdict ≡ input_refused)
+
+-- the fields have the names, sizes and first values of the code's
+abbrev pub CodeNode : (file start : List ℕ) → CodeShape → HostsShape → Outcome NodeSource → Type 0
+CodeNode file start code hosts end =
+    (fields : List Field) × (map program_form fields ≡ map form_of code.fields)
+    × Valued file start fields code hosts end
+
+abbrev pub FromCode : (code hosts file start : List ℕ) → Outcome NodeSource → Type 0
+FromCode code hosts file start =
+    Then (CodeRead code) (λ code. Then (HostsRead hosts) (λ hosts. CodeNode file start code hosts))
+
+-- ---- the node's host
+
+-- the place of the row of this name, which no two rows have
+abbrev pub IsNamed : HostsShape → List ℕ → HostId → Type 0
+IsNamed hosts name me = (row : HostShape) × (slice_get hosts.hosts me.0 ≡ Some row) × (row.name ≡ name)
+
+-- the hosts of a code are those of a host file, with their names and labels
+abbrev pub named_host : HostShape → CodeHostShape
+named_host row = record { name = row.name; label = row.label }
+
+abbrev pub AreHostsOf : CodeShape → List HostShape → Type 0
+AreHostsOf code rows = map named_host rows ≡ code.hosts
+
+-- What a node is of a source: the number of the host of a name. It is refused where the host file has no such host, and
+-- where the code's hosts are not those of the host file.
+pub record NodeStart : Type 0 where
+  pub source : NodeSource
+  pub me : HostId
+
+abbrev pub OfHost : List ℕ → NodeSource → Outcome NodeStart → Type 0
+OfHost name source (given node) =
+    (node.source ≡ source) × IsNamed source.hosts name node.me × AreHostsOf source.code source.hosts.hosts
+OfHost name source (stopped verdict) =
+    (All (λ row. row.name ≢ name) source.hosts.hosts ⊎ (¬ AreHostsOf source.code source.hosts.hosts))
+    × (verdict ≡ input_refused)
+
+-- ---- all stages, where the files hold these bytes
+
+abbrev pub NodeSources : SourceName → (source hosts file start : List ℕ) → Outcome NodeSource → Type 0
+NodeSources (from_program name) source hosts file start = FromProgram source hosts file start
+NodeSources (from_code name) source hosts file start = FromCode source hosts file start
+
+abbrev pub NodeStarts : Asked → (source hosts start : List ℕ) → Outcome NodeStart → Type 0
+NodeStarts asked source hosts start =
+    Then (NodeSources asked.source source hosts asked.start start) (OfHost asked.host)
+
+-- ---- in the program
+
+abbrev pub node_source : native.NodeSource → NodeSource
+node_source source = record { code = source.code; hosts = source.hosts; values = source.store }
+
+abbrev pub node_start : native_start.NodeStart → NodeStart
+node_start node = record { source = node_source node.source; me = node.me }
