@@ -11,6 +11,7 @@ use front_end::Stop;
 use host_code::{Code, CodeHost};
 use host_decl::{HostRow, Hosts};
 use js_base::HostId;
+use js_base::limits::HOSTS;
 use std::alloc::Global;
 
 /// A node before it begins: what it begins with, and the number of its host.
