@@ -13,7 +13,7 @@ use Rattle.jif_tree.specs.Trees.{program_tree}
 use Rattle.event_text.specs.Settings.{form_of}
 use Rattle.event_text.specs.Start.{program_form}
 use Rattle.split_file.specs.declared.error.SplitError.{SplitError}
-use Rattle.split_file.specs.Reading.{file_code}
+use Rattle.split_file.specs.File.{file_code}
 use Rattle.front_end.specs.PlacedCode.{code_of}
 use Rattle.front_end.specs.PlacedSources.{PlacedSource, PlacedSources}
 use Rattle.front_end.specs.Sources.{HostsRead}

@@ -6,7 +6,6 @@ ghost use Rattle.event_text.specs.Settings.{form_of};
 ghost use Rattle.event_text.specs.Start.{program_form};
 ghost use Rattle.front_end.specs.Loading.{EndsAs, IsLoaded, StopsWith};
 ghost use Rattle.front_end.specs.PlacedShapes.{placed_shape};
-ghost use Rattle.front_end.specs.Verdicts.{VerdictShape};
 ghost use Rattle.node_engine.specs.NodeSources.{CodeNode, CodeRead, FromCode, FromProgram, PlacedNode, input_refused};
 ghost use Rattle.node_engine.specs.NodeSources.{node_source};
 
@@ -99,7 +98,7 @@ fn code_read(alloc: Global, file: &Loaded) -> Result<Code, Stop>
 
 /// A file of the node is refused.
 pub fn refused(alloc: Global) -> Stop
-    ensures { (P : VerdictShape → Type 0) → P input_refused → StopsWith P result }
+    ensures { StopsWith (λ verdict. verdict ≡ input_refused) result }
 {
     Stop::Due(Verdict::Refuse {
         status: Status::InputRefused,

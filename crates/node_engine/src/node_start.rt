@@ -57,10 +57,17 @@ fn are_alike(hosts: &[CodeHost], rows: &[HostRow]) -> bool
     if hosts.len() != rows.len() {
         return false;
     }
-    for (host, row) in hosts.iter().zip(rows.iter()) {
-        if host.name() != row.name() || host.label() != row.label() {
+    for place in 0..hosts.len() {
+        if !is_alike(&hosts[place], &rows[place]) {
             return false;
         }
     }
     true
+}
+
+/// Whether a host of a code has the name and the label of a row.
+fn is_alike(host: &CodeHost, row: &HostRow) -> bool
+    ensures { IsTrue result ↔ (named_host row.now ≡ host.now) }
+{
+    host.name() == row.name() && host.label() == row.label()
 }
