@@ -1,6 +1,9 @@
+pub mod Askings
 pub mod Breaking
 pub mod Closing
+pub mod NodeAnswers
 pub mod NodeStages
 pub mod Rows
 pub mod Served
 pub mod UnitParts
+pub mod WorkedWords

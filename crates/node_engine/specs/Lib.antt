@@ -2,6 +2,7 @@ pub mod Arrivals
 pub mod JournalLines
 pub mod NodeSources
 pub mod NodeWorlds
+pub mod Nodes
 pub mod Options
 pub mod Serving
 pub mod Told

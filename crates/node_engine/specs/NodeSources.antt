@@ -19,15 +19,10 @@ use Rattle.front_end.specs.PlacedSources.{PlacedSource, PlacedSources}
 use Rattle.front_end.specs.Sources.{HostsRead}
 use Rattle.front_end.specs.Stages.{Outcome, given, stopped, Then}
 use Rattle.front_end.specs.Starting.{StartingValues}
-use Rattle.front_end.specs.Verdicts.{VerdictShape, Refuse, Print}
+use Rattle.front_end.specs.Verdicts.{VerdictShape, Refuse}
 use Rattle.node_engine.specs.declared.node_source.NodeSource as native
 use Rattle.node_engine.specs.declared.node_start.NodeStart as native_start
 use Rattle.node_engine.specs.Options.{SourceName, Program as from_program, Code as from_code, Asked}
-
--- the status of what is due; a node puts no line
-abbrev pub status_due : VerdictShape → Status
-status_due (Refuse status line) = status
-status_due (Print status text) = status
 
 -- a file of the node is refused
 abbrev pub input_refused : VerdictShape
@@ -116,3 +111,8 @@ node_source source = record { code = source.code; hosts = source.hosts; values =
 
 abbrev pub node_start : native_start.NodeStart → NodeStart
 node_start node = record { source = node_source node.source; me = node.me }
+
+-- the node's host is one of the code's
+abbrev pub IsStarted : native_start.NodeStart → Type 0
+IsStarted node =
+    (node.me.0 < length node.source.hosts.hosts) × AreHostsOf node.source.code node.source.hosts.hosts

@@ -1,10 +1,10 @@
 //! Which host a node is.
 
-ghost use Rattle.std.specs.Prelude.{◌≡◌, ◌≢◌, ◌<◌, ◌↔◌, ℕ, List, All, IfSome, IfNone, IsTrue, length, map};
+ghost use Rattle.std.specs.Prelude.{◌≡◌, ◌≢◌, ◌<◌, ◌↔◌, ℕ, List, All, IfOk, IfSome, IfNone, IsTrue, length, map};
 ghost use Rattle.host_code.specs.Code.{CodeShape};
 ghost use Rattle.front_end.specs.Loading.{EndsAs};
 ghost use Rattle.js_base.specs.declared.limits.TheConstants.{HOSTS};
-ghost use Rattle.node_engine.specs.NodeSources.{AreHostsOf, IsNamed, OfHost, named_host, node_source, node_start};
+ghost use Rattle.node_engine.specs.NodeSources.{IsNamed, IsStarted, OfHost, named_host, node_source, node_start};
 
 use crate::node_source::{NodeSource, refused};
 use front_end::Stop;
@@ -23,7 +23,8 @@ pub struct NodeStart {
 
 /// The node of the host of this name, or what is due where there is no such host or the code is for other hosts.
 pub fn of_host(alloc: Global, source: NodeSource, name: &str) -> Result<NodeStart, Stop>
-    ensures { EndsAs node_start (OfHost name.now (node_source source)) result }
+    ensures due { EndsAs node_start (OfHost name.now (node_source source)) result }
+    ensures started { IfOk result IsStarted }
 {
     let Some(me) = host_named(&source.hosts, name) else {
         return Err(refused(alloc));

@@ -1,0 +1,96 @@
+-- What a node answers, by how its stages end.
+use Rattle.std.proofs.Common.{◌≡◌, ◌⊎◌, inl, inr, ℕ, false, List, [], ◌∷◌, get_or, Option, Some, refl, sym, subst, Result, Ok, Err}
+use Rattle.std.specs.List.{AllZip}
+use Rattle.js_base.specs.declared.limits.TheConstants.{HOSTS_BYTES, SCRIPT_BYTES}
+use Rattle.js_base.specs.declared.ids.HostId.{HostId}
+use Rattle.js_base.specs.declared.status.Status.{Status}
+use Rattle.host_decl.specs.Hosts as declared_hosts
+use Rattle.host_core.specs.Host.{HostShape}
+use Rattle.host_core.specs.Start.{host_at_start}
+use Rattle.front_end.specs.declared.load.Asked as asked_file
+use Rattle.front_end.specs.declared.load.Loaded.{Loaded}
+use Rattle.front_end.specs.declared.stop.Stop.{Stop}
+use Rattle.front_end.specs.declared.stop.Stop.TheVariants as stop
+use Rattle.front_end.specs.Loading.{EndsAs, IsLoaded, StopsWith}
+use Rattle.front_end.specs.Loads.{FilesChange, LoadsWell}
+use Rattle.front_end.specs.Stages.{Outcome, given, stopped}
+use Rattle.front_end.specs.Verdicts.{verdict_shape}
+use Rattle.front_end.proofs.LoadedFiles.{given_file}
+use Rattle.front_end.proofs.Stages.{stops_weaker}
+use Rattle.front_end.proofs.Stops.{GivesAsked}
+use Rattle.node_engine.specs.declared.node_error.NodeError.{NodeError}
+use Rattle.node_engine.specs.declared.node_error.NodeError.TheVariants as node_error
+use Rattle.node_engine.specs.declared.node_start.NodeStart as native_start
+use Rattle.node_engine.specs.NodeSources.{NodeStart, NodeStarts, node_start}
+use Rattle.node_engine.specs.NodeWorlds.{NodeWorld}
+use Rattle.node_engine.specs.Nodes.{IsNodeDue, IsStatusOf, IsUnbegun, LoadedNode, OptionsAnswer, RunsNode, most_of, name_of}
+use Rattle.node_engine.specs.Options.{Asked}
+use Rattle.node_engine.specs.Serving.{Serves, status_of}
+use Rattle.node_engine.specs.Told.{Outside, Told, TellsOf}
+
+-- ---- files that were loaded
+
+ends_wider : (P Q : Outcome NodeStart → Type 0) (result : Result native_start.NodeStart Stop) →
+    ((end : Outcome NodeStart) → P end → Q end) → EndsAs node_start P result → EndsAs node_start Q result
+ends_wider P Q (Ok node) wider ends = wider (given (node_start node)) ends
+ends_wider P Q (Err why) wider ends =
+    stops_weaker (λ verdict. P (stopped verdict)) (λ verdict. Q (stopped verdict)) why
+    (λ verdict is. wider (stopped verdict) is) ends
+
+pub node_loaded : (asked : Asked) (files : FilesChange) (one two three : asked_file.Asked) (all : List Loaded)
+    (c h s : Loaded) (result : Result native_start.NodeStart Stop) →
+    AllZip (GivesAsked files.held) (one ∷ two ∷ three ∷ []) all → c ≡ get_or all 0 c → h ≡ get_or all 1 h →
+    s ≡ get_or all 2 s →
+    one.name.now ≡ name_of asked.source → one.most ≡ most_of asked.source → two.name.now ≡ asked.hosts →
+    two.most ≡ HOSTS_BYTES → three.name.now ≡ asked.start → three.most ≡ SCRIPT_BYTES → LoadsWell 3 files →
+    ((source hosts start : List ℕ) → IsLoaded (most_of asked.source) source c → IsLoaded HOSTS_BYTES hosts h →
+    IsLoaded SCRIPT_BYTES start s → EndsAs node_start (NodeStarts asked source hosts start) result) →
+    EndsAs node_start (IsNodeDue asked files) result
+node_loaded asked files one two three [] c h s result zipped pa pb pc na ma nb mb nc mc loads due = absurd zipped
+node_loaded asked files one two three (x ∷ []) c h s result zipped pa pb pc na ma nb mb nc mc loads due =
+    absurd zipped.1
+node_loaded asked files one two three (x ∷ y ∷ []) c h s result zipped pa pb pc na ma nb mb nc mc loads due =
+    absurd zipped.1.1
+node_loaded asked files one two three (x ∷ y ∷ z ∷ w ∷ more) c h s result zipped pa pb pc na ma nb mb nc mc loads due =
+    absurd zipped.1.1.1
+node_loaded asked files one two three (x ∷ y ∷ z ∷ []) c h s result zipped pa pb pc na ma nb mb nc mc loads due =
+    let first = given_file files.held one (name_of asked.source) (most_of asked.source) x na ma zipped.0 in
+    let second = given_file files.held two asked.hosts HOSTS_BYTES y nb mb zipped.1.0 in
+    let third = given_file files.held three asked.start SCRIPT_BYTES z nc mc zipped.1.1.0 in
+    ends_wider (NodeStarts asked first.0 second.0 third.0) (IsNodeDue asked files) result
+    (λ end starts. inr (record {
+      loads = loads;
+      source = first.0;
+      hosts = second.0;
+      start = third.0;
+      source_told = first.1;
+      hosts_told = second.1;
+      start_told = third.1;
+      starts = starts;
+    }))
+    (due first.0 second.0 third.0 (subst (IsLoaded (most_of asked.source) first.0) (sym pa) first.2)
+    (subst (IsLoaded HOSTS_BYTES second.0) (sym pb) second.2)
+    (subst (IsLoaded SCRIPT_BYTES third.0) (sym pc) third.2))
+
+-- ---- a node that goes no further
+
+pub stopped_answer : (asked : Asked) (files : FilesChange) (why : Stop) (answer : Status) (there : Outside) →
+    StopsWith (λ verdict. IsNodeDue asked files (stopped verdict)) why → IsStatusOf why answer →
+    OptionsAnswer asked files answer there there
+stopped_answer asked files stop.OutOfMemory answer there stops is = inl (inl is, refl)
+stopped_answer asked files (stop.Due verdict) answer there stops is =
+    inl (inr (verdict_shape verdict, stops, is), refl)
+
+-- ---- a node that begins
+
+pub unbegun : (error : NodeError) → IsUnbegun (status_of error)
+unbegun node_error.OutOfMemory = tt
+unbegun node_error.LinkFault = tt
+unbegun node_error.OutFault = tt
+
+-- the host as it starts is the one that serves
+pub told_at_start : (world : NodeWorld) (host first : HostShape) (old mid : Outside) → host ≡ first → mid ≡ old →
+    Told world first old → Told world host mid
+told_at_start world host first old mid same stays told =
+    subst (λ (h : HostShape). Told world h mid) (sym same)
+    (subst (λ (there : Outside). Told world first there) (sym stays) told)
