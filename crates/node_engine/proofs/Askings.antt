@@ -1,16 +1,14 @@
 -- What the words of a node ask for, by what `clap` makes of them.
-use Rattle.std.proofs.Common.{◌≡◌, ◌≢◌, ◌∙◌, ℕ, List, [], None, Option, Some, ap, codes, inl, inr, map}
-use Rattle.std.proofs.Common.{option_map, refl, subst, sym}
-use Rattle.std.specs.Borrow.{Bor}
+use Rattle.std.proofs.Common.{◌≡◌, ◌≢◌, ◌∙◌, ℕ, List, [], None, Option, Some, ap, codes, inl, inr}
+use Rattle.std.proofs.Common.{refl, subst, sym}
 use Rattle.std.specs.Fmt.{decimal}
-use Rattle.clap.specs.Words.{HasKind, HasMatchesOf, Kinds, Text, fault_of, first_value, found_of, kind_of}
+use Rattle.clap.specs.Words.{HasKind, HasMatchesOf, Kinds, Text, fault_of, first_of, first_value, found_of, kind_of}
 use Rattle.clap.specs.declared.error.Error.{Error}
 use Rattle.clap.specs.declared.error.kind.ErrorKind.TheVariants as kind
 use Rattle.clap.specs.declared.parser.matches.ArgMatches.{ArgMatches}
 use Rattle.clap.proofs.WalkLemmas.{first_value-rows}
 use Rattle.front_end.proofs.StepCounts.{same_steps}
 use Rattle.front_end.specs.StepCounts.{IsStepCount}
-use Rattle.clap.specs.Words.{first_of}
 use Rattle.node_engine.specs.Options.{Asked, Code, IsAsked, IsSource, Program, SourceName, node_command, value_of}
 
 -- an error that is no want of memory has a kind that was due
