@@ -1,16 +1,15 @@
 -- What the words of a node ask for, by what `clap` makes of them.
-use Rattle.std.proofs.Common.{◌≡◌, ◌≢◌, ◌∙◌, ℕ, List, [], None, Option, Some, ap, codes, inl, inr, map}
-use Rattle.std.proofs.Common.{option_map, refl, subst, sym}
-use Rattle.std.specs.Borrow.{Bor}
+use Rattle.std.proofs.Common.{◌≡◌, ◌≢◌, ◌∙◌, ℕ, List, [], None, Option, Some, ap, codes, inl, inr}
+use Rattle.std.proofs.Common.{refl, subst, sym}
 use Rattle.std.specs.Fmt.{decimal}
-use Rattle.clap.specs.Words.{HasKind, HasMatchesOf, Kinds, Text, fault_of, first_value, found_of, kind_of}
+use Rattle.clap.specs.Words.{HasKind, HasMatchesOf, Kinds, Text, fault_of, first_of, first_value, found_of, kind_of}
 use Rattle.clap.specs.declared.error.Error.{Error}
 use Rattle.clap.specs.declared.error.kind.ErrorKind.TheVariants as kind
 use Rattle.clap.specs.declared.parser.matches.ArgMatches.{ArgMatches}
 use Rattle.clap.proofs.WalkLemmas.{first_value-rows}
+use Rattle.js_base.proofs.Options.{some_same}
 use Rattle.front_end.proofs.StepCounts.{same_steps}
 use Rattle.front_end.specs.StepCounts.{IsStepCount}
-use Rattle.clap.specs.Words.{first_of}
 use Rattle.node_engine.specs.Options.{Asked, Code, IsAsked, IsSource, Program, SourceName, node_command, value_of}
 
 -- an error that is no want of memory has a kind that was due
@@ -19,10 +18,6 @@ some_kind kinds e (inl memory) other none = absurd (other memory)
 some_kind kinds e (inr among) other none =
     let P : Kinds → Type 0 = λ ks. HasKind ks e in
     elim (subst P none (inr among)) [ inl memory ↦ absurd (other memory) | inr never ↦ absurd never ]
-
-same_some : {X : Type 0} (o : Option X) (x y : X) → o ≡ Some x → o ≡ Some y → x ≡ y
-same_some (Some z) x y one two = let first : z ≡ x = cc in let second : z ≡ y = cc in sym first ∙ second
-same_some None x y one two = absurd cc
 
 -- a value of the matches is that of the words
 pub value_is : (words : List Text) (m : ArgMatches) → HasMatchesOf node_command words m → (name : Text) →
@@ -33,7 +28,8 @@ value_is words m has name = first_value-rows (found_of m) name ∙ ap (first_of 
 
 -- where an option has no value that a node has
 pub no_value : (words : List Text) (m : ArgMatches) (name : Text) (asks : Asked → Text) →
-    HasMatchesOf node_command words m → ((asked : Asked) → IsAsked words asked → value_of words name ≡ Some (asks asked)) →
+    HasMatchesOf node_command words m →
+    ((asked : Asked) → IsAsked words asked → value_of words name ≡ Some (asks asked)) →
     None ≡ first_value (found_of m) name → (asked : Asked) → ¬ IsAsked words asked
 no_value words m name asks has wants none asked is =
     absurd (let both = none ∙ value_is words m has name ∙ wants asked is in cc)
@@ -43,7 +39,7 @@ pub no_turns : (words : List Text) (m : ArgMatches) (word : Text) → HasMatches
     Some word ≡ first_value (found_of m) (codes "turns") → ((turns : ℕ) → IsStepCount turns → word ≢ decimal turns) →
     (asked : Asked) → ¬ IsAsked words asked
 no_turns words m word has found none asked is =
-    none asked.turns is.count (same_some _ _ _ (sym (found ∙ value_is words m has (codes "turns"))) is.turns)
+    none asked.turns is.count (some_same _ _ _ (sym (found ∙ value_is words m has (codes "turns"))) is.turns)
 
 -- where the values are no source
 pub no_source : (words : List Text) (m : ArgMatches) (program code : Option Text) → HasMatchesOf node_command words m →
@@ -83,8 +79,8 @@ all_given words m asked word program code parses has hosts host start turns writ
 -- a source is determined by the two values
 pub one_source : (program code : Option Text) (first second : SourceName) → IsSource program code first →
     IsSource program code second → first ≡ second
-one_source program code (Program p) (Program q) one two = ap Program (same_some program p q one.0 two.0)
-one_source program code (Code p) (Code q) one two = ap Code (same_some code p q one.1 two.1)
+one_source program code (Program p) (Program q) one two = ap Program (some_same program p q one.0 two.0)
+one_source program code (Code p) (Code q) one two = ap Code (some_same code p q one.1 two.1)
 one_source program code (Program p) (Code q) one two = absurd (let e = sym one.0 ∙ two.0 in cc)
 one_source program code (Code p) (Program q) one two = absurd (let e = sym one.0 ∙ two.0 in cc)
 
@@ -100,6 +96,6 @@ same_asked first second source hosts host start turns =
 -- words ask for one node
 pub one_asked : (words : List Text) (first second : Asked) → IsAsked words first → IsAsked words second → first ≡ second
 one_asked words first second one two =
-    same_asked first second (one_source _ _ _ _ one.source two.source) (same_some _ _ _ one.hosts two.hosts)
-    (same_some _ _ _ one.host two.host) (same_some _ _ _ one.start two.start)
-    (same_steps first.turns second.turns one.count two.count (same_some _ _ _ one.turns two.turns))
+    same_asked first second (one_source _ _ _ _ one.source two.source) (some_same _ _ _ one.hosts two.hosts)
+    (some_same _ _ _ one.host two.host) (some_same _ _ _ one.start two.start)
+    (same_steps first.turns second.turns one.count two.count (some_same _ _ _ one.turns two.turns))

@@ -78,7 +78,13 @@ fn asked_by<'a>(matches: &ArgMatches<'a>) -> Option<Options<'a>>
     let word = matches.get_str("turns")?;
     let turns = step_count(word)?;
     let source = one_source(matches.get_str("program"), matches.get_str("code"))?;
-    Some(Options { source, hosts, host, start, turns })
+    Some(Options {
+        source,
+        hosts,
+        host,
+        start,
+        turns,
+    })
 }
 
 /// The source of a node's code, where exactly one is given.
@@ -163,5 +169,10 @@ pub fn option_laws()
     ensures no_words { (asked : Asked) → ¬ IsAsked [] asked }
     ensures all_options { IsAsked (codes "--program" ∷ codes "P" ∷ codes "--hosts" ∷ codes "H" ∷ codes "--host" ∷
         codes "A" ∷ codes "--start" ∷ codes "S" ∷ codes "--turns" ∷ codes "4" ∷ []) (record {
-            source = Program (codes "P"); hosts = codes "H"; host = codes "A"; start = codes "S"; turns = 4 }) }
+          source = Program (codes "P");
+          hosts = codes "H";
+          host = codes "A";
+          start = codes "S";
+          turns = 4;
+        }) }
 {}

@@ -1,4 +1,3 @@
-use Rattle.std.proofs.Common.{map, string_bytes}
 use Rattle.std.proofs.lemmas.Result.{err_from_is_err_and}
 use Rattle.node_engine.proofs.options.read_options.Goals as goal
 
