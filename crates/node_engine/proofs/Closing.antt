@@ -1,9 +1,8 @@
 -- The closing frames, one after the other.
-use Rattle.std.proofs.Common.{◌≡◌, ◌≢◌, ◌⊎◌, inl, inr, ℕ, suc, ◌+◌, ◌-◌, ◌<◌, Bool, true, false, List, [], ◌∷◌, ◌++◌, Option}
-use Rattle.std.proofs.Common.{refl, sym, ap, ◌∙◌, subst, arith, if◌then◌else◌}
+use Rattle.std.proofs.Common.{◌≡◌, inl, inr, ℕ, suc, ◌+◌, ◌-◌, ◌<◌, List, [], ◌∷◌, ◌++◌, Option}
+use Rattle.std.proofs.Common.{refl, sym, ap, subst, arith}
 use Rattle.std.proofs.lemmas.Bool.Decides.{eqb_tells}
 use Rattle.js_base.specs.declared.ids.HostId.{HostId}
-use Rattle.host_core.specs.Host.{HostShape}
 use Rattle.wire_msg.specs.declared.frame.Frame.TheVariants as frame
 use Rattle.wire_msg.specs.Spelling.{frame_bytes}
 use Rattle.node_engine.specs.declared.node_error.NodeError.{NodeError}
@@ -35,24 +34,24 @@ all_done : (first others : List Part) (old mid new : Outside) → Does first old
     Does (first ++ others) old new
 all_done first others old mid new does did = record {
   after = λ world host told.
-    subst (λ (there : NodeWorld). Told there host new) (sym (do_all_behind first others world))
-    (did.after (do_all first world) host (does.after world host told));
+      subst (λ (there : NodeWorld). Told there host new) (sym (do_all_behind first others world))
+      (did.after (do_all first world) host (does.after world host told));
 }
 
 stops_behind : (error : NodeError) (first others : List Part) (old mid new : Outside) → Does first old mid →
     Stops error others mid new → Stops error (first ++ others) old new
 stops_behind error first others old mid new does stops = record {
   after = λ world host told.
-    let end = stops.after (do_all first world) host (does.after world host told) in
-    (end.0, end.1, breaks_behind error first others world end.0 end.2);
+      let end = stops.after (do_all first world) host (does.after world host told) in
+      (end.0, end.1, breaks_behind error first others world end.0 end.2);
 }
 
 pub stops_before : (error : NodeError) (first others : List Part) (old new : Outside) → Stops error first old new →
     Stops error (first ++ others) old new
 stops_before error first others old new stops = record {
   after = λ world host told.
-    let end = stops.after world host told in
-    (end.0, end.1, breaks_before error first others world end.0 end.2);
+      let end = stops.after world host told in
+      (end.0, end.1, breaks_before error first others world end.0 end.2);
 }
 
 -- ---- one host is told
@@ -96,15 +95,16 @@ pub goes_on_telling : (me : HostId) (count number : ℕ) (first here next : Link
     Completes me count number first here →
     ((journal : Option (List ℕ)) → Does (telling me number) (record { links = here; journal = journal })
     (record { links = next; journal = journal })) → Completes me count (number + 1) first next
-goes_on_telling me count number first here next lt completes does journal new =
-    ((λ rest. (completes journal new).0
-    (subst (λ parts. Does parts (record { links = here; journal = journal }) new) (sym (next_host me count number lt))
-    (all_done (telling me number) (closing_from me (number + 1) (count - (number + 1))) _ _ _ (does journal) rest))),
-    (λ error rest. (completes journal new).1 error
-    (subst (λ parts. Stops error parts (record { links = here; journal = journal }) new)
-    (sym (next_host me count number lt))
-    (stops_behind error (telling me number) (closing_from me (number + 1) (count - (number + 1))) _ _ _ (does journal)
-    rest))))
+goes_on_telling me count number first here next lt completes does journal new = (
+  (λ rest. (completes journal new).0
+      (subst (λ parts. Does parts (record { links = here; journal = journal }) new) (sym (next_host me count number lt))
+      (all_done (telling me number) (closing_from me (number + 1) (count - (number + 1))) _ _ _ (does journal) rest))),
+  (λ error rest. (completes journal new).1 error
+      (subst (λ parts. Stops error parts (record { links = here; journal = journal }) new)
+      (sym (next_host me count number lt))
+      (stops_behind error (telling me number) (closing_from me (number + 1) (count - (number + 1))) _ _ _ (does journal)
+      rest))),
+)
 
 pub stops_telling : (me : HostId) (count number : ℕ) (first here : LinksTold) (journal : Option (List ℕ))
     (new : Outside) (error : NodeError) → number < count → Completes me count number first here →

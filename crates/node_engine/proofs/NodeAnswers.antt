@@ -1,12 +1,9 @@
 -- What a node answers, by how its stages end.
-use Rattle.std.proofs.Common.{◌≡◌, ◌⊎◌, inl, inr, ℕ, false, List, [], ◌∷◌, get_or, Option, Some, refl, sym, subst, Result, Ok, Err}
+use Rattle.std.proofs.Common.{◌≡◌, inl, inr, ℕ, List, [], ◌∷◌, get_or, refl, sym, subst, Result, Ok, Err}
 use Rattle.std.specs.List.{AllZip}
 use Rattle.js_base.specs.declared.limits.TheConstants.{HOSTS_BYTES, SCRIPT_BYTES}
-use Rattle.js_base.specs.declared.ids.HostId.{HostId}
 use Rattle.js_base.specs.declared.status.Status.{Status}
-use Rattle.host_decl.specs.Hosts as declared_hosts
 use Rattle.host_core.specs.Host.{HostShape}
-use Rattle.host_core.specs.Start.{host_at_start}
 use Rattle.front_end.specs.declared.load.Asked as asked_file
 use Rattle.front_end.specs.declared.load.Loaded.{Loaded}
 use Rattle.front_end.specs.declared.stop.Stop.{Stop}
@@ -23,10 +20,10 @@ use Rattle.node_engine.specs.declared.node_error.NodeError.TheVariants as node_e
 use Rattle.node_engine.specs.declared.node_start.NodeStart as native_start
 use Rattle.node_engine.specs.NodeSources.{NodeStart, NodeStarts, node_start}
 use Rattle.node_engine.specs.NodeWorlds.{NodeWorld}
-use Rattle.node_engine.specs.Nodes.{IsNodeDue, IsStatusOf, IsUnbegun, LoadedNode, OptionsAnswer, RunsNode, most_of, name_of}
+use Rattle.node_engine.specs.Nodes.{IsNodeDue, IsStatusOf, IsUnbegun, OptionsAnswer, most_of, name_of}
 use Rattle.node_engine.specs.Options.{Asked}
-use Rattle.node_engine.specs.Serving.{Serves, status_of}
-use Rattle.node_engine.specs.Told.{Outside, Told, TellsOf}
+use Rattle.node_engine.specs.Serving.{status_of}
+use Rattle.node_engine.specs.Told.{Outside, Told}
 
 -- ---- files that were loaded
 

@@ -1,5 +1,5 @@
 -- The stages by which a node begins.
-use Rattle.std.proofs.Common.{◌≡◌, ◌⊎◌, inl, inr, ℕ, ℤ, List, map, refl, sym, ap, ap₂, ◌∙◌, subst, Result}
+use Rattle.std.proofs.Common.{◌≡◌, inl, inr, ℕ, ℤ, List, refl, ap₂}
 use Rattle.host_code.specs.Code.{CodeShape}
 use Rattle.host_decl.specs.Hosts.{HostsShape}
 use Rattle.jif_tree.specs.declared.program.Field.{Field}
@@ -25,5 +25,8 @@ pub values_given : (file start : List ℕ) (fields : List Field) (code own : Cod
     (values : List (List ℤ)) → StartingValues file start fields (given values) → own ≡ code → others ≡ hosts →
     Valued file start fields code hosts (given (record { code = own; hosts = others; values = values }))
 values_given file start fields code own hosts others values was one two =
-    inl (values, was,
-    ap₂ (λ (c : CodeShape) (h : HostsShape). given (record { code = c; hosts = h; values = values })) one two)
+    inl (
+      values,
+      was,
+      ap₂ (λ (c : CodeShape) (h : HostsShape). given (record { code = c; hosts = h; values = values })) one two,
+    )

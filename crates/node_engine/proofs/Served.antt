@@ -112,13 +112,16 @@ pub serves_on : (code : CodeShape) (me : HostId) (units done : ℕ) (first : Hos
 serves_on code me units done first old host later here there lt on goes unit world told not_yet =
     let at = on world told not_yet in
     let did = unit at.0 at.1 at.2 in
-    let left : units - done ≡ suc (units - (done + 1)) = omega arith in
-    (do_all did.0 at.0, did.2, did.3,
-    λ answer new serves.
-    at.3 answer new
-    (subst (λ left. Serves code me left answer at.0 new) (sym left)
-    (serves_more code me (units - (done + 1)) answer at.0 new did.0
-    (stage_is code me at.0 host here false at.1 at.2 goes) did.1 serves)))
+    let left : units - done ≡ suc (units - (done + 1)) = omega arith in (
+      do_all did.0 at.0,
+      did.2,
+      did.3,
+      λ answer new serves.
+          at.3 answer new
+          (subst (λ left. Serves code me left answer at.0 new) (sym left)
+          (serves_more code me (units - (done + 1)) answer at.0 new did.0
+          (stage_is code me at.0 host here false at.1 at.2 goes) did.1 serves)),
+    )
 
 pub ends_told : (code : CodeShape) (me : HostId) (units done : ℕ) (first : HostShape) (old : Outside)
     (host later : HostShape) (here there : Outside) → done < units →
@@ -128,14 +131,16 @@ ends_told code me units done first old host later here there lt on goes unit wor
     let at = on world told not_yet in
     let did = unit at.0 at.1 at.2 in
     let left : units - done ≡ suc (units - (done + 1)) = omega arith in
-    let after = do_all did.0 at.0 in
-    (after, did.2,
-    at.3 status.Done after
-    (subst (λ left. Serves code me left status.Done at.0 after) (sym left)
-    (serves_more code me (units - (done + 1)) status.Done at.0 after did.0
-    (stage_is code me at.0 host here false at.1 at.2 goes) did.1
-    (serves_told code me (units - (done + 1)) after
-    (ap (λ (told : Bool). stage_by told (has_ended code me after.host)) did.3)))))
+    let after = do_all did.0 at.0 in (
+      after,
+      did.2,
+      at.3 status.Done after
+          (subst (λ left. Serves code me left status.Done at.0 after) (sym left)
+          (serves_more code me (units - (done + 1)) status.Done at.0 after did.0
+          (stage_is code me at.0 host here false at.1 at.2 goes) did.1
+          (serves_told code me (units - (done + 1)) after
+          (ap (λ (told : Bool). stage_by told (has_ended code me after.host)) did.3)))),
+    )
 
 pub ends_broken : (code : CodeShape) (me : HostId) (units done : ℕ) (first : HostShape) (old : Outside)
     (host later : HostShape) (here there : Outside) (error : NodeError) (answer : Status) → done < units →
@@ -145,12 +150,14 @@ ends_broken code me units done first old host later here there error answer lt o
     let at = on world told not_yet in
     let did = unit at.0 at.1 in
     let end = did.2 in
-    let left : units - done ≡ suc (units - (done + 1)) = omega arith in
-    (end.0, end.1,
-    at.3 answer end.0
-    (subst (λ left. Serves code me left answer at.0 end.0) (sym left)
-    (serves_broken code me (units - (done + 1)) answer at.0 end.0 did.0
-    (stage_is code me at.0 host here false at.1 at.2 goes) did.1 (error, is, end.2))))
+    let left : units - done ≡ suc (units - (done + 1)) = omega arith in (
+      end.0,
+      end.1,
+      at.3 answer end.0
+          (subst (λ left. Serves code me left answer at.0 end.0) (sym left)
+          (serves_broken code me (units - (done + 1)) answer at.0 end.0 did.0
+          (stage_is code me at.0 host here false at.1 at.2 goes) did.1 (error, is, end.2))),
+    )
 
 pub ends_closed : (code : CodeShape) (me : HostId) (units done : ℕ) (first : HostShape) (old : Outside)
     (host : HostShape) (here there : Outside) (answer : Status) → ServesOn code me units done first old host here →
@@ -159,18 +166,22 @@ pub ends_closed : (code : CodeShape) (me : HostId) (units done : ℕ) (first : H
     TellsOf (Closes code me answer world) host there) → Ends code me units answer first old host there
 ends_closed code me units done first old host here there answer on halted closes world told not_yet =
     let at = on world told not_yet in
-    let end = closes at.0 host at.1 in
-    (end.0, end.1,
-    at.3 answer end.0
-    (serves_halted code me (units - done) answer at.0 end.0
-    (stage_is code me at.0 host here true at.1 at.2 halted) end.2))
+    let end = closes at.0 host at.1 in (
+      end.0,
+      end.1,
+      at.3 answer end.0
+          (serves_halted code me (units - done) answer at.0 end.0
+          (stage_is code me at.0 host here true at.1 at.2 halted) end.2),
+    )
 
 pub ends_spent : (code : CodeShape) (me : HostId) (units done : ℕ) (first : HostShape) (old : Outside)
     (host : HostShape) (here : Outside) → units - done ≡ 0 → ServesOn code me units done first old host here →
     false ≡ has_ended code me host → Ends code me units status.Spent first old host here
 ends_spent code me units done first old host here none on goes world told not_yet =
-    let at = on world told not_yet in
-    (at.0, at.1,
-    at.3 status.Spent at.0
-    (subst (λ left. Serves code me left status.Spent at.0 at.0) (sym none)
-    (serves_spent code me at.0 (stage_is code me at.0 host here false at.1 at.2 goes))))
+    let at = on world told not_yet in (
+      at.0,
+      at.1,
+      at.3 status.Spent at.0
+          (subst (λ left. Serves code me left status.Spent at.0 at.0) (sym none)
+          (serves_spent code me at.0 (stage_is code me at.0 host here false at.1 at.2 goes))),
+    )

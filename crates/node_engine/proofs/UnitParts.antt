@@ -1,5 +1,5 @@
 -- The parts of units: what they leave, and that there are some.
-use Rattle.std.proofs.Common.{◌≡◌, ◌⊎◌, inl, inr, ℕ, Bool, true, false, List, [], ◌∷◌, ◌++◌, Option, Some, None, refl, sym}
+use Rattle.std.proofs.Common.{◌≡◌, inl, inr, ℕ, Bool, true, false, List, [], ◌∷◌, ◌++◌, Option, Some, None, refl, sym}
 use Rattle.std.proofs.Common.{ap, ◌∙◌, subst, if◌then◌else◌, Result, Ok, Err, ◌<◌, arith}
 use Rattle.std.specs.Prelude.{IsSome, is_none}
 use Rattle.std.proofs.lemmas.Bool.{cases_eq, cases_lt, false≢true}
@@ -50,13 +50,13 @@ pub heard_works : (is_root : Bool) (line : List ℕ) (host : HostShape) (old new
     Does (Line line ∷ []) old new → Works (hearing is_root line) host host old new
 heard_works true line host old new does = record {
   after = λ world told.
-    does.after (do_part Hearing world) host
-    (record {
-      host_is = told.host_is;
-      left_is = told.left_is;
-      sent_is = told.sent_is;
-      journal_is = told.journal_is;
-    });
+      does.after (do_part Hearing world) host
+      (record {
+        host_is = told.host_is;
+        left_is = told.left_is;
+        sent_is = told.sent_is;
+        journal_is = told.journal_is;
+      });
 }
 heard_works false line host old new does = record { after = λ world told. does.after world host told }
 
@@ -64,14 +64,14 @@ pub heard_fails : (error : NodeError) (is_root : Bool) (line : List ℕ) (host :
     Stops error (Line line ∷ []) old new → Fails error (hearing is_root line) host host old new
 heard_fails error true line host old new stops = record {
   after = λ world told.
-    let end = stops.after (do_part Hearing world) host
-        (record {
-          host_is = told.host_is;
-          left_is = told.left_is;
-          sent_is = told.sent_is;
-          journal_is = told.journal_is;
-        }) in
-    (end.0, end.1, inr end.2);
+      let end = stops.after (do_part Hearing world) host
+      (record {
+        host_is = told.host_is;
+        left_is = told.left_is;
+        sent_is = told.sent_is;
+        journal_is = told.journal_is;
+      }) in
+      (end.0, end.1, inr end.2);
 }
 heard_fails error false line host old new stops = record { after = λ world told. stops.after world host told }
 
@@ -92,12 +92,13 @@ pub taking_works : (code : CodeShape) (me : HostId) (bytes : List ℕ) (arrival 
 taking_works code me bytes arrival before later old mid new parts ended takes arrives are works hears world told
     not_yet =
     let taken = takes.after world before told in
-    let left = taken.1.1 in
-    (Taking ∷ parts,
-    subst (λ left. AreTakingParts code me before left (Taking ∷ parts)) (sym left)
-    (arrival, parts, arrives, are, refl),
-    works.after (do_part Taking world) taken.0,
-    hears (do_part Taking world) not_yet)
+    let left = taken.1.1 in (
+      Taking ∷ parts,
+      subst (λ left. AreTakingParts code me before left (Taking ∷ parts)) (sym left)
+          (arrival, parts, arrives, are, refl),
+      works.after (do_part Taking world) taken.0,
+      hears (do_part Taking world) not_yet,
+    )
 
 pub taking_fails : (code : CodeShape) (me : HostId) (bytes : List ℕ) (arrival : Arrival) (before later : HostShape)
     (old mid new : Outside) (parts : List Part) (error : NodeError) → Takes bytes old mid →
@@ -107,11 +108,12 @@ pub taking_fails : (code : CodeShape) (me : HostId) (bytes : List ℕ) (arrival 
 taking_fails code me bytes arrival before later old mid new parts error takes arrives are fails world told =
     let taken = takes.after world before told in
     let left = taken.1.1 in
-    let end = fails.after (do_part Taking world) taken.0 in
-    (Taking ∷ parts,
-    subst (λ left. AreTakingParts code me before left (Taking ∷ parts)) (sym left)
-    (arrival, parts, arrives, are, refl),
-    (end.0, end.1, inr end.2))
+    let end = fails.after (do_part Taking world) taken.0 in (
+      Taking ∷ parts,
+      subst (λ left. AreTakingParts code me before left (Taking ∷ parts)) (sym left)
+          (arrival, parts, arrives, are, refl),
+      (end.0, end.1, inr end.2),
+    )
 
 -- ---- the next unit
 
@@ -213,14 +215,16 @@ parts_of : TakingLeaves → TurnLeaves → (code : CodeShape) (me : HostId) (wor
     (running : Option ThreadShape) → world.host.running ≡ running →
     (parts : List Part) × AreUnitParts code me world parts
 parts_of takes turns code me world None is =
-    let some = some_taking takes code me world.host world.left in
-    (Taking ∷ some.0,
-    subst (λ running. AreUnitPartsOf code me world running (Taking ∷ some.0)) (sym is) some.1)
+    let some = some_taking takes code me world.host world.left in (
+      Taking ∷ some.0,
+      subst (λ running. AreUnitPartsOf code me world running (Taking ∷ some.0)) (sym is) some.1,
+    )
 parts_of takes turns code me world (Some thread) is =
-    let some = turns code world.host in
-    (step_parts code me turn_line some.0,
-    subst (λ running. AreUnitPartsOf code me world running (step_parts code me turn_line some.0)) (sym is)
-    (some.0, some.1, refl))
+    let some = turns code world.host in (
+      step_parts code me turn_line some.0,
+      subst (λ running. AreUnitPartsOf code me world running (step_parts code me turn_line some.0)) (sym is)
+          (some.0, some.1, refl),
+    )
 
 pub some_parts : TakingLeaves → TurnLeaves → (code : CodeShape) (me : HostId) (world : NodeWorld) →
     (parts : List Part) × AreUnitParts code me world parts

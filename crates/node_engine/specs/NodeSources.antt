@@ -3,7 +3,6 @@
 use Rattle.std.specs.Prelude.{◌≡◌, ◌≢◌, ◌⊎◌, ℕ, ◌<◌, ◌≤◌, ℤ, List, [], length, map, Some, Ok, Err, All, slice_get}
 use Rattle.js_base.specs.declared.ids.HostId.{HostId}
 use Rattle.js_base.specs.declared.limits.TheConstants.{SPLIT_FILE_BYTES}
-use Rattle.js_base.specs.declared.status.Status.{Status}
 use Rattle.js_base.specs.declared.status.Status.TheVariants.{InputRefused}
 use Rattle.host_code.specs.Code.{CodeShape, CodeHostShape}
 use Rattle.host_decl.specs.Hosts.{HostsShape, HostShape}

@@ -234,7 +234,15 @@ fn run_node<L: Links, R: Journal>(
         return Status::NoMemory;
     };
     match begin(alloc, node.me, rows, row.name(), links, journal) {
-        Ok(()) => serve(alloc, &mut host, &source.code, node.me, links, journal, turns),
+        Ok(()) => serve(
+            alloc,
+            &mut host,
+            &source.code,
+            node.me,
+            links,
+            journal,
+            turns,
+        ),
         Err(error) => error.status(),
     }
 }

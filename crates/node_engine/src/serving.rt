@@ -96,12 +96,7 @@ fn closed<L: Links>(alloc: Global, code: &Code, me: HostId, links: &mut L) -> St
 }
 
 /// Sends each other host the frame of one that is done.
-fn close<L: Links>(
-    alloc: Global,
-    code: &Code,
-    me: HostId,
-    links: &mut L,
-) -> Result<(), NodeError>
+fn close<L: Links>(alloc: Global, code: &Code, me: HostId, links: &mut L) -> Result<(), NodeError>
     requires { IsHost code.now me }
     ensures ok { OnOk result ((journal : Option (List ℕ)) →
         Does (closing_parts code.now me)

@@ -1,6 +1,5 @@
-use Rattle.std.proofs.Common.{inl, inr, refl, sym, subst, ◌<◌, ℕ, List, length, ap, ◌∙◌}
+use Rattle.std.proofs.Common.{inl, inr, refl, sym, subst}
 use Rattle.host_core.specs.Host.{state_of}
-use Rattle.host_core.specs.Start.{host_at_start}
 use Rattle.node_engine.specs.Nodes.{IsUnbegun}
 use Rattle.node_engine.proofs.NodeAnswers.{told_at_start, unbegun}
 use Rattle.node_engine.proofs.Rows.{row_at}
@@ -15,8 +14,8 @@ returns-in-Ok-begin-clause-runs g c =
           (rw (← c.hosts-rows.ensures.hosts) at c.requires.0) c.index-rows-node.is);
       runs = λ world told not_yet.
           let end = c.serve.ensures.serves world
-              (told_at_start world _ _ _ _ (rw c.key.ensures at c.in-Ok.ensures.state) c.in-Ok-begin.ensures.same told)
-              not_yet in
+          (told_at_start world _ _ _ _ (rw c.key.ensures at c.in-Ok.ensures.state) c.in-Ok-begin.ensures.same told)
+          not_yet in
           (state_of c.serve.new.host, (end.0, end.1, inr end.2));
     }
 
@@ -27,7 +26,12 @@ returns-clause-runs g c =
       row_is = rw (← c.hosts-rows.ensures.hosts)
           (row_at c.hosts-rows.result.now c.args.node.now.me.0 c.index-rows-node.result
           (rw (← c.hosts-rows.ensures.hosts) at c.requires.0) c.index-rows-node.is);
-      runs = λ world told not_yet.
-          (_, (world, told_at_start world _ _ _ _ refl c.in-Err.ensures.same told,
-          inl (subst IsUnbegun (sym c.status.ensures) (unbegun c.in-Err.error), refl)));
+      runs = λ world told not_yet. (
+        _,
+        (
+          world,
+          told_at_start world _ _ _ _ refl c.in-Err.ensures.same told,
+          inl (subst IsUnbegun (sym c.status.ensures) (unbegun c.in-Err.error), refl),
+        ),
+      );
     }

@@ -21,7 +21,9 @@ pub returns : goal.returns
 returns c = λ s loaded.
     let program = c.source.inside.checked.program in
     let tree = ap (λ (source : SourceModel). program_tree source.checked.program) c.source.view_is
-    ∙ ap (λ (placed : PlacedModel). program_tree placed.source.checked.program) c.placed.view_is in
-    (program, tree,
-    values_given c.args.name.now s program.fields.items _ c.in_ok-code.code _ c.into_hosts-hosts.result
-    c.in_ok-store.store (c.in_ok-store.ensures s loaded) c.in_ok-code.ensures c.into_hosts-hosts.ensures)
+    ∙ ap (λ (placed : PlacedModel). program_tree placed.source.checked.program) c.placed.view_is in (
+      program,
+      tree,
+      values_given c.args.name.now s program.fields.items _ c.in_ok-code.code _ c.into_hosts-hosts.result
+          c.in_ok-store.store (c.in_ok-store.ensures s loaded) c.in_ok-code.ensures c.into_hosts-hosts.ensures,
+    )

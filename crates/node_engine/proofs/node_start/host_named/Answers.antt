@@ -5,12 +5,13 @@ use Rattle.node_engine.proofs.Rows.{all_more, all_of_them, row_at}
 use Rattle.node_engine.proofs.node_start.host_named.Goals as goal
 
 pub returns-then-eq-clause-found : goal.returns-then-eq-clause-found
-returns-then-eq-clause-found c =
-    (c.index-rows-number.result,
-    rw (← c.hosts-rows.ensures.hosts)
-    (row_at c.hosts-rows.result.now c.loop-number.number c.index-rows-number.result c.loop-number-test.true
-    c.index-rows-number.is),
-    sym c.name.ensures ∙ (bytes_eq-Decides c.name.result.now c.args.name.now).0 (sym c.if-eq.ensures))
+returns-then-eq-clause-found c = (
+  c.index-rows-number.result,
+  rw (← c.hosts-rows.ensures.hosts)
+      (row_at c.hosts-rows.result.now c.loop-number.number c.index-rows-number.result c.loop-number-test.true
+      c.index-rows-number.is),
+  sym c.name.ensures ∙ (bytes_eq-Decides c.name.result.now c.args.name.now).0 (sym c.if-eq.ensures),
+)
 
 pub loop-number-preserved : goal.loop-number-preserved
 loop-number-preserved c =

@@ -1,5 +1,5 @@
 use Rattle.std.proofs.Common.{refl}
-use Rattle.node_engine.proofs.Breaking.{frame_sent, send_breaks, send_without_memory}
+use Rattle.node_engine.proofs.Breaking.{send_breaks, send_without_memory}
 use Rattle.node_engine.proofs.outside.sent.Goals as goal
 
 pub returns-in-Err-OutOfMemory-clause-err : goal.returns-in-Err-OutOfMemory-clause-err

@@ -12,7 +12,8 @@ returns-in_err-tell-clause-err g c =
     (c.in_err-tell.ensures.err journal)))
 
 pub loop-number-preserved : goal.loop-number-preserved
-loop-number-preserved g c =
-    (le_trans c.loop-number.invariant.0 c.in_ok-tell.ensures.faults,
-    goes_on_telling c.args.me _ c.loop-number.number _ _ _ c.loop-number-test.true c.loop-number.invariant.1
-    c.in_ok-tell.ensures.ok)
+loop-number-preserved g c = (
+  le_trans c.loop-number.invariant.0 c.in_ok-tell.ensures.faults,
+  goes_on_telling c.args.me _ c.loop-number.number _ _ _ c.loop-number-test.true c.loop-number.invariant.1
+      c.in_ok-tell.ensures.ok,
+)

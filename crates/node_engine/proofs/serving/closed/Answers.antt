@@ -4,9 +4,11 @@ use Rattle.node_engine.specs.Serving.{closing_parts}
 use Rattle.node_engine.proofs.serving.closed.Goals as goal
 
 pub returns-in-Ok-clause-closes : goal.returns-in-Ok-clause-closes
-returns-in-Ok-clause-closes g c = λ journal world host told.
-    (do_all (closing_parts c.args.code.now c.args.me) world, (c.in-Ok.ensures.ok journal).after world host told,
-    inl (refl, refl))
+returns-in-Ok-clause-closes g c = λ journal world host told. (
+  do_all (closing_parts c.args.code.now c.args.me) world,
+  (c.in-Ok.ensures.ok journal).after world host told,
+  inl (refl, refl),
+)
 
 pub returns-in-Err-clause-closes : goal.returns-in-Err-clause-closes
 returns-in-Err-clause-closes g c = λ journal world host told.

@@ -23,13 +23,15 @@ returns-in-Err-clause-serves g c =
     c.if-has_closed.ensures c.status.ensures c.in-Err.ensures.err
 
 pub loop-preserved : goal.loop-preserved
-loop-preserved g c =
-    (le_trans c.loop.invariant.0 c.in-Ok-false.ensures.link_faults,
-    le_trans c.loop.invariant.1 c.in-Ok-false.ensures.journal_faults, c.in-Ok-false.ensures.fits,
-    c.in-Ok-false.ensures.me,
-    serves_on c.args.code.now c.args.me c.args.units c.loop.counter (state_of c.args.host.now) _
-    (state_of c.loop.host) _ _ _ c.loop-test.true c.loop.invariant.4 c.if-has_closed.ensures
-    (rw c.in-Ok-false.field-0-test at c.in-Ok-false.ensures.ok))
+loop-preserved g c = (
+  le_trans c.loop.invariant.0 c.in-Ok-false.ensures.link_faults,
+  le_trans c.loop.invariant.1 c.in-Ok-false.ensures.journal_faults,
+  c.in-Ok-false.ensures.fits,
+  c.in-Ok-false.ensures.me,
+  serves_on c.args.code.now c.args.me c.args.units c.loop.counter (state_of c.args.host.now) _
+      (state_of c.loop.host) _ _ _ c.loop-test.true c.loop.invariant.4 c.if-has_closed.ensures
+      (rw c.in-Ok-false.field-0-test at c.in-Ok-false.ensures.ok),
+)
 
 pub returns-then-has_closed-2-clause-serves : goal.returns-then-has_closed-2-clause-serves
 returns-then-has_closed-2-clause-serves g c =

@@ -1,7 +1,4 @@
-use Rattle.std.proofs.Common.{refl, [], ◌∷◌}
-use Rattle.node_engine.specs.JournalLines as lines
-use Rattle.node_engine.specs.NodeWorlds.{Line}
-use Rattle.node_engine.specs.Units.{hearing_parts}
+use Rattle.std.proofs.Common.{refl}
 use Rattle.node_engine.proofs.Breaking.{fails_alike, handed, works_alike}
 use Rattle.node_engine.proofs.UnitParts.{heard_ended, heard_fails, heard_works}
 use Rattle.node_engine.proofs.units.handled.Goals as goal
@@ -21,9 +18,12 @@ returns-in_err-heard-in-Done-clause-err g c =
 
 pub returns-in_ok-noted-in-Dropped-clause-ok : goal.returns-in_ok-noted-in-Dropped-clause-ok
 returns-in_ok-noted-in-Dropped-clause-ok g c =
-    rw c.in-Dropped.is
-    (_, refl, works_alike _ _ _ _ (rw c.drop_line.ensures at c.in_ok-noted-in-Dropped.ensures.ok _),
-    λ world not_yet. not_yet)
+    rw c.in-Dropped.is (
+      _,
+      refl,
+      works_alike _ _ _ _ (rw c.drop_line.ensures at c.in_ok-noted-in-Dropped.ensures.ok _),
+      λ world not_yet. not_yet,
+    )
 
 pub returns-in_ok-heard-in-Done-clause-ok : goal.returns-in_ok-heard-in-Done-clause-ok
 returns-in_ok-heard-in-Done-clause-ok g c =

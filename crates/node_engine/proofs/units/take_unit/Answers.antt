@@ -10,9 +10,11 @@ pub returns-in_err-arrived-clause-err : goal.returns-in_err-arrived-clause-err
 returns-in_err-arrived-clause-err g c =
     handed _ c.in_err-arrived.field-0.0 c.from_residual.result c.from_residual.ensures
     (λ world told.
-    let some = c.unit_laws.ensures.some_taking c.args.code.now c.args.me (state_of c.args.host.now) world.left in
-    (Taking ∷ some.0, some.1,
-    (breaks_first _ _ some.0 _ _ (c.in_err-arrived.ensures.err _)).after world _ told))
+    let some = c.unit_laws.ensures.some_taking c.args.code.now c.args.me (state_of c.args.host.now) world.left in (
+      Taking ∷ some.0,
+      some.1,
+      (breaks_first _ _ some.0 _ _ (c.in_err-arrived.ensures.err _)).after world _ told,
+    ))
 
 pub returns-clause-ok : goal.returns-clause-ok
 returns-clause-ok g c =

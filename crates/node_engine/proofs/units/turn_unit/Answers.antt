@@ -15,13 +15,17 @@ returns-in-Ok-clause-ok g c =
 pub returns-in-Ok-clause-err : goal.returns-in-Ok-clause-err
 returns-in-Ok-clause-err g c =
     IfErr-weaker c.stepped.result _ _
-    (λ error stops.
-    (step_parts c.args.code.now c.args.me turn_line _, (_, c.in-Ok.ensures.ok, refl),
-    step_then_fails error _ _ _ _ _ stops))
+    (λ error stops. (
+      step_parts c.args.code.now c.args.me turn_line _,
+      (_, c.in-Ok.ensures.ok, refl),
+      step_then_fails error _ _ _ _ _ stops,
+    ))
     c.stepped.ensures.err
 
 pub returns-in-Err-OutOfMemory-clause-err : goal.returns-in-Err-OutOfMemory-clause-err
 returns-in-Err-OutOfMemory-clause-err g c =
-    let some = c.step_laws.ensures.some_turn c.args.code.now (state_of c.args.host.now) in
-    (step_parts c.args.code.now c.args.me turn_line some.0, (some.0, some.1, refl),
-    rw c.in-Err-OutOfMemory.ensures.err (step_fails _ _ _ _))
+    let some = c.step_laws.ensures.some_turn c.args.code.now (state_of c.args.host.now) in (
+      step_parts c.args.code.now c.args.me turn_line some.0,
+      (some.0, some.1, refl),
+      rw c.in-Err-OutOfMemory.ensures.err (step_fails _ _ _ _),
+    )
