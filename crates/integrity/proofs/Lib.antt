@@ -3,4 +3,12 @@ pub mod OpenWorlds
 pub mod OutsideLaws
 pub mod Starts
 pub mod RootLaws
+pub mod Among
+pub mod StackMoves
+pub mod WaitMoves
+pub mod FliesOn
+pub mod HeldTokens
+pub mod HolderStays
+pub mod TightKept
+pub mod OutsideEvents
 pub mod IntegrityExamples

@@ -1,4 +1,5 @@
 pub mod Exposed
 pub mod Outside
 pub mod Altering
+pub mod Holding
 pub mod IntegrityExamples
