@@ -85,7 +85,7 @@ restacked chain old new e among (pops top is never) has =
     below_top top e new (subst (λ list. IsAmong list e) is has) (never e among)
 
 module _ (chain : List StackEntry) (world after : WorldShape) where
-  stands_after : (holder : Holder) → LeavesAlone chain holder world after → (e : StackEntry) → IsAmong chain e →
+  pub stands_after : (holder : Holder) → LeavesAlone chain holder world after → (e : StackEntry) → IsAmong chain e →
       StandsThere world e → StandsThere after e
   stands_after holder move e among has =
       on_some world after move.me e.token.host move.old move.new move.obeys move.puts

@@ -11,4 +11,6 @@ pub mod HeldTokens
 pub mod HolderStays
 pub mod TightKept
 pub mod OutsideEvents
+pub mod TightStart
+pub mod TightLaws
 pub mod IntegrityExamples

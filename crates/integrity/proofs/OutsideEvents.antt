@@ -158,15 +158,15 @@ does_open : (threat : Threat) (state : HostShape) (from : HostId) (m : Message) 
     ((awaited : Awaited) (request : RequestId) → number_answered m ≡ Some request →
     WakesOpen threat state (place_of_awaiting state awaited request from)) → Passes threat.code state from m →
     DoesOpen threat state from m
-does_open threat state from (message.Get request field index) said tops wakes passes = tt
-does_open threat state from (message.Set request field index value) said tops wakes passes = said
-does_open threat state from (message.Forward request frame x value) said tops wakes passes = said
-does_open threat state from (message.Sync request frame there token) said tops wakes passes = said
-does_open threat state from (message.Rgoto frame there token) said tops wakes passes = said
-does_open threat state from (message.Lgoto token) said tops wakes passes = tops token refl passes
-does_open threat state from (message.Value request value) said tops wakes passes = wakes value_of_field request refl
-does_open threat state from (message.Ack request) said tops wakes passes = wakes acknowledgement request refl
-does_open threat state from (message.Token request token) said tops wakes passes = wakes token_of_entry request refl
+does_open threat state from (message.Get request field index) said tops woken passes = tt
+does_open threat state from (message.Set request field index value) said tops woken passes = said
+does_open threat state from (message.Forward request frame x value) said tops woken passes = said
+does_open threat state from (message.Sync request frame there token) said tops woken passes = said
+does_open threat state from (message.Rgoto frame there token) said tops woken passes = said
+does_open threat state from (message.Lgoto token) said tops woken passes = tops token refl passes
+does_open threat state from (message.Value request value) said tops woken passes = woken value_of_field request refl
+does_open threat state from (message.Ack request) said tops woken passes = woken acknowledgement request refl
+does_open threat state from (message.Token request token) said tops woken passes = woken token_of_entry request refl
 
 -- ---- what an event leaves
 
@@ -190,7 +190,7 @@ waiting_more old outcome one (inl quiet) among = subst (λ list. IsAmong list on
 waiting_more old outcome one (inr asks) among =
     subst (λ list. IsAmong list one) (sym asks.waiting) (among_push old.waiting asks.thread one among)
 
-turn_leaves : (threat : Threat) → IsKnown threat → (chain : List StackEntry) (holder : Holder)
+pub turn_leaves : (threat : Threat) → IsKnown threat → (chain : List StackEntry) (holder : Holder)
     (world after : WorldShape) (me : HostId) → IsLawful threat world → IsTurnStep threat.code world me after →
     IsTight threat chain holder world → (OwnsRunning holder me → ⊥) → Leaves threat chain holder world after
 turn_leaves threat known chain holder world after me is step tight apart =
@@ -291,26 +291,35 @@ module _ (threat : Threat) (known : IsKnown threat) (chain : List StackEntry) (h
       sleeps request place one answer
       (each one (subst (λ n. slice_get state.waiting n ≡ Some one) here among.1)) own))
 
-  alone : (after : WorldShape) (outcome : Outcome) → IsTaking threat.code state from m outcome →
+  event_leaves : (after : WorldShape) (outcome : Outcome) → IsTaking threat.code state from m outcome →
       after.hosts ≡ slice_set world.hosts me.0 (Some outcome.state) →
       ((one other : HostId) (flight : Flight) → IsAmong (world.flying one other) flight →
       OwnsMessage holder one other flight.message → IsAmong (after.flying one other) flight) →
-      LeavesAlone chain holder world after
-  alone after outcome takes puts flying = record {
-    me = me;
-    old = state;
-    new = outcome.state;
-    obeys = it.obeys;
-    puts = puts;
-    apart = not_here;
-    stack = restacks_by (GivesBack m) (IsNone chain) state.entries outcome.state.entries it.none
-        (taking_restacks threat.code state from m outcome takes);
-    waiting = λ one among own.
-        still_waits outcome.state.waiting one (taking_rewaits threat.code state from m outcome takes) among own;
-    flying = flying;
-  }
+      FlyAs (λ one other said. OwnsMessage holder one other said ⊎ MessageIsOpen threat said) after.flying →
+      Leaves threat chain holder world after
+  event_leaves after outcome takes puts on all =
+      let leaves = taking_leaves outcome takes in
+      record {
+        alone = record {
+          me = me;
+          old = state;
+          new = outcome.state;
+          obeys = it.obeys;
+          puts = puts;
+          apart = not_here;
+          stack = restacks_by (GivesBack m) (IsNone chain) state.entries outcome.state.entries it.none
+              (taking_restacks threat.code state from m outcome takes);
+          waiting = λ one among own.
+              still_waits outcome.state.waiting one (taking_rewaits threat.code state from m outcome takes) among own;
+          flying = on;
+        };
+        stays = leaves.stays;
+        frames = leaves.frames;
+        state = is_outside threat chain holder outcome.state leaves.state;
+        flying = all;
+      }
 
-take_leaves : (threat : Threat) → IsKnown threat → (chain : List StackEntry) (holder : Holder)
+pub take_leaves : (threat : Threat) → IsKnown threat → (chain : List StackEntry) (holder : Holder)
     (world after : WorldShape) (from to : HostId) (place : ℕ) → IsLawful threat world →
     IsTakeStep threat.code world from to place after → IsTight threat chain holder world →
     ¬ IsOwn holder world (Take from to place) → Leaves threat chain holder world after
@@ -335,29 +344,24 @@ take_leaves threat known chain holder world after from to place is step tight ap
     let leaves =
     taking_leaves threat known chain holder world is tight from to step.state m it step.outcome step.takes in
     let left = without_flight world from to place in
-    record {
-      alone = alone threat known chain holder world is tight from to step.state m it after step.outcome step.takes
-          (take_puts threat.code world after from to place step)
-          (λ one other flight among own.
-          subst (λ (w : WorldShape). IsAmong (w.flying one other) flight) step.leaves
-          (sends_on (with_state left to step.outcome.state) to (Some step.flight.label) step.outcome.sent one other
-          flight (flies_without world from to place one other flight among (λ first second here.
-          apart (some_of (slice_get (world.flying from to) place) (λ f. OwnsMessage holder from to f.message) flight
-          (ap (λ n. slice_get (world.flying from to) n) (sym here)
-          ∙ ap (λ h. slice_get (world.flying h to) among.0) (sym first)
-          ∙ ap (λ h. slice_get (world.flying one h) among.0) (sym second) ∙ among.1)
-          (subst (λ h. OwnsMessage holder h to flight.message) first
-          (subst (λ h. OwnsMessage holder one h flight.message) second own)))))));
-      stays = leaves.stays;
-      frames = leaves.frames;
-      state = is_outside threat chain holder step.outcome.state leaves.state;
-      flying = subst (λ (w : WorldShape). FlyAs P w.flying) step.leaves
-          (all_sent P (with_state left to step.outcome.state) to (Some step.flight.label) step.outcome.sent
-          (all_without P world from to place tight.outside.flying)
-          (said_open threat holder to step.outcome.sent leaves.sent));
-    }
+    event_leaves threat known chain holder world is tight from to step.state m it after step.outcome step.takes
+    (take_puts threat.code world after from to place step)
+    (λ one other flight among own.
+    subst (λ (w : WorldShape). IsAmong (w.flying one other) flight) step.leaves
+    (sends_on (with_state left to step.outcome.state) to (Some step.flight.label) step.outcome.sent one other flight
+    (flies_without world from to place one other flight among (λ first second here.
+    apart (some_of (slice_get (world.flying from to) place) (λ f. OwnsMessage holder from to f.message) flight
+    (ap (λ n. slice_get (world.flying from to) n) (sym here)
+    ∙ ap (λ h. slice_get (world.flying h to) among.0) (sym first)
+    ∙ ap (λ h. slice_get (world.flying one h) among.0) (sym second) ∙ among.1)
+    (subst (λ h. OwnsMessage holder h to flight.message) first
+    (subst (λ h. OwnsMessage holder one h flight.message) second own)))))))
+    (subst (λ (w : WorldShape). FlyAs P w.flying) step.leaves
+    (all_sent P (with_state left to step.outcome.state) to (Some step.flight.label) step.outcome.sent
+    (all_without P world from to place tight.outside.flying)
+    (said_open threat holder to step.outcome.sent leaves.sent)))
 
-act_leaves : (threat : Threat) → IsKnown threat → (chain : List StackEntry) (holder : Holder)
+pub act_leaves : (threat : Threat) → IsKnown threat → (chain : List StackEntry) (holder : Holder)
     (world after : WorldShape) (from to : HostId) (made : BadMessage) → IsLawful threat world → OwnTokenIn world made →
     IsActStep threat.code world from to made after → IsTight threat chain holder world →
     ¬ IsOwn holder world (Act from to made) → Leaves threat chain holder world after
@@ -374,16 +378,9 @@ act_leaves threat known chain holder world after from to made is own step tight 
       none = act_none threat chain holder world tight made m own step.makes;
       said = passes_open threat known step.state from sender.label m sender.of_host sender.among;
     } in
-    let leaves =
-    taking_leaves threat known chain holder world is tight from to step.state m it step.outcome step.takes in
     let flying = (moved_acted world to step.outcome after step.leaves).flying in
-    record {
-      alone = alone threat known chain holder world is tight from to step.state m it after step.outcome step.takes
-          (act_puts threat.code world after from to made step)
-          (λ one other flight among its. subst (λ f. IsAmong (f one other) flight) (sym flying) among);
-      stays = leaves.stays;
-      frames = leaves.frames;
-      state = is_outside threat chain holder step.outcome.state leaves.state;
-      flying = subst (FlyAs (λ one other said. OwnsMessage holder one other said ⊎ MessageIsOpen threat said))
-          (sym flying) tight.outside.flying;
-    }
+    event_leaves threat known chain holder world is tight from to step.state m it after step.outcome step.takes
+    (act_puts threat.code world after from to made step)
+    (λ one other flight among its. subst (λ f. IsAmong (f one other) flight) (sym flying) among)
+    (subst (FlyAs (λ one other said. OwnsMessage holder one other said ⊎ MessageIsOpen threat said)) (sym flying)
+    tight.outside.flying)

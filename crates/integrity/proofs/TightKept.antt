@@ -78,7 +78,7 @@ the_waiting threat world is host waiting one state place waits obeys there same 
     let at = one_of_some (state_at world host) (λ s. IsAmong s.waiting waiting) waits in
     let both : Some at.one ≡ Some state = sym at.is ∙ obeys in
     let same_state : at.one ≡ state = cc in
-    let also : IsAmong state.waiting waiting = subst (λ s. IsAmong s.waiting waiting) same_state at.has in
+    let also : IsAmong state.waiting waiting = subst (λ s. IsAmong s.waiting waiting) {y = state} same_state at.has in
     let place_is =
     waits_once world.flying host state place also.0 one waiting (is.asked.hosts host state obeys) there also.1 same in
     same_item state.waiting also.0 one waiting (subst (λ n. slice_get state.waiting n ≡ Some one) place_is there) also.1
@@ -119,7 +119,7 @@ answer_is : (m : Message) (request : RequestId) (one waiting : WaitingShape) →
     one.request ≡ request → one.request ≡ waiting.request → number_answered m ≡ Some waiting.request
 answer_is m request one waiting answer is same = answer ∙ ap (λ (r : RequestId). Some r) (sym is ∙ same)
 
-not_woken : (threat : Threat) (world : WorldShape) → IsLawful threat world → (holder : Holder) →
+pub not_woken : (threat : Threat) (world : WorldShape) → IsLawful threat world → (holder : Holder) →
     IsThere world holder → (me from : HostId) (state : HostShape) (m : Message) (request : RequestId) (place : ℕ)
     (one : WaitingShape) → state_at world me ≡ Some state → WaitsAt state.waiting request from place one →
     number_answered m ≡ Some request → OwnsWaiting holder me one → Comes world from me m →
@@ -162,7 +162,7 @@ not_woken threat world is lost there me from state m request place one obeys at 
 not_woken threat world is halted there me from state m request place one obeys at answer own comes apart = own
 
 -- the holder's thread doesn't run where none runs
-rests_apart : (world : WorldShape) (holder : Holder) (me : HostId) (state : HostShape) → IsThere world holder →
+pub rests_apart : (world : WorldShape) (holder : Holder) (me : HostId) (state : HostShape) → IsThere world holder →
     state_at world me ≡ Some state → state.running ≡ None → OwnsRunning holder me → ⊥
 rests_apart world (runs host thread) me state there obeys rests own =
     let at = one_of_some (state_at world host) (λ s. s.running ≡ Some thread) there in

@@ -8,6 +8,7 @@ use Rattle.capability.specs.declared.token.Token.{Token}
 use Rattle.ics_stack.specs.declared.stack.StackEntry.{StackEntry}
 use Rattle.ics_stack.specs.Stack.{top_token}
 use Rattle.host_code.specs.declared.message.Message.{Message}
+use Rattle.host_code.specs.Code.{halt}
 use Rattle.host_code.specs.Thread.{ThreadShape, WaitingShape}
 use Rattle.host_core.specs.Host.{HostShape}
 use Rattle.event_text.specs.declared.event.Event.{Event}
@@ -152,3 +153,10 @@ pub record IsTight (threat : Threat) (chain : List StackEntry) (holder : Holder)
   pub there : IsThere world holder
   pub has_top : HasTop world chain holder
   pub outside : IsOutsideBut threat chain holder world
+
+-- The entry that ends the program is the whole chain, and a thread on the root holds its token.
+pub record StartsTight (threat : Threat) (world : WorldShape) : Type 0 where
+  pub last : StackEntry
+  pub ends : last.entry ≡ halt
+  pub thread : ThreadShape
+  pub tight : IsTight threat (last ∷ []) (runs threat.code.root thread) world
