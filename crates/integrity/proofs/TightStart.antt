@@ -1,6 +1,6 @@
 -- The world before the first event, where the root obeys: the entry that ends the program is on its stack, the thread at
 -- `main` holds the token of that, and nothing else goes on.
-use Rattle.std.proofs.Common.{◌≡◌, ◌≢◌, ◌∙◌, ℕ, zero, suc, ◌+◌, ℤ, inl, inr, Bool, true, false, List, [], ◌∷◌, Option, Some}
+use Rattle.std.proofs.Common.{◌≡◌, ◌≢◌, ◌∙◌, ◌⊎◌, ℕ, zero, suc, ◌+◌, ℤ, inl, inr, Bool, true, false, List, [], ◌∷◌, Option, Some}
 use Rattle.std.proofs.Common.{None, refl, sym, ap, subst, arith}
 use Rattle.std.specs.Prelude.{◌==◌, if◌then◌else◌, slice_get, IfSome, IsSomeAnd, All}
 use Rattle.std.specs.Int.{bit_at}
@@ -14,14 +14,14 @@ use Rattle.host_decl.specs.Hosts as declared_hosts
 use Rattle.host_code.specs.declared.code.Entry.{Entry}
 use Rattle.host_code.specs.Code.{CodeShape, halt, entry_at}
 use Rattle.host_code.specs.Sound.{IsSoundCode}
-use Rattle.host_code.specs.Thread.{ThreadShape}
+use Rattle.host_code.specs.Thread.{ThreadShape, WaitingShape}
 use Rattle.host_core.specs.Host.{HostShape, after_push, after_entering, new_token, thread_at, with_running}
 use Rattle.host_core.specs.Start.{idle_host, root_host, main_frame, last_token, host_at_start}
 use Rattle.net_world.specs.World.{WorldShape, given, hosts_before, state_at, world_at_start}
 use Rattle.net_world.proofs.Present.{same_id}
 use Rattle.token_laws.specs.Holders.{IsSent}
-use Rattle.integrity.specs.Holding.{IsAmong, Holder, runs, StateIsOutside, IsStanding, IsTight, StartsTight}
-use Rattle.integrity.specs.Outside.{Threat}
+use Rattle.integrity.specs.Holding.{IsAmong, Holder, runs, OwnsWaiting, StateIsOutside, IsStanding, IsTight, StartsTight}
+use Rattle.integrity.specs.Outside.{Threat, EntryIsOpen, ThreadIsOpen}
 use Rattle.integrity.proofs.Among.{some_of}
 
 -- ---- a host at the start
@@ -108,11 +108,19 @@ root_outside : (threat : Threat) (store : List (List ℤ)) (state : HostShape) �
     (it : IsRoot threat.code store state) →
     StateIsOutside threat (last_entry threat.code store it.key ∷ [])
     (runs threat.code.root (first_thread threat.code store it.key it.there)) state
-root_outside threat store state it = record {
-  running = inl it.me;
-  waiting = subst (All _) (sym it.waiting) (All-nil _);
-  entries = subst (All _) (sym it.entries) (All-cons _ _ _ (inl (0, refl)) (All-nil _));
-}
+root_outside threat store state it =
+    let last = last_entry threat.code store it.key in
+    let Keeps : StackEntry → Type 0 = λ on_stack. IsAmong (last ∷ []) on_stack ⊎ EntryIsOpen threat on_stack.entry in
+    let here : IsAmong (last ∷ []) last = (0, refl) in
+    let Waits : WaitingShape → Type 0 =
+    λ waiting.
+    OwnsWaiting (runs threat.code.root (first_thread threat.code store it.key it.there)) state.me waiting
+    ⊎ ThreadIsOpen threat state.me waiting.thread in
+    record {
+      running = inl it.me;
+      waiting = subst (All Waits) (sym it.waiting) (All-nil Waits);
+      entries = subst (All Keeps) (sym it.entries) (All-cons Keeps last [] (inl here) (All-nil Keeps));
+    }
 
 -- ---- the others
 

@@ -1,10 +1,11 @@
 //! What misbehaving hosts can't affect, whatever they do. The calls do nothing: their contracts are the laws.
 
-ghost use Rattle.std.specs.Prelude.{◌≡◌, ℕ, ℤ, List, [], ◌∷◌, All};
+ghost use Rattle.std.specs.Prelude.{◌≡◌, ℕ, ℤ, List, [], ◌∷◌, All, Some};
 ghost use Rattle.std.specs.Int.{bit_at};
 ghost use Rattle.js_base.specs.declared.ids.FrameId.{FrameId};
 ghost use Rattle.js_base.specs.declared.ids.RequestId.{RequestId};
 ghost use Rattle.host_decl.specs.Hosts.{HostsShape};
+ghost use Rattle.host_decl.specs.Hosts.{HostShape as HostRow};
 ghost use Rattle.jif_tree.specs.declared.program.Program.{Program};
 ghost use Rattle.jif_tree.specs.Altered.{Exposure, FieldIsAffected, StatementIsAffected, VariableIsAffected};
 ghost use Rattle.jif_tree.specs.SourceRun.{Configuration, configuration_at_start};
@@ -14,9 +15,12 @@ ghost use Rattle.need_labels.specs.Plan.{PlanShape};
 ghost use Rattle.msg_cost.specs.Moves.{PlannedShape, planned_of};
 ghost use Rattle.host_code.specs.declared.message.Message.TheVariants as message;
 ghost use Rattle.host_code.specs.Code.{halt};
+ghost use Rattle.host_code.specs.Sound.{IsSoundCode};
+ghost use Rattle.host_core.specs.Host.{HostShape};
+ghost use Rattle.ics_stack.specs.declared.stack.StackEntry.{StackEntry};
 ghost use Rattle.event_text.specs.declared.event.Event.{Event};
 ghost use Rattle.net_world.specs.Fits.{HasOwnToken};
-ghost use Rattle.net_world.specs.World.{WorldShape, IsStep, IsRun, world_at_start};
+ghost use Rattle.net_world.specs.World.{WorldShape, IsStep, IsRun, state_at, world_at_start};
 ghost use Rattle.split_rules.specs.Walk.{entry_id};
 ghost use Rattle.split_rules.specs.Allowed.{IsAllowed};
 ghost use Rattle.split_rules.specs.OpenExamples.{untrusted, trusted_by_first};
@@ -28,6 +32,7 @@ ghost use Rattle.token_laws.specs.Reached.{IsReached};
 ghost use Rattle.token_laws.specs.TokenExamples.{small, start};
 ghost use Rattle.integrity.specs.Altering.{StandsFor, FollowsAltered};
 ghost use Rattle.integrity.specs.Exposed.{AreAsBefore, FieldsStand, exposure_of};
+ghost use Rattle.integrity.specs.Holding.{Holder, IsOwn, IsTight, StartsTight};
 ghost use Rattle.integrity.specs.IntegrityExamples.{sent_threat, sending, waiting, two_fields, exposed_to, store};
 ghost use Rattle.integrity.specs.IntegrityExamples.{before_set, sets_to_nine, after_set, after_refused, halted_world};
 ghost use Rattle.integrity.specs.IntegrityExamples.{at_end, not_at_end};
@@ -84,6 +89,32 @@ pub fn root_laws()
 {
     split_laws();
     trust_laws();
+    opening_laws();
+}
+
+/// A chain of entries that are to be taken off, and whoever holds the token of the first of them, where some hosts
+/// misbehave. What is neither the chain's nor the holder's can't touch them: it has none of their tokens, wakes no thread
+/// that waits for the holder, and changes nothing that misbehaving hosts may not affect.
+pub fn chain_laws()
+    // Where the root obeys, the entry that ends the program is such a chain before the first event, and the thread at
+    // `main` holds its token.
+    ensures start { (threat : Threat) (rows : List HostRow) (bad : ℕ) (store : List (List ℤ)) (state : HostShape) →
+        IsSoundCode threat.code →
+        state_at (world_at_start threat.code rows bad store) threat.code.root ≡ Some state →
+        StartsTight threat (world_at_start threat.code rows bad store) }
+    // An event that is none of the holder's leaves the chain, the holder and its token.
+    ensures kept { (labelled : Labelled) (needs : NeedsShape) (hosts : HostsShape) (plan : PlanShape) (table : Table)
+        (bad : ℕ) (store : List (List ℤ)) (events : List Event) (world after : WorldShape) (event : Event)
+        (chain : List StackEntry) (holder : Holder) →
+        let code = split_code labelled needs hosts plan in
+        let threat = threat_of labelled needs hosts plan table bad in
+        IsSplittable labelled hosts plan → IsAllowed labelled needs hosts plan →
+        IsTypedCode (planned_of labelled needs hosts plan) code table →
+        IsReached code hosts.hosts bad store events world →
+        HasOwnToken (world_at_start code hosts.hosts bad store) event → IsStep code world event after →
+        IsTight threat chain holder world → ¬ IsOwn holder world event →
+        IsTight threat chain holder after × AreAsBefore threat.exposure world after }
+{
     opening_laws();
 }
 
