@@ -35,7 +35,7 @@ pub record LeavesAlone (chain : List StackEntry) (holder : Holder) (world after 
   pub obeys : state_at world me ≡ Some old
   pub puts : after.hosts ≡ slice_set world.hosts me.0 (Some new)
   pub apart : OwnsRunning holder me → ⊥
-  pub stack : Restacks (λ token. (e : StackEntry) → IsAmong chain e → e.token ≢ token) old.entries new.entries
+  pub stack : Restacks (λ token. (e : StackEntry) → IsAmong chain e → e.token ≢ token) old new
   pub waiting : (one : WaitingShape) → IsAmong old.waiting one → OwnsWaiting holder me one → IsAmong new.waiting one
   pub flying : (from to : HostId) (flight : Flight) → IsAmong (world.flying from to) flight →
       OwnsMessage holder from to flight.message → IsAmong (after.flying from to) flight
@@ -76,13 +76,14 @@ below_top top e below (zero, is) apart =
     absurd (apart (ap (λ (x : StackEntry). x.token) (sym same)))
 below_top top e below (suc place, is) apart = (place, is)
 
-restacked : (chain old new : List StackEntry) (e : StackEntry) → IsAmong chain e →
-    Restacks (λ token. (x : StackEntry) → IsAmong chain x → x.token ≢ token) old new → IsAmong old e → IsAmong new e
-restacked chain old new e among (stays is) has = subst (λ list. IsAmong list e) (sym is) has
-restacked chain old new e among (pushes on_stack is) has =
-    subst (λ list. IsAmong list e) (sym is) (among_cons old on_stack e has)
-restacked chain old new e among (pops top is never) has =
-    below_top top e new (subst (λ list. IsAmong list e) is has) (never e among)
+restacked : (chain : List StackEntry) (old new : HostShape) (e : StackEntry) → IsAmong chain e →
+    Restacks (λ token. (x : StackEntry) → IsAmong chain x → x.token ≢ token) old new → IsAmong old.entries e →
+    IsAmong new.entries e
+restacked chain old new e among (stays is same) has = subst (λ list. IsAmong list e) (sym is) has
+restacked chain old new e among (pushes on_stack is same next) has =
+    subst (λ list. IsAmong list e) (sym is) (among_cons old.entries on_stack e has)
+restacked chain old new e among (pops top is never same) has =
+    below_top top e new.entries (subst (λ list. IsAmong list e) is has) (never e among)
 
 module _ (chain : List StackEntry) (world after : WorldShape) where
   pub stands_after : (holder : Holder) → LeavesAlone chain holder world after → (e : StackEntry) → IsAmong chain e →
@@ -90,7 +91,7 @@ module _ (chain : List StackEntry) (world after : WorldShape) where
   stands_after holder move e among has =
       on_some world after move.me e.token.host move.old move.new move.obeys move.puts
       (λ state. IsAmong state.entries e) has
-      (λ is. restacked chain move.old.entries move.new.entries e among move.stack)
+      (λ is. restacked chain move.old move.new e among move.stack)
 
   -- ---- the holder
 

@@ -42,7 +42,8 @@ use Rattle.integrity.proofs.HolderStays.{LeavesAlone}
 use Rattle.integrity.proofs.OpenSteps.{IsKnown, Kinds, HasOpen, LeavesOpen, FramesStay, TopIsOpen, PopsOpen, WakesOpen}
 use Rattle.integrity.proofs.OpenSteps.{DoesOpen, open_turn, open_taking, passes_open}
 use Rattle.integrity.proofs.OpenWorlds.{state_fits}
-use Rattle.integrity.proofs.StackMoves.{RunsWith, GivesBack, restacks_by, turn_restacks, taking_restacks}
+use Rattle.integrity.proofs.StackMoves as stacks
+use Rattle.integrity.proofs.StackMoves.{Restacks, RunsWith, GivesBack, restacks_by, turn_restacks, taking_restacks}
 use Rattle.integrity.proofs.TightKept.{IsLawful, tokens_known, Comes, flies, told, not_woken, rests_apart}
 use Rattle.integrity.proofs.WaitMoves.{WaitsAt, found_at, Rewaits, stays, wakes, taking_rewaits}
 
@@ -177,6 +178,17 @@ pub record Leaves (threat : Threat) (chain : List StackEntry) (holder : Holder) 
     pub frames : FramesStay alone.old alone.new
     pub state : StateIsOutside threat chain holder alone.new
     pub flying : FlyAs (λ from to m. OwnsMessage holder from to m ⊎ MessageIsOpen threat m) after.flying
+    pub halts : alone.new.halted ≡ alone.old.halted
+
+-- the entry that ends the program is the chain's
+not_halted : (threat : Threat) (chain : List StackEntry) (old new : HostShape) →
+    All (λ on_stack. IsAmong chain on_stack ⊎ EntryIsOpen threat on_stack.entry) old.entries →
+    Restacks (IsNone chain) old new → new.halted ≡ old.halted
+not_halted threat chain old new all (stacks.stays is same) = same
+not_halted threat chain old new all (stacks.pushes on_stack is same next) = same
+not_halted threat chain old new all (stacks.pops top is never same) =
+    let Keeps : StackEntry → Type 0 = λ on_stack. IsAmong chain on_stack ⊎ EntryIsOpen threat on_stack.entry in
+    same (other_of (subst (All Keeps) is all 0 top (omega arith)) (λ among. never top among refl)).0
 
 said_open : (threat : Threat) (holder : Holder) (me : HostId) (sent : Option (HostId × Message)) →
     IfSome sent (λ letter. MessageIsOpen threat letter.1) →
@@ -202,6 +214,9 @@ turn_leaves threat known chain holder world after me is step tight apart =
     let leaves =
     open_turn threat (but threat chain holder) known step.state step.outcome has fits.fits
     (pops_open threat chain step.state step.state.running was.entries none) step.turns in
+    let stack =
+    restacks_by (RunsWith step.state.running) (IsNone chain) step.state step.outcome.state none
+    (turn_restacks threat.code step.state step.outcome step.turns) in
     record {
       alone = record {
         me = me;
@@ -210,8 +225,7 @@ turn_leaves threat known chain holder world after me is step tight apart =
         obeys = step.obeys;
         puts = turn_puts threat.code world after me step;
         apart = apart;
-        stack = restacks_by (RunsWith step.state.running) (IsNone chain) step.state.entries step.outcome.state.entries
-            none (turn_restacks threat.code step.state step.outcome step.turns);
+        stack = stack;
         waiting = λ one among own.
             waiting_more step.state step.outcome one
             (turn_requests threat.code step.state step.outcome fits.fits step.turns) among;
@@ -229,6 +243,7 @@ turn_leaves threat known chain holder world after me is step tight apart =
           subst (λ (w : WorldShape). FlyAs P w.flying) step.leaves
           (all_sent P (with_state world me step.outcome.state) me (label_of_turn threat.code step.state)
           step.outcome.sent tight.outside.flying (said_open threat holder me step.outcome.sent leaves.sent));
+      halts = not_halted threat chain step.state step.outcome.state was.entries stack;
     }
 
 -- ---- a message
@@ -299,6 +314,9 @@ module _ (threat : Threat) (known : IsKnown threat) (chain : List StackEntry) (h
       Leaves threat chain holder world after
   event_leaves after outcome takes puts on all =
       let leaves = taking_leaves outcome takes in
+      let stack =
+      restacks_by (GivesBack m) (IsNone chain) state outcome.state it.none
+      (taking_restacks threat.code state from m outcome takes) in
       record {
         alone = record {
           me = me;
@@ -307,8 +325,7 @@ module _ (threat : Threat) (known : IsKnown threat) (chain : List StackEntry) (h
           obeys = it.obeys;
           puts = puts;
           apart = not_here;
-          stack = restacks_by (GivesBack m) (IsNone chain) state.entries outcome.state.entries it.none
-              (taking_restacks threat.code state from m outcome takes);
+          stack = stack;
           waiting = λ one among own.
               still_waits outcome.state.waiting one (taking_rewaits threat.code state from m outcome takes) among own;
           flying = on;
@@ -317,6 +334,7 @@ module _ (threat : Threat) (known : IsKnown threat) (chain : List StackEntry) (h
         frames = leaves.frames;
         state = is_outside threat chain holder outcome.state leaves.state;
         flying = all;
+        halts = not_halted threat chain state outcome.state was.entries stack;
       }
 
 pub take_leaves : (threat : Threat) → IsKnown threat → (chain : List StackEntry) (holder : Holder)
