@@ -226,7 +226,7 @@ unsent_none world token unsent =
     omega arith) in
     omega arith
 
-sent_some : (world : WorldShape) (token : Token) → IsSent world token → 0 < worth_sent (one_of token) world
+pub sent_some : (world : WorldShape) (token : Token) → IsSent world token → 0 < worth_sent (one_of token) world
 sent_some world token sent =
     let le = get_or-le-sum_by (one_of token) (tokens_sent world) sent.0 token sent.1 in
     let is : one_of token (get_or (tokens_sent world) sent.0 token) ≡ 1 =

@@ -43,7 +43,7 @@ pub record LeavesAlone (chain : List StackEntry) (holder : Holder) (world after 
 -- ---- hosts
 
 -- what a host has that changed or did not
-on_host : (world after : WorldShape) (me host : HostId) (old new state : HostShape) → state_at world me ≡ Some old →
+pub on_host : (world after : WorldShape) (me host : HostId) (old new state : HostShape) → state_at world me ≡ Some old →
     after.hosts ≡ slice_set world.hosts me.0 (Some new) → state_at world host ≡ Some state →
     (P : HostShape → Type 0) → P state → (host ≡ me → P old → P new) → IsSomeAnd (state_at after host) P
 on_host world after me host old new state obeys puts there P has keeps = elim (eqb_tells host.0 me.0) [
@@ -60,7 +60,7 @@ on_host world after me host old new state obeys puts there P has keeps = elim (e
       (other_state world after me host new after.flying (record { hosts = puts; flying = refl }) apart.1 ∙ there) has
 ]
 
-on_some : (world after : WorldShape) (me host : HostId) (old new : HostShape) → state_at world me ≡ Some old →
+pub on_some : (world after : WorldShape) (me host : HostId) (old new : HostShape) → state_at world me ≡ Some old →
     after.hosts ≡ slice_set world.hosts me.0 (Some new) → (P : HostShape → Type 0) →
     IsSomeAnd (state_at world host) P → (host ≡ me → P old → P new) → IsSomeAnd (state_at after host) P
 on_some world after me host old new obeys puts P has keeps =

@@ -13,4 +13,7 @@ pub mod TightKept
 pub mod OutsideEvents
 pub mod TightStart
 pub mod TightLaws
+pub mod StandsOn
+pub mod TightMoves
+pub mod ChainMoves
 pub mod IntegrityExamples

@@ -2,4 +2,5 @@ pub mod Exposed
 pub mod Outside
 pub mod Altering
 pub mod Holding
+pub mod Standing
 pub mod IntegrityExamples

@@ -29,6 +29,7 @@ ghost use Rattle.split_rules.specs.SplitCode.{split_code};
 ghost use Rattle.split_rules.specs.Splittable.{IsSplittable};
 ghost use Rattle.split_rules.specs.TypedCode.{Table, IsTypedCode};
 ghost use Rattle.token_laws.specs.Reached.{IsReached};
+ghost use Rattle.typed_steps.specs.Views.{Split, View};
 ghost use Rattle.token_laws.specs.TokenExamples.{small, start};
 ghost use Rattle.integrity.specs.Altering.{StandsFor, FollowsAltered};
 ghost use Rattle.integrity.specs.Exposed.{AreAsBefore, FieldsStand, exposure_of};
@@ -36,6 +37,7 @@ ghost use Rattle.integrity.specs.Holding.{Holder, IsOwn, IsTight, StartsTight};
 ghost use Rattle.integrity.specs.IntegrityExamples.{sent_threat, sending, waiting, two_fields, exposed_to, store};
 ghost use Rattle.integrity.specs.IntegrityExamples.{before_set, sets_to_nine, after_set, after_refused, halted_world};
 ghost use Rattle.integrity.specs.IntegrityExamples.{at_end, not_at_end};
+ghost use Rattle.integrity.specs.Standing.{StandsBy, threat_in};
 ghost use Rattle.integrity.specs.Outside.{EntryIsOpen, IsOutside, MessageIsOpen, StateIsOpen, Threat, threat_of};
 
 use split_rules::{opening_examples, opening_laws, split_laws, trust_laws};
@@ -114,6 +116,22 @@ pub fn chain_laws()
         HasOwnToken (world_at_start code hosts.hosts bad store) event → IsStep code world event after →
         IsTight threat chain holder world → ¬ IsOwn holder world event →
         IsTight threat chain holder after × AreAsBefore threat.exposure world after }
+{
+    opening_laws();
+}
+
+/// While misbehaving hosts were sent no token of the chain, a world stands for a configuration of an altered run by what
+/// is seen of it and by whoever holds the token.
+pub fn standing_laws()
+    // It stands for the same configuration, by the same, after any event that is none of the holder's.
+    ensures kept { (split : Split) (labelled : Labelled) (needs : NeedsShape) (hosts : HostsShape) (plan : PlanShape)
+        (bad : ℕ) (store : List (List ℤ)) (events : List Event) (world after : WorldShape) (event : Event)
+        (c : Configuration) (view : View) (holder : Holder) →
+        threat_in split ≡ threat_of labelled needs hosts plan split.table bad →
+        IsSplittable labelled hosts plan → IsAllowed labelled needs hosts plan →
+        IsReached split.code hosts.hosts bad store events world →
+        HasOwnToken (world_at_start split.code hosts.hosts bad store) event → IsStep split.code world event after →
+        StandsBy split c view holder world → ¬ IsOwn holder world event → StandsBy split c view holder after }
 {
     opening_laws();
 }

@@ -1,0 +1,140 @@
+-- Chains of links and their entries, and what a stack that grows as the chain does leaves of it.
+use Rattle.std.proofs.Common.{◌≡◌, ◌≢◌, ◌∙◌, ◌⊎◌, inl, inr, ℕ, zero, suc, ◌+◌, ◌≤◌, Bool, true, List, [], ◌∷◌, length, Option}
+use Rattle.std.proofs.Common.{Some, None, refl, sym, ap, subst, arith}
+use Rattle.std.specs.Prelude.{slice_get, slice_set, slice_index, All, IfSome, IsSomeAnd}
+use Rattle.std.proofs.lemmas.List.Elements.{All-cons}
+use Rattle.js_base.specs.declared.ids.HostId.{HostId}
+use Rattle.js_base.specs.declared.ids.EntryId.{EntryId}
+use Rattle.capability.specs.declared.token.Token.{Token}
+use Rattle.ics_stack.specs.declared.stack.StackEntry.{StackEntry}
+use Rattle.ics_stack.specs.Stack.{IsOwnEntry}
+use Rattle.host_code.specs.Code.{CodeShape, halt}
+use Rattle.host_core.specs.Host.{HostShape}
+use Rattle.net_world.specs.Fits.{ShapeFits}
+use Rattle.net_world.specs.Told.{tokens_in}
+use Rattle.net_world.specs.World.{WorldShape, state_at}
+use Rattle.net_world.proofs.Moved.{mover_state}
+use Rattle.std.specs.Prelude.{Contains}
+use Rattle.token_laws.specs.Holders.{IsSent}
+use Rattle.token_laws.proofs.Held.{AreHeld, IsOnly}
+use Rattle.token_laws.proofs.HeldLaws.{all_at}
+use Rattle.token_laws.proofs.OneToken.{only_serial}
+use Rattle.token_laws.proofs.WorldTokens.{the_state}
+use Rattle.token_laws.proofs.Worth.{one_of}
+use Rattle.typed_steps.specs.Chains.{IsChain}
+use Rattle.typed_steps.specs.Turns.{Grows, stays, grows}
+use Rattle.typed_steps.specs.Views.{Split, Naming, Link, entries_of}
+use Rattle.integrity.specs.Holding.{IsAmong, AreLinked}
+use Rattle.integrity.specs.Outside.{Threat, EntryIsOpen}
+use Rattle.integrity.proofs.Among.{among_cons, some_of}
+use Rattle.integrity.proofs.HeldTokens.{StandsThere, sent_some}
+use Rattle.integrity.proofs.HolderStays.{on_some}
+use Rattle.integrity.proofs.StackMoves as stacks
+use Rattle.integrity.proofs.StackMoves.{Restacks}
+
+pub linked_of : (split : Split) (naming : Naming) (chain : List Link) → IsChain split naming chain →
+    AreLinked (entries_of chain)
+linked_of split naming [] is = tt
+linked_of split naming (link ∷ []) is = tt
+linked_of split naming (link ∷ next ∷ chain) is = (is.2, linked_of split naming (next ∷ chain) is.4)
+
+-- ---- an entry more
+
+-- what was in the chain is in it
+pub grown_keeps : (host : HostId) (chain now : List Link) (old new : List StackEntry) → Grows host chain now old new →
+    (e : StackEntry) → IsAmong (entries_of chain) e → IsAmong (entries_of now) e
+grown_keeps host chain now old new (stays same is) e among =
+    subst (λ list. IsAmong (entries_of list) e) (sym same) among
+grown_keeps host chain now old new (grows link on same is) e among =
+    subst (λ list. IsAmong (entries_of list) e) (sym same) (among_cons (entries_of chain) link.entry e among)
+
+pub grown_entries : (threat : Threat) (host : HostId) (chain now : List Link) (old new : List StackEntry) →
+    Grows host chain now old new → All (λ e. IsAmong (entries_of chain) e ⊎ EntryIsOpen threat e.entry) old →
+    All (λ e. IsAmong (entries_of now) e ⊎ EntryIsOpen threat e.entry) new
+grown_entries threat host chain now old new (stays same is) all =
+    subst (All (λ e. IsAmong (entries_of now) e ⊎ EntryIsOpen threat e.entry)) (sym is)
+    (subst (λ list. All (λ e. IsAmong (entries_of list) e ⊎ EntryIsOpen threat e.entry) old) (sym same) all)
+grown_entries threat host chain now old new (grows link on same is) all =
+    let Keeps : List StackEntry → StackEntry → Type 0 =
+    λ list e. IsAmong list e ⊎ EntryIsOpen threat e.entry in
+    let more : All (Keeps (link.entry ∷ entries_of chain)) (link.entry ∷ old) =
+    All-cons (Keeps (link.entry ∷ entries_of chain)) link.entry old (inl (0, refl)) (λ k d lt. keeps_more (all k d lt))
+    in
+    subst (All (Keeps (entries_of now))) (sym is)
+    (subst (λ list. All (Keeps (entries_of list)) (link.entry ∷ old)) (sym same) more)
+  where
+    keeps_more : {e : StackEntry} → IsAmong (entries_of chain) e ⊎ EntryIsOpen threat e.entry →
+        IsAmong (link.entry ∷ entries_of chain) e ⊎ EntryIsOpen threat e.entry
+    keeps_more {e} (inl among) = inl (among_cons (entries_of chain) link.entry e among)
+    keeps_more (inr may) = inr may
+
+-- the entries are on the stacks
+grown_stand : (world after : WorldShape) (me : HostId) (old new : HostShape) → state_at world me ≡ Some old →
+    after.hosts ≡ slice_set world.hosts me.0 (Some new) → (link : Link) (chain : List StackEntry) →
+    link.entry.token.host ≡ me → new.entries ≡ link.entry ∷ old.entries →
+    ((e : StackEntry) → IsAmong chain e → StandsThere world e) → (e : StackEntry) →
+    IsAmong (link.entry ∷ chain) e → StandsThere after e
+grown_stand world after me old new obeys puts link chain on is standing e (zero, at) =
+    let same : link.entry ≡ e = cc in
+    let there : state_at after me ≡ Some new =
+    mover_state world after me old new after.flying obeys (record { hosts = puts; flying = refl }) in
+    subst (StandsThere after) same
+    (some_of (state_at after link.entry.token.host) (λ state. IsAmong state.entries link.entry) new
+    (ap (state_at after) on ∙ there) (0, ap (λ list. slice_get list 0) is))
+grown_stand world after me old new obeys puts link chain on is standing e (suc place, at) =
+    on_some world after me e.token.host old new obeys puts (λ state. IsAmong state.entries e) (standing e (place, at))
+    (λ same has. subst (λ list. IsAmong list e) (sym is) (among_cons old.entries link.entry e has))
+
+pub grown_stands : (world after : WorldShape) (me : HostId) (old new : HostShape) → state_at world me ≡ Some old →
+    after.hosts ≡ slice_set world.hosts me.0 (Some new) → (chain now : List Link) →
+    Grows me chain now old.entries new.entries →
+    ((e : StackEntry) → IsAmong (entries_of chain) e → StandsThere world e) → (e : StackEntry) →
+    IsAmong (entries_of now) e → StandsThere after e
+grown_stands world after me old new obeys puts chain now (stays same is) standing e among =
+    on_some world after me e.token.host old new obeys puts (λ state. IsAmong state.entries e)
+    (standing e (subst (λ list. IsAmong (entries_of list) e) same among))
+    (λ here has. subst (λ list. IsAmong list e) (sym is) has)
+grown_stands world after me old new obeys puts chain now (grows link on same is) standing e among =
+    grown_stand world after me old new obeys puts link (entries_of chain) on is standing e
+    (subst (λ list. IsAmong (entries_of list) e) same among)
+
+-- ---- the token of a new entry
+
+no_longer : {X : Type 0} (x : X) (xs ys : List X) → xs ≡ ys → xs ≡ x ∷ ys → ⊥
+no_longer x xs ys same more =
+    let first : length xs ≡ length ys = ap length same in
+    let second : length xs ≡ length (x ∷ ys) = ap length more in
+    omega arith
+
+next_serial : (P : Token → Type 0) (old new : HostShape) (e : StackEntry) → Restacks P old new →
+    new.entries ≡ e ∷ old.entries → e.token.serial ≡ slice_index old.serials e.entry.0
+next_serial P old new e (stacks.stays same halts) is = absurd (no_longer e new.entries old.entries same is)
+next_serial P old new e (stacks.pushes on_stack same halts next) is =
+    let both : on_stack ∷ old.entries ≡ e ∷ old.entries = sym same ∙ is in
+    let one : on_stack ≡ e = cc in
+    subst (λ (x : StackEntry). x.token.serial ≡ slice_index old.serials x.entry.0) one next
+next_serial P old new e (stacks.pops top same given halts) is =
+    let first : length old.entries ≡ length (top ∷ new.entries) = ap length same in
+    let second : length new.entries ≡ length (e ∷ old.entries) = ap length is in
+    absurd (omega arith)
+
+-- misbehaving hosts were not sent it
+pub new_unsent : (code : CodeShape) (world after : WorldShape) (me : HostId) (old new : HostShape) (e : StackEntry)
+    (P : Token → Type 0) → AreHeld world → ShapeFits code after → state_at world me ≡ Some old →
+    state_at after me ≡ Some new → Restacks P old new → new.entries ≡ e ∷ old.entries → e.entry ≢ halt →
+    after.sent ≡ world.sent → ¬ IsSent after e.token
+new_unsent code world after me old new e P held fits obeys now moved is named quiet sent =
+    let serial = next_serial P old new e moved is in
+    let state_is = the_state code after me new fits now in
+    let own =
+    all_at (IsOwnEntry new.me) new.entries 0 e state_is.fits.stack.own (ap (λ list. slice_get list 0) is) in
+    let host_is : e.token.host ≡ me = own.host_is ∙ state_is.me in
+    let only : IsOnly (one_of e.token) me e.token.entry e.token.serial =
+    subst (λ h. IsOnly (one_of e.token) h e.token.entry e.token.serial) host_is (only_serial e.token) in
+    let count : slice_index old.serials e.token.entry.0 ≡ e.token.serial =
+    ap (λ (n : EntryId). slice_index old.serials n.0) own.entry_is ∙ sym serial in
+    let none =
+    held.old (one_of e.token) me e.token.entry e.token.serial old only (λ same. named (sym own.entry_is ∙ same)) obeys
+    (omega arith) in
+    let some = sent_some world e.token (subst (λ list. Contains (tokens_in list) e.token) quiet sent) in
+    omega arith
