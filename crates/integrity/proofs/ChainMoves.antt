@@ -24,7 +24,7 @@ use Rattle.token_laws.proofs.Worth.{one_of}
 use Rattle.typed_steps.specs.Chains.{IsChain}
 use Rattle.typed_steps.specs.Turns.{Grows, stays, grows}
 use Rattle.typed_steps.specs.Views.{Split, Naming, Link, entries_of}
-use Rattle.integrity.specs.Holding.{IsAmong, AreLinked}
+use Rattle.integrity.specs.Holding.{IsAmong, AreLinked, IsStanding}
 use Rattle.integrity.specs.Outside.{Threat, EntryIsOpen}
 use Rattle.integrity.proofs.Among.{among_cons, some_of}
 use Rattle.integrity.proofs.HeldTokens.{StandsThere, sent_some}
@@ -138,3 +138,35 @@ new_unsent code world after me old new e P held fits obeys now moved is named qu
     (omega arith) in
     let some = sent_some world e.token (subst (λ list. Contains (tokens_in list) e.token) quiet sent) in
     omega arith
+
+-- the entry that ends the program has nothing below it
+named_of : (split : Split) (naming before : Naming) (link : Link) (chain : List Link) →
+    IsChain split naming (link ∷ chain) → IsChain split before chain → link.entry.entry ≢ halt
+named_of split naming before link [] is below = absurd below
+named_of split naming before link (next ∷ chain) is below = is.0.0
+
+pushed_known : (split : Split) (world after : WorldShape) (chain : List StackEntry) (top e : StackEntry) →
+    ¬ IsSent after top.token → ((x : StackEntry) → IsAmong chain x → IsStanding world x) → IsAmong (top ∷ chain) e →
+    IsStanding world e ⊎ (¬ IsSent after e.token)
+pushed_known split world after chain top e unsent standing (zero, at) =
+    let same : top ≡ e = cc in
+    inr (subst (λ (x : StackEntry). ¬ IsSent after x.token) same unsent)
+pushed_known split world after chain top e unsent standing (suc place, at) = inl (standing e (place, at))
+
+-- each entry of the chain stood before, or was pushed, and its token was not sent
+pub grown_known : (split : Split) (before naming : Naming) (world after : WorldShape) (me : HostId)
+    (old new : HostShape) (P : Token → Type 0) → AreHeld world → ShapeFits split.code after →
+    state_at world me ≡ Some old → state_at after me ≡ Some new → Restacks P old new → after.sent ≡ world.sent →
+    (chain now : List Link) → IsChain split before chain → IsChain split naming now →
+    Grows me chain now old.entries new.entries →
+    ((e : StackEntry) → IsAmong (entries_of chain) e → IsStanding world e) → (e : StackEntry) →
+    IsAmong (entries_of now) e → IsStanding world e ⊎ (¬ IsSent after e.token)
+grown_known split before naming world after me old new P held fits obeys there moved quiet chain now is later
+    (stays same is_same) standing e among =
+    inl (standing e (subst (λ list. IsAmong (entries_of list) e) same among))
+grown_known split before naming world after me old new P held fits obeys there moved quiet chain now is later
+    (grows link on same more) standing e among =
+    let named = named_of split naming before link chain (subst (IsChain split naming) same later) is in
+    pushed_known split world after (entries_of chain) link.entry e
+    (new_unsent split.code world after me old new link.entry P held fits obeys there moved more named quiet) standing
+    (subst (λ list. IsAmong (entries_of list) e) same among)

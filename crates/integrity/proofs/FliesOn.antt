@@ -88,7 +88,7 @@ all_without P world from to place has one other =
     (subst (λ h. All (λ flight. P from h flight.message) (remove (world.flying from to) place)) (sym second)
     (all_but (λ flight. P from to flight.message) (world.flying from to) place (has from to)))) (has one other)
 
-all_posted : (P : HostId → HostId → Message → Type 0) (world : WorldShape) (from : HostId) (letter : Letter) →
+pub all_posted : (P : HostId → HostId → Message → Type 0) (world : WorldShape) (from : HostId) (letter : Letter) →
     FlyAs P world.flying → P from letter.to letter.message → FlyAs P (after_posting world from letter).flying
 all_posted P world from letter has said one other =
     let new = world.flying from letter.to ++ record { message = letter.message; label = letter.label } ∷ [] in

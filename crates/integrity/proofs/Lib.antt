@@ -16,4 +16,5 @@ pub mod TightLaws
 pub mod StandsOn
 pub mod TightMoves
 pub mod ChainMoves
+pub mod TurnMoves
 pub mod IntegrityExamples

@@ -118,7 +118,7 @@ but threat chain holder = record {
   open_keeps = λ on_stack may. inr may;
 }
 
-other_of : {A B : Type 0} → A ⊎ B → (A → ⊥) → B
+pub other_of : {A B : Type 0} → A ⊎ B → (A → ⊥) → B
 other_of (inl a) apart = absurd (apart a)
 other_of (inr b) apart = b
 

@@ -70,7 +70,7 @@ as_other : {A B C : Type 0} → (A → B) → A ⊎ C → B ⊎ C
 as_other change (inl a) = inl (change a)
 as_other change (inr c) = inr c
 
-all_as : {X : Type 0} (P Q : X → Type 0) (xs : List X) → ((x : X) → P x → Q x) → All P xs → All Q xs
+pub all_as : {X : Type 0} (P Q : X → Type 0) (xs : List X) → ((x : X) → P x → Q x) → All P xs → All Q xs
 all_as P Q xs each all k d lt = each (get_or xs k d) (all k d lt)
 
 -- ... each entry of a stack has a token of its host
