@@ -38,6 +38,10 @@ linked_of split naming [] is = tt
 linked_of split naming (link ∷ []) is = tt
 linked_of split naming (link ∷ next ∷ chain) is = (is.2, linked_of split naming (next ∷ chain) is.4)
 
+pub linked_below : (one : StackEntry) (chain : List StackEntry) → AreLinked (one ∷ chain) → AreLinked chain
+linked_below one [] linked = tt
+linked_below one (next ∷ chain) linked = linked.1
+
 -- ---- an entry more
 
 -- what was in the chain is in it

@@ -69,7 +69,7 @@ on_some world after me host old new obeys puts P has keeps =
 
 -- ---- entries
 
-below_top : (top e : StackEntry) (below : List StackEntry) → IsAmong (top ∷ below) e → e.token ≢ top.token →
+pub below_top : (top e : StackEntry) (below : List StackEntry) → IsAmong (top ∷ below) e → e.token ≢ top.token →
     IsAmong below e
 below_top top e below (zero, is) apart =
     let same : top ≡ e = cc in

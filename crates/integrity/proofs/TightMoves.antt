@@ -58,7 +58,7 @@ pub record Moves (threat : Threat) (chain now : List StackEntry) (holder next : 
   pub known : (e : StackEntry) → IsAmong now e → IsStanding world e ⊎ (¬ IsSent after e.token)
   pub there : IsThere after next
   pub has_top : HasTop after now next
-  pub held : next ≢ lost
+  pub held : next ≡ lost → (e : StackEntry) → IsAmong now e → ¬ IsSent after e.token
   pub state : StateIsOutside threat now next new
   pub runs_as : (host : HostId) → host ≢ me → OwnsRunning holder host → OwnsRunning next host
   pub waits_as : (host : HostId) (one : WaitingShape) → host ≢ me → OwnsWaiting holder host one →
@@ -66,7 +66,7 @@ pub record Moves (threat : Threat) (chain now : List StackEntry) (holder next : 
   pub keeps_as : (e : StackEntry) → e.token.host ≢ me → IsAmong chain e → IsAmong now e
   pub flying : FlyAs (λ from to m. OwnsMessage next from to m ⊎ MessageIsOpen threat m) after.flying
 
-as_other : {A B C : Type 0} → (A → B) → A ⊎ C → B ⊎ C
+pub as_other : {A B C : Type 0} → (A → B) → A ⊎ C → B ⊎ C
 as_other change (inl a) = inl (change a)
 as_other change (inr c) = inr c
 
@@ -105,19 +105,22 @@ module _ (threat : Threat) (chain now : List StackEntry) (holder next : Holder) 
       (own_before threat.code world e.token.host at.one at.has.0 e is.fits at.is at.has.1) at.is standing.unsent held
   unsent_if e (inr unsent) held = unsent
 
-  held_top : (top : StackEntry) (below : List StackEntry) → HasTop after (top ∷ below) next → IsHeld after top.token
-  held_top top below has =
+  unsent_top : (top : StackEntry) (below : List StackEntry) → HasTop after (top ∷ below) next →
+      IsStanding world top ⊎ (¬ IsSent after top.token) →
+      (next ≡ lost → (e : StackEntry) → IsAmong (top ∷ below) e → ¬ IsSent after e.token) → ¬ IsSent after top.token
+  unsent_top top below has known gone =
       elim (held_or_lost after next top.token (top_kept after next top below move.there has)) [
-        | inl held ↦ held
-        | inr is_lost ↦ absurd (move.held is_lost)
+        | inl held ↦ unsent_if top known held
+        | inr is_lost ↦ gone is_lost top (0, refl)
       ]
 
   stand_now : (list : List StackEntry) → AreLinked list → AllByRecursion (StandsThere after) list →
       HasTop after list next → ((e : StackEntry) → IsAmong list e → IsStanding world e ⊎ (¬ IsSent after e.token)) →
+      (next ≡ lost → (e : StackEntry) → IsAmong list e → ¬ IsSent after e.token) →
       AllByRecursion (IsStanding after) list
-  stand_now [] linked stands has known = tt
-  stand_now (top ∷ below) linked stands has known = (
-    record { there = stands.0; unsent = unsent_if top (known top (0, refl)) (held_top top below has) },
+  stand_now [] linked stands has known gone = tt
+  stand_now (top ∷ below) linked stands has known gone = (
+    record { there = stands.0; unsent = unsent_top top below has (known top (0, refl)) gone },
     all_among (IsStanding after) below (λ e among. record {
       there = each_among (StandsThere after) below e stands.1 among;
       unsent =
@@ -129,7 +132,8 @@ module _ (threat : Threat) (chain now : List StackEntry) (holder next : Holder) 
   pub tight_moved : IsTight threat now next after
   tight_moved = record {
     linked = move.linked;
-    standing = stand_now now move.linked (all_among (StandsThere after) now move.stands) move.has_top move.known;
+    standing = stand_now now move.linked (all_among (StandsThere after) now move.stands) move.has_top move.known
+        move.held;
     there = move.there;
     has_top = move.has_top;
     outside = record {

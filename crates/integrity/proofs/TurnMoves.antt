@@ -2,8 +2,7 @@
 -- or for one that a step leads to.
 use Rattle.std.proofs.Common.{◌≡◌, ◌≢◌, ◌∙◌, ◌⊎◌, inl, inr, ℕ, ℤ, suc, Bool, true, false, List, [], ◌∷◌, ◌++◌, length, Option}
 use Rattle.std.proofs.Common.{Some, None, refl, sym, ap, subst, arith, get_or}
-use Rattle.std.specs.Prelude.{slice_get, slice_set, All, IfSome, IsSomeAnd}
-use Rattle.std.proofs.lemmas.Bool.{cases_eq}
+use Rattle.std.specs.Prelude.{◌<◌, slice_get, slice_set, All, IfSome, IsSome, IsSomeAnd}
 use Rattle.std.proofs.lemmas.List.Elements.{All-push}
 use Rattle.std.proofs.lemmas.Bool.{eq-eqb}
 use Rattle.js_base.specs.declared.ids.HostId.{HostId}
@@ -22,7 +21,11 @@ use Rattle.net_world.specs.Flying.{Flight, Flying, with_flights}
 use Rattle.net_world.specs.Told.{SentMessage, token_in}
 use Rattle.net_world.specs.World.{WorldShape, IsTurnStep, state_at, misbehaves, has_halted}
 use Rattle.net_world.proofs.Moved.{Moved, mover_state, moved_silent, moved_told, moved_posted, Posted}
-use Rattle.token_laws.specs.Holders.{IsSent}
+use Rattle.capability.specs.declared.token.Token.{Token}
+use Rattle.std.specs.List.{AllByRecursion}
+use Rattle.std.proofs.lemmas.Option.{slice_get-get_or}
+use Rattle.token_laws.specs.Holders.{IsSent, HoldsAt, running_on, kept_on}
+use Rattle.token_laws.proofs.HeldLaws.{same_place, held_once}
 use Rattle.token_laws.specs.Requests.{number_asked}
 use Rattle.token_laws.proofs.EachFlight.{of_state}
 use Rattle.token_laws.proofs.WorldTokens.{Accounts}
@@ -35,22 +38,22 @@ use Rattle.typed_steps.specs.Variables.{Sends, Holds}
 use Rattle.typed_steps.specs.Views.{Split, View, Link, entries_of}
 use Rattle.typed_steps.proofs.HeldSteps.{holds_same, holds_calm}
 use Rattle.integrity.specs.Holding.{IsAmong, Holder, runs, asked, answered, stuck, passes, lost, halted, first_of, token_of}
-use Rattle.integrity.specs.Holding.{HasTop, Flies, OwnsRunning, OwnsWaiting, OwnsMessage, StateIsOutside, IsStanding}
+use Rattle.integrity.specs.Holding.{IsThere, HasTop, Flies, OwnsRunning, OwnsWaiting, OwnsMessage, StateIsOutside, IsStanding, AreLinked}
 use Rattle.integrity.specs.Holding.{IsTight}
 use Rattle.integrity.specs.Outside.{Threat, ThreadIsOpen, EntryIsOpen, MessageIsOpen}
 use Rattle.integrity.specs.Standing as standing
 use Rattle.integrity.specs.Standing.{threat_in, IsResult, IsPassing, HolderSends, StandsBy}
-use Rattle.integrity.proofs.Among.{each_among, one_of_some, some_of, last_at}
-use Rattle.integrity.proofs.ChainMoves.{linked_of, grown_keeps, grown_entries, grown_stands, grown_known}
+use Rattle.integrity.proofs.Among.{all_among, each_among, one_of_some, some_of, last_at}
+use Rattle.integrity.proofs.ChainMoves.{linked_of, grown_keeps, grown_entries, grown_stands, grown_known, linked_below}
 use Rattle.integrity.proofs.FliesOn.{FlyAs, all_posted}
-use Rattle.integrity.proofs.HeldTokens.{StandsThere}
-use Rattle.integrity.proofs.HolderStays.{on_some}
+use Rattle.integrity.proofs.HeldTokens.{StandsThere, later_held}
+use Rattle.integrity.proofs.HolderStays.{on_some, below_top}
 use Rattle.integrity.proofs.OpenWorlds.{state_fits}
 use Rattle.integrity.proofs.OutsideEvents.{other_of}
 use Rattle.integrity.proofs.StackMoves.{Restacks, RunsWith, turn_restacks}
 use Rattle.integrity.proofs.StandsOn.{halted_before}
-use Rattle.integrity.proofs.TightKept.{IsLawful}
-use Rattle.integrity.proofs.TightMoves.{Moves, tight_moved, all_as}
+use Rattle.integrity.proofs.TightKept.{IsLawful, tokens_known}
+use Rattle.integrity.proofs.TightMoves.{Moves, tight_moved, all_as, as_other}
 
 -- what is known before the turn, and after it
 pub record Turning (split : Split) (c : Configuration) (view : View) (host : HostId) (thread : ThreadShape)
@@ -191,7 +194,7 @@ module _ (split : Split) (c : Configuration) (view : View) (host : HostId) (thre
       (with_flights world.flying host to (world.flying host to ++ record { message = m; label = t.label } ∷ [])) after →
       new.me ≡ t.step.state.me → new.entries ≡ t.step.state.entries → new.running ≡ None →
       All (λ w. OwnsWaiting next host w ⊎ ThreadIsOpen (threat_in split) host w.thread) new.waiting →
-      IsThere after next → HasTop after (entries_of view.chain) next → next ≢ lost → OwnsMessage next host to m →
+      IsThere after next → HasTop after (entries_of view.chain) next → (next ≡ lost → ⊥) → OwnsMessage next host to m →
       IsTight (threat_in split) (entries_of view.chain) next after
   posts new next to m moved me entries rests waiting there top held own =
       let me_now : new.me ≡ host = me ∙ me_is in
@@ -210,7 +213,7 @@ module _ (split : Split) (c : Configuration) (view : View) (host : HostId) (thre
         known = λ e among. inl (standing_each e among);
         there = there;
         has_top = top;
-        held = held;
+        held = λ is_lost. absurd (held is_lost);
         state = record {
           running = inr (subst (λ o. IfSome o (ThreadIsOpen (threat_in split) new.me)) (sym rests) tt);
           waiting = subst (λ h. All (λ w. OwnsWaiting next h w ⊎ ThreadIsOpen (threat_in split) h w.thread) new.waiting)
@@ -243,19 +246,23 @@ module _ (split : Split) (c : Configuration) (view : View) (host : HostId) (thre
       }
 
   -- what is sent goes to a host that obeys
+  posted_if : (new : HostShape) (to : HostId) (m : Message) → with_message new to m ≡ t.step.outcome → (bad : Bool) →
+      misbehaves world to ≡ bad →
+      Moved world host new
+      (with_flights world.flying host to (world.flying host to ++ record { message = m; label = t.label } ∷ [])) after
+  posted_if new to m is true bad =
+      let told =
+      moved_told world host t.step.outcome t.step.state new to m (label_of_turn split.code t.step.state) t.label after
+      t.step.obeys bad t.labels is t.step.leaves in
+      absurd (never_more world.sent (host, to, m) (sym told.sent ∙ t.quiet))
+  posted_if new to m is false good =
+      (moved_posted world host t.step.outcome t.step.state new to m (label_of_turn split.code t.step.state) t.label
+      after t.step.obeys good t.labels is t.step.leaves).moved
+
   posted : (new : HostShape) (to : HostId) (m : Message) → with_message new to m ≡ t.step.outcome →
       Moved world host new
       (with_flights world.flying host to (world.flying host to ++ record { message = m; label = t.label } ∷ [])) after
-  posted new to m is = elim (cases_eq (misbehaves world to)) [
-    | inl bad ↦
-        let told =
-        moved_told world host t.step.outcome t.step.state new to m (label_of_turn split.code t.step.state) t.label after
-        t.step.obeys bad t.labels is t.step.leaves in
-        absurd (never_more world.sent (host, to, m) (sym told.sent ∙ t.quiet))
-    | inr good ↦
-        (moved_posted world host t.step.outcome t.step.state new to m (label_of_turn split.code t.step.state) t.label
-        after t.step.obeys good t.labels is t.step.leaves).moved
-  ]
+  posted new to m is = posted_if new to m is (misbehaves world to) refl
 
   -- ---- the thread waits
 
@@ -311,3 +318,97 @@ module _ (split : Split) (c : Configuration) (view : View) (host : HostId) (thre
         does = (t.stands.does.0, passing);
         halts = none_halted holder new moved.hosts refl;
       }
+
+  -- ---- an entry is taken off
+
+  -- the first entry of the chain, and what is below it on the stack of the host
+  pub record Tops : Type 0 where
+    pub first : Link
+    pub rest : List Link
+    pub chain_is : view.chain ≡ first ∷ rest
+    pub below : List StackEntry
+    pub entries_are : t.step.state.entries ≡ first.entry ∷ below
+    pub own : first.entry.token.host ≡ host
+    pub held : HoldsAt world first.entry.token (running_on host)
+    pub standing : (e : StackEntry) → IsAmong (first.entry ∷ entries_of rest) e → IsStanding world e
+    pub linked : AreLinked (first.entry ∷ entries_of rest)
+    pub was : All (λ e. IsAmong (first.entry ∷ entries_of rest) e ⊎ EntryIsOpen (threat_in split) e.entry)
+        t.step.state.entries
+
+  -- no other entry has its token
+  one_place : (top : Tops) (place : ℕ) (e : StackEntry) → slice_get t.step.state.entries place ≡ Some e →
+      e.token ≡ top.first.entry.token → place ≡ 0
+  one_place top place e there same =
+      same_place split.code world host t.step.state place 0 e top.first.entry t.lawful.fits t.step.obeys there
+      (ap (λ list. slice_get list 0) top.entries_are) same
+
+  apart_rest : (top : Tops) (e : StackEntry) → IsAmong (entries_of top.rest) e → e.token ≢ top.first.entry.token
+  apart_rest top e among same =
+      let stands : AllByRecursion (StandsThere world) (top.first.entry ∷ entries_of top.rest) =
+      all_among (StandsThere world) (top.first.entry ∷ entries_of top.rest) (λ x here. (top.standing x here).there) in
+      let held = later_held world top.first.entry (entries_of top.rest) among.0 e top.linked stands among.1 in
+      let it = top.standing e (suc among.0, among.1) in
+      let at = one_of_some (state_at world e.token.host) (λ state. IsAmong state.entries e) it.there in
+      let place =
+      held_once split.code world e.token (kept_on held.0 held.1) (running_on host)
+      (tokens_known (threat_in split) world t.lawful) (subst (λ o. IsSome o) (sym at.is) refl) it.unsent held.2
+      (subst (λ k. HoldsAt world k (running_on host)) (sym same) top.held) in
+      absurd (cc)
+
+  pops : (top : Tops) (new : HostShape) (next : Holder) → without_message new ≡ t.step.outcome → new.me ≡ host →
+      new.entries ≡ top.below → new.waiting ≡ t.step.state.waiting →
+      OwnsRunning next host ⊎ IfSome new.running (ThreadIsOpen (threat_in split) host) →
+      (state_at after host ≡ Some new → IsThere after next) → HasTop after (entries_of top.rest) next →
+      (next ≡ lost → ⊥) → IsTight (threat_in split) (entries_of top.rest) next after
+  pops top new next is me entries waiting running there has held =
+      let old = t.step.state in
+      let moved =
+      moved_silent world host t.step.outcome new (label_of_turn split.code old) after is t.step.leaves in
+      tight_moved (threat_in split) (top.first.entry ∷ entries_of top.rest) (entries_of top.rest) (runs host thread)
+      next world after t.lawful t.fits t.account
+      (subst (λ list. IsTight (threat_in split) (entries_of list) (runs host thread) world) top.chain_is t.stands.tight)
+      (record {
+        me = host;
+        old = old;
+        new = new;
+        obeys = t.step.obeys;
+        puts = moved.hosts;
+        linked = linked_below top.first.entry (entries_of top.rest) top.linked;
+        stands = λ e among.
+            on_some world after host e.token.host old new t.step.obeys moved.hosts (λ state. IsAmong state.entries e)
+            (top.standing e (suc among.0, among.1)).there
+            (λ here has. subst (λ list. IsAmong list e) (sym entries)
+            (below_top top.first.entry e top.below (subst (λ list. IsAmong list e) top.entries_are has)
+            (apart_rest top e among)));
+        known = λ e among. inl (top.standing e (suc among.0, among.1));
+        there = there (mover_state world after host old new world.flying t.step.obeys moved);
+        has_top = has;
+        held = λ is_lost. absurd (held is_lost);
+        state = record {
+          running = subst (λ h. OwnsRunning next h ⊎ IfSome new.running (ThreadIsOpen (threat_in split) h)) (sym me)
+              running;
+          waiting = waits_for next new.me new.waiting me waiting;
+          entries = subst (All (λ e. IsAmong (entries_of top.rest) e ⊎ EntryIsOpen (threat_in split) e.entry))
+              (sym entries) (λ k d lt. rest_or_open top k d lt);
+        };
+        runs_as = λ other apart its. absurd (apart its);
+        waits_as = λ other one apart its. absurd its;
+        keeps_as = λ e apart among.
+            below_top top.first.entry e (entries_of top.rest) among
+            (λ same. apart (ap (λ (k : Token). k.host) same ∙ top.own));
+        flying = subst (FlyAs (λ from target said. OwnsMessage next from target said
+            ⊎ MessageIsOpen (threat_in split) said)) (sym moved.flying) (all_flying next);
+      })
+    where
+      rest_or_open : (top : Tops) (k : ℕ) (d : StackEntry) → k < length top.below →
+          IsAmong (entries_of top.rest) (get_or top.below k d) ⊎ EntryIsOpen (threat_in split) (get_or top.below k d).entry
+      rest_or_open top k d lt =
+          let e = get_or top.below k d in
+          let was : IsAmong (top.first.entry ∷ entries_of top.rest) e ⊎ EntryIsOpen (threat_in split) e.entry =
+          subst (All (λ x. IsAmong (top.first.entry ∷ entries_of top.rest) x ⊎ EntryIsOpen (threat_in split) x.entry))
+          top.entries_are top.was (suc k) d (omega arith) in
+          let there : slice_get t.step.state.entries (suc k) ≡ Some e =
+          ap (λ list. slice_get list (suc k)) top.entries_are ∙ slice_get-get_or top.below k d lt in
+          as_other (λ among. below_top top.first.entry e (entries_of top.rest) among (λ same.
+          let zero_is = one_place top (suc k) e there same in
+          omega arith)) was
