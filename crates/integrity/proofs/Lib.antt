@@ -17,4 +17,5 @@ pub mod StandsOn
 pub mod TightMoves
 pub mod ChainMoves
 pub mod TurnMoves
+pub mod HolderLaws
 pub mod IntegrityExamples

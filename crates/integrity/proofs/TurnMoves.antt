@@ -2,7 +2,7 @@
 -- or for one that a step leads to.
 use Rattle.std.proofs.Common.{◌≡◌, ◌≢◌, ◌∙◌, ◌⊎◌, inl, inr, ℕ, ℤ, suc, Bool, true, false, List, [], ◌∷◌, ◌++◌, length, Option}
 use Rattle.std.proofs.Common.{Some, None, refl, sym, ap, subst, arith, get_or}
-use Rattle.std.specs.Prelude.{◌<◌, slice_get, slice_set, All, IfSome, IsSome, IsSomeAnd}
+use Rattle.std.specs.Prelude.{◌<◌, if◌then◌else◌, Contains, slice_get, slice_set, All, IfSome, IsSome, IsSomeAnd}
 use Rattle.std.proofs.lemmas.List.Elements.{All-push}
 use Rattle.std.proofs.lemmas.Bool.{eq-eqb}
 use Rattle.js_base.specs.declared.ids.HostId.{HostId}
@@ -15,22 +15,28 @@ use Rattle.host_code.specs.declared.message.Message.TheVariants as message
 use Rattle.host_code.specs.Thread.{ThreadShape, WaitingShape, Awaited}
 use Rattle.host_code.specs.Thread.Awaited.{acknowledgement}
 use Rattle.host_core.specs.Host.{HostShape, Outcome, with_message, without_message, with_running, after_asking}
+use Rattle.host_core.specs.Host.{with_one_ignored, after_pop, next_request}
 use Rattle.host_core.specs.Turn.{label_of_turn}
 use Rattle.net_world.specs.Fits.{ShapeFits}
 use Rattle.net_world.specs.Flying.{Flight, Flying, with_flights}
-use Rattle.net_world.specs.Told.{SentMessage, token_in}
+use Rattle.net_world.specs.Told.{token_in, tokens_in}
 use Rattle.net_world.specs.World.{WorldShape, IsTurnStep, state_at, misbehaves, has_halted}
-use Rattle.net_world.proofs.Moved.{Moved, mover_state, moved_silent, moved_told, moved_posted, Posted}
+use Rattle.net_world.proofs.Moved.{Moved, either, mover_state, moved_silent, moved_told, moved_posted, Posted}
 use Rattle.capability.specs.declared.token.Token.{Token}
 use Rattle.std.specs.List.{AllByRecursion}
 use Rattle.std.proofs.lemmas.Option.{slice_get-get_or}
-use Rattle.token_laws.specs.Holders.{IsSent, HoldsAt, running_on, kept_on}
+use Rattle.token_laws.specs.Holders.{IsSent, Place, HoldsAt, running_on, waiting_on, kept_on, in_flight}
 use Rattle.token_laws.proofs.HeldLaws.{same_place, held_once}
 use Rattle.token_laws.specs.Requests.{number_asked}
 use Rattle.token_laws.proofs.EachFlight.{of_state}
 use Rattle.token_laws.proofs.WorldTokens.{Accounts}
-use Rattle.typed_steps.specs.Chains.{IsChain}
-use Rattle.typed_steps.specs.Requests.{IsRequest, starting}
+use Rattle.typed_steps.specs.Chains.{IsChain, chain_due}
+use Rattle.typed_steps.specs.Threads.{IsLeft}
+use Rattle.typed_steps.specs.Weights.{STEP}
+use Rattle.typed_steps.proofs.Pops.{Ended, Continued, popped}
+use Rattle.jif_tree.specs.Store.{element_at, row_of}
+use Rattle.js_base.specs.declared.ids.RequestId.{RequestId}
+use Rattle.typed_steps.specs.Requests.{IsRequest, GivesUp, starting}
 use Rattle.typed_steps.specs.Turns as turns
 use Rattle.typed_steps.specs.Turns.{IsActing, Grows, stays, grows, waiting_for}
 use Rattle.typed_steps.specs.Values.{HoldsNumbers}
@@ -42,8 +48,8 @@ use Rattle.integrity.specs.Holding.{IsThere, HasTop, Flies, OwnsRunning, OwnsWai
 use Rattle.integrity.specs.Holding.{IsTight}
 use Rattle.integrity.specs.Outside.{Threat, ThreadIsOpen, EntryIsOpen, MessageIsOpen}
 use Rattle.integrity.specs.Standing as standing
-use Rattle.integrity.specs.Standing.{threat_in, IsResult, IsPassing, HolderSends, StandsBy}
-use Rattle.integrity.proofs.Among.{all_among, each_among, one_of_some, some_of, last_at}
+use Rattle.integrity.specs.Standing.{threat_in, IsResult, IsPassing, StandsBy, Goes}
+use Rattle.integrity.proofs.Among.{all_among, each_among, one_of_some, some_of, last_at, same_item}
 use Rattle.integrity.proofs.ChainMoves.{linked_of, grown_keeps, grown_entries, grown_stands, grown_known, linked_below}
 use Rattle.integrity.proofs.FliesOn.{FlyAs, all_posted}
 use Rattle.integrity.proofs.HeldTokens.{StandsThere, later_held}
@@ -68,6 +74,30 @@ pub record Turning (split : Split) (c : Configuration) (view : View) (host : Hos
   pub sends : Sends split view step.state host
   pub label : ℕ
   pub labels : label_of_turn split.code step.state ≡ Some label
+
+-- a request has the number that its thread waits for
+pub request_number : (split : Split) (c : Configuration) (view : View) (holder owner : HostId) (waiting : WaitingShape)
+    (m : Message) → IsRequest split c view holder owner waiting m → number_asked m ≡ Some waiting.request
+request_number split c view holder owner waiting (message.Get request field place) is =
+    ap (λ (r : RequestId). Some r) (sym is.1)
+request_number split c view holder owner waiting (message.Set request field place value) is =
+    ap (λ (r : RequestId). Some r) (sym is.1)
+request_number split c view holder owner waiting (message.Forward request frame x value) is =
+    ap (λ (r : RequestId). Some r) (sym is.1)
+request_number split c view holder owner waiting (message.Sync request frame entry token) is =
+    ap (λ (r : RequestId). Some r) (sym is.1)
+request_number split c view holder owner waiting _ is = absurd is
+
+-- the token of the chain's first entry is with the thread that waits, or in its request
+pub request_top : (split : Split) (c : Configuration) (view : View) (holder owner : HostId) (waiting : WaitingShape)
+    (m : Message) → IsRequest split c view holder owner waiting m →
+    first_of (token_in m) waiting.thread.held ≡ top_token (entries_of view.chain)
+request_top split c view holder owner waiting (message.Get request field place) is =
+    (is.4 (element_at (row_of c.store field.0) place) (inl refl)).held
+request_top split c view holder owner waiting (message.Set request field place value) is = is.4.at.held
+request_top split c view holder owner waiting (message.Forward request frame x value) is = is.10.held
+request_top split c view holder owner waiting (message.Sync request frame entry token) is = sym is.4
+request_top split c view holder owner waiting _ is = absurd is
 
 -- what is in flight from a host to a host after more is
 own_cell : (flying : Flying) (from to : HostId) (flights : List Flight) →
@@ -412,3 +442,265 @@ module _ (split : Split) (c : Configuration) (view : View) (host : HostId) (thre
           as_other (λ among. below_top top.first.entry e (entries_of top.rest) among (λ same.
           let zero_is = one_place top (suc k) e there same in
           omega arith)) was
+
+  make_tops : (token : Token) → token.host ≡ host → top_token (entries_of view.chain) ≡ Some token →
+      top_token t.step.state.entries ≡ Some token → (chain : List Link) → view.chain ≡ chain →
+      (entries : List StackEntry) → t.step.state.entries ≡ entries → Tops
+  make_tops token own top also [] chain_is entries entries_is =
+      let never : top_token (entries_of []) ≡ Some token =
+      sym (ap (λ list. top_token (entries_of list)) chain_is) ∙ top in
+      absurd (cc)
+  make_tops token own top also (first ∷ rest) chain_is [] entries_is =
+      let never : top_token [] ≡ Some token = sym (ap top_token entries_is) ∙ also in
+      absurd (cc)
+  make_tops token own top also (first ∷ rest) chain_is (upper ∷ below) entries_is =
+      let old = t.step.state in
+      let one : Some first.entry.token ≡ Some token =
+      sym (ap (λ list. top_token (entries_of list)) chain_is) ∙ top in
+      let first_is : first.entry.token ≡ token = cc in
+      let two : Some upper.token ≡ Some token = sym (ap top_token entries_is) ∙ also in
+      let upper_is : upper.token ≡ token = cc in
+      let here : first.entry.token.host ≡ host = ap (λ (k : Token). k.host) first_is ∙ own in
+      let among_is : entries_of view.chain ≡ first.entry ∷ entries_of rest = ap entries_of chain_is in
+      let standing : (e : StackEntry) → IsAmong (first.entry ∷ entries_of rest) e → IsStanding world e =
+      λ e among. standing_each e (subst (λ list. IsAmong list e) (sym among_is) among) in
+      let at =
+      one_of_some (state_at world first.entry.token.host) (λ state. IsAmong state.entries first.entry)
+      (standing first.entry (0, refl)).there in
+      let both : Some at.one ≡ Some old = sym at.is ∙ ap (state_at world) here ∙ t.step.obeys in
+      let same_state : at.one ≡ old = cc in
+      let among : IsAmong old.entries first.entry = subst (λ s. IsAmong s.entries first.entry) same_state at.has in
+      let upper_at : slice_get old.entries 0 ≡ Some upper = ap (λ list. slice_get list 0) entries_is in
+      let place =
+      same_place split.code world host old 0 among.0 upper first.entry t.lawful.fits t.step.obeys upper_at among.1
+      (upper_is ∙ sym first_is) in
+      let same : upper ≡ first.entry =
+      same_item old.entries among.0 upper first.entry (subst (λ n. slice_get old.entries n ≡ Some upper) place upper_at)
+      among.1 in
+      record {
+        first = first;
+        rest = rest;
+        chain_is = chain_is;
+        below = below;
+        entries_are = entries_is ∙ ap (λ x. x ∷ below) same;
+        own = here;
+        held = some_of (state_at world host) (λ s. IsSomeAnd s.running (λ one. one.held ≡ Some first.entry.token)) old
+            t.step.obeys (some_of old.running (λ one. one.held ≡ Some first.entry.token) thread t.running
+            (t.stands.does.1.held ∙ top ∙ ap (λ (k : Token). Some k) (sym first_is)));
+        standing = standing;
+        linked = subst AreLinked among_is t.stands.tight.linked;
+        was = subst (λ list. All (λ e. IsAmong list e ⊎ EntryIsOpen (threat_in split) e.entry) old.entries) among_is
+            was.entries;
+      }
+
+  -- the first entry was taken off, and the program ends or a thread goes on behind the entry
+  after_top : (top : Tops) → GivesUp split c view →
+      without_message (after_pop split.code (with_running t.step.state None) t.step.state.entries) ≡ t.step.outcome →
+      Ended split c top.first top.rest host (with_running t.step.state None) top.below
+      ⊎ Continued split c view top.first top.rest host (with_running t.step.state None) top.below → Goes split c after
+  after_top top gives_up is (inl ended) =
+      let old = t.step.state in
+      let bare : HostShape = with_running old None in
+      let new : HostShape = record bare { entries = top.below; running = None; halted = true } in
+      let new_is : without_message new ≡ t.step.outcome =
+      ap without_message (sym ended.is)
+      ∙ ap (λ list. without_message (after_pop split.code bare list)) (sym top.entries_are) ∙ is in
+      let moved =
+      moved_silent world host t.step.outcome new (label_of_turn split.code old) after new_is t.step.leaves in
+      standing.stays (starting view [] view.sender) halted (record {
+        tight = subst (λ list. IsTight (threat_in split) (entries_of list) halted after) ended.last
+            (pops top new halted new_is me_is refl refl (inr tt) (λ there. tt)
+            (sym (ap (λ list. top_token (entries_of list)) ended.last)) (λ same. absurd (cc)));
+        holds = holds_calm split c view after [] view.sender
+            (holds_same split c view world after host old new world.flying t.stands.holds t.step.obeys moved refl refl
+            refl) gives_up.none_out;
+        sends = tt;
+        does = (refl, refl, ended.ends);
+        halts = λ has. refl;
+      })
+  after_top top gives_up is (inr more) =
+      let old = t.step.state in
+      let bare : HostShape = with_running old None in
+      let new : HostShape = with_running (record bare { entries = top.below }) (Some more.thread) in
+      let next = runs host more.thread in
+      let new_is : without_message new ≡ t.step.outcome =
+      ap without_message (sym more.is)
+      ∙ ap (λ list. without_message (after_pop split.code bare list)) (sym top.entries_are) ∙ is in
+      let moved =
+      moved_silent world host t.step.outcome new (label_of_turn split.code old) after new_is t.step.leaves in
+      standing.stays (starting view top.rest top.first.call) next (record {
+        tight = pops top new next new_is me_is refl refl (inl refl)
+            (λ there. some_of (state_at after host) (λ s. s.running ≡ Some more.thread) new there refl) more.at.held
+            (λ same. absurd (cc));
+        holds = holds_calm split c view after top.rest top.first.call
+            (holds_same split c view world after host old new world.flying t.stands.holds t.step.obeys moved refl refl
+            refl) gives_up.none_out;
+        sends = some_of (state_at after host) (λ state. Sends split (starting view top.rest top.first.call) state host)
+            new (mover_state world after host old new world.flying t.step.obeys moved) tt;
+        does = (more.is_chain, more.at);
+        halts = none_halted next new moved.hosts refl;
+      })
+
+  pops_own : (token : Token) → token.host ≡ host → top_token (entries_of view.chain) ≡ Some token →
+      top_token t.step.state.entries ≡ Some token → GivesUp split c view →
+      without_message (after_pop split.code (with_running t.step.state None) t.step.state.entries) ≡ t.step.outcome →
+      Goes split c after
+  pops_own token own top also gives_up is =
+      let tops = make_tops token own top also view.chain refl t.step.state.entries refl in
+      after_top tops gives_up is
+      (popped split c view tops.first tops.rest host (with_running t.step.state None) tops.below
+      (subst (IsChain split view.naming) tops.chain_is t.stands.does.0) gives_up.count
+      (subst (λ list. IsLeft split c view.keeper (chain_due split list)) tops.chain_is gives_up.left) tops.own)
+
+  -- ---- the token is lost
+
+  module _ (new : HostShape) (puts : after.hosts ≡ slice_set world.hosts host.0 (Some new)) where
+    before_at : (other : HostId) (P : HostShape → Type 0) → IsSomeAnd (state_at after other) P →
+        (P new → P t.step.state) → IsSomeAnd (state_at world other) P
+    before_at other P has keeps =
+        let at = one_of_some (state_at after other) P has in
+        elim (either world after host t.step.state new after.flying t.step.obeys
+        (record { hosts = puts; flying = refl }) other at.one at.is) [
+          | inl mover ↦
+              some_of (state_at world other) P t.step.state (ap (state_at world) mover.same ∙ t.step.obeys)
+              (keeps (subst P mover.is at.has))
+          | inr one ↦ some_of (state_at world other) P at.one one.obeys at.has
+        ]
+
+    runs_elsewhere : (token : Token) (other : HostId) → new.running ≡ None → HoldsAt after token (running_on other) →
+        HoldsAt world token (running_on other) × (other.0 ≢ host.0)
+    runs_elsewhere token other rests has =
+        let P : HostShape → Type 0 = λ s. IsSomeAnd s.running (λ one. one.held ≡ Some token) in
+        let at = one_of_some (state_at after other) P has in
+        elim (either world after host t.step.state new after.flying t.step.obeys
+        (record { hosts = puts; flying = refl }) other at.one at.is) [
+          | inl mover ↦
+              absurd (subst (λ o. IsSomeAnd o (λ (one : ThreadShape). one.held ≡ Some token)) rests
+              (subst P mover.is at.has))
+          | inr one ↦ (some_of (state_at world other) P at.one one.obeys at.has, one.apart)
+        ]
+
+    nobody_has : (token : Token) → new.running ≡ None → new.waiting ≡ t.step.state.waiting →
+        new.entries ≡ t.step.state.entries → after.flying ≡ world.flying →
+        ((place : Place) → HoldsAt world token place → place ≡ running_on host) → (place : Place) →
+        HoldsAt after token place → ⊥
+    nobody_has token rests waiting entries flying only (running_on other) has =
+        let before = runs_elsewhere token other rests has in
+        let same = only (running_on other) before.0 in
+        let one : other ≡ host = cc in
+        before.1 (ap (λ (h : HostId). h.0) one)
+    nobody_has token rests waiting entries flying only (waiting_on other at) has =
+        let same =
+        only (waiting_on other at)
+        (before_at other (λ s. IsSomeAnd (slice_get s.waiting at) (λ w. w.thread.held ≡ Some token)) has
+        (subst (λ list. IsSomeAnd (slice_get list at) (λ w. w.thread.held ≡ Some token)) waiting)) in
+        absurd (cc)
+    nobody_has token rests waiting entries flying only (kept_on other at) has =
+        let same =
+        only (kept_on other at)
+        (before_at other (λ s. IsSomeAnd (slice_get s.entries at) (λ e. e.kept ≡ token)) has
+        (subst (λ list. IsSomeAnd (slice_get list at) (λ e. e.kept ≡ token)) entries)) in
+        absurd (cc)
+    nobody_has token rests waiting entries flying only (in_flight from to at) has =
+        let same =
+        only (in_flight from to at)
+        (subst (λ (f : Flying). IsSomeAnd (slice_get (f from to) at) (λ flight. token_in flight.message ≡ Some token))
+        flying has) in
+        absurd (cc)
+
+  -- where the thread that held it ends, nobody has it
+  only_here : (list : List StackEntry) (token : Token) → ((e : StackEntry) → IsAmong list e → IsStanding world e) →
+      top_token list ≡ Some token → thread.held ≡ Some token → (place : Place) → HoldsAt world token place →
+      place ≡ running_on host
+  only_here [] token standing top held place also = absurd (cc)
+  only_here (e ∷ list) token standing top held place also =
+      let same : e.token ≡ token = cc in
+      let it = standing e (0, refl) in
+      let at = one_of_some (state_at world e.token.host) (λ state. IsAmong state.entries e) it.there in
+      let obeys : IsSome (state_at world token.host) =
+      subst (λ (k : Token). IsSome (state_at world k.host)) same (subst (λ o. IsSome o) (sym at.is) refl) in
+      held_once split.code world token place (running_on host) (tokens_known (threat_in split) world t.lawful) obeys
+      (subst (λ (k : Token). ¬ IsSent world k) same it.unsent) also
+      (some_of (state_at world host) (λ s. IsSomeAnd s.running (λ one. one.held ≡ Some token)) t.step.state t.step.obeys
+      (some_of t.step.state.running (λ one. one.held ≡ Some token) thread t.running held))
+
+  loses : GivesUp split c view →
+      without_message (with_one_ignored (with_running t.step.state None)) ≡ t.step.outcome → Goes split c after
+  loses gives_up is =
+      let old = t.step.state in
+      let new : HostShape = with_one_ignored (with_running old None) in
+      let moved =
+      moved_silent world host t.step.outcome new (label_of_turn split.code old) after is t.step.leaves in
+      standing.stays view lost (record {
+        tight = tight_moved (threat_in split) (entries_of view.chain) (entries_of view.chain) (runs host thread) lost
+            world after t.lawful t.fits t.account t.stands.tight (record {
+              me = host;
+              old = old;
+              new = new;
+              obeys = t.step.obeys;
+              puts = moved.hosts;
+              linked = t.stands.tight.linked;
+              stands = λ e among.
+                  on_some world after host e.token.host old new t.step.obeys moved.hosts
+                  (λ state. IsAmong state.entries e) (standing_each e among).there (λ here has. has);
+              known = λ e among. inl (standing_each e among);
+              there = tt;
+              has_top = λ token top held.
+                  nobody_has new moved.hosts token refl refl refl moved.flying
+                  (only_here (entries_of view.chain) token standing_each top (t.stands.does.1.held ∙ top)) held.0 held.1;
+              held = λ is_lost e among sent.
+                  (standing_each e among).unsent (subst (λ list. Contains (tokens_in list) e.token) t.quiet sent);
+              state = record {
+                running = inr tt;
+                waiting = waits_for lost new.me new.waiting me_is refl;
+                entries = was.entries;
+              };
+              runs_as = λ other apart its. absurd (apart its);
+              waits_as = λ other one apart its. absurd its;
+              keeps_as = λ e apart among. among;
+              flying = subst (FlyAs (λ from target said. OwnsMessage lost from target said
+                  ⊎ MessageIsOpen (threat_in split) said)) (sym moved.flying) (all_flying lost);
+            });
+        holds = holds_same split c view world after host old new world.flying t.stands.holds t.step.obeys moved refl
+            refl refl;
+        sends = tt;
+        does = (t.stands.does.0, gives_up);
+        halts = none_halted lost new moved.hosts refl;
+      })
+
+  -- ---- whatever the turn makes
+
+  ends_if : (token : Token) (b : Bool) → (b ≡ true → top_token t.step.state.entries ≡ Some token) →
+      token.host ≡ host → top_token (entries_of view.chain) ≡ Some token → GivesUp split c view →
+      without_message (if b then after_pop split.code (with_running t.step.state None) t.step.state.entries
+      else with_one_ignored (with_running t.step.state None)) ≡ t.step.outcome → Goes split c after
+  ends_if token true passing own top gives_up is = pops_own token own top (passing refl) gives_up is
+  ends_if token false passing own top gives_up is = loses gives_up is
+
+  pub goes_of : turns.Turned split c view world host t.step.state thread t.step.outcome → Goes split c after
+  goes_of (turns.runs_on g) = let it = goes_on c 0 g in standing.stays it.0 it.1 it.2
+  goes_of (turns.steps now does g) = let it = goes_on now STEP g in standing.steps now it.0 it.1 does it.2
+  goes_of (turns.asks a) =
+      let w = waiting_for t.step.state thread.at a.next a.awaited a.to in
+      standing.stays view (asked host w a.asking)
+      (asks a.next a.awaited a.to a.asking a.is (request_number split c view host a.to w a.asking a.request)
+      (request_top split c view host a.to w a.asking a.request) (inl a.request))
+  goes_of (turns.gives g) =
+      let w = waiting_for t.step.state thread.at g.next acknowledgement g.to in
+      let m = message.Forward (next_request t.step.state thread.at) g.frame g.x g.value in
+      standing.stays view (asked host w m)
+      (asks g.next acknowledgement g.to m g.is refl g.result.at.held (inr (refl, refl, g.may, g.result)))
+  goes_of (turns.hands h) =
+      let m = message.Rgoto h.frame h.entry h.token in
+      standing.stays (starting view view.chain h.call) (passes host h.to m)
+      (ends_with h.call h.to m h.none_out h.is (sym h.top)
+      (record { there = h.there; found = h.found; may = h.may; none_out = refl; at = h.at }))
+  goes_of (turns.returns r) =
+      let m = message.Lgoto r.token in
+      standing.stays (starting view view.chain view.sender) (passes host r.token.host m)
+      (ends_with view.sender r.token.host m r.gives_up.none_out r.is (sym r.top) (record {
+        host = refl;
+        top = r.top;
+        gives_up = record { none_out = refl; count = r.gives_up.count; left = r.gives_up.left };
+      }))
+  goes_of (turns.ends e) = ends_if e.token e.passes e.passing.0 e.own e.top e.gives_up e.is

@@ -3,6 +3,7 @@
 ghost use Rattle.std.specs.Prelude.{◌≡◌, ℕ, ℤ, List, [], ◌∷◌, All, Some};
 ghost use Rattle.std.specs.Int.{bit_at};
 ghost use Rattle.js_base.specs.declared.ids.FrameId.{FrameId};
+ghost use Rattle.js_base.specs.declared.ids.HostId.{HostId};
 ghost use Rattle.js_base.specs.declared.ids.RequestId.{RequestId};
 ghost use Rattle.host_decl.specs.Hosts.{HostsShape};
 ghost use Rattle.host_decl.specs.Hosts.{HostShape as HostRow};
@@ -16,9 +17,11 @@ ghost use Rattle.msg_cost.specs.Moves.{PlannedShape, planned_of};
 ghost use Rattle.host_code.specs.declared.message.Message.TheVariants as message;
 ghost use Rattle.host_code.specs.Code.{halt};
 ghost use Rattle.host_code.specs.Sound.{IsSoundCode};
+ghost use Rattle.host_code.specs.Thread.{ThreadShape};
 ghost use Rattle.host_core.specs.Host.{HostShape};
 ghost use Rattle.ics_stack.specs.declared.stack.StackEntry.{StackEntry};
 ghost use Rattle.event_text.specs.declared.event.Event.{Event};
+ghost use Rattle.event_text.specs.declared.event.Event.TheVariants.{Turn};
 ghost use Rattle.net_world.specs.Fits.{HasOwnToken};
 ghost use Rattle.net_world.specs.World.{WorldShape, IsStep, IsRun, state_at, world_at_start};
 ghost use Rattle.split_rules.specs.Walk.{entry_id};
@@ -28,16 +31,17 @@ ghost use Rattle.split_rules.specs.Worked.{field_id, var_id, statement_id};
 ghost use Rattle.split_rules.specs.SplitCode.{split_code};
 ghost use Rattle.split_rules.specs.Splittable.{IsSplittable};
 ghost use Rattle.split_rules.specs.TypedCode.{Table, IsTypedCode};
+ghost use Rattle.token_laws.specs.Numbers.{CodeHasNumbers, RowsHaveNumbers, EventHasNumbers};
 ghost use Rattle.token_laws.specs.Reached.{IsReached};
 ghost use Rattle.typed_steps.specs.Views.{Split, View};
 ghost use Rattle.token_laws.specs.TokenExamples.{small, start};
 ghost use Rattle.integrity.specs.Altering.{StandsFor, FollowsAltered};
-ghost use Rattle.integrity.specs.Exposed.{AreAsBefore, FieldsStand, exposure_of};
-ghost use Rattle.integrity.specs.Holding.{Holder, IsOwn, IsTight, StartsTight};
+ghost use Rattle.integrity.specs.Exposed.{AreAsBefore, FieldsStand, bad_labels, exposure_of};
+ghost use Rattle.integrity.specs.Holding.{Holder, runs, IsOwn, IsTight, StartsTight};
 ghost use Rattle.integrity.specs.IntegrityExamples.{sent_threat, sending, waiting, two_fields, exposed_to, store};
 ghost use Rattle.integrity.specs.IntegrityExamples.{before_set, sets_to_nine, after_set, after_refused, halted_world};
 ghost use Rattle.integrity.specs.IntegrityExamples.{at_end, not_at_end};
-ghost use Rattle.integrity.specs.Standing.{StandsBy, threat_in};
+ghost use Rattle.integrity.specs.Standing.{Goes, StandsBy, threat_in};
 ghost use Rattle.integrity.specs.Outside.{EntryIsOpen, IsOutside, MessageIsOpen, StateIsOpen, Threat, threat_of};
 
 use split_rules::{opening_examples, opening_laws, split_laws, trust_laws};
@@ -132,6 +136,14 @@ pub fn standing_laws()
         IsReached split.code hosts.hosts bad store events world →
         HasOwnToken (world_at_start split.code hosts.hosts bad store) event → IsStep split.code world event after →
         StandsBy split c view holder world → ¬ IsOwn holder world event → StandsBy split c view holder after }
+    // Where the holder's thread makes a turn that tells misbehaving hosts nothing, it stands for the same configuration
+    // again, or for one that a step leads to.
+    ensures turned { (split : Split) (rows : List HostRow) (bad : ℕ) (store : List (List ℤ)) (events : List Event)
+        (world after : WorldShape) (host : HostId) (thread : ThreadShape) (c : Configuration) (view : View) →
+        split.exposure.bad ≡ bad_labels bad 0 rows → IsReached split.code rows bad store events world →
+        CodeHasNumbers split.code → RowsHaveNumbers store → All EventHasNumbers events →
+        IsStep split.code world (Turn host) after → after.sent ≡ world.sent →
+        StandsBy split c view (runs host thread) world → Goes split c after }
 {
     opening_laws();
 }
