@@ -17,5 +17,7 @@ pub mod StandsOn
 pub mod TightMoves
 pub mod ChainMoves
 pub mod TurnMoves
+pub mod TakeMoves
+pub mod AnswerMoves
 pub mod HolderLaws
 pub mod IntegrityExamples

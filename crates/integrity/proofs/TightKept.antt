@@ -107,7 +107,7 @@ not_answered threat world is me waiting asking m state obeys sent number apart a
     let obeying = has_state (state_at world waiting.asked) ends.1 in
     bad_differs world waiting.asked waiting.asked obeying.0 bad obeying.1 refl
 
-asks_another : (threat : Threat) (world : WorldShape) → IsLawful threat world → (me : HostId) (state : HostShape)
+pub asks_another : (threat : Threat) (world : WorldShape) → IsLawful threat world → (me : HostId) (state : HostShape)
     (place : ℕ) (one : WaitingShape) → state_at world me ≡ Some state → slice_get state.waiting place ≡ Some one →
     one.asked ≢ me
 asks_another threat world is me state place one obeys there =

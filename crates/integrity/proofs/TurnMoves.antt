@@ -100,7 +100,7 @@ request_top split c view holder owner waiting (message.Sync request frame entry 
 request_top split c view holder owner waiting _ is = absurd is
 
 -- what is in flight from a host to a host after more is
-own_cell : (flying : Flying) (from to : HostId) (flights : List Flight) →
+pub own_cell : (flying : Flying) (from to : HostId) (flights : List Flight) →
     with_flights flying from to flights from to ≡ flights
 own_cell flying from to flights = rw (eq-eqb from.0 from.0 refl, eq-eqb to.0 to.0 refl) refl
 
