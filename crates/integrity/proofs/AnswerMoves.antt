@@ -179,3 +179,84 @@ module _ (split : Split) (c : Configuration) (view : View) (host : HostId) (w : 
       asks_or_gives m
       (taken_is split c view (asked host w m) world after host w.asked place t m t.stands.tight.there.1
       (refl, refl, t.stands.tight.there.2)) t.stands.does.1
+
+-- ---- the thread goes on with the answer
+
+module _ (split : Split) (c : Configuration) (view : View) (host : HostId) (w : WaitingShape) (m : Message)
+    (world after : WorldShape) (place : ℕ)
+    (t : Taking split c view (answered host w m) world after w.asked host place) where
+  among : IsAmong t.step.state.waiting w
+  among = subst (λ o. IsSomeAnd o (λ s. IsAmong s.waiting w)) t.step.obeys t.stands.tight.there.0
+
+  message_is : t.step.flight.message ≡ m
+  message_is =
+      taken_is split c view (answered host w m) world after w.asked host place t m t.stands.tight.there.1
+      (refl, refl, t.stands.tight.there.2)
+
+  resumes : takes.Resumes split c view host w t.step.state among.0 t.step.outcome
+  resumes =
+      answer_taken split c view host w.asked w t.step.state among.0
+      (waits_there (threat_in split) world t.lawful host t.step.state w among.0 t.step.obeys among.1) m t.stands.does.1
+      t.step.outcome
+      (subst (λ x. IsTaking split.code t.step.state w.asked x t.step.outcome) message_is t.step.takes)
+
+  pub answered_goes : Goes split c after
+  answered_goes =
+      let old = t.step.state in
+      let r = resumes in
+      let new : HostShape = after_answer old (Some among.0) r.change in
+      let thread = r.change w.thread in
+      let next = runs host thread in
+      let silent =
+      moved_silent (without_flight world w.asked host place) host t.step.outcome new (Some t.step.flight.label) after
+      r.is t.step.leaves in
+      let flying = (without_flight world w.asked host place).flying in
+      let moved : Moved world host new flying after = record { hosts = silent.hosts; flying = silent.flying } in
+      let there : state_at after host ≡ Some new = mover_state world after host old new flying t.step.obeys moved in
+      let running : new.running ≡ Some thread =
+      ap (option_map (λ (one : WaitingShape). r.change one.thread)) among.1 in
+      let before = was split c view (answered host w m) world after w.asked host place t in
+      let each = standing_each split c view (answered host w m) world after w.asked host place t in
+      let me = me_is split c view (answered host w m) world after w.asked host place t in
+      let First : WaitingShape → Type 0 =
+      λ one. OwnsWaiting (answered host w m) old.me one ⊎ ThreadIsOpen (threat_in split) old.me one.thread in
+      let Later : WaitingShape → Type 0 =
+      λ one. OwnsWaiting next old.me one ⊎ ThreadIsOpen (threat_in split) old.me one.thread in
+      standing.stays view next (record {
+        tight = tight_moved (threat_in split) (entries_of view.chain) (entries_of view.chain) (answered host w m) next
+            world after t.lawful t.fits t.account t.stands.tight (record {
+              me = host;
+              old = old;
+              new = new;
+              obeys = t.step.obeys;
+              puts = moved.hosts;
+              linked = t.stands.tight.linked;
+              stands = λ e here.
+                  on_some world after host e.token.host old new t.step.obeys moved.hosts
+                  (λ state. IsAmong state.entries e) (each e here).there (λ same has. has);
+              known = λ e here. inl (each e here);
+              there = some_of (state_at after host) (λ s. s.running ≡ Some thread) new there running;
+              has_top = r.at.held;
+              held = λ same. absurd (cc);
+              state = record {
+                running = inl me;
+                waiting = remove_all First Later old.waiting among.0
+                    (λ k one is far either. inr (other_of either (λ own.
+                    far (waits_once world.flying host old k among.0 one w (t.lawful.asked.hosts host old t.step.obeys)
+                    is among.1 own.1)))) before.waiting;
+                entries = before.entries;
+              };
+              runs_as = λ other far own. absurd own;
+              waits_as = λ other one far own. absurd (far own.0);
+              keeps_as = λ e far here. here;
+              flying = subst (FlyAs (λ one other said. OwnsMessage next one other said
+                  ⊎ MessageIsOpen (threat_in split) said)) (sym moved.flying)
+                  (left_flying split c view (answered host w m) world after w.asked host place t next);
+            });
+        holds = holds_same split c view world after host old new flying t.stands.holds t.step.obeys moved refl refl refl;
+        sends = some_of (state_at after host) (λ s. Sends split view s host) new there
+            (subst (λ o. IsSomeAnd o (λ s. Sends split view s host)) t.step.obeys t.stands.sends);
+        does = (t.stands.does.0, r.at);
+        halts = none_halted split c view (answered host w m) world after w.asked host place t next new
+            (λ same. absurd (cc)) moved.hosts refl;
+      })

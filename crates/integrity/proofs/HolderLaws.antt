@@ -30,7 +30,7 @@ use Rattle.integrity.proofs.TightLaws.{lawful}
 use Rattle.integrity.proofs.TurnMoves.{Turning, goes_of}
 
 -- what a host has is a number
-numbers_of : (split : Split) (world : WorldShape) (host : HostId) (state : HostShape) → WorldHasNumbers world →
+pub numbers_of : (split : Split) (world : WorldShape) (host : HostId) (state : HostShape) → WorldHasNumbers world →
     state_at world host ≡ Some state → HoldsNumbers split.exposure state
 numbers_of split world host state numbers obeys =
     let has = subst (λ o. IfSome o StateHasNumbers) obeys (numbers.states host) in

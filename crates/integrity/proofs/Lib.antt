@@ -16,8 +16,11 @@ pub mod TightLaws
 pub mod StandsOn
 pub mod TightMoves
 pub mod ChainMoves
+pub mod PopMoves
 pub mod TurnMoves
 pub mod TakeMoves
 pub mod AnswerMoves
+pub mod PassMoves
 pub mod HolderLaws
+pub mod TakeLaws
 pub mod IntegrityExamples

@@ -76,7 +76,7 @@ remove_all P Q (x ∷ xs) (suc out) each all =
     (λ k d lt. all (suc k) d (omega arith)))
 
 -- where a host is another, its test fails
-cell_apart : (P : List Flight → HostId → HostId → Type 0) (flying : Flying) (from to : HostId) (flights : List Flight)
+pub cell_apart : (P : List Flight → HostId → HostId → Type 0) (flying : Flying) (from to : HostId) (flights : List Flight)
     (one other : HostId) (b c : Bool) → (one.0 == from.0) ≡ b → (other.0 == to.0) ≡ c →
     (one ≡ from → other ≡ to → P flights one other) → ((one ≡ from → other ≡ to → ⊥) → P (flying one other) one other) →
     P (if b && c then flights else flying one other) one other
@@ -135,12 +135,12 @@ within_later p y xs false here rest = rw here (omega arith)
 
 within : {X : Type 0} (p : X → Bool) (xs : List X) (place : ℕ) (x : X) → slice_get xs place ≡ Some x →
     p x ≡ true → position_or_len p xs < length xs
-within p [] place x is passes = absurd (cc)
-within p (y ∷ xs) zero x is passes =
+within p [] place x is holds = absurd (cc)
+within p (y ∷ xs) zero x is holds =
     let same : y ≡ x = cc in
-    let here : p y ≡ true = ap p same ∙ passes in
+    let here : p y ≡ true = ap p same ∙ holds in
     rw here (omega arith)
-within p (y ∷ xs) (suc place) x is passes = within_later p y xs (p y) refl (within p xs place x is passes)
+within p (y ∷ xs) (suc place) x is holds = within_later p y xs (p y) refl (within p xs place x is holds)
 
 -- the thread that waits for an answer from a host is at the place that is found
 pub waits_there : (threat : Threat) (world : WorldShape) → IsLawful threat world → (host : HostId) (state : HostShape)
@@ -206,7 +206,7 @@ module _ (split : Split) (c : Configuration) (view : View) (holder : Holder) (wo
   pub standing_each : (e : StackEntry) → IsAmong (entries_of view.chain) e → IsStanding world e
   standing_each e = each_among (IsStanding world) (entries_of view.chain) e t.stands.tight.standing
 
-  left_open : FlyAs (λ one other m. MessageIsOpen (threat_in split) m) (without_flight world from to place).flying
+  pub left_open : FlyAs (λ one other m. MessageIsOpen (threat_in split) m) (without_flight world from to place).flying
   left_open = open_without (threat_in split) holder world from to place t.only t.stands.tight.outside.flying
 
   pub left_flying : (next : Holder) → FlyAs (λ one other m. OwnsMessage next one other m

@@ -59,6 +59,7 @@ use Rattle.integrity.proofs.OutsideEvents.{other_of}
 use Rattle.integrity.proofs.StackMoves.{Restacks, RunsWith, turn_restacks}
 use Rattle.integrity.proofs.StandsOn.{halted_before}
 use Rattle.integrity.proofs.TightKept.{IsLawful, tokens_known}
+use Rattle.integrity.proofs.PopMoves.{Popping, was_at, pops_own, loses}
 use Rattle.integrity.proofs.TightMoves.{Moves, tight_moved, all_as, as_other}
 
 -- what is known before the turn, and after it
@@ -351,221 +352,10 @@ module _ (split : Split) (c : Configuration) (view : View) (host : HostId) (thre
 
   -- ---- an entry is taken off
 
-  -- the first entry of the chain, and what is below it on the stack of the host
-  pub record Tops : Type 0 where
-    pub first : Link
-    pub rest : List Link
-    pub chain_is : view.chain ≡ first ∷ rest
-    pub below : List StackEntry
-    pub entries_are : t.step.state.entries ≡ first.entry ∷ below
-    pub own : first.entry.token.host ≡ host
-    pub held : HoldsAt world first.entry.token (running_on host)
-    pub standing : (e : StackEntry) → IsAmong (first.entry ∷ entries_of rest) e → IsStanding world e
-    pub linked : AreLinked (first.entry ∷ entries_of rest)
-    pub was : All (λ e. IsAmong (first.entry ∷ entries_of rest) e ⊎ EntryIsOpen (threat_in split) e.entry)
-        t.step.state.entries
-
-  -- no other entry has its token
-  one_place : (top : Tops) (place : ℕ) (e : StackEntry) → slice_get t.step.state.entries place ≡ Some e →
-      e.token ≡ top.first.entry.token → place ≡ 0
-  one_place top place e there same =
-      same_place split.code world host t.step.state place 0 e top.first.entry t.lawful.fits t.step.obeys there
-      (ap (λ list. slice_get list 0) top.entries_are) same
-
-  apart_rest : (top : Tops) (e : StackEntry) → IsAmong (entries_of top.rest) e → e.token ≢ top.first.entry.token
-  apart_rest top e among same =
-      let stands : AllByRecursion (StandsThere world) (top.first.entry ∷ entries_of top.rest) =
-      all_among (StandsThere world) (top.first.entry ∷ entries_of top.rest) (λ x here. (top.standing x here).there) in
-      let held = later_held world top.first.entry (entries_of top.rest) among.0 e top.linked stands among.1 in
-      let it = top.standing e (suc among.0, among.1) in
-      let at = one_of_some (state_at world e.token.host) (λ state. IsAmong state.entries e) it.there in
-      let place =
-      held_once split.code world e.token (kept_on held.0 held.1) (running_on host)
-      (tokens_known (threat_in split) world t.lawful) (subst (λ o. IsSome o) (sym at.is) refl) it.unsent held.2
-      (subst (λ k. HoldsAt world k (running_on host)) (sym same) top.held) in
-      absurd (cc)
-
-  pops : (top : Tops) (new : HostShape) (next : Holder) → without_message new ≡ t.step.outcome → new.me ≡ host →
-      new.entries ≡ top.below → new.waiting ≡ t.step.state.waiting →
-      OwnsRunning next host ⊎ IfSome new.running (ThreadIsOpen (threat_in split) host) →
-      (state_at after host ≡ Some new → IsThere after next) → HasTop after (entries_of top.rest) next →
-      (next ≡ lost → ⊥) → IsTight (threat_in split) (entries_of top.rest) next after
-  pops top new next is me entries waiting running there has held =
-      let old = t.step.state in
-      let moved =
-      moved_silent world host t.step.outcome new (label_of_turn split.code old) after is t.step.leaves in
-      tight_moved (threat_in split) (top.first.entry ∷ entries_of top.rest) (entries_of top.rest) (runs host thread)
-      next world after t.lawful t.fits t.account
-      (subst (λ list. IsTight (threat_in split) (entries_of list) (runs host thread) world) top.chain_is t.stands.tight)
-      (record {
-        me = host;
-        old = old;
-        new = new;
-        obeys = t.step.obeys;
-        puts = moved.hosts;
-        linked = linked_below top.first.entry (entries_of top.rest) top.linked;
-        stands = λ e among.
-            on_some world after host e.token.host old new t.step.obeys moved.hosts (λ state. IsAmong state.entries e)
-            (top.standing e (suc among.0, among.1)).there
-            (λ here has. subst (λ list. IsAmong list e) (sym entries)
-            (below_top top.first.entry e top.below (subst (λ list. IsAmong list e) top.entries_are has)
-            (apart_rest top e among)));
-        known = λ e among. inl (top.standing e (suc among.0, among.1));
-        there = there (mover_state world after host old new world.flying t.step.obeys moved);
-        has_top = has;
-        held = λ is_lost. absurd (held is_lost);
-        state = record {
-          running = subst (λ h. OwnsRunning next h ⊎ IfSome new.running (ThreadIsOpen (threat_in split) h)) (sym me)
-              running;
-          waiting = waits_for next new.me new.waiting me waiting;
-          entries = subst (All (λ e. IsAmong (entries_of top.rest) e ⊎ EntryIsOpen (threat_in split) e.entry))
-              (sym entries) (λ k d lt. rest_or_open top k d lt);
-        };
-        runs_as = λ other apart its. absurd (apart its);
-        waits_as = λ other one apart its. absurd its;
-        keeps_as = λ e apart among.
-            below_top top.first.entry e (entries_of top.rest) among
-            (λ same. apart (ap (λ (k : Token). k.host) same ∙ top.own));
-        flying = subst (FlyAs (λ from target said. OwnsMessage next from target said
-            ⊎ MessageIsOpen (threat_in split) said)) (sym moved.flying) (all_flying next);
-      })
-    where
-      rest_or_open : (top : Tops) (k : ℕ) (d : StackEntry) → k < length top.below →
-          IsAmong (entries_of top.rest) (get_or top.below k d) ⊎ EntryIsOpen (threat_in split) (get_or top.below k d).entry
-      rest_or_open top k d lt =
-          let e = get_or top.below k d in
-          let was : IsAmong (top.first.entry ∷ entries_of top.rest) e ⊎ EntryIsOpen (threat_in split) e.entry =
-          subst (All (λ x. IsAmong (top.first.entry ∷ entries_of top.rest) x ⊎ EntryIsOpen (threat_in split) x.entry))
-          top.entries_are top.was (suc k) d (omega arith) in
-          let there : slice_get t.step.state.entries (suc k) ≡ Some e =
-          ap (λ list. slice_get list (suc k)) top.entries_are ∙ slice_get-get_or top.below k d lt in
-          as_other (λ among. below_top top.first.entry e (entries_of top.rest) among (λ same.
-          let zero_is = one_place top (suc k) e there same in
-          omega arith)) was
-
-  make_tops : (token : Token) → token.host ≡ host → top_token (entries_of view.chain) ≡ Some token →
-      top_token t.step.state.entries ≡ Some token → (chain : List Link) → view.chain ≡ chain →
-      (entries : List StackEntry) → t.step.state.entries ≡ entries → Tops
-  make_tops token own top also [] chain_is entries entries_is =
-      let never : top_token (entries_of []) ≡ Some token =
-      sym (ap (λ list. top_token (entries_of list)) chain_is) ∙ top in
-      absurd (cc)
-  make_tops token own top also (first ∷ rest) chain_is [] entries_is =
-      let never : top_token [] ≡ Some token = sym (ap top_token entries_is) ∙ also in
-      absurd (cc)
-  make_tops token own top also (first ∷ rest) chain_is (upper ∷ below) entries_is =
-      let old = t.step.state in
-      let one : Some first.entry.token ≡ Some token =
-      sym (ap (λ list. top_token (entries_of list)) chain_is) ∙ top in
-      let first_is : first.entry.token ≡ token = cc in
-      let two : Some upper.token ≡ Some token = sym (ap top_token entries_is) ∙ also in
-      let upper_is : upper.token ≡ token = cc in
-      let here : first.entry.token.host ≡ host = ap (λ (k : Token). k.host) first_is ∙ own in
-      let among_is : entries_of view.chain ≡ first.entry ∷ entries_of rest = ap entries_of chain_is in
-      let standing : (e : StackEntry) → IsAmong (first.entry ∷ entries_of rest) e → IsStanding world e =
-      λ e among. standing_each e (subst (λ list. IsAmong list e) (sym among_is) among) in
-      let at =
-      one_of_some (state_at world first.entry.token.host) (λ state. IsAmong state.entries first.entry)
-      (standing first.entry (0, refl)).there in
-      let both : Some at.one ≡ Some old = sym at.is ∙ ap (state_at world) here ∙ t.step.obeys in
-      let same_state : at.one ≡ old = cc in
-      let among : IsAmong old.entries first.entry = subst (λ s. IsAmong s.entries first.entry) same_state at.has in
-      let upper_at : slice_get old.entries 0 ≡ Some upper = ap (λ list. slice_get list 0) entries_is in
-      let place =
-      same_place split.code world host old 0 among.0 upper first.entry t.lawful.fits t.step.obeys upper_at among.1
-      (upper_is ∙ sym first_is) in
-      let same : upper ≡ first.entry =
-      same_item old.entries among.0 upper first.entry (subst (λ n. slice_get old.entries n ≡ Some upper) place upper_at)
-      among.1 in
-      record {
-        first = first;
-        rest = rest;
-        chain_is = chain_is;
-        below = below;
-        entries_are = entries_is ∙ ap (λ x. x ∷ below) same;
-        own = here;
-        held = some_of (state_at world host) (λ s. IsSomeAnd s.running (λ one. one.held ≡ Some first.entry.token)) old
-            t.step.obeys (some_of old.running (λ one. one.held ≡ Some first.entry.token) thread t.running
-            (t.stands.does.1.held ∙ top ∙ ap (λ (k : Token). Some k) (sym first_is)));
-        standing = standing;
-        linked = subst AreLinked among_is t.stands.tight.linked;
-        was = subst (λ list. All (λ e. IsAmong list e ⊎ EntryIsOpen (threat_in split) e.entry) old.entries) among_is
-            was.entries;
-      }
-
-  -- the first entry was taken off, and the program ends or a thread goes on behind the entry
-  after_top : (top : Tops) → GivesUp split c view →
-      without_message (after_pop split.code (with_running t.step.state None) t.step.state.entries) ≡ t.step.outcome →
-      Ended split c top.first top.rest host (with_running t.step.state None) top.below
-      ⊎ Continued split c view top.first top.rest host (with_running t.step.state None) top.below → Goes split c after
-  after_top top gives_up is (inl ended) =
-      let old = t.step.state in
-      let bare : HostShape = with_running old None in
-      let new : HostShape = record bare { entries = top.below; running = None; halted = true } in
-      let new_is : without_message new ≡ t.step.outcome =
-      ap without_message (sym ended.is)
-      ∙ ap (λ list. without_message (after_pop split.code bare list)) (sym top.entries_are) ∙ is in
-      let moved =
-      moved_silent world host t.step.outcome new (label_of_turn split.code old) after new_is t.step.leaves in
-      standing.stays (starting view [] view.sender) halted (record {
-        tight = subst (λ list. IsTight (threat_in split) (entries_of list) halted after) ended.last
-            (pops top new halted new_is me_is refl refl (inr tt) (λ there. tt)
-            (sym (ap (λ list. top_token (entries_of list)) ended.last)) (λ same. absurd (cc)));
-        holds = holds_calm split c view after [] view.sender
-            (holds_same split c view world after host old new world.flying t.stands.holds t.step.obeys moved refl refl
-            refl) gives_up.none_out;
-        sends = tt;
-        does = (refl, refl, ended.ends);
-        halts = λ has. refl;
-      })
-  after_top top gives_up is (inr more) =
-      let old = t.step.state in
-      let bare : HostShape = with_running old None in
-      let new : HostShape = with_running (record bare { entries = top.below }) (Some more.thread) in
-      let next = runs host more.thread in
-      let new_is : without_message new ≡ t.step.outcome =
-      ap without_message (sym more.is)
-      ∙ ap (λ list. without_message (after_pop split.code bare list)) (sym top.entries_are) ∙ is in
-      let moved =
-      moved_silent world host t.step.outcome new (label_of_turn split.code old) after new_is t.step.leaves in
-      standing.stays (starting view top.rest top.first.call) next (record {
-        tight = pops top new next new_is me_is refl refl (inl refl)
-            (λ there. some_of (state_at after host) (λ s. s.running ≡ Some more.thread) new there refl) more.at.held
-            (λ same. absurd (cc));
-        holds = holds_calm split c view after top.rest top.first.call
-            (holds_same split c view world after host old new world.flying t.stands.holds t.step.obeys moved refl refl
-            refl) gives_up.none_out;
-        sends = some_of (state_at after host) (λ state. Sends split (starting view top.rest top.first.call) state host)
-            new (mover_state world after host old new world.flying t.step.obeys moved) tt;
-        does = (more.is_chain, more.at);
-        halts = none_halted next new moved.hosts refl;
-      })
-
-  pops_own : (token : Token) → token.host ≡ host → top_token (entries_of view.chain) ≡ Some token →
-      top_token t.step.state.entries ≡ Some token → GivesUp split c view →
-      without_message (after_pop split.code (with_running t.step.state None) t.step.state.entries) ≡ t.step.outcome →
-      Goes split c after
-  pops_own token own top also gives_up is =
-      let tops = make_tops token own top also view.chain refl t.step.state.entries refl in
-      after_top tops gives_up is
-      (popped split c view tops.first tops.rest host (with_running t.step.state None) tops.below
-      (subst (IsChain split view.naming) tops.chain_is t.stands.does.0) gives_up.count
-      (subst (λ list. IsLeft split c view.keeper (chain_due split list)) tops.chain_is gives_up.left) tops.own)
-
-  -- ---- the token is lost
-
   module _ (new : HostShape) (puts : after.hosts ≡ slice_set world.hosts host.0 (Some new)) where
     before_at : (other : HostId) (P : HostShape → Type 0) → IsSomeAnd (state_at after other) P →
         (P new → P t.step.state) → IsSomeAnd (state_at world other) P
-    before_at other P has keeps =
-        let at = one_of_some (state_at after other) P has in
-        elim (either world after host t.step.state new after.flying t.step.obeys
-        (record { hosts = puts; flying = refl }) other at.one at.is) [
-          | inl mover ↦
-              some_of (state_at world other) P t.step.state (ap (state_at world) mover.same ∙ t.step.obeys)
-              (keeps (subst P mover.is at.has))
-          | inr one ↦ some_of (state_at world other) P at.one one.obeys at.has
-        ]
+    before_at other P has keeps = was_at world after host other t.step.state new t.step.obeys puts P has keeps
 
     runs_elsewhere : (token : Token) (other : HostId) → new.running ≡ None → HoldsAt after token (running_on other) →
         HoldsAt world token (running_on other) × (other.0 ≢ host.0)
@@ -608,65 +398,46 @@ module _ (split : Split) (c : Configuration) (view : View) (host : HostId) (thre
         flying has) in
         absurd (cc)
 
-  -- where the thread that held it ends, nobody has it
-  only_here : (list : List StackEntry) (token : Token) → ((e : StackEntry) → IsAmong list e → IsStanding world e) →
-      top_token list ≡ Some token → thread.held ≡ Some token → (place : Place) → HoldsAt world token place →
-      place ≡ running_on host
-  only_here [] token standing top held place also = absurd (cc)
-  only_here (e ∷ list) token standing top held place also =
-      let same : e.token ≡ token = cc in
-      let it = standing e (0, refl) in
-      let at = one_of_some (state_at world e.token.host) (λ state. IsAmong state.entries e) it.there in
-      let obeys : IsSome (state_at world token.host) =
-      subst (λ (k : Token). IsSome (state_at world k.host)) same (subst (λ o. IsSome o) (sym at.is) refl) in
-      held_once split.code world token place (running_on host) (tokens_known (threat_in split) world t.lawful) obeys
-      (subst (λ (k : Token). ¬ IsSent world k) same it.unsent) also
-      (some_of (state_at world host) (λ s. IsSomeAnd s.running (λ one. one.held ≡ Some token)) t.step.state t.step.obeys
-      (some_of t.step.state.running (λ one. one.held ≡ Some token) thread t.running held))
-
-  loses : GivesUp split c view →
-      without_message (with_one_ignored (with_running t.step.state None)) ≡ t.step.outcome → Goes split c after
-  loses gives_up is =
-      let old = t.step.state in
-      let new : HostShape = with_one_ignored (with_running old None) in
-      let moved =
-      moved_silent world host t.step.outcome new (label_of_turn split.code old) after is t.step.leaves in
-      standing.stays view lost (record {
-        tight = tight_moved (threat_in split) (entries_of view.chain) (entries_of view.chain) (runs host thread) lost
-            world after t.lawful t.fits t.account t.stands.tight (record {
-              me = host;
-              old = old;
-              new = new;
-              obeys = t.step.obeys;
-              puts = moved.hosts;
-              linked = t.stands.tight.linked;
-              stands = λ e among.
-                  on_some world after host e.token.host old new t.step.obeys moved.hosts
-                  (λ state. IsAmong state.entries e) (standing_each e among).there (λ here has. has);
-              known = λ e among. inl (standing_each e among);
-              there = tt;
-              has_top = λ token top held.
-                  nobody_has new moved.hosts token refl refl refl moved.flying
-                  (only_here (entries_of view.chain) token standing_each top (t.stands.does.1.held ∙ top)) held.0 held.1;
-              held = λ is_lost e among sent.
-                  (standing_each e among).unsent (subst (λ list. Contains (tokens_in list) e.token) t.quiet sent);
-              state = record {
-                running = inr tt;
-                waiting = waits_for lost new.me new.waiting me_is refl;
-                entries = was.entries;
-              };
-              runs_as = λ other apart its. absurd (apart its);
-              waits_as = λ other one apart its. absurd its;
-              keeps_as = λ e apart among. among;
-              flying = subst (FlyAs (λ from target said. OwnsMessage lost from target said
-                  ⊎ MessageIsOpen (threat_in split) said)) (sym moved.flying) (all_flying lost);
-            });
-        holds = holds_same split c view world after host old new world.flying t.stands.holds t.step.obeys moved refl
-            refl refl;
-        sends = tt;
-        does = (t.stands.does.0, gives_up);
-        halts = none_halted lost new moved.hosts refl;
-      })
+  popping : Popping split c view (runs host thread) world after host
+  popping = record {
+    stands = t.stands;
+    is_chain = t.stands.does.0;
+    lawful = t.lawful;
+    fits = t.fits;
+    account = t.account;
+    quiet = t.quiet;
+    old = t.step.state;
+    obeys = t.step.obeys;
+    bare = with_running t.step.state None;
+    is_bare = record {
+      me = refl;
+      waiting = refl;
+      entries = refl;
+      rows = refl;
+      variables = refl;
+      frames = refl;
+      halts = refl;
+      rests = refl;
+    };
+    outcome = t.step.outcome;
+    flying = world.flying;
+    moved = λ new is.
+        moved_silent world host t.step.outcome new (label_of_turn split.code t.step.state) after is t.step.leaves;
+    others_open = λ from to.
+        all_as (λ flight. OwnsMessage (runs host thread) from to flight.message
+        ⊎ MessageIsOpen (threat_in split) flight.message) (λ flight. MessageIsOpen (threat_in split) flight.message)
+        (world.flying from to) (λ flight either. other_of either (λ never. never))
+        (t.stands.tight.outside.flying from to);
+    waits = waits_open;
+    own_runs = λ other apart own. apart own;
+    own_waits = λ other one own. own;
+    place = running_on host;
+    not_kept = λ other at same. absurd (cc);
+    held = λ token top.
+        some_of (state_at world host) (λ s. IsSomeAnd s.running (λ one. one.held ≡ Some token)) t.step.state t.step.obeys
+        (some_of t.step.state.running (λ one. one.held ≡ Some token) thread t.running (t.stands.does.1.held ∙ top));
+    goes = λ same. absurd (cc);
+  }
 
   -- ---- whatever the turn makes
 
@@ -674,8 +445,15 @@ module _ (split : Split) (c : Configuration) (view : View) (host : HostId) (thre
       token.host ≡ host → top_token (entries_of view.chain) ≡ Some token → GivesUp split c view →
       without_message (if b then after_pop split.code (with_running t.step.state None) t.step.state.entries
       else with_one_ignored (with_running t.step.state None)) ≡ t.step.outcome → Goes split c after
-  ends_if token true passing own top gives_up is = pops_own token own top (passing refl) gives_up is
-  ends_if token false passing own top gives_up is = loses gives_up is
+  unfolding popping
+  ends_if token true passing own top gives_up is =
+      pops_own split c view (runs host thread) world after host popping token own top (passing refl) gives_up is
+  ends_if token false passing own top gives_up is =
+      let new : HostShape = with_one_ignored (with_running t.step.state None) in
+      let moved =
+      moved_silent world host t.step.outcome new (label_of_turn split.code t.step.state) after is t.step.leaves in
+      loses split c view (runs host thread) world after host popping gives_up is
+      (λ lost_token only place. nobody_has new moved.hosts lost_token refl refl refl moved.flying only place)
 
   pub goes_of : turns.Turned split c view world host t.step.state thread t.step.outcome → Goes split c after
   goes_of (turns.runs_on g) = let it = goes_on c 0 g in standing.stays it.0 it.1 it.2

@@ -21,7 +21,7 @@ ghost use Rattle.host_code.specs.Thread.{ThreadShape};
 ghost use Rattle.host_core.specs.Host.{HostShape};
 ghost use Rattle.ics_stack.specs.declared.stack.StackEntry.{StackEntry};
 ghost use Rattle.event_text.specs.declared.event.Event.{Event};
-ghost use Rattle.event_text.specs.declared.event.Event.TheVariants.{Turn};
+ghost use Rattle.event_text.specs.declared.event.Event.TheVariants.{Take, Turn};
 ghost use Rattle.net_world.specs.Fits.{HasOwnToken};
 ghost use Rattle.net_world.specs.World.{WorldShape, IsStep, IsRun, state_at, world_at_start};
 ghost use Rattle.split_rules.specs.Walk.{entry_id};
@@ -144,6 +144,13 @@ pub fn standing_laws()
         CodeHasNumbers split.code → RowsHaveNumbers store → All EventHasNumbers events →
         IsStep split.code world (Turn host) after → after.sent ≡ world.sent →
         StandsBy split c view (runs host thread) world → Goes split c after }
+    // So it does where a message of the holder's is taken: its request, the answer to that, or the token in flight.
+    ensures taken { (split : Split) (rows : List HostRow) (bad : ℕ) (store : List (List ℤ)) (events : List Event)
+        (world after : WorldShape) (c : Configuration) (view : View) (holder : Holder) (from to : HostId) (place : ℕ) →
+        split.exposure.bad ≡ bad_labels bad 0 rows → IsReached split.code rows bad store events world →
+        CodeHasNumbers split.code → RowsHaveNumbers store → All EventHasNumbers events →
+        StandsBy split c view holder world → IsStep split.code world (Take from to place) after →
+        IsOwn holder world (Take from to place) → Goes split c after }
 {
     opening_laws();
 }
