@@ -1,13 +1,13 @@
 -- The owner of a request of the holder's takes it and answers, and the holder's thread goes on with the answer.
-use Rattle.std.proofs.Common.{◌≡◌, ◌≢◌, ◌∙◌, ◌⊎◌, inl, inr, ℕ, Bool, true, false, List, [], ◌∷◌, ◌++◌, Option, Some, None}
+use Rattle.std.proofs.Common.{◌≡◌, ◌≢◌, ◌∙◌, ◌⊎◌, inl, inr, ℕ, Bool, true, false, [], ◌∷◌, ◌++◌, Some}
 use Rattle.std.proofs.Common.{refl, sym, ap, subst}
-use Rattle.std.specs.Prelude.{slice_get, slice_set, remove, All, IfSome, IsSomeAnd}
+use Rattle.std.specs.Prelude.{All, IfSome, IsSomeAnd}
 use Rattle.std.specs.Option.{option_map}
 use Rattle.js_base.specs.declared.ids.HostId.{HostId}
 use Rattle.jif_tree.specs.SourceRun.{Configuration}
 use Rattle.host_code.specs.declared.message.Message.{Message}
-use Rattle.host_code.specs.Thread.{ThreadShape, WaitingShape}
-use Rattle.host_core.specs.Host.{HostShape, Outcome, with_message, without_message}
+use Rattle.host_code.specs.Thread.{WaitingShape}
+use Rattle.host_core.specs.Host.{HostShape, Outcome}
 use Rattle.host_core.specs.Taking.{IsTaking, after_answer}
 use Rattle.host_code.specs.declared.message.Message.TheVariants as message
 use Rattle.net_world.proofs.Present.{same_id}
@@ -15,7 +15,7 @@ use Rattle.typed_steps.specs.Requests.{IsRequest}
 use Rattle.net_world.specs.Flying.{Flight, Flying, with_flights}
 use Rattle.net_world.specs.World.{WorldShape, state_at, misbehaves, without_flight}
 use Rattle.net_world.proofs.Fitting.{bad_differs}
-use Rattle.net_world.proofs.Moved.{Moved, Posted, mover_state, other_state, moved_silent, moved_posted}
+use Rattle.net_world.proofs.Moved.{Moved, mover_state, other_state, moved_silent, moved_posted}
 use Rattle.token_laws.proofs.AskedLaws.{waits_once}
 use Rattle.typed_steps.specs.Takes as takes
 use Rattle.typed_steps.specs.Variables.{Sends}
@@ -23,9 +23,9 @@ use Rattle.typed_steps.specs.Views.{Split, View, entries_of}
 use Rattle.typed_steps.specs.Weights.{STEP}
 use Rattle.typed_steps.proofs.HeldSteps.{holds_same}
 use Rattle.typed_steps.proofs.Takes.{request_taken, result_taken, answer_taken}
-use Rattle.integrity.specs.Holding.{IsAmong, Holder, runs, asked, answered, halted, Waits, Flies, IsThere, HasTop}
-use Rattle.integrity.specs.Holding.{OwnsWaiting, OwnsMessage, StateIsOutside}
-use Rattle.integrity.specs.Outside.{ThreadIsOpen, EntryIsOpen, MessageIsOpen}
+use Rattle.integrity.specs.Holding.{IsAmong, Holder, runs, asked, answered}
+use Rattle.integrity.specs.Holding.{OwnsWaiting, OwnsMessage}
+use Rattle.integrity.specs.Outside.{ThreadIsOpen, MessageIsOpen}
 use Rattle.integrity.specs.Standing as standing
 use Rattle.integrity.specs.Standing.{threat_in, IsResult, StandsBy, Goes}
 use Rattle.integrity.proofs.Among.{one_of_some, some_of, last_at}
@@ -37,7 +37,7 @@ use Rattle.integrity.proofs.StackMoves.{Restacks, GivesBack, taking_restacks}
 use Rattle.integrity.proofs.TakeMoves.{Taking, answer_number, answer_top, left_flying, me_is, none_halted, remove_all}
 use Rattle.integrity.proofs.TakeMoves.{standing_each, taken_is, waits_there, was}
 use Rattle.integrity.proofs.TightKept.{asks_another}
-use Rattle.integrity.proofs.TightMoves.{Moves, tight_moved, all_as}
+use Rattle.integrity.proofs.TightMoves.{tight_moved}
 use Rattle.integrity.proofs.TurnMoves.{own_cell}
 
 -- ---- the owner answers

@@ -1,6 +1,6 @@
 -- Messages in flight after an event: each that is not taken is in flight still, and what holds of each, by who sent it
 -- and where it comes to, holds of each after the event where it holds of what is sent.
-use Rattle.std.proofs.Common.{◌≡◌, ◌≢◌, ◌∙◌, ℕ, ◌⊎◌, inl, inr, Bool, true, false, List, [], ◌∷◌, ◌++◌, Option, Some, None}
+use Rattle.std.proofs.Common.{◌≡◌, ◌≢◌, ◌∙◌, ℕ, Bool, true, false, List, [], ◌∷◌, ◌++◌, Option, Some, None}
 use Rattle.std.proofs.Common.{refl, sym, ap, subst}
 use Rattle.std.specs.Prelude.{◌==◌, ◌&&◌, if◌then◌else◌, remove, slice_get, All, IfSome}
 use Rattle.std.proofs.lemmas.List.Elements.{All-push}

@@ -1,6 +1,6 @@
 -- Where the tokens of a chain are: with its entries and with the holder. So nobody else has them, and what others do
 -- sends none of them to a misbehaving host.
-use Rattle.std.proofs.Common.{◌≡◌, ◌≢◌, ◌∙◌, ◌⊎◌, inl, inr, ℕ, zero, suc, ◌+◌, ◌<◌, Bool, true, List, [], ◌∷◌, Option, Some}
+use Rattle.std.proofs.Common.{◌≡◌, ◌∙◌, ◌⊎◌, inl, inr, ℕ, zero, suc, ◌<◌, List, [], ◌∷◌, Option, Some}
 use Rattle.std.proofs.Common.{None, refl, sym, ap, subst, arith, get_or}
 use Rattle.std.specs.Prelude.{slice_get, slice_index, IsSome, IsSomeAnd, IsTrue}
 use Rattle.std.specs.Option.{option_map}
@@ -11,7 +11,6 @@ use Rattle.std.proofs.lemmas.Option.{slice_get_within, get_or_from_slice_get}
 use Rattle.js_base.specs.declared.ids.HostId.{HostId}
 use Rattle.capability.specs.declared.token.Token.{Token}
 use Rattle.ics_stack.specs.declared.stack.StackEntry.{StackEntry}
-use Rattle.ics_stack.specs.Stack.{top_token}
 use Rattle.host_code.specs.declared.message.Message.{Message}
 use Rattle.host_code.specs.declared.message.Message.TheVariants as message
 use Rattle.host_code.specs.Code.{CodeShape}
@@ -25,7 +24,7 @@ use Rattle.net_world.specs.Fits.{ShapeFits, OwnToken, OwnTokenIn}
 use Rattle.net_world.specs.Flying.{Flight}
 use Rattle.net_world.specs.Told.{token_in, token_presented, message_made}
 use Rattle.net_world.specs.World.{WorldShape, state_at, misbehaves, tokens_sent}
-use Rattle.token_laws.specs.Holders.{Place, running_on, waiting_on, kept_on, in_flight, HoldsAt, IsHeld, IsSent, IsOld}
+use Rattle.token_laws.specs.Holders.{running_on, waiting_on, kept_on, in_flight, HoldsAt, IsHeld, IsSent, IsOld}
 use Rattle.token_laws.proofs.Counting.{one_if}
 use Rattle.token_laws.proofs.Held.{fresh_is, none_worth, presented_none}
 use Rattle.token_laws.proofs.HeldLaws.{IsKnown, held_once}
@@ -283,8 +282,11 @@ own_or_sent : (world : WorldShape) (made : BadToken) (token : Token) → OwnToke
     token_presented (tokens_sent world) made ≡ Some token →
     IsTrue (misbehaves world token.host) ⊎ IsSent world token
 own_or_sent world (Sent number) token own is =
-    inr (number, slice_get_within (tokens_sent world) number token is,
-    get_or_from_slice_get (tokens_sent world) number token token is)
+    inr (
+      number,
+      slice_get_within (tokens_sent world) number token is,
+      get_or_from_slice_get (tokens_sent world) number token token is,
+    )
 own_or_sent world (Own other) token own is =
     let same : other ≡ token = cc in
     inl (subst (λ (t : Token). IsTrue (misbehaves world t.host)) same own)

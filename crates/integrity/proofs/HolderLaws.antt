@@ -1,5 +1,5 @@
 -- The laws of the holder's own events.
-use Rattle.std.proofs.Common.{◌≡◌, ◌∙◌, ℕ, ℤ, List, [], ◌∷◌, ◌++◌, Some, refl, sym, ap, subst}
+use Rattle.std.proofs.Common.{◌≡◌, ℕ, ℤ, List, [], ◌∷◌, ◌++◌, Some, subst}
 use Rattle.std.specs.Prelude.{All, IfSome, IsSomeAnd}
 use Rattle.js_base.specs.declared.ids.HostId.{HostId}
 use Rattle.host_decl.specs.Hosts as declared_hosts
@@ -24,7 +24,6 @@ use Rattle.typed_steps.proofs.HolderTurns.{turned}
 use Rattle.integrity.specs.Exposed.{bad_labels}
 use Rattle.integrity.specs.Holding.{runs}
 use Rattle.integrity.specs.Standing.{threat_in, StandsBy, Goes}
-use Rattle.integrity.proofs.Among.{one_of_some}
 use Rattle.integrity.proofs.OpenWorlds.{state_fits}
 use Rattle.integrity.proofs.TightLaws.{lawful}
 use Rattle.integrity.proofs.TurnMoves.{Turning, goes_of}

@@ -1,20 +1,19 @@
 -- A chain that stands and its holder, after an event that is none of the holder's.
-use Rattle.std.proofs.Common.{◌≡◌, ◌≢◌, ◌∙◌, ◌⊎◌, inl, inr, ℕ, zero, suc, Bool, true, List, [], ◌∷◌, Option, Some, None}
+use Rattle.std.proofs.Common.{◌≡◌, ◌≢◌, ◌∙◌, inl, inr, zero, suc, List, [], ◌∷◌, Some}
 use Rattle.std.proofs.Common.{refl, sym, ap, subst}
-use Rattle.std.specs.Prelude.{slice_get, slice_set, IsSome, IsSomeAnd}
+use Rattle.std.specs.Prelude.{slice_set, IsSomeAnd}
 use Rattle.std.specs.List.{AllByRecursion}
 use Rattle.std.proofs.lemmas.Bool.Decides.{eqb_tells}
 use Rattle.js_base.specs.declared.ids.HostId.{HostId}
 use Rattle.capability.specs.declared.token.Token.{Token}
 use Rattle.ics_stack.specs.declared.stack.StackEntry.{StackEntry}
-use Rattle.ics_stack.specs.Stack.{top_token}
 use Rattle.host_code.specs.declared.message.Message.{Message}
 use Rattle.host_code.specs.Code.{CodeShape}
-use Rattle.host_code.specs.Thread.{ThreadShape, WaitingShape}
+use Rattle.host_code.specs.Thread.{WaitingShape}
 use Rattle.host_core.specs.Host.{HostShape}
 use Rattle.net_world.specs.Fits.{ShapeFits}
 use Rattle.net_world.specs.Flying.{Flight}
-use Rattle.net_world.specs.World.{WorldShape, state_at, misbehaves}
+use Rattle.net_world.specs.World.{WorldShape, state_at}
 use Rattle.net_world.proofs.Moved.{mover_state, other_state, bad_moved}
 use Rattle.net_world.proofs.Present.{same_id}
 use Rattle.token_laws.specs.Holders.{IsHeld, IsSent, kept_on}

@@ -14,6 +14,7 @@ pub mod OutsideEvents
 pub mod TightStart
 pub mod TightLaws
 pub mod StandsOn
+pub mod StandsAtStart
 pub mod TightMoves
 pub mod ChainMoves
 pub mod PopMoves

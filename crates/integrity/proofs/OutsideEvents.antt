@@ -1,7 +1,7 @@
 -- What an event leaves that is none of the holder's: the holder and the chain, and all else outside.
-use Rattle.std.proofs.Common.{◌≡◌, ◌≢◌, ◌∙◌, ◌⊎◌, inl, inr, ℕ, Bool, true, List, [], ◌∷◌, Option, Some, None}
+use Rattle.std.proofs.Common.{◌≡◌, ◌≢◌, ◌∙◌, ◌⊎◌, inl, inr, ℕ, List, [], ◌∷◌, Option, Some, None}
 use Rattle.std.proofs.Common.{refl, sym, ap, subst, arith}
-use Rattle.std.specs.Prelude.{slice_get, slice_set, All, IfSome, IsSome, IsSomeAnd, IsTrue, ⊤}
+use Rattle.std.specs.Prelude.{slice_get, slice_set, All, IfSome, IsSome, IsSomeAnd}
 use Rattle.std.specs.List.{AllByRecursion}
 use Rattle.js_base.specs.declared.ids.HostId.{HostId}
 use Rattle.js_base.specs.declared.ids.RequestId.{RequestId}
@@ -15,25 +15,24 @@ use Rattle.host_code.specs.Thread.Awaited.{value_of_field, acknowledgement, toke
 use Rattle.host_core.specs.Host.{HostShape, Outcome}
 use Rattle.host_core.specs.Taking.{Passes, IsTaking, place_of_awaiting}
 use Rattle.host_core.specs.Turn.{label_of_turn}
-use Rattle.event_text.specs.declared.event.Event.{Event}
-use Rattle.event_text.specs.declared.event.Event.TheVariants.{Take, Turn, Act}
+use Rattle.event_text.specs.declared.event.Event.TheVariants.{Take, Act}
 use Rattle.event_text.specs.declared.event.BadMessage.{BadMessage}
 use Rattle.net_world.specs.Fits.{OwnTokenIn}
 use Rattle.net_world.specs.Flying.{Flight}
 use Rattle.net_world.specs.Told.{token_in, message_made}
-use Rattle.net_world.specs.World.{WorldShape, IsTakeStep, IsTurnStep, IsActStep, state_at, misbehaves, tokens_sent}
+use Rattle.net_world.specs.World.{WorldShape, IsTakeStep, IsTurnStep, IsActStep, state_at, tokens_sent}
 use Rattle.net_world.specs.World.{with_state, without_flight}
 use Rattle.net_world.proofs.Fitting.{bad_differs}
 use Rattle.net_world.proofs.Moved.{moved_acted}
 use Rattle.net_world.proofs.StepLaws.{take_puts, turn_puts, act_puts}
-use Rattle.token_laws.specs.Holders.{HoldsAt, IsSent, running_on, in_flight}
+use Rattle.token_laws.specs.Holders.{IsSent}
 use Rattle.token_laws.specs.Requests.{number_answered}
 use Rattle.token_laws.proofs.EachFlight.{of_state}
 use Rattle.token_laws.proofs.HeldLaws.{all_at}
 use Rattle.token_laws.proofs.HostRequests.{Turns, turn_requests}
 use Rattle.integrity.specs.Exposed.{IsAsBefore}
-use Rattle.integrity.specs.Holding.{IsAmong, Holder, IsThere, OwnsRunning, OwnsWaiting, OwnsMessage, IsOwn}
-use Rattle.integrity.specs.Holding.{StateIsOutside, IsOutsideBut, IsStanding, IsTight, FlightIsOutside}
+use Rattle.integrity.specs.Holding.{IsAmong, Holder, OwnsRunning, OwnsWaiting, OwnsMessage, IsOwn}
+use Rattle.integrity.specs.Holding.{StateIsOutside, IsStanding, IsTight}
 use Rattle.integrity.specs.Outside.{Threat, ThreadIsOpen, EntryIsOpen, MessageIsOpen}
 use Rattle.integrity.proofs.Among.{among_push, among_without, one_of_some, some_of, each_among, all_among}
 use Rattle.integrity.proofs.FliesOn.{FlyAs, flies_without, sends_on, all_without, all_sent}

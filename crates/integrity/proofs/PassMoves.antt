@@ -1,7 +1,7 @@
 -- The token in flight is taken: a thread starts at an entry, or the first entry of the chain is taken off, or it is lost.
-use Rattle.std.proofs.Common.{◌≡◌, ◌≢◌, ◌∙◌, ◌⊎◌, inl, inr, ℕ, zero, suc, Bool, true, false, List, [], ◌∷◌, Option, Some, None}
+use Rattle.std.proofs.Common.{◌≡◌, ◌≢◌, ◌∙◌, ◌⊎◌, inl, ℕ, zero, suc, Bool, true, false, List, [], ◌∷◌, Some}
 use Rattle.std.proofs.Common.{refl, sym, ap, subst, arith}
-use Rattle.std.specs.Prelude.{◌==◌, IsTrue, slice_get, remove, All, IfSome, IsSomeAnd, if◌then◌else◌}
+use Rattle.std.specs.Prelude.{◌==◌, slice_get, remove, IsSomeAnd}
 use Rattle.js_base.specs.declared.ids.EntryId.{EntryId}
 use Rattle.js_base.specs.declared.ids.FrameId.{FrameId}
 use Rattle.js_base.specs.declared.ids.HostId.{HostId}
@@ -11,9 +11,9 @@ use Rattle.ics_stack.specs.Stack.{top_token}
 use Rattle.host_code.specs.declared.message.Message.{Message}
 use Rattle.host_code.specs.declared.message.Message.TheVariants as message
 use Rattle.host_code.specs.Thread.{ThreadShape}
-use Rattle.host_core.specs.Host.{HostShape, Outcome, without_message, with_running, with_one_ignored, after_pop, thread_at}
+use Rattle.host_core.specs.Host.{HostShape, with_running, with_one_ignored, after_pop, thread_at}
 use Rattle.host_core.specs.Taking.{IsTaking, after_taking}
-use Rattle.net_world.specs.Flying.{Flight, Flying, with_flights}
+use Rattle.net_world.specs.Flying.{Flight, Flying}
 use Rattle.net_world.specs.Told.{token_in}
 use Rattle.net_world.specs.World.{WorldShape, state_at, without_flight}
 use Rattle.net_world.proofs.Moved.{Moved, mover_state, moved_silent, silent_sent}
@@ -23,7 +23,7 @@ use Rattle.typed_steps.specs.Views.{Split, View, entries_of}
 use Rattle.typed_steps.proofs.HeldSteps.{holds_same}
 use Rattle.typed_steps.proofs.Takes.{token_goes}
 use Rattle.typed_steps.proofs.Turns.{sends_nothing}
-use Rattle.integrity.specs.Holding.{IsAmong, Holder, runs, passes, OwnsMessage, OwnsWaiting}
+use Rattle.integrity.specs.Holding.{IsAmong, runs, passes, OwnsMessage, OwnsWaiting}
 use Rattle.integrity.specs.Outside.{ThreadIsOpen, MessageIsOpen}
 use Rattle.integrity.specs.Standing as standing
 use Rattle.integrity.specs.Standing.{threat_in, GoesTo, GoesBack, IsPassing, Goes}

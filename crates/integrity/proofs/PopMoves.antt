@@ -1,5 +1,5 @@
 -- The host of the first entry of a chain takes that off its stack, for whoever gives its token back, or the token is lost.
-use Rattle.std.proofs.Common.{◌≡◌, ◌≢◌, ◌∙◌, ◌⊎◌, inl, inr, ℕ, suc, ◌+◌, ◌<◌, true, List, [], ◌∷◌, length, Option, Some, None, refl}
+use Rattle.std.proofs.Common.{◌≡◌, ◌≢◌, ◌∙◌, ◌⊎◌, inl, inr, ℕ, suc, ◌<◌, true, List, [], ◌∷◌, length, Some, None, refl}
 use Rattle.std.proofs.Common.{sym, ap, subst, arith, get_or}
 use Rattle.std.specs.Prelude.{Contains, slice_get, slice_set, All, IfSome, IsSome, IsSomeAnd}
 use Rattle.std.specs.List.{AllByRecursion}
@@ -16,7 +16,7 @@ use Rattle.net_world.specs.Flying.{Flying}
 use Rattle.net_world.specs.Told.{tokens_in}
 use Rattle.net_world.specs.World.{WorldShape, state_at, has_halted}
 use Rattle.net_world.proofs.Moved.{Moved, either, mover_state}
-use Rattle.token_laws.specs.Holders.{Place, kept_on, HoldsAt, IsHeld, IsSent}
+use Rattle.token_laws.specs.Holders.{Place, kept_on, HoldsAt, IsSent}
 use Rattle.token_laws.proofs.EachFlight.{of_state}
 use Rattle.token_laws.proofs.HeldLaws.{same_place, held_once}
 use Rattle.token_laws.proofs.WorldTokens.{Accounts}

@@ -24,7 +24,7 @@ use Rattle.host_code.specs.Code.{CodeShape, CodeFieldShape, halt, field_at, entr
 use Rattle.host_core.specs.Host.{HostShape, Outcome, with_running, with_one_ignored, with_token, with_temporary}
 use Rattle.host_core.specs.Host.{after_pop, after_entering, without_message, with_message, value_in_thread}
 use Rattle.host_core.specs.Host.{after_clearing}
-use Rattle.host_core.specs.Taking.{IsTaking, Passes, after_taking, after_answer, place_of_awaiting}
+use Rattle.host_core.specs.Taking.{IsTaking, Passes, after_taking, after_answer}
 use Rattle.host_core.specs.Turn.{with_thread, PassesWith, IsTurn, IsTurnOf, IsRunning, after_operation, after_read, after_put}
 use Rattle.host_core.specs.Turn.{after_own_push, after_ask, after_go, after_own_call, after_return, after_back}
 use Rattle.token_laws.proofs.Tests.{number_same}

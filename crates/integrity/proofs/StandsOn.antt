@@ -1,11 +1,9 @@
 -- A world that stands for a configuration does so after any event that is none of the holder's.
-use Rattle.std.proofs.Common.{◌≡◌, ◌≢◌, ◌∙◌, ◌⊎◌, inl, inr, ℕ, ℤ, Bool, true, List, [], ◌∷◌, ◌++◌, Option, Some, None}
+use Rattle.std.proofs.Common.{◌≡◌, ◌∙◌, inl, inr, ℕ, ℤ, List, [], ◌∷◌, ◌++◌, Some}
 use Rattle.std.proofs.Common.{refl, sym, ap, subst}
-use Rattle.std.specs.Prelude.{slice_set, IsSomeAnd, IsTrue, IfSome}
+use Rattle.std.specs.Prelude.{slice_set, IsTrue}
 use Rattle.js_base.specs.declared.ids.HostId.{HostId}
 use Rattle.js_base.specs.declared.ids.FrameId.{FrameId}
-use Rattle.js_base.specs.declared.ids.VarId.{VarId}
-use Rattle.host_decl.specs.Hosts as declared_hosts
 use Rattle.host_decl.specs.Hosts.{HostsShape}
 use Rattle.jif_tree.specs.SourceRun.{Configuration}
 use Rattle.need_labels.specs.Labelled.{Labelled}
@@ -16,7 +14,6 @@ use Rattle.event_text.specs.declared.event.Event.{Event}
 use Rattle.net_world.specs.Fits.{HasOwnToken}
 use Rattle.net_world.specs.World.{WorldShape, IsStep, state_at, has_halted, world_at_start}
 use Rattle.split_rules.specs.Positions.{Forward}
-use Rattle.typed_steps.specs.Values.{AreAlike}
 use Rattle.typed_steps.specs.Variables.{AreSent, Sends}
 use Rattle.typed_steps.specs.Views.{Split, View, entries_of}
 use Rattle.typed_steps.proofs.Alike.{alike_both}

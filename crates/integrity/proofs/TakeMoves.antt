@@ -1,14 +1,11 @@
 -- A message of the holder's is taken: the world stands for the same configuration again, or for one that a step leads to.
-use Rattle.std.proofs.Common.{◌≡◌, ◌≢◌, ◌∙◌, ◌⊎◌, inl, inr, ℕ, zero, suc, ◌+◌, ◌<◌, ℤ, Bool, true, false, List, [], ◌∷◌, ◌++◌}
-use Rattle.std.proofs.Common.{length, Option, Some, None, refl, sym, ap, subst, arith, get_or}
-use Rattle.std.specs.Prelude.{◌==◌, ◌&&◌, if◌then◌else◌, slice_get, slice_set, remove, nat_lt, position, All, IfSome, IsSome}
-use Rattle.std.specs.Prelude.{IsSomeAnd}
+use Rattle.std.proofs.Common.{◌≡◌, ◌≢◌, ◌∙◌, ◌⊎◌, inr, ℕ, zero, suc, ◌<◌, Bool, true, false, List, [], ◌∷◌}
+use Rattle.std.proofs.Common.{length, Some, None, refl, sym, ap, subst, arith, get_or}
+use Rattle.std.specs.Prelude.{◌==◌, ◌&&◌, if◌then◌else◌, slice_get, slice_set, remove, nat_lt, position, All}
 use Rattle.std.specs.List.{position_or_len}
-use Rattle.std.specs.Option.{option_map}
 use Rattle.std.proofs.lemmas.Bool.{eq-eqb}
 use Rattle.std.proofs.lemmas.Bool.Decides.{nat_tests}
 use Rattle.std.proofs.lemmas.List.Elements.{All-nil, All-cons}
-use Rattle.std.proofs.lemmas.List.Quantifiers.{position-Some}
 use Rattle.std.proofs.lemmas.Option.{slice_get-get_or}
 use Rattle.js_base.specs.declared.ids.HostId.{HostId}
 use Rattle.js_base.specs.declared.ids.RequestId.{RequestId}
@@ -17,17 +14,15 @@ use Rattle.ics_stack.specs.declared.stack.StackEntry.{StackEntry}
 use Rattle.ics_stack.specs.Stack.{top_token}
 use Rattle.host_code.specs.declared.message.Message.{Message}
 use Rattle.host_code.specs.declared.message.Message.TheVariants as message
-use Rattle.host_code.specs.Thread.{ThreadShape, WaitingShape, Awaited}
+use Rattle.host_code.specs.Thread.{WaitingShape, Awaited}
 use Rattle.host_code.specs.Thread.Awaited.{value_of_field, acknowledgement, token_of_entry}
 use Rattle.host_core.specs.Awaiting.{awaits, is_same_answer}
-use Rattle.host_core.specs.Host.{HostShape, Outcome, without_message, with_message, with_running, thread_at}
-use Rattle.host_core.specs.Taking.{after_answer, place_of_awaiting}
+use Rattle.host_core.specs.Host.{HostShape}
+use Rattle.host_core.specs.Taking.{place_of_awaiting}
 use Rattle.net_world.specs.Fits.{ShapeFits}
-use Rattle.net_world.specs.Flying.{Flight, Flying, with_flights}
+use Rattle.net_world.specs.Flying.{Flight, Flying}
 use Rattle.net_world.specs.Told.{token_in}
-use Rattle.net_world.specs.World.{WorldShape, IsTakeStep, state_at, misbehaves, has_halted, without_flight}
-use Rattle.net_world.proofs.Fitting.{bad_differs}
-use Rattle.net_world.proofs.Moved.{Moved, Posted, mover_state, other_state, moved_silent, moved_posted}
+use Rattle.net_world.specs.World.{WorldShape, IsTakeStep, state_at, has_halted, without_flight}
 use Rattle.net_world.proofs.Present.{same_id}
 use Rattle.token_laws.specs.Requests.{number_answered}
 use Rattle.token_laws.proofs.AskedLaws.{waits_once}
@@ -35,30 +30,19 @@ use Rattle.token_laws.proofs.EachFlight.{of_state}
 use Rattle.token_laws.proofs.Tests.{number_same}
 use Rattle.token_laws.proofs.WorldTokens.{Accounts}
 use Rattle.typed_steps.specs.Requests.{IsAnswer}
-use Rattle.typed_steps.specs.Takes as takes
 use Rattle.typed_steps.specs.Values.{HoldsNumbers}
-use Rattle.typed_steps.specs.Variables.{Sends}
 use Rattle.typed_steps.specs.Views.{Split, View, entries_of}
-use Rattle.typed_steps.specs.Weights.{STEP}
-use Rattle.typed_steps.proofs.HeldSteps.{holds_same}
-use Rattle.typed_steps.proofs.Takes.{request_taken, result_taken, answer_taken, token_goes}
-use Rattle.integrity.specs.Holding.{IsAmong, Holder, runs, asked, answered, passes, lost, halted, first_of, Waits, Flies}
-use Rattle.integrity.specs.Holding.{IsThere, HasTop, OwnsRunning, OwnsWaiting, OwnsMessage, StateIsOutside, IsStanding}
-use Rattle.integrity.specs.Holding.{IsTight}
-use Rattle.integrity.specs.Outside.{Threat, ThreadIsOpen, EntryIsOpen, MessageIsOpen}
-use Rattle.integrity.specs.Standing as standing
-use Rattle.integrity.specs.Standing.{threat_in, StandsBy, Goes}
-use Rattle.integrity.proofs.Among.{each_among, one_of_some, some_of, last_at, same_item}
-use Rattle.integrity.proofs.ChainMoves.{linked_of, grown_keeps, grown_entries, grown_stands, grown_known}
-use Rattle.integrity.proofs.FliesOn.{FlyAs, all_posted}
-use Rattle.integrity.proofs.HolderStays.{on_some}
+use Rattle.integrity.specs.Holding.{IsAmong, Holder, halted, first_of, Flies}
+use Rattle.integrity.specs.Holding.{OwnsMessage, StateIsOutside, IsStanding}
+use Rattle.integrity.specs.Outside.{Threat, MessageIsOpen}
+use Rattle.integrity.specs.Standing.{threat_in, StandsBy}
+use Rattle.integrity.proofs.Among.{each_among, same_item}
+use Rattle.integrity.proofs.FliesOn.{FlyAs}
 use Rattle.integrity.proofs.OpenWorlds.{state_fits}
 use Rattle.integrity.proofs.OutsideEvents.{other_of}
-use Rattle.integrity.proofs.StackMoves.{Restacks, GivesBack, taking_restacks}
 use Rattle.integrity.proofs.StandsOn.{halted_before}
-use Rattle.integrity.proofs.TightKept.{IsLawful, asks_another}
-use Rattle.integrity.proofs.TightMoves.{Moves, tight_moved, all_as, as_other}
-use Rattle.integrity.proofs.TurnMoves.{own_cell}
+use Rattle.integrity.proofs.TightKept.{IsLawful}
+use Rattle.integrity.proofs.TightMoves.{all_as}
 use Rattle.integrity.proofs.WaitMoves.{found_at}
 
 -- ---- what is left once the holder's message was taken

@@ -1,56 +1,28 @@
 -- Every event that is none of the holder's leaves the chain and the holder, and all else outside.
-use Rattle.std.proofs.Common.{◌≡◌, ◌≢◌, ◌∙◌, ◌⊎◌, inl, inr, ℕ, zero, suc, Bool, true, List, [], ◌∷◌, Option, Some, None}
-use Rattle.std.proofs.Common.{refl, sym, ap, subst, arith}
-use Rattle.std.specs.Prelude.{slice_get, slice_set, All, IfSome, IsSome, IsSomeAnd, IsTrue}
-use Rattle.std.specs.List.{AllByRecursion}
+use Rattle.std.proofs.Common.{◌≡◌, ◌≢◌, ◌∙◌, inl, inr, ℕ, true, Some, None}
+use Rattle.std.proofs.Common.{refl, sym, ap, subst}
+use Rattle.std.specs.Prelude.{slice_get}
 use Rattle.js_base.specs.declared.ids.HostId.{HostId}
 use Rattle.js_base.specs.declared.ids.RequestId.{RequestId}
-use Rattle.capability.specs.declared.token.Token.{Token}
-use Rattle.ics_stack.specs.declared.stack.StackEntry.{StackEntry}
-use Rattle.ics_stack.specs.Stack.{top_token}
 use Rattle.host_code.specs.declared.message.Message.{Message}
-use Rattle.host_code.specs.declared.message.Message.TheVariants as message
-use Rattle.host_code.specs.Code.{CodeShape}
-use Rattle.host_code.specs.Thread.{ThreadShape, WaitingShape, Awaited}
-use Rattle.host_code.specs.Thread.Awaited.{value_of_field, acknowledgement, token_of_entry}
-use Rattle.host_core.specs.Fits.{StateFits, WaitingFits}
-use Rattle.host_core.specs.Host.{HostShape, Outcome}
-use Rattle.host_core.specs.Taking.{Passes, place_of_awaiting}
-use Rattle.host_core.specs.Turn.{label_of_turn}
-use Rattle.event_text.specs.declared.event.Event.{Event}
-use Rattle.event_text.specs.declared.event.Event.TheVariants.{Take, Turn, Act}
-use Rattle.event_text.specs.declared.event.BadMessage.{BadMessage}
-use Rattle.net_world.specs.Fits.{ShapeFits, OwnTokenIn}
-use Rattle.net_world.specs.Flying.{Flight}
-use Rattle.net_world.specs.Told.{token_in, message_made}
-use Rattle.net_world.specs.World.{WorldShape, IsTakeStep, IsTurnStep, IsActStep, state_at, misbehaves, tokens_sent}
-use Rattle.net_world.specs.World.{with_state, without_flight}
+use Rattle.host_code.specs.Thread.{WaitingShape}
+use Rattle.host_core.specs.Fits.{WaitingFits}
+use Rattle.host_core.specs.Host.{HostShape}
+use Rattle.net_world.specs.Fits.{ShapeFits}
+use Rattle.net_world.specs.World.{WorldShape, state_at, misbehaves}
 use Rattle.net_world.proofs.Fitting.{bad_differs}
-use Rattle.net_world.proofs.Moved.{moved_acted}
-use Rattle.net_world.proofs.StepLaws.{take_puts, turn_puts, act_puts}
-use Rattle.token_laws.specs.Holders.{HoldsAt, running_on, in_flight}
 use Rattle.token_laws.specs.Requests.{Spot, number_asked, number_answered}
 use Rattle.token_laws.proofs.Asked.{AreAsked}
 use Rattle.token_laws.proofs.AskedLaws.{one_under_way, waits_once, ends_obey}
-use Rattle.token_laws.proofs.EachFlight.{of_state}
 use Rattle.token_laws.proofs.Held.{AreHeld}
 use Rattle.token_laws.proofs.HeldLaws.{all_at, has_state}
 use Rattle.token_laws.proofs.HeldLaws as tokens
-use Rattle.token_laws.proofs.HostRequests.{Turns, turn_requests}
-use Rattle.integrity.specs.Exposed.{IsAsBefore}
 use Rattle.integrity.specs.Holding.{IsAmong, Holder, runs, asked, answered, stuck, passes, lost, halted, Waits, Flies}
-use Rattle.integrity.specs.Holding.{IsThere, OwnsRunning, OwnsWaiting, OwnsMessage, IsOwn, StateIsOutside}
-use Rattle.integrity.specs.Holding.{IsOutsideBut, IsStanding, IsTight}
-use Rattle.integrity.specs.Outside.{Threat, ThreadIsOpen, EntryIsOpen, MessageIsOpen}
-use Rattle.integrity.proofs.Among.{among_push, among_without, same_item, one_of_some, some_of, each_among, all_among}
-use Rattle.integrity.proofs.FliesOn.{FlyAs, flies_without, sends_on, all_without, all_sent}
-use Rattle.integrity.proofs.HeldTokens.{IsKeptBy, StandsThere, chain_kept, not_running, not_flying, given_back}
-use Rattle.integrity.proofs.HolderStays.{LeavesAlone}
-use Rattle.integrity.proofs.OpenSteps.{IsKnown, Kinds, HasOpen, LeavesOpen, FramesStay, TopIsOpen, PopsOpen, WakesOpen}
-use Rattle.integrity.proofs.OpenSteps.{DoesOpen, open_turn, open_taking, passes_open}
+use Rattle.integrity.specs.Holding.{IsThere, OwnsRunning, OwnsWaiting, OwnsMessage}
+use Rattle.integrity.specs.Outside.{Threat}
+use Rattle.integrity.proofs.Among.{same_item, one_of_some, some_of}
 use Rattle.integrity.proofs.OpenWorlds.{AreBad, state_fits}
-use Rattle.integrity.proofs.StackMoves.{Restacks, RunsWith, GivesBack, restacks_by, turn_restacks, taking_restacks}
-use Rattle.integrity.proofs.WaitMoves.{WaitsAt, found_at, Rewaits, stays, wakes, taking_rewaits}
+use Rattle.integrity.proofs.WaitMoves.{WaitsAt}
 
 -- what is known of a world that events lead to
 pub record IsLawful (threat : Threat) (world : WorldShape) : Type 0 where
@@ -94,12 +66,20 @@ not_answered threat world is me waiting asking m state obeys sent number apart a
     let same =
     one_under_way world me waiting.asked waiting.asked state waiting.request first second
     (is.asked.hosts me state obeys)
-    (inl (refl, refl, some_of (slice_get (world.flying me waiting.asked) sent.among.0)
-    (λ flight. number_asked flight.message ≡ Some waiting.request) sent.flight sent.among.1
-    (ap number_asked sent.is ∙ number)))
-    (inr (refl, refl, some_of (slice_get (world.flying waiting.asked me) came.among.0)
-    (λ flight. number_answered flight.message ≡ Some waiting.request) came.flight came.among.1
-    (ap number_answered came.is ∙ answer))) in
+    (inl (
+      refl,
+      refl,
+      some_of (slice_get (world.flying me waiting.asked) sent.among.0)
+          (λ flight. number_asked flight.message ≡ Some waiting.request) sent.flight sent.among.1
+          (ap number_asked sent.is ∙ number),
+    ))
+    (inr (
+      refl,
+      refl,
+      some_of (slice_get (world.flying waiting.asked me) came.among.0)
+          (λ flight. number_answered flight.message ≡ Some waiting.request) came.flight came.among.1
+          (ap number_answered came.is ∙ answer),
+    )) in
     apart (ap (λ (s : Spot). s.from) (sym same))
 not_answered threat world is me waiting asking m state obeys sent number apart answer (told bad) =
     let ends =

@@ -1,11 +1,9 @@
 -- The laws of a chain that stands and of its holder, where what happens is none of the holder's.
-use Rattle.std.proofs.Common.{◌≡◌, ◌∙◌, ℕ, ℤ, List, [], ◌∷◌, ◌++◌, refl, sym, ap, subst}
+use Rattle.std.proofs.Common.{◌≡◌, ℕ, ℤ, List, [], ◌∷◌, ◌++◌, refl}
 use Rattle.std.specs.List.{AllByRecursion}
-use Rattle.js_base.specs.declared.ids.HostId.{HostId}
 use Rattle.host_decl.specs.Hosts as declared_hosts
 use Rattle.host_decl.specs.Hosts.{HostsShape}
 use Rattle.ics_stack.specs.declared.stack.StackEntry.{StackEntry}
-use Rattle.host_core.specs.Host.{HostShape}
 use Rattle.need_labels.specs.Labelled.{Labelled}
 use Rattle.need_labels.specs.Needs.{NeedsShape}
 use Rattle.need_labels.specs.Plan.{PlanShape}

@@ -1,18 +1,16 @@
 -- A chain that stands and its holder, after an event of the holder's.
-use Rattle.std.proofs.Common.{◌≡◌, ◌≢◌, ◌∙◌, ◌⊎◌, inl, inr, ℕ, suc, Bool, true, List, [], ◌∷◌, Option, Some, None}
-use Rattle.std.proofs.Common.{refl, sym, ap, subst, arith, get_or}
-use Rattle.std.specs.Prelude.{slice_get, slice_set, All, IfSome, IsSomeAnd}
+use Rattle.std.proofs.Common.{◌≡◌, ◌≢◌, ◌∙◌, ◌⊎◌, inl, inr, suc, List, [], ◌∷◌, Option, Some, None}
+use Rattle.std.proofs.Common.{refl, sym, ap, subst, get_or}
+use Rattle.std.specs.Prelude.{slice_set, All, IfSome}
 use Rattle.std.specs.List.{AllByRecursion}
 use Rattle.js_base.specs.declared.ids.HostId.{HostId}
 use Rattle.ics_stack.specs.declared.stack.StackEntry.{StackEntry}
-use Rattle.host_code.specs.declared.message.Message.{Message}
 use Rattle.host_code.specs.Thread.{WaitingShape}
 use Rattle.host_core.specs.Fits.{EntryFits}
 use Rattle.host_core.specs.Host.{HostShape}
 use Rattle.net_world.specs.Fits.{ShapeFits}
 use Rattle.net_world.specs.World.{WorldShape, state_at}
 use Rattle.net_world.proofs.Moved.{either}
-use Rattle.net_world.proofs.Present.{same_id}
 use Rattle.token_laws.specs.Holders.{IsSent, IsHeld, kept_on}
 use Rattle.token_laws.proofs.EachFlight.{StatesHave, of_state}
 use Rattle.token_laws.proofs.HeldLaws.{own_before}
@@ -23,7 +21,6 @@ use Rattle.integrity.specs.Outside.{Threat, ThreadIsOpen, EntryIsOpen, MessageIs
 use Rattle.integrity.proofs.Among.{each_among, all_among, one_of_some}
 use Rattle.integrity.proofs.FliesOn.{FlyAs}
 use Rattle.integrity.proofs.HeldTokens.{StandsThere, top_kept, held_or_lost, later_held, still_unsent}
-use Rattle.integrity.proofs.HolderStays.{on_some}
 use Rattle.integrity.proofs.OpenWorlds.{state_fits}
 use Rattle.integrity.proofs.TightKept.{IsLawful, tokens_known}
 

@@ -8,19 +8,17 @@ use Rattle.std.proofs.lemmas.Bool.{eq-eqb, ne_eqb}
 use Rattle.std.proofs.lemmas.Bool.Decides.{eqb_tells}
 use Rattle.std.proofs.lemmas.List.Elements.{All-nil, All-cons}
 use Rattle.js_base.specs.declared.ids.HostId.{HostId}
-use Rattle.capability.specs.declared.token.Token.{Token}
 use Rattle.ics_stack.specs.declared.stack.StackEntry.{StackEntry}
 use Rattle.host_decl.specs.Hosts as declared_hosts
 use Rattle.host_code.specs.declared.code.Entry.{Entry}
 use Rattle.host_code.specs.Code.{CodeShape, halt, entry_at}
 use Rattle.host_code.specs.Sound.{IsSoundCode}
 use Rattle.host_code.specs.Thread.{ThreadShape, WaitingShape}
-use Rattle.host_core.specs.Host.{HostShape, after_push, after_entering, new_token, thread_at, with_running}
+use Rattle.host_core.specs.Host.{HostShape, after_push, after_entering, new_token, thread_at}
 use Rattle.host_core.specs.Start.{idle_host, root_host, main_frame, last_token, host_at_start}
-use Rattle.net_world.specs.World.{WorldShape, given, hosts_before, state_at, world_at_start}
+use Rattle.net_world.specs.World.{given, hosts_before, state_at, world_at_start}
 use Rattle.net_world.proofs.Present.{same_id}
-use Rattle.token_laws.specs.Holders.{IsSent}
-use Rattle.integrity.specs.Holding.{IsAmong, Holder, runs, OwnsWaiting, StateIsOutside, IsStanding, IsTight, StartsTight}
+use Rattle.integrity.specs.Holding.{IsAmong, Holder, runs, OwnsWaiting, StateIsOutside, IsTight, StartsTight}
 use Rattle.integrity.specs.Outside.{Threat, EntryIsOpen, ThreadIsOpen}
 use Rattle.integrity.proofs.Among.{some_of}
 
@@ -51,7 +49,7 @@ started_before code store bad number (row ∷ rows) zero at state is there =
 started_before code store bad number (row ∷ rows) (suc place) at state is there =
     started_before code store bad (number + 1) rows place at state (omega arith) there
 
-started : (code : CodeShape) (rows : List declared_hosts.HostShape) (bad : ℕ) (store : List (List ℤ)) (host : HostId)
+pub started : (code : CodeShape) (rows : List declared_hosts.HostShape) (bad : ℕ) (store : List (List ℤ)) (host : HostId)
     (state : HostShape) → state_at (world_at_start code rows bad store) host ≡ Some state →
     IsStarted code store host state
 started code rows bad store host state there =
@@ -77,6 +75,8 @@ pub record IsRoot (code : CodeShape) (store : List (List ℤ)) (state : HostShap
   pub key : List ℕ
   pub there : Entry
   pub found : entry_at code code.main ≡ Some there
+  pub on_root : there.host ≡ code.root
+  pub halts : state.halted ≡ false
   pub me : state.me ≡ code.root
   pub running : state.running ≡ Some (first_thread code store key there)
   pub waiting : state.waiting ≡ []
@@ -91,13 +91,15 @@ entered code store key (Some there) is on state same = record {
   key = key;
   there = there;
   found = is;
+  on_root = on;
+  halts = ap (λ (s : HostShape). s.halted) same;
   me = ap (λ (s : HostShape). s.me) same;
   running = ap (λ (s : HostShape). s.running) same;
   waiting = ap (λ (s : HostShape). s.waiting) same;
   entries = ap (λ (s : HostShape). s.entries) same;
 }
 
-root_state : (code : CodeShape) (store : List (List ℤ)) → IsSoundCode code → (state : HostShape) →
+pub root_state : (code : CodeShape) (store : List (List ℤ)) → IsSoundCode code → (state : HostShape) →
     IsStarted code store code.root state → IsRoot code store state
 root_state code store sound state it =
     let idle = idle_host code store it.key code.root in

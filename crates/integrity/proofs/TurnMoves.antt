@@ -1,12 +1,11 @@
 -- A turn of the holder's thread that tells misbehaving hosts nothing: the world stands for the same configuration again,
 -- or for one that a step leads to.
-use Rattle.std.proofs.Common.{◌≡◌, ◌≢◌, ◌∙◌, ◌⊎◌, inl, inr, ℕ, ℤ, suc, Bool, true, false, List, [], ◌∷◌, ◌++◌, length, Option}
-use Rattle.std.proofs.Common.{Some, None, refl, sym, ap, subst, arith, get_or}
-use Rattle.std.specs.Prelude.{◌<◌, if◌then◌else◌, Contains, slice_get, slice_set, All, IfSome, IsSome, IsSomeAnd}
+use Rattle.std.proofs.Common.{◌≡◌, ◌≢◌, ◌∙◌, ◌⊎◌, inl, inr, ℕ, Bool, true, false, List, [], ◌∷◌, ◌++◌}
+use Rattle.std.proofs.Common.{Some, None, refl, sym, ap, subst}
+use Rattle.std.specs.Prelude.{if◌then◌else◌, slice_get, slice_set, All, IfSome, IsSomeAnd}
 use Rattle.std.proofs.lemmas.List.Elements.{All-push}
 use Rattle.std.proofs.lemmas.Bool.{eq-eqb}
 use Rattle.js_base.specs.declared.ids.HostId.{HostId}
-use Rattle.jif_tree.specs.Altered.{MayStep}
 use Rattle.jif_tree.specs.SourceRun.{Configuration}
 use Rattle.ics_stack.specs.declared.stack.StackEntry.{StackEntry}
 use Rattle.ics_stack.specs.Stack.{top_token}
@@ -19,48 +18,40 @@ use Rattle.host_core.specs.Host.{with_one_ignored, after_pop, next_request}
 use Rattle.host_core.specs.Turn.{label_of_turn}
 use Rattle.net_world.specs.Fits.{ShapeFits}
 use Rattle.net_world.specs.Flying.{Flight, Flying, with_flights}
-use Rattle.net_world.specs.Told.{token_in, tokens_in}
+use Rattle.net_world.specs.Told.{token_in}
 use Rattle.net_world.specs.World.{WorldShape, IsTurnStep, state_at, misbehaves, has_halted}
-use Rattle.net_world.proofs.Moved.{Moved, either, mover_state, moved_silent, moved_told, moved_posted, Posted}
+use Rattle.net_world.proofs.Moved.{Moved, either, mover_state, moved_silent, moved_told, moved_posted}
 use Rattle.capability.specs.declared.token.Token.{Token}
-use Rattle.std.specs.List.{AllByRecursion}
-use Rattle.std.proofs.lemmas.Option.{slice_get-get_or}
-use Rattle.token_laws.specs.Holders.{IsSent, Place, HoldsAt, running_on, waiting_on, kept_on, in_flight}
-use Rattle.token_laws.proofs.HeldLaws.{same_place, held_once}
+use Rattle.token_laws.specs.Holders.{Place, HoldsAt, running_on, waiting_on, kept_on, in_flight}
 use Rattle.token_laws.specs.Requests.{number_asked}
 use Rattle.token_laws.proofs.EachFlight.{of_state}
 use Rattle.token_laws.proofs.WorldTokens.{Accounts}
-use Rattle.typed_steps.specs.Chains.{IsChain, chain_due}
-use Rattle.typed_steps.specs.Threads.{IsLeft}
 use Rattle.typed_steps.specs.Weights.{STEP}
-use Rattle.typed_steps.proofs.Pops.{Ended, Continued, popped}
 use Rattle.jif_tree.specs.Store.{element_at, row_of}
 use Rattle.js_base.specs.declared.ids.RequestId.{RequestId}
 use Rattle.typed_steps.specs.Requests.{IsRequest, GivesUp, starting}
 use Rattle.typed_steps.specs.Turns as turns
 use Rattle.typed_steps.specs.Turns.{IsActing, Grows, stays, grows, waiting_for}
-use Rattle.typed_steps.specs.Values.{HoldsNumbers}
-use Rattle.typed_steps.specs.Variables.{Sends, Holds}
-use Rattle.typed_steps.specs.Views.{Split, View, Link, entries_of}
+use Rattle.typed_steps.specs.Variables.{Sends}
+use Rattle.typed_steps.specs.Views.{Split, View, entries_of}
 use Rattle.typed_steps.proofs.HeldSteps.{holds_same, holds_calm}
-use Rattle.integrity.specs.Holding.{IsAmong, Holder, runs, asked, answered, stuck, passes, lost, halted, first_of, token_of}
-use Rattle.integrity.specs.Holding.{IsThere, HasTop, Flies, OwnsRunning, OwnsWaiting, OwnsMessage, StateIsOutside, IsStanding, AreLinked}
+use Rattle.integrity.specs.Holding.{IsAmong, Holder, runs, asked, passes, lost, halted, first_of}
+use Rattle.integrity.specs.Holding.{IsThere, HasTop, Flies, OwnsWaiting, OwnsMessage, StateIsOutside, IsStanding}
 use Rattle.integrity.specs.Holding.{IsTight}
-use Rattle.integrity.specs.Outside.{Threat, ThreadIsOpen, EntryIsOpen, MessageIsOpen}
+use Rattle.integrity.specs.Outside.{ThreadIsOpen, EntryIsOpen, MessageIsOpen}
 use Rattle.integrity.specs.Standing as standing
 use Rattle.integrity.specs.Standing.{threat_in, IsResult, IsPassing, StandsBy, Goes}
-use Rattle.integrity.proofs.Among.{all_among, each_among, one_of_some, some_of, last_at, same_item}
-use Rattle.integrity.proofs.ChainMoves.{linked_of, grown_keeps, grown_entries, grown_stands, grown_known, linked_below}
+use Rattle.integrity.proofs.Among.{each_among, one_of_some, some_of, last_at}
+use Rattle.integrity.proofs.ChainMoves.{linked_of, grown_keeps, grown_entries, grown_stands, grown_known}
 use Rattle.integrity.proofs.FliesOn.{FlyAs, all_posted}
-use Rattle.integrity.proofs.HeldTokens.{StandsThere, later_held}
-use Rattle.integrity.proofs.HolderStays.{on_some, below_top}
+use Rattle.integrity.proofs.HolderStays.{on_some}
 use Rattle.integrity.proofs.OpenWorlds.{state_fits}
 use Rattle.integrity.proofs.OutsideEvents.{other_of}
 use Rattle.integrity.proofs.StackMoves.{Restacks, RunsWith, turn_restacks}
 use Rattle.integrity.proofs.StandsOn.{halted_before}
-use Rattle.integrity.proofs.TightKept.{IsLawful, tokens_known}
+use Rattle.integrity.proofs.TightKept.{IsLawful}
 use Rattle.integrity.proofs.PopMoves.{Popping, was_at, pops_own, loses}
-use Rattle.integrity.proofs.TightMoves.{Moves, tight_moved, all_as, as_other}
+use Rattle.integrity.proofs.TightMoves.{tight_moved, all_as}
 
 -- what is known before the turn, and after it
 pub record Turning (split : Split) (c : Configuration) (view : View) (host : HostId) (thread : ThreadShape)
@@ -111,7 +102,6 @@ never_more (y ∷ xs) x same = never_more xs x (let rest : xs ++ x ∷ [] ≡ xs
 
 module _ (split : Split) (c : Configuration) (view : View) (host : HostId) (thread : ThreadShape)
     (world after : WorldShape) (t : Turning split c view host thread world after) where
-
   was : StateIsOutside (threat_in split) (entries_of view.chain) (runs host thread) t.step.state
   was = of_state (StateIsOutside (threat_in split) (entries_of view.chain) (runs host thread)) world host t.step.state
       t.stands.tight.outside.states t.step.obeys
@@ -317,8 +307,7 @@ module _ (split : Split) (c : Configuration) (view : View) (host : HostId) (thre
       t.step.obeys moved in
       record {
         tight = posts new holder to m moved refl refl refl
-            (All-push Waits old.waiting w (waits_for holder host old.waiting refl refl) (inl (refl, refl)))
-            (
+            (All-push Waits old.waiting w (waits_for holder host old.waiting refl refl) (inl (refl, refl))) (
               some_of (state_at after host) (λ s. IsAmong s.waiting w) new there (last_at old.waiting w),
               own_flight to m new moved,
               number,

@@ -1,7 +1,7 @@
 -- What a step of one host makes of the threads that wait there: a turn adds one at most, and a message ends the wait of
 -- one at most, which waits for that number from the host that sends it.
-use Rattle.std.proofs.Common.{◌≡◌, ◌≢◌, ◌∙◌, ℕ, ◌⊎◌, inl, inr, Bool, true, false, List, [], ◌∷◌, ◌++◌, Option, Some, None}
-use Rattle.std.proofs.Common.{refl, sym, ap, subst}
+use Rattle.std.proofs.Common.{◌≡◌, ℕ, Bool, true, false, List, [], ◌∷◌, Option, Some, None}
+use Rattle.std.proofs.Common.{refl, subst}
 use Rattle.std.specs.Prelude.{slice_get, remove, position, ◌==◌, if◌then◌else◌}
 use Rattle.std.proofs.lemmas.List.Quantifiers.{position-Some}
 use Rattle.std.proofs.lemmas.Option.{get_or_from_slice_get}
@@ -23,8 +23,6 @@ use Rattle.net_world.proofs.Present.{same_id}
 use Rattle.token_laws.specs.Requests.{number_answered}
 use Rattle.token_laws.proofs.HostRequests.{request_is, entering_same}
 use Rattle.token_laws.proofs.Tests.{parts_same, number_same}
-use Rattle.integrity.specs.Holding.{IsAmong}
-use Rattle.integrity.proofs.Among.{among_without, same_item}
 
 -- the thread at a place waits for the answer to this number from this host
 pub record WaitsAt (threads : List WaitingShape) (request : RequestId) (from : HostId) (place : ℕ)

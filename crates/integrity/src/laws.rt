@@ -127,6 +127,12 @@ pub fn chain_laws()
 /// While misbehaving hosts were sent no token of the chain, a world stands for a configuration of an altered run by what
 /// is seen of it and by whoever holds the token.
 pub fn standing_laws()
+    // Where the root obeys, the world before the first event stands for the start of the program.
+    ensures start { (split : Split) (rows : List HostRow) (bad : ℕ) (store : List (List ℤ)) (state : HostShape) →
+        state_at (world_at_start split.code rows bad store) split.code.root ≡ Some state →
+        (view : View) × (thread : ThreadShape)
+        × StandsBy split (configuration_at_start split.program store) view (runs split.code.root thread)
+        (world_at_start split.code rows bad store) }
     // It stands for the same configuration, by the same, after any event that is none of the holder's.
     ensures kept { (split : Split) (labelled : Labelled) (needs : NeedsShape) (hosts : HostsShape) (plan : PlanShape)
         (bad : ℕ) (store : List (List ℤ)) (events : List Event) (world after : WorldShape) (event : Event)

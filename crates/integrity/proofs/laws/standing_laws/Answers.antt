@@ -1,7 +1,11 @@
 use Rattle.integrity.proofs.HolderLaws.{holder_turned}
+use Rattle.integrity.proofs.StandsAtStart.{stands_at_start}
 use Rattle.integrity.proofs.StandsOn.{stands_kept}
 use Rattle.integrity.proofs.TakeLaws.{holder_taken}
 use Rattle.integrity.proofs.laws.standing_laws.Goals as goal
+
+pub returns-clause-start : goal.returns-clause-start
+returns-clause-start c = stands_at_start
 
 pub returns-clause-kept : goal.returns-clause-kept
 returns-clause-kept c =
