@@ -63,7 +63,7 @@ module _ (split : Split) (c : Configuration) (view : View) (host : HostId) (w : 
   -- the owner's state has changed, and its answer is in flight
   answers : (now : Configuration) (more : ℕ) (enough : ℕ → Type 0) →
       takes.Answers split view world host w.asked w t.step.state enough now more t.step.outcome →
-      (seen : View) × (next : Holder) × StandsBy split now seen next after
+      (seen : View) × (next : Holder) × standing.IsFree next × StandsBy split now seen next after
   answers now more enough a =
       let owner = w.asked in
       let old = t.step.state in
@@ -88,6 +88,7 @@ module _ (split : Split) (c : Configuration) (view : View) (host : HostId) (w : 
       λ one other said. OwnsMessage next one other said ⊎ MessageIsOpen (threat_in split) said in (
         a.seen,
         next,
+        tt,
         record {
           tight = tight_moved (threat_in split) (entries_of view.chain) (entries_of a.seen.chain) (asked host w m) next
               world after t.lawful t.fits t.account t.stands.tight (record {
@@ -150,9 +151,9 @@ module _ (split : Split) (c : Configuration) (view : View) (host : HostId) (w : 
 
   answered_any : (enough : ℕ → Type 0) →
       takes.Answered split c view world host w.asked w t.step.state enough t.step.outcome → Goes split c after
-  answered_any enough (takes.answers a) = let it = answers c 0 enough a in standing.stays it.0 it.1 it.2
+  answered_any enough (takes.answers a) = let it = answers c 0 enough a in standing.stays it.0 it.1 it.2 it.3
   answered_any enough (takes.steps now does a) =
-      let it = answers now STEP enough a in standing.steps now it.0 it.1 does it.2
+      let it = answers now STEP enough a in standing.steps now it.0 it.1 it.2 does it.3
 
   owner_is : takes.IsOwner split c view world w.asked t.step.state
   owner_is = record {
@@ -222,7 +223,7 @@ module _ (split : Split) (c : Configuration) (view : View) (host : HostId) (w : 
       λ one. OwnsWaiting (answered host w m) old.me one ⊎ ThreadIsOpen (threat_in split) old.me one.thread in
       let Later : WaitingShape → Type 0 =
       λ one. OwnsWaiting next old.me one ⊎ ThreadIsOpen (threat_in split) old.me one.thread in
-      standing.stays view next (record {
+      standing.stays view next tt (record {
         tight = tight_moved (threat_in split) (entries_of view.chain) (entries_of view.chain) (answered host w m) next
             world after t.lawful t.fits t.account t.stands.tight (record {
               me = host;

@@ -24,4 +24,5 @@ pub mod AnswerMoves
 pub mod PassMoves
 pub mod HolderLaws
 pub mod TakeLaws
+pub mod QuietRuns
 pub mod IntegrityExamples

@@ -98,7 +98,7 @@ module _ (split : Split) (c : Configuration) (view : View) (m : Message) (world 
       let there : state_at after to ≡ Some new = mover_state world after to old new flying t.step.obeys moved in
       let before = was split c view (passes from to m) world after from to place t in
       let each = standing_each split c view (passes from to m) world after from to place t in
-      standing.stays view next (record {
+      standing.stays view next tt (record {
         tight = tight_moved (threat_in split) (entries_of view.chain) (entries_of view.chain) (passes from to m) next
             world after t.lawful t.fits t.account t.stands.tight (record {
               me = to;

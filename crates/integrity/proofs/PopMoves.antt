@@ -277,7 +277,7 @@ module _ (split : Split) (c : Configuration) (view : View) (holder : Holder) (wo
       ∙ ap (λ list. without_message (after_pop split.code bare list)) (sym top.entries_are) ∙ is in
       let moved =
       t.moved new new_is in
-      standing.stays (starting view [] view.sender) halted (record {
+      standing.stays (starting view [] view.sender) halted tt (record {
         tight = subst (λ list. IsTight (threat_in split) (entries_of list) halted after) ended.last
             (pops top new halted new_is (t.is_bare.me ∙ me_is) refl t.is_bare.waiting (inr tt) (λ there. tt)
             (sym (ap (λ list. top_token (entries_of list)) ended.last)) (λ same. absurd (cc)));
@@ -298,7 +298,7 @@ module _ (split : Split) (c : Configuration) (view : View) (holder : Holder) (wo
       ∙ ap (λ list. without_message (after_pop split.code bare list)) (sym top.entries_are) ∙ is in
       let moved =
       t.moved new new_is in
-      standing.stays (starting view top.rest top.first.call) next (record {
+      standing.stays (starting view top.rest top.first.call) next tt (record {
         tight = pops top new next new_is (t.is_bare.me ∙ me_is) refl t.is_bare.waiting (inl refl)
             (λ there. some_of (state_at after host) (λ s. s.running ≡ Some more.thread) new there refl) more.at.held
             (λ same. absurd (cc));
@@ -347,7 +347,7 @@ module _ (split : Split) (c : Configuration) (view : View) (holder : Holder) (wo
       let new : HostShape = with_one_ignored t.bare in
       let moved = t.moved new is in
       let me : new.me ≡ host = t.is_bare.me ∙ me_is in
-      standing.stays view lost (record {
+      standing.stays view lost tt (record {
         tight = tight_moved (threat_in split) (entries_of view.chain) (entries_of view.chain) holder lost world after
             t.lawful t.fits t.account t.stands.tight (record {
               me = host;

@@ -40,18 +40,18 @@ use Rattle.integrity.proofs.TightKept.{IsLawful, tokens_known}
 use Rattle.integrity.proofs.TightLaws.{lawful}
 
 -- a message of the holder's is the only one
-abbrev IsOnly : Holder → WorldShape → HostId → HostId → ℕ → Type 0
+abbrev pub IsOnly : Holder → WorldShape → HostId → HostId → ℕ → Type 0
 IsOnly holder world from to place =
     (one other : HostId) (k : ℕ) (flight : Flight) → slice_get (world.flying one other) k ≡ Some flight →
     OwnsMessage holder one other flight.message → (one ≡ from) × (other ≡ to) × (k ≡ place)
 
-state_of : (world : WorldShape) (host : HostId) (w : WaitingShape) →
+pub state_of : (world : WorldShape) (host : HostId) (w : WaitingShape) →
     IsSomeAnd (state_at world host) (λ s. IsAmong s.waiting w) →
     (state : HostShape) × (state_at world host ≡ Some state)
 state_of world host w waits =
     let at = one_of_some (state_at world host) (λ s. IsAmong s.waiting w) waits in (at.one, at.is)
 
-asked_only : (split : Split) (world : WorldShape) → IsLawful (threat_in split) world → (host : HostId)
+pub asked_only : (split : Split) (world : WorldShape) → IsLawful (threat_in split) world → (host : HostId)
     (w : WaitingShape) (m : Message) (state : HostShape) → state_at world host ≡ Some state → (place : ℕ)
     (taken : Flight) → slice_get (world.flying host w.asked) place ≡ Some taken →
     number_asked taken.message ≡ Some w.request → IsOnly (asked host w m) world host w.asked place
@@ -68,7 +68,7 @@ asked_only split world is host w m state obeys place taken there number one othe
     (inl (refl, refl, some_of (slice_get (world.flying host w.asked) place) Asks taken there number)) in
     (own.0, own.1, ap (λ (s : Spot). s.place) same)
 
-answered_only : (split : Split) (world : WorldShape) → IsLawful (threat_in split) world → (host : HostId)
+pub answered_only : (split : Split) (world : WorldShape) → IsLawful (threat_in split) world → (host : HostId)
     (w : WaitingShape) (m : Message) (state : HostShape) → state_at world host ≡ Some state → (place : ℕ)
     (taken : Flight) → slice_get (world.flying w.asked host) place ≡ Some taken →
     number_answered taken.message ≡ Some w.request → IsOnly (answered host w m) world w.asked host place
@@ -102,7 +102,7 @@ passed_once split world is (e ∷ list) token standing top from to k place first
     (tokens_known (threat_in split) world is) obeys (subst (λ (t : Token). ¬ IsSent world t) same it.unsent) first second in
     cc
 
-passes_only : (split : Split) (c : Configuration) (view : View) (world : WorldShape) →
+pub passes_only : (split : Split) (c : Configuration) (view : View) (world : WorldShape) →
     IsLawful (threat_in split) world → (from to : HostId) (m : Message) → StandsBy split c view (passes from to m) world →
     (place : ℕ) (taken : Flight) → slice_get (world.flying from to) place ≡ Some taken → taken.message ≡ m →
     IsOnly (passes from to m) world from to place

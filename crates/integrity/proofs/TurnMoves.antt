@@ -157,7 +157,7 @@ module _ (split : Split) (c : Configuration) (view : View) (host : HostId) (thre
 
   goes_on : (now : Configuration) (more : ℕ) →
       turns.RunsOn split view world host t.step.state thread now more t.step.outcome →
-      (seen : View) × (next : Holder) × StandsBy split now seen next after
+      (seen : View) × (next : Holder) × standing.IsFree next × StandsBy split now seen next after
   goes_on now more g =
       let old = t.step.state in
       let new : HostShape = with_running g.state (Some g.next) in
@@ -169,6 +169,7 @@ module _ (split : Split) (c : Configuration) (view : View) (host : HostId) (thre
       let me : new.me ≡ host = g.steady.me ∙ me_is in (
         g.seen,
         next,
+        tt,
         record {
           tight = tight_moved (threat_in split) (entries_of view.chain) (entries_of g.seen.chain) (runs host thread) next
               world after t.lawful t.fits t.account t.stands.tight (record {
@@ -445,26 +446,26 @@ module _ (split : Split) (c : Configuration) (view : View) (host : HostId) (thre
       (λ lost_token only place. nobody_has new moved.hosts lost_token refl refl refl moved.flying only place)
 
   pub goes_of : turns.Turned split c view world host t.step.state thread t.step.outcome → Goes split c after
-  goes_of (turns.runs_on g) = let it = goes_on c 0 g in standing.stays it.0 it.1 it.2
-  goes_of (turns.steps now does g) = let it = goes_on now STEP g in standing.steps now it.0 it.1 does it.2
+  goes_of (turns.runs_on g) = let it = goes_on c 0 g in standing.stays it.0 it.1 it.2 it.3
+  goes_of (turns.steps now does g) = let it = goes_on now STEP g in standing.steps now it.0 it.1 it.2 does it.3
   goes_of (turns.asks a) =
       let w = waiting_for t.step.state thread.at a.next a.awaited a.to in
-      standing.stays view (asked host w a.asking)
+      standing.stays view (asked host w a.asking) tt
       (asks a.next a.awaited a.to a.asking a.is (request_number split c view host a.to w a.asking a.request)
       (request_top split c view host a.to w a.asking a.request) (inl a.request))
   goes_of (turns.gives g) =
       let w = waiting_for t.step.state thread.at g.next acknowledgement g.to in
       let m = message.Forward (next_request t.step.state thread.at) g.frame g.x g.value in
-      standing.stays view (asked host w m)
+      standing.stays view (asked host w m) tt
       (asks g.next acknowledgement g.to m g.is refl g.result.at.held (inr (refl, refl, g.may, g.result)))
   goes_of (turns.hands h) =
       let m = message.Rgoto h.frame h.entry h.token in
-      standing.stays (starting view view.chain h.call) (passes host h.to m)
+      standing.stays (starting view view.chain h.call) (passes host h.to m) tt
       (ends_with h.call h.to m h.none_out h.is (sym h.top)
       (record { there = h.there; found = h.found; may = h.may; none_out = refl; at = h.at }))
   goes_of (turns.returns r) =
       let m = message.Lgoto r.token in
-      standing.stays (starting view view.chain view.sender) (passes host r.token.host m)
+      standing.stays (starting view view.chain view.sender) (passes host r.token.host m) tt
       (ends_with view.sender r.token.host m r.gives_up.none_out r.is (sym r.top) (record {
         host = refl;
         top = r.top;

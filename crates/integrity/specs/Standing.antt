@@ -104,8 +104,13 @@ pub record StandsBy (split : Split) (c : Configuration) (view : View) (holder : 
     pub does : Does split c view holder
     pub halts : has_halted split.code.root world → holder ≡ halted
 
+-- the holder waits for no misbehaving host
+abbrev pub IsFree : Holder → Type 0
+IsFree (stuck host waiting) = ⊥
+IsFree other = ⊤
+
 -- It stands for the same configuration by others, or for one that a step leads to.
 pub data Goes (split : Split) (c : Configuration) (after : WorldShape) : Type 0 where
-  stays : (view : View) (holder : Holder) → StandsBy split c view holder after → Goes split c after
-  steps : (now : Configuration) (view : View) (holder : Holder) → MayStep split.program split.exposure c c.pending now →
-      StandsBy split now view holder after → Goes split c after
+  stays : (view : View) (holder : Holder) → IsFree holder → StandsBy split c view holder after → Goes split c after
+  steps : (now : Configuration) (view : View) (holder : Holder) → IsFree holder →
+      MayStep split.program split.exposure c c.pending now → StandsBy split now view holder after → Goes split c after
