@@ -1,4 +1,4 @@
--- Where misbehaving hosts are sent nothing, the hosts follow an altered run, whatever those hosts send.
+-- Where no turn tells a misbehaving host anything, the hosts follow an altered run, whatever those hosts send.
 use Rattle.std.proofs.Common.{◌≡◌, ◌≢◌, ◌∙◌, ◌⊎◌, inl, inr, ℕ, zero, suc, ◌+◌, ◌≤◌, ℤ, List, [], ◌∷◌, ◌++◌, length, take, drop}
 use Rattle.std.proofs.Common.{true, Option, Some, None, refl, sym, ap, subst, arith, get_or}
 use Rattle.std.specs.Prelude.{slice_get, slice_index, All, IfSome, IsSome, IsSomeAnd, IsTrue}
@@ -36,7 +36,7 @@ use Rattle.need_labels.specs.Plan.{PlanShape}
 use Rattle.split_rules.specs.Allowed.{IsAllowed}
 use Rattle.split_rules.specs.Splittable.{IsSplittable}
 use Rattle.typed_steps.specs.Views.{Split, View}
-use Rattle.integrity.specs.Altering.{StandsFor, FollowsAltered}
+use Rattle.integrity.specs.Altering.{StandsFor, FollowsAltered, TellsNothing, RunsQuietly}
 use Rattle.integrity.specs.Exposed.{bad_labels}
 use Rattle.integrity.specs.Holding.{Holder, runs, asked, answered, stuck, passes, lost, halted, IsThere, Flies, IsOwn}
 use Rattle.integrity.specs.Holding.{OwnsRunning, OwnsMessage}
@@ -159,7 +159,7 @@ module _ (split : Split) (c : Configuration) (view : View) (world : WorldShape) 
 
 -- ---- worlds along events
 
--- what is kept: misbehaving hosts were sent nothing, and the world stands for the configuration
+-- what is kept: the world stands for the configuration, by a holder that waits for no misbehaving host
 pub record Quiet (split : Split) (rows : List declared_hosts.HostShape) (bad : ℕ) (store : List (List ℤ))
     (world : WorldShape) (c : Configuration) : Type 0 where
   pub events : List Event
@@ -169,13 +169,12 @@ pub record Quiet (split : Split) (rows : List declared_hosts.HostShape) (bad : �
   pub holder : Holder
   pub free : IsFree holder
   pub stands : StandsBy split c view holder world
-  pub quiet : world.sent ≡ []
 
 pub record QuietStep (code : CodeShape) (start world : WorldShape) (event : Event) (after : WorldShape) : Type 0 where
   pub step : IsStep code world event after
   pub own : HasOwnToken start event
   pub numbers : EventHasNumbers event
-  pub quiet : after.sent ≡ []
+  pub quiet : TellsNothing event world after
 
 -- the fields and the end of a configuration
 halted_ends : (split : Split) (c : Configuration) (view : View) (holder : Holder) → Does split c view holder →
@@ -194,34 +193,13 @@ stands_for split rows bad store world c it = record {
   halted = λ has. halted_ends split c it.view it.holder it.stands.does (it.stands.halts has);
 }
 
--- ---- nothing was sent
-
-front_empty : {X : Type 0} (xs ys : List X) → xs ++ ys ≡ [] → xs ≡ []
-front_empty [] ys is = refl
-front_empty (x ∷ xs) ys is = absurd (cc)
-
-step_empty : (code : CodeShape) (world after : WorldShape) (event : Event) → IsStep code world event after →
-    after.sent ≡ [] → world.sent ≡ []
-step_empty code world after event step empty =
-    let more = told_more code world after event step in front_empty world.sent more.0 (sym more.1 ∙ empty)
-
-run_empty : (code : CodeShape) (events : List Event) (world last : WorldShape) → IsRun code world events last →
-    last.sent ≡ [] → world.sent ≡ []
-run_empty code [] world last ran empty = ap (λ (w : WorldShape). w.sent) ran ∙ empty
-run_empty code (event ∷ events) world last ran empty =
-    step_empty code world ran.0 event ran.1 (run_empty code events ran.0 last ran.2 empty)
-
--- nor was anything at a moment before
-moment_empty : (code : CodeShape) (events : List Event) (moment : ℕ) (world middle last : WorldShape) →
-    IsRun code world events last → last.sent ≡ [] → IsRun code world (take moment events) middle → middle.sent ≡ []
-moment_empty code events zero world middle last ran empty before =
-    ap (λ (w : WorldShape). w.sent) (sym before) ∙ run_empty code events world last ran empty
-moment_empty code [] (suc moment) world middle last ran empty before =
-    ap (λ (w : WorldShape). w.sent) (sym before ∙ ran) ∙ empty
-moment_empty code (event ∷ events) (suc moment) world middle last ran empty before =
-    moment_empty code events moment ran.0 middle last ran.2 empty
-    (subst (λ w. IsRun code w (take moment events) middle) (one_step code world before.0 ran.0 event before.1 ran.1)
-    before.2)
+-- the same of the first of some events
+quiet_front : (code : CodeShape) (events : List Event) (moment : ℕ) (world : WorldShape) →
+    RunsQuietly code world events → RunsQuietly code world (take moment events)
+quiet_front code events zero world quiet = tt
+quiet_front code [] (suc moment) world quiet = tt
+quiet_front code (event ∷ events) (suc moment) world quiet =
+    λ next step. let it = quiet next step in (it.0, quiet_front code events moment next it.1)
 
 -- ---- the law
 
@@ -257,7 +235,6 @@ module _ (laws : AreLaws) (split : Split) (labelled : Labelled) (needs : NeedsSh
       holder = holder;
       free = free;
       stands = stands;
-      quiet = step.quiet;
     }
 
     goes_on : Goes split c after → GoesOnHere c after
@@ -279,17 +256,17 @@ module _ (laws : AreLaws) (split : Split) (labelled : Labelled) (needs : NeedsSh
     is = lawful (threat_in split) hosts.hosts bad store it.events world exposed it.reach
 
     turn_own : (host : HostId) (holder : Holder) → OwnsRunning holder host → StandsBy split c it.view holder world →
-        IsTurnStep split.code world host after → Goes split c after
-    turn_own host (runs other thread) own stands turns =
+        IsTurnStep split.code world host after → after.sent ≡ world.sent → Goes split c after
+    turn_own host (runs other thread) own stands turns quiet =
         holder_turned split hosts.hosts bad store it.events world after host thread c it.view exposed it.reach
-        code_numbers store_numbers it.said turns (step.quiet ∙ sym it.quiet)
+        code_numbers store_numbers it.said turns quiet
         (subst (λ h. StandsBy split c it.view (runs h thread) world) (sym own) stands)
-    turn_own host (asked other w m) own stands turns = absurd own
-    turn_own host (answered other w m) own stands turns = absurd own
-    turn_own host (stuck other w) own stands turns = absurd own
-    turn_own host (passes from to m) own stands turns = absurd own
-    turn_own host lost own stands turns = absurd own
-    turn_own host halted own stands turns = absurd own
+    turn_own host (asked other w m) own stands turns quiet = absurd own
+    turn_own host (answered other w m) own stands turns quiet = absurd own
+    turn_own host (stuck other w) own stands turns quiet = absurd own
+    turn_own host (passes from to m) own stands turns quiet = absurd own
+    turn_own host lost own stands turns quiet = absurd own
+    turn_own host halted own stands turns quiet = absurd own
 
   kept : (world after : WorldShape) (c : Configuration) (event : Event) → Quiet split hosts.hosts bad store world c →
       Step world event after → GoesOnHere c after
@@ -297,7 +274,7 @@ module _ (laws : AreLaws) (split : Split) (labelled : Labelled) (needs : NeedsSh
       elim (decide_turn split c it.view world (is world after c (Turn host) it step) it.holder host) [
         | inl own ↦
             goes_on world after c (Turn host) it step
-            (turn_own world after c (Turn host) it step host it.holder own it.stands step.step)
+            (turn_own world after c (Turn host) it step host it.holder own it.stands step.step step.quiet)
         | inr apart ↦ outside world after c (Turn host) it step apart
       ]
   kept world after c (Take from to place) it step =
@@ -314,27 +291,30 @@ module _ (laws : AreLaws) (split : Split) (labelled : Labelled) (needs : NeedsSh
       (no_act split c it.view world (is world after c (Act from to made) it step) it.holder it.free it.stands from to
       made step.step.bad)
 
-  ran_of : (events : List Event) (world last : WorldShape) → IsRun split.code world events last → last.sent ≡ [] →
+  ran_of : (events : List Event) (world last : WorldShape) → IsRun split.code world events last →
+      RunsQuietly split.code world events →
       All (HasOwnToken (world_at_start split.code hosts.hosts bad store)) events → All EventHasNumbers events →
       tracks.Ran Step one_quiet split.program split.exposure (Quiet split hosts.hosts bad store) world events last
-  ran_of [] world last ran empty own said = ran
-  ran_of (event ∷ events) world last ran empty own said = (
-    ran.0,
-    record {
-      step = ran.1;
-      own = own 0 event (omega arith);
-      numbers = said 0 event (omega arith);
-      quiet = run_empty split.code events ran.0 last ran.2 empty;
-    },
-    ran_of events ran.0 last ran.2 empty (λ k d lt. own (suc k) d (omega arith))
-        (λ k d lt. said (suc k) d (omega arith)),
-  )
+  ran_of [] world last ran quiet own said = ran
+  ran_of (event ∷ events) world last ran quiet own said =
+      let here = quiet ran.0 ran.1 in (
+        ran.0,
+        record {
+          step = ran.1;
+          own = own 0 event (omega arith);
+          numbers = said 0 event (omega arith);
+          quiet = here.0;
+        },
+        ran_of events ran.0 last ran.2 here.1 (λ k d lt. own (suc k) d (omega arith))
+            (λ k d lt. said (suc k) d (omega arith)),
+      )
 
   pub follows : (events : List Event) (last : WorldShape) (state : HostShape) →
       IsReached split.code hosts.hosts bad store events last → All EventHasNumbers events →
-      state_at (world_at_start split.code hosts.hosts bad store) split.code.root ≡ Some state → last.sent ≡ [] →
+      state_at (world_at_start split.code hosts.hosts bad store) split.code.root ≡ Some state →
+      RunsQuietly split.code (world_at_start split.code hosts.hosts bad store) events →
       FollowsAltered split.program split.exposure split.code hosts.hosts bad store events
-  follows events last state reach said obeys empty =
+  follows events last state reach said obeys quiet =
       let start = world_at_start split.code hosts.hosts bad store in
       let c = configuration_at_start split.program store in
       let begin = stands_at_start split hosts.hosts bad store state obeys in
@@ -348,11 +328,10 @@ module _ (laws : AreLaws) (split : Split) (labelled : Labelled) (needs : NeedsSh
         holder = runs split.code.root begin.1;
         free = tt;
         stands = begin.2;
-        quiet = refl;
       } in
       let it =
       tracks.along Step one_quiet split.program split.exposure (Quiet split hosts.hosts bad store) kept events start last
-      c first (ran_of events start last reach.ran empty reach.own said) in
+      c first (ran_of events start last reach.ran quiet reach.own said) in
       record {
         run = c ∷ it.others;
         altered = (refl, it.altered);
@@ -365,7 +344,6 @@ module _ (laws : AreLaws) (split : Split) (labelled : Labelled) (needs : NeedsSh
             (slice_get (c ∷ it.others) (slice_index it.places moment))
             (λ d has. stands_for split hosts.hosts bad store world d has)
             (it.stands moment world within
-            (ran_of (take moment events) start world ran
-            (moment_empty split.code events moment start world last reach.ran empty ran)
+            (ran_of (take moment events) start world ran (quiet_front split.code events moment start quiet)
             (All-take (HasOwnToken start) moment events reach.own) (All-take EventHasNumbers moment events said)));
       }

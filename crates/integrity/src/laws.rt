@@ -35,7 +35,7 @@ ghost use Rattle.token_laws.specs.Numbers.{CodeHasNumbers, RowsHaveNumbers, Even
 ghost use Rattle.token_laws.specs.Reached.{IsReached};
 ghost use Rattle.typed_steps.specs.Views.{Split, View};
 ghost use Rattle.token_laws.specs.TokenExamples.{small, start};
-ghost use Rattle.integrity.specs.Altering.{StandsFor, FollowsAltered};
+ghost use Rattle.integrity.specs.Altering.{StandsFor, FollowsAltered, RunsQuietly};
 ghost use Rattle.integrity.specs.Exposed.{AreAsBefore, FieldsStand, bad_labels, exposure_of};
 ghost use Rattle.integrity.specs.Holding.{Holder, runs, IsOwn, IsTight, StartsTight};
 ghost use Rattle.integrity.specs.IntegrityExamples.{sent_threat, sending, waiting, two_fields, exposed_to, store};
@@ -157,6 +157,23 @@ pub fn standing_laws()
         CodeHasNumbers split.code → RowsHaveNumbers store → All EventHasNumbers events →
         StandsBy split c view holder world → IsStep split.code world (Take from to place) after →
         IsOwn holder world (Take from to place) → Goes split c after }
+{
+    opening_laws();
+}
+
+/// Where the root obeys and no turn tells a misbehaving host anything, the hosts follow an altered run of the program,
+/// whatever misbehaving hosts send and are answered: at every moment each field on an obeying host, which no misbehaving
+/// host may affect, has the value of one configuration of it, and once the root has halted that is at its end.
+pub fn quiet_laws()
+    ensures follows { (split : Split) (labelled : Labelled) (needs : NeedsShape) (hosts : HostsShape)
+        (plan : PlanShape) (bad : ℕ) (store : List (List ℤ)) (events : List Event) (world : WorldShape)
+        (state : HostShape) →
+        let start = world_at_start split.code hosts.hosts bad store in
+        threat_in split ≡ threat_of labelled needs hosts plan split.table bad →
+        IsSplittable labelled hosts plan → IsAllowed labelled needs hosts plan → CodeHasNumbers split.code →
+        RowsHaveNumbers store → IsReached split.code hosts.hosts bad store events world → All EventHasNumbers events →
+        state_at start split.code.root ≡ Some state → RunsQuietly split.code start events →
+        FollowsAltered split.program split.exposure split.code hosts.hosts bad store events }
 {
     opening_laws();
 }
