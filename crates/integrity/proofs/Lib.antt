@@ -26,3 +26,4 @@ pub mod HolderLaws
 pub mod TakeLaws
 pub mod QuietRuns
 pub mod IntegrityExamples
+pub mod ChainExamples

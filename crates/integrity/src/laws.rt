@@ -1,6 +1,6 @@
 //! What misbehaving hosts can't affect, whatever they do. The calls do nothing: their contracts are the laws.
 
-ghost use Rattle.std.specs.Prelude.{◌≡◌, ℕ, ℤ, List, [], ◌∷◌, All, Some};
+ghost use Rattle.std.specs.Prelude.{◌≡◌, ◌≢◌, ℕ, ℤ, List, [], ◌∷◌, All, Some};
 ghost use Rattle.std.specs.Int.{bit_at};
 ghost use Rattle.js_base.specs.declared.ids.FrameId.{FrameId};
 ghost use Rattle.js_base.specs.declared.ids.HostId.{HostId};
@@ -23,7 +23,7 @@ ghost use Rattle.ics_stack.specs.declared.stack.StackEntry.{StackEntry};
 ghost use Rattle.event_text.specs.declared.event.Event.{Event};
 ghost use Rattle.event_text.specs.declared.event.Event.TheVariants.{Take, Turn};
 ghost use Rattle.net_world.specs.Fits.{HasOwnToken};
-ghost use Rattle.net_world.specs.World.{WorldShape, IsStep, IsRun, state_at, world_at_start};
+ghost use Rattle.net_world.specs.World.{WorldShape, IsStep, IsRun, has_halted, state_at, world_at_start};
 ghost use Rattle.split_rules.specs.Walk.{entry_id};
 ghost use Rattle.split_rules.specs.Allowed.{IsAllowed};
 ghost use Rattle.split_rules.specs.OpenExamples.{untrusted, trusted_by_first};
@@ -34,16 +34,18 @@ ghost use Rattle.split_rules.specs.TypedCode.{Table, IsTypedCode};
 ghost use Rattle.token_laws.specs.Numbers.{CodeHasNumbers, RowsHaveNumbers, EventHasNumbers};
 ghost use Rattle.token_laws.specs.Reached.{IsReached};
 ghost use Rattle.typed_steps.specs.Views.{Split, View};
-ghost use Rattle.token_laws.specs.TokenExamples.{small, start};
+ghost use Rattle.token_laws.specs.TokenExamples.{bad_start, first_token, given, handing, host_id, small, start};
 ghost use Rattle.integrity.specs.Altering.{StandsFor, FollowsAltered, RunsQuietly};
 ghost use Rattle.integrity.specs.Exposed.{AreAsBefore, FieldsStand, bad_labels, exposure_of};
-ghost use Rattle.integrity.specs.Holding.{Holder, runs, IsOwn, IsTight, StartsTight};
+ghost use Rattle.integrity.specs.Holding.{AreLinked, Holder, runs, lost, IsOwn, IsOutsideBut, IsStanding, IsTight};
+ghost use Rattle.integrity.specs.Holding.{StartsTight};
 ghost use Rattle.integrity.specs.IntegrityExamples.{sent_threat, sending, waiting, two_fields, exposed_to, store};
 ghost use Rattle.integrity.specs.IntegrityExamples.{before_set, sets_to_nine, after_set, after_refused, halted_world};
 ghost use Rattle.integrity.specs.IntegrityExamples.{at_end, not_at_end};
 ghost use Rattle.integrity.specs.Standing.{Goes, StandsBy, threat_in};
 ghost use Rattle.integrity.specs.Outside.{EntryIsOpen, IsOutside, MessageIsOpen, StateIsOpen, Threat, threat_of};
 
+use token_laws::token_examples;
 use split_rules::{opening_examples, opening_laws, split_laws, trust_laws};
 
 /// Where all that goes on in a world could be the doing of misbehaving hosts, it is so after any event, and no field or
@@ -223,4 +225,30 @@ pub fn integrity_examples()
     ensures halted_denied { (exposure : Exposure) → ¬ StandsFor small exposure halted_world not_at_end }
 {
     opening_examples();
+}
+
+/// Chains and their holders in small worlds.
+pub fn chain_examples()
+    // Before the first event the thread at `main` holds the token of the entry that ends the program. So that is not
+    // lost, and not all is outside.
+    ensures not_lost { (threat : Threat) (last : StackEntry) (below : List StackEntry) → last.token ≡ first_token →
+        ¬ IsTight threat (last ∷ below) lost start }
+    ensures not_outside { (planned : PlannedShape) (table : Table) (exposure : Exposure) →
+        let threat : Threat = record { planned = planned; code = small; table = table; exposure = exposure } in
+        ¬ IsOutsideBut threat [] lost start }
+    // No entry of a chain has a token that a misbehaving host was sent.
+    ensures sent_falls { (on_stack : StackEntry) → on_stack.token ≡ first_token → ¬ IsStanding given on_stack }
+    // A turn of the host where the holder's thread runs is the holder's, and one of another host is not.
+    ensures own_turn { (thread : ThreadShape) → IsOwn (runs (host_id 0) thread) start (Turn (host_id 0)) }
+    ensures other_turn { (thread : ThreadShape) → ¬ IsOwn (runs (host_id 0) thread) start (Turn (host_id 1)) }
+    // Each entry of a chain keeps the token of the next.
+    ensures unlinked { (one next : StackEntry) → one.kept ≢ next.token → ¬ AreLinked (one ∷ next ∷ []) }
+    // A turn that pushes an entry tells misbehaving hosts nothing. One that hands a token over to such a host does.
+    ensures quiet { RunsQuietly small start (Turn (host_id 0) ∷ []) }
+    ensures told { ¬ RunsQuietly handing bad_start (Turn (host_id 0) ∷ []) }
+    // Where the root has halted, no thread is the holder.
+    ensures halted_denied { (split : Split) (c : Configuration) (view : View) (host : HostId) (thread : ThreadShape)
+        (world : WorldShape) → has_halted split.code.root world → ¬ StandsBy split c view (runs host thread) world }
+{
+    token_examples();
 }
