@@ -25,5 +25,6 @@ pub mod PassMoves
 pub mod HolderLaws
 pub mod TakeLaws
 pub mod QuietRuns
+pub mod SetPrograms
 pub mod IntegrityExamples
 pub mod ChainExamples

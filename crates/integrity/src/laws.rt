@@ -34,6 +34,7 @@ ghost use Rattle.split_rules.specs.TypedCode.{Table, IsTypedCode};
 ghost use Rattle.token_laws.specs.Numbers.{CodeHasNumbers, RowsHaveNumbers, EventHasNumbers};
 ghost use Rattle.token_laws.specs.Reached.{IsReached};
 ghost use Rattle.typed_steps.specs.Views.{Split, View};
+ghost use Rattle.simulation.specs.Obeying.{IsSet};
 ghost use Rattle.token_laws.specs.TokenExamples.{bad_start, first_token, given, handing, host_id, small, start};
 ghost use Rattle.integrity.specs.Altering.{StandsFor, FollowsAltered, RunsQuietly};
 ghost use Rattle.integrity.specs.Exposed.{AreAsBefore, FieldsStand, bad_labels, exposure_of};
@@ -167,16 +168,18 @@ pub fn standing_laws()
 /// whatever misbehaving hosts send and are answered: at every moment each field on an obeying host, which no misbehaving
 /// host may affect, has the value of one configuration of it, and once the root has halted that is at its end.
 pub fn quiet_laws()
-    ensures follows { (split : Split) (labelled : Labelled) (needs : NeedsShape) (hosts : HostsShape)
+    ensures follows { (program : Program) (labelled : Labelled) (needs : NeedsShape) (hosts : HostsShape)
         (plan : PlanShape) (bad : ℕ) (store : List (List ℤ)) (events : List Event) (world : WorldShape)
         (state : HostShape) →
-        let start = world_at_start split.code hosts.hosts bad store in
-        threat_in split ≡ threat_of labelled needs hosts plan split.table bad →
-        IsSplittable labelled hosts plan → IsAllowed labelled needs hosts plan → CodeHasNumbers split.code →
-        RowsHaveNumbers store → IsReached split.code hosts.hosts bad store events world → All EventHasNumbers events →
-        state_at start split.code.root ≡ Some state → RunsQuietly split.code start events →
-        FollowsAltered split.program split.exposure split.code hosts.hosts bad store events }
+        let code = split_code labelled needs hosts plan in
+        let start = world_at_start code hosts.hosts bad store in
+        IsSet program labelled needs hosts plan → CodeHasNumbers code → RowsHaveNumbers store →
+        IsReached code hosts.hosts bad store events world → All EventHasNumbers events →
+        state_at start code.root ≡ Some state → RunsQuietly code start events →
+        FollowsAltered program (exposure_of labelled needs hosts bad) code hosts.hosts bad store events }
 {
+    split_laws();
+    trust_laws();
     opening_laws();
 }
 

@@ -1,10 +1,13 @@
-use Rattle.integrity.proofs.QuietRuns.{follows}
+use Rattle.integrity.proofs.RootLaws.{AreSplitLaws}
+use Rattle.integrity.proofs.SetPrograms.{follows_set}
 use Rattle.integrity.proofs.laws.quiet_laws.Goals as goal
 
 pub returns : goal.returns
-returns c = record {
-  follows = λ split labelled needs hosts plan bad store events world state same splittable allowed code_numbers
-      store_numbers reach said obeys quiet.
-      follows (record { opens = c.opening_laws.ensures.opens; labels = c.opening_laws.ensures.labels }) split labelled needs
-      hosts plan bad store same splittable allowed code_numbers store_numbers events world state reach said obeys quiet;
-}
+returns c =
+    let laws : AreSplitLaws =
+    record {
+      opening = record { opens = c.opening_laws.ensures.opens; labels = c.opening_laws.ensures.labels };
+      typable = c.trust_laws.ensures.typable;
+      typed = c.split_laws.ensures.typed;
+    } in
+    record { follows = follows_set laws }
