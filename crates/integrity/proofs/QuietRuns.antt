@@ -1,7 +1,7 @@
 -- Where no turn tells a misbehaving host anything, the hosts follow an altered run, whatever those hosts send.
-use Rattle.std.proofs.Common.{◌≡◌, ◌≢◌, ◌∙◌, ◌⊎◌, inl, inr, ℕ, zero, suc, ◌+◌, ◌≤◌, ℤ, List, [], ◌∷◌, ◌++◌, length, take, drop}
-use Rattle.std.proofs.Common.{true, Option, Some, None, refl, sym, ap, subst, arith, get_or}
-use Rattle.std.specs.Prelude.{slice_get, slice_index, All, IfSome, IsSome, IsSomeAnd, IsTrue}
+use Rattle.std.proofs.Common.{◌≡◌, ◌∙◌, ◌⊎◌, inl, inr, ℕ, zero, suc, ℤ, List, [], ◌∷◌, ◌++◌, take}
+use Rattle.std.proofs.Common.{true, Some, refl, sym, ap, subst, arith}
+use Rattle.std.specs.Prelude.{slice_get, slice_index, All, IsSomeAnd}
 use Rattle.std.proofs.lemmas.Bool.Decides.{eqb_tells}
 use Rattle.std.proofs.lemmas.List.Elements.{All-push, All-nil, All-take}
 use Rattle.js_base.specs.declared.ids.HostId.{HostId}
@@ -12,17 +12,16 @@ use Rattle.jif_tree.specs.SourceRun.{Configuration, IsAtEnd, configuration_at_st
 use Rattle.jif_tree.proofs.AlteredTracks as tracks
 use Rattle.host_core.specs.Host.{HostShape}
 use Rattle.host_code.specs.Code.{CodeShape}
-use Rattle.host_code.specs.Thread.{ThreadShape}
 use Rattle.event_text.specs.declared.event.Event.{Event}
 use Rattle.event_text.specs.declared.event.Event.TheVariants.{Take, Turn, Act}
 use Rattle.event_text.specs.declared.event.BadMessage.{BadMessage}
 use Rattle.net_world.specs.Fits.{HasOwnToken}
 use Rattle.net_world.specs.Flying.{Flight}
-use Rattle.net_world.specs.Told.{SentMessage, message_made}
+use Rattle.net_world.specs.Told.{message_made}
 use Rattle.net_world.specs.World.{WorldShape, IsStep, IsRun, IsTurnStep, state_at, misbehaves, tokens_sent, world_at_start}
 use Rattle.net_world.proofs.Fitting.{bad_differs}
 use Rattle.net_world.proofs.Present.{same_id}
-use Rattle.net_world.proofs.StepLaws.{told_more, one_step}
+use Rattle.net_world.proofs.StepLaws.{one_step}
 use Rattle.token_laws.specs.Numbers.{CodeHasNumbers, RowsHaveNumbers, EventHasNumbers}
 use Rattle.token_laws.specs.Reached.{IsReached}
 use Rattle.token_laws.specs.Requests.{number_asked, number_answered}
@@ -38,7 +37,7 @@ use Rattle.split_rules.specs.Splittable.{IsSplittable}
 use Rattle.typed_steps.specs.Views.{Split, View}
 use Rattle.integrity.specs.Altering.{StandsFor, FollowsAltered, TellsNothing, RunsQuietly}
 use Rattle.integrity.specs.Exposed.{bad_labels}
-use Rattle.integrity.specs.Holding.{Holder, runs, asked, answered, stuck, passes, lost, halted, IsThere, Flies, IsOwn}
+use Rattle.integrity.specs.Holding.{Holder, runs, asked, answered, stuck, passes, lost, halted, IsOwn}
 use Rattle.integrity.specs.Holding.{OwnsRunning, OwnsMessage}
 use Rattle.integrity.specs.Outside.{Threat, threat_of}
 use Rattle.integrity.specs.Standing as standing
@@ -88,74 +87,74 @@ none_own : (world : WorldShape) (from to : HostId) (place : ℕ) →
 none_own world from to place has = (one_of_some (slice_get (world.flying from to) place) (λ f. ⊥) has).has
 
 module _ (split : Split) (c : Configuration) (view : View) (world : WorldShape) (is : IsLawful (threat_in split) world)
-    where
-  decide_take : (holder : Holder) → IsFree holder → StandsBy split c view holder world → (from to : HostId) (k : ℕ) →
-      IsOwn holder world (Take from to k) ⊎ (¬ IsOwn holder world (Take from to k))
-  decide_take (runs host thread) free stands from to k = inr (none_own world from to k)
-  decide_take (asked host w m) free stands from to k =
-      let flies = stands.tight.there.1 in
-      let state = state_of world host w stands.tight.there.0 in
-      let number = ap number_asked flies.is ∙ stands.tight.there.2 in
-      decide_at (asked host w m) world host w.asked from to flies.among.0 k
-      (own_there (asked host w m) world host w.asked flies.flight flies.among.0 flies.among.1 (refl, refl, number))
-      (asked_only split world is host w m state.0 state.1 flies.among.0 flies.flight flies.among.1 number)
-  decide_take (answered host w m) free stands from to k =
-      let flies = stands.tight.there.1 in
-      let state = state_of world host w stands.tight.there.0 in
-      let number = ap number_answered flies.is ∙ stands.tight.there.2 in
-      decide_at (answered host w m) world w.asked host from to flies.among.0 k
-      (own_there (answered host w m) world w.asked host flies.flight flies.among.0 flies.among.1 (refl, refl, number))
-      (answered_only split world is host w m state.0 state.1 flies.among.0 flies.flight flies.among.1 number)
-  decide_take (stuck host w) free stands from to k = absurd free
-  decide_take (passes sender target m) free stands from to k =
-      let flies = stands.tight.there in
-      decide_at (passes sender target m) world sender target from to flies.among.0 k
-      (own_there (passes sender target m) world sender target flies.flight flies.among.0 flies.among.1
-      (refl, refl, flies.is))
-      (passes_only split c view world is sender target m stands flies.among.0 flies.flight flies.among.1 flies.is)
-  decide_take lost free stands from to k = inr (none_own world from to k)
-  decide_take halted free stands from to k = inr (none_own world from to k)
+  where
+    decide_take : (holder : Holder) → IsFree holder → StandsBy split c view holder world → (from to : HostId) (k : ℕ) →
+        IsOwn holder world (Take from to k) ⊎ (¬ IsOwn holder world (Take from to k))
+    decide_take (runs host thread) free stands from to k = inr (none_own world from to k)
+    decide_take (asked host w m) free stands from to k =
+        let flies = stands.tight.there.1 in
+        let state = state_of world host w stands.tight.there.0 in
+        let number = ap number_asked flies.is ∙ stands.tight.there.2 in
+        decide_at (asked host w m) world host w.asked from to flies.among.0 k
+        (own_there (asked host w m) world host w.asked flies.flight flies.among.0 flies.among.1 (refl, refl, number))
+        (asked_only split world is host w m state.0 state.1 flies.among.0 flies.flight flies.among.1 number)
+    decide_take (answered host w m) free stands from to k =
+        let flies = stands.tight.there.1 in
+        let state = state_of world host w stands.tight.there.0 in
+        let number = ap number_answered flies.is ∙ stands.tight.there.2 in
+        decide_at (answered host w m) world w.asked host from to flies.among.0 k
+        (own_there (answered host w m) world w.asked host flies.flight flies.among.0 flies.among.1 (refl, refl, number))
+        (answered_only split world is host w m state.0 state.1 flies.among.0 flies.flight flies.among.1 number)
+    decide_take (stuck host w) free stands from to k = absurd free
+    decide_take (passes sender target m) free stands from to k =
+        let flies = stands.tight.there in
+        decide_at (passes sender target m) world sender target from to flies.among.0 k
+        (own_there (passes sender target m) world sender target flies.flight flies.among.0 flies.among.1
+        (refl, refl, flies.is))
+        (passes_only split c view world is sender target m stands flies.among.0 flies.flight flies.among.1 flies.is)
+    decide_take lost free stands from to k = inr (none_own world from to k)
+    decide_take halted free stands from to k = inr (none_own world from to k)
 
-  decide_turn : (holder : Holder) (host : HostId) →
-      IsOwn holder world (Turn host) ⊎ (¬ IsOwn holder world (Turn host))
-  decide_turn (runs other thread) host = elim (eqb_tells host.0 other.0) [
-    | inl same ↦ inl (same_id host other same.1)
-    | inr apart ↦ inr (λ own. apart.1 (ap (λ (h : HostId). h.0) own))
-  ]
-  decide_turn (asked other w m) host = inr (λ own. own)
-  decide_turn (answered other w m) host = inr (λ own. own)
-  decide_turn (stuck other w) host = inr (λ own. own)
-  decide_turn (passes from to m) host = inr (λ own. own)
-  decide_turn lost host = inr (λ own. own)
-  decide_turn halted host = inr (λ own. own)
+    decide_turn : (holder : Holder) (host : HostId) →
+        IsOwn holder world (Turn host) ⊎ (¬ IsOwn holder world (Turn host))
+    decide_turn (runs other thread) host = elim (eqb_tells host.0 other.0) [
+      | inl same ↦ inl (same_id host other same.1)
+      | inr apart ↦ inr (λ own. apart.1 (ap (λ (h : HostId). h.0) own))
+    ]
+    decide_turn (asked other w m) host = inr (λ own. own)
+    decide_turn (answered other w m) host = inr (λ own. own)
+    decide_turn (stuck other w) host = inr (λ own. own)
+    decide_turn (passes from to m) host = inr (λ own. own)
+    decide_turn lost host = inr (λ own. own)
+    decide_turn halted host = inr (λ own. own)
 
-  -- no act is the holder's, which waits for no misbehaving host
-  no_act : (holder : Holder) → IsFree holder → StandsBy split c view holder world → (from to : HostId)
-      (made : BadMessage) → misbehaves world from ≡ true → ¬ IsOwn holder world (Act from to made)
-  no_act (runs host thread) free stands from to made bad own =
-      (one_of_some (message_made (tokens_sent world) made) (OwnsMessage (runs host thread) from to) own).has
-  no_act (asked host w m) free stands from to made bad own =
-      let its = (one_of_some (message_made (tokens_sent world) made) (OwnsMessage (asked host w m) from to) own).has in
-      let state = state_of world host w stands.tight.there.0 in
-      bad_differs world from host state.0 bad state.1 its.0
-  no_act (answered host w m) free stands from to made bad own =
-      let its = (one_of_some (message_made (tokens_sent world) made) (OwnsMessage (answered host w m) from to) own).has in
-      let flies = stands.tight.there.1 in
-      let ends = ends_obey split.code world w.asked host flies.among.0 flies.flight is.fits is.asked flies.among.1 in
-      let state = has_state (state_at world w.asked) ends.0 in
-      bad_differs world from w.asked state.0 bad state.1 its.0
-  no_act (stuck host w) free stands from to made bad own = free
-  no_act (passes sender target m) free stands from to made bad own =
-      let its = (one_of_some (message_made (tokens_sent world) made) (OwnsMessage (passes sender target m) from to) own).has
-      in
-      let flies = stands.tight.there in
-      let ends = ends_obey split.code world sender target flies.among.0 flies.flight is.fits is.asked flies.among.1 in
-      let state = has_state (state_at world sender) ends.0 in
-      bad_differs world from sender state.0 bad state.1 its.0
-  no_act lost free stands from to made bad own =
-      (one_of_some (message_made (tokens_sent world) made) (OwnsMessage lost from to) own).has
-  no_act halted free stands from to made bad own =
-      (one_of_some (message_made (tokens_sent world) made) (OwnsMessage halted from to) own).has
+    -- no act is the holder's, which waits for no misbehaving host
+    no_act : (holder : Holder) → IsFree holder → StandsBy split c view holder world → (from to : HostId)
+        (made : BadMessage) → misbehaves world from ≡ true → ¬ IsOwn holder world (Act from to made)
+    no_act (runs host thread) free stands from to made bad own =
+        (one_of_some (message_made (tokens_sent world) made) (OwnsMessage (runs host thread) from to) own).has
+    no_act (asked host w m) free stands from to made bad own =
+        let its = (one_of_some (message_made (tokens_sent world) made) (OwnsMessage (asked host w m) from to) own).has in
+        let state = state_of world host w stands.tight.there.0 in
+        bad_differs world from host state.0 bad state.1 its.0
+    no_act (answered host w m) free stands from to made bad own =
+        let its = (one_of_some (message_made (tokens_sent world) made) (OwnsMessage (answered host w m) from to) own).has in
+        let flies = stands.tight.there.1 in
+        let ends = ends_obey split.code world w.asked host flies.among.0 flies.flight is.fits is.asked flies.among.1 in
+        let state = has_state (state_at world w.asked) ends.0 in
+        bad_differs world from w.asked state.0 bad state.1 its.0
+    no_act (stuck host w) free stands from to made bad own = free
+    no_act (passes sender target m) free stands from to made bad own =
+        let its = (one_of_some (message_made (tokens_sent world) made) (OwnsMessage (passes sender target m) from to) own).has
+        in
+        let flies = stands.tight.there in
+        let ends = ends_obey split.code world sender target flies.among.0 flies.flight is.fits is.asked flies.among.1 in
+        let state = has_state (state_at world sender) ends.0 in
+        bad_differs world from sender state.0 bad state.1 its.0
+    no_act lost free stands from to made bad own =
+        (one_of_some (message_made (tokens_sent world) made) (OwnsMessage lost from to) own).has
+    no_act halted free stands from to made bad own =
+        (one_of_some (message_made (tokens_sent world) made) (OwnsMessage halted from to) own).has
 
 -- ---- worlds along events
 

@@ -46,8 +46,8 @@ ghost use Rattle.integrity.specs.IntegrityExamples.{at_end, not_at_end};
 ghost use Rattle.integrity.specs.Standing.{Goes, StandsBy, threat_in};
 ghost use Rattle.integrity.specs.Outside.{EntryIsOpen, IsOutside, MessageIsOpen, StateIsOpen, Threat, threat_of};
 
-use token_laws::token_examples;
 use split_rules::{opening_examples, opening_laws, split_laws, trust_laws};
+use token_laws::token_examples;
 
 /// Where all that goes on in a world could be the doing of misbehaving hosts, it is so after any event, and no field or
 /// variable has changed that they may not affect.
