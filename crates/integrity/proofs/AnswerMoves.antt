@@ -77,7 +77,8 @@ module _ (split : Split) (c : Configuration) (view : View) (host : HostId) (w : 
       a.is t.step.leaves in
       let moved : Moved world owner a.new flying after =
       record { hosts = posted.moved.hosts; flying = posted.moved.flying } in
-      let there : state_at after owner ≡ Some a.new = mover_state world after owner old a.new flying t.step.obeys moved in
+      let there : state_at after owner ≡ Some a.new =
+      mover_state world after owner old a.new flying t.step.obeys moved in
       let host_there : state_at after host ≡ Some host_state.0 =
       other_state world after owner host a.new flying moved apart_number ∙ host_state.1 in
       let me : a.new.me ≡ owner = a.steady.me ∙ me_is split c view (asked host w m) world after host owner place t in
@@ -125,7 +126,8 @@ module _ (split : Split) (c : Configuration) (view : View) (host : HostId) (w : 
                       (sym (a.running ∙ t.step.rests)) tt);
                   waiting = subst (λ h. All (λ one. OwnsWaiting next h one
                       ⊎ ThreadIsOpen (threat_in split) h one.thread) a.new.waiting) (sym a.steady.me)
-                      (subst (All (λ one. OwnsWaiting next old.me one ⊎ ThreadIsOpen (threat_in split) old.me one.thread))
+                      (subst (All (λ one. OwnsWaiting next old.me one ⊎ ThreadIsOpen
+                      (threat_in split) old.me one.thread))
                       (sym a.steady.waiting) before.waiting);
                   entries = grown_entries (threat_in split) owner view.chain a.seen.chain old.entries a.new.entries
                       a.grown before.entries;
@@ -142,7 +144,8 @@ module _ (split : Split) (c : Configuration) (view : View) (host : HostId) (w : 
               });
           holds = a.keeps after moved.hosts;
           sends = some_of (state_at after host) (λ s. Sends split a.seen s host) host_state.0 host_there
-              (a.sent host_state.0 (subst (λ o. IsSomeAnd o (λ s. Sends split view s host)) host_state.1 t.stands.sends));
+              (a.sent host_state.0 (subst (λ o. IsSomeAnd o
+              (λ s. Sends split view s host)) host_state.1 t.stands.sends));
           does = (a.is_chain, a.ready);
           halts = none_halted split c view (asked host w m) world after host owner place t next a.new
               (λ same. absurd (cc)) moved.hosts a.steady.halted;

@@ -38,13 +38,15 @@ with_new P flying from to flights one other new old =
 
 -- what was in flight from a host to a host is in flight there
 abbrev pub FliesOn : Flying → Flying → Type 0
-FliesOn old new = (one other : HostId) (flight : Flight) → IsAmong (old one other) flight → IsAmong (new one other) flight
+FliesOn old new = (one other : HostId) (flight : Flight) → IsAmong (old one other) flight → IsAmong
+    (new one other) flight
 
 pub flies_without : (world : WorldShape) (from to : HostId) (place : ℕ) (one other : HostId) (flight : Flight) →
     (has : IsAmong (world.flying one other) flight) → (one ≡ from → other ≡ to → has.0 ≢ place) →
     IsAmong ((without_flight world from to place).flying one other) flight
 flies_without world from to place one other flight has apart =
-    with_new (λ flights i j. IsAmong flights flight) world.flying from to (remove (world.flying from to) place) one other
+    with_new (λ flights i j. IsAmong flights flight) world.flying from to (remove
+    (world.flying from to) place) one other
     (λ first second.
     among_without (world.flying from to) has.0 place flight
     (ap (λ h. slice_get (world.flying h to) has.0) (sym first) ∙ ap (λ h. slice_get (world.flying one h) has.0)

@@ -33,7 +33,8 @@ use Rattle.token_laws.proofs.OneToken.{only_one, token_itself}
 use Rattle.token_laws.proofs.Places.{held_once_or_more}
 use Rattle.token_laws.proofs.WorldTokens.{Accounts}
 use Rattle.token_laws.proofs.Worth.{worth_sent, worth_held, one_of}
-use Rattle.integrity.specs.Holding.{IsAmong, Holder, runs, asked, answered, stuck, passes, lost, halted, first_of, token_of}
+use Rattle.integrity.specs.Holding.{IsAmong, Holder, runs, asked, answered}
+use Rattle.integrity.specs.Holding.{stuck, passes, lost, halted, first_of, token_of}
 use Rattle.integrity.specs.Holding.{Waits, Flies, IsThere, HasTop, OwnsRunning, OwnsMessage, AreLinked}
 use Rattle.integrity.proofs.Among.{one_of_some, some_of}
 use Rattle.integrity.proofs.OpenSteps.{some_each}

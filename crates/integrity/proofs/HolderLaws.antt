@@ -34,7 +34,8 @@ pub numbers_of : (split : Split) (world : WorldShape) (host : HostId) (state : H
 numbers_of split world host state numbers obeys =
     let has = subst (λ o. IfSome o StateHasNumbers) obeys (numbers.states host) in
     record {
-      elements = λ field place far. element_fits (row_of state.rows field.0) place (row_fits state.rows field.0 has.rows);
+      elements = λ field place far. element_fits (row_of state.rows field.0) place
+          (row_fits state.rows field.0 has.rows);
       variables = λ frame x far. has.variables frame x;
     }
 

@@ -197,7 +197,8 @@ does_open threat state from (message.Token request token) was said = wakes_open 
 
 -- ---- the events
 
-pub state_fits : (threat : Threat) (world : WorldShape) (host : HostId) (state : HostShape) → ShapeFits threat.code world →
+pub state_fits : (threat : Threat) (world : WorldShape) (host : HostId) (state : HostShape) →
+    ShapeFits threat.code world →
     state_at world host ≡ Some state → IsStateOf threat.code host state
 state_fits threat world host state fits obeys =
     subst (λ (o : Option HostShape). IfSome o (IsStateOf threat.code host)) obeys (fits.states host)

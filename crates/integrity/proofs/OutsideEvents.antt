@@ -341,7 +341,8 @@ pub take_leaves : (threat : Threat) → IsKnown threat → (chain : List StackEn
     IsTakeStep threat.code world from to place after → IsTight threat chain holder world →
     ¬ IsOwn holder world (Take from to place) → Leaves threat chain holder world after
 take_leaves threat known chain holder world after from to place is step tight apart =
-    let P : HostId → HostId → Message → Type 0 = λ one other m. OwnsMessage holder one other m ⊎ MessageIsOpen threat m in
+    let P : HostId → HostId → Message → Type 0 = λ one other m. OwnsMessage holder one other m ⊎
+    MessageIsOpen threat m in
     let m = step.flight.message in
     let not_own : OwnsMessage holder from to m → ⊥ =
     λ own.

@@ -1,4 +1,5 @@
--- The token in flight is taken: a thread starts at an entry, or the first entry of the chain is taken off, or it is lost.
+-- The token in flight is taken: a thread starts at an entry, or the first entry of the chain is taken off, or it is
+-- lost.
 use Rattle.std.proofs.Common.{◌≡◌, ◌≢◌, ◌∙◌, ◌⊎◌, inl, ℕ, zero, suc, Bool, true, false, List, [], ◌∷◌, Some}
 use Rattle.std.proofs.Common.{refl, sym, ap, subst, arith}
 use Rattle.std.specs.Prelude.{◌==◌, slice_get, remove, IsSomeAnd}
@@ -59,7 +60,8 @@ flown : (world : WorldShape) (from to : HostId) (place : ℕ) (one other : HostI
     slice_get ((without_flight world from to place).flying one other) k ≡ Some flight →
     WasAt world from to place one other flight
 flown world from to place one other k flight =
-    cell_apart (λ flights i j. slice_get flights k ≡ Some flight → WasAt world from to place i j flight) world.flying from
+    cell_apart (λ flights i j. slice_get flights k ≡ Some flight →
+    WasAt world from to place i j flight) world.flying from
     to (remove (world.flying from to) place) one other (one.0 == from.0) (other.0 == to.0) refl refl
     (λ first second is.
     let it = removed_from (world.flying from to) place k flight is in
@@ -173,7 +175,8 @@ module _ (split : Split) (c : Configuration) (view : View) (m : Message) (world 
     place = in_flight from to place;
     not_kept = λ other at same. absurd (cc);
     held = λ other top.
-        some_of (slice_get (world.flying from to) place) (λ f. token_in f.message ≡ Some other) t.step.flight t.step.there
+        some_of (slice_get (world.flying from to) place)
+        (λ f. token_in f.message ≡ Some other) t.step.flight t.step.there
         (ap token_in (message_is ∙ is) ∙ sym g.top ∙ top);
     goes = λ same. absurd (cc);
   }

@@ -1,4 +1,5 @@
--- The host of the first entry of a chain takes that off its stack, for whoever gives its token back, or the token is lost.
+-- The host of the first entry of a chain takes that off its stack, for whoever gives its token back, or the token is
+-- lost.
 use Rattle.std.proofs.Common.{◌≡◌, ◌≢◌, ◌∙◌, ◌⊎◌, inl, inr, ℕ, suc, ◌<◌, true, List, [], ◌∷◌, length, Some, None, refl}
 use Rattle.std.proofs.Common.{sym, ap, subst, arith, get_or}
 use Rattle.std.specs.Prelude.{Contains, slice_get, slice_set, All, IfSome, IsSome, IsSomeAnd}
@@ -48,9 +49,14 @@ pub was_at : (world after : WorldShape) (me other : HostId) (old new : HostShape
     IsSomeAnd (state_at after other) P → (P new → P old) → IsSomeAnd (state_at world other) P
 was_at world after me other old new obeys puts P has keeps =
     let at = one_of_some (state_at after other) P has in
-    elim (either world after me old new after.flying obeys (record { hosts = puts; flying = refl }) other at.one at.is) [
+    elim (either world after me old new after.flying obeys (record {
+      hosts = puts;
+      flying =
+          refl;
+    }) other at.one at.is) [
       | inl mover ↦
-          some_of (state_at world other) P old (ap (state_at world) mover.same ∙ obeys) (keeps (subst P mover.is at.has))
+          some_of (state_at world other) P old (ap (state_at world) mover.same ∙ obeys) (keeps
+          (subst P mover.is at.has))
       | inr one ↦ some_of (state_at world other) P at.one one.obeys at.has
     ]
 
@@ -203,7 +209,8 @@ module _ (split : Split) (c : Configuration) (view : View) (holder : Holder) (wo
       })
     where
       rest_or_open : (top : Tops) (k : ℕ) (d : StackEntry) → k < length top.below →
-          IsAmong (entries_of top.rest) (get_or top.below k d) ⊎ EntryIsOpen (threat_in split) (get_or top.below k d).entry
+          IsAmong (entries_of top.rest) (get_or top.below k d) ⊎ EntryIsOpen (threat_in split)
+          (get_or top.below k d).entry
       rest_or_open top k d lt =
           let e = get_or top.below k d in
           let was : IsAmong (top.first.entry ∷ entries_of top.rest) e ⊎ EntryIsOpen (threat_in split) e.entry =

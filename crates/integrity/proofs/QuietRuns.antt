@@ -18,7 +18,8 @@ use Rattle.event_text.specs.declared.event.BadMessage.{BadMessage}
 use Rattle.net_world.specs.Fits.{HasOwnToken}
 use Rattle.net_world.specs.Flying.{Flight}
 use Rattle.net_world.specs.Told.{message_made}
-use Rattle.net_world.specs.World.{WorldShape, IsStep, IsRun, IsTurnStep, state_at, misbehaves, tokens_sent, world_at_start}
+use Rattle.net_world.specs.World.{WorldShape, IsStep, IsRun, IsTurnStep}
+use Rattle.net_world.specs.World.{state_at, misbehaves, tokens_sent, world_at_start}
 use Rattle.net_world.proofs.Fitting.{bad_differs}
 use Rattle.net_world.proofs.Present.{same_id}
 use Rattle.net_world.proofs.StepLaws.{one_step}
@@ -77,7 +78,8 @@ decide_at holder world from to one other place k own only = elim (eqb_tells one.
         let at = one_of_some (slice_get (world.flying one other) k) (λ f. OwnsMessage holder one other f.message) has in
         only one other k at.one at.is at.has
 
-own_there : (holder : Holder) (world : WorldShape) (from to : HostId) (flight : Flight) (place : ℕ) → slice_get (world.flying from to) place ≡ Some flight →
+own_there : (holder : Holder) (world : WorldShape) (from to : HostId) (flight : Flight) (place : ℕ) → slice_get
+    (world.flying from to) place ≡ Some flight →
     OwnsMessage holder from to flight.message → IsOwn holder world (Take from to place)
 own_there holder world from to flight place there own =
     some_of (slice_get (world.flying from to) place) (λ f. OwnsMessage holder from to f.message) flight there own
@@ -134,18 +136,21 @@ module _ (split : Split) (c : Configuration) (view : View) (world : WorldShape) 
     no_act (runs host thread) free stands from to made bad own =
         (one_of_some (message_made (tokens_sent world) made) (OwnsMessage (runs host thread) from to) own).has
     no_act (asked host w m) free stands from to made bad own =
-        let its = (one_of_some (message_made (tokens_sent world) made) (OwnsMessage (asked host w m) from to) own).has in
+        let its = (one_of_some (message_made (tokens_sent world) made) (OwnsMessage
+        (asked host w m) from to) own).has in
         let state = state_of world host w stands.tight.there.0 in
         bad_differs world from host state.0 bad state.1 its.0
     no_act (answered host w m) free stands from to made bad own =
-        let its = (one_of_some (message_made (tokens_sent world) made) (OwnsMessage (answered host w m) from to) own).has in
+        let its = (one_of_some (message_made (tokens_sent world) made) (OwnsMessage
+        (answered host w m) from to) own).has in
         let flies = stands.tight.there.1 in
         let ends = ends_obey split.code world w.asked host flies.among.0 flies.flight is.fits is.asked flies.among.1 in
         let state = has_state (state_at world w.asked) ends.0 in
         bad_differs world from w.asked state.0 bad state.1 its.0
     no_act (stuck host w) free stands from to made bad own = free
     no_act (passes sender target m) free stands from to made bad own =
-        let its = (one_of_some (message_made (tokens_sent world) made) (OwnsMessage (passes sender target m) from to) own).has
+        let its = (one_of_some (message_made (tokens_sent world) made) (OwnsMessage
+        (passes sender target m) from to) own).has
         in
         let flies = stands.tight.there in
         let ends = ends_obey split.code world sender target flies.among.0 flies.flight is.fits is.asked flies.among.1 in
@@ -188,7 +193,8 @@ pub stands_for : (split : Split) (rows : List declared_hosts.HostShape) (bad : �
     (world : WorldShape) (c : Configuration) → Quiet split rows bad store world c →
     StandsFor split.code split.exposure world c
 stands_for split rows bad store world c it = record {
-  fields = λ number field state there at apart. same_or _ _ _ (it.stands.holds.fields number field state there at) apart;
+  fields = λ number field state there at apart. same_or _ _ _
+      (it.stands.holds.fields number field state there at) apart;
   halted = λ has. halted_ends split c it.view it.holder it.stands.does (it.stands.halts has);
 }
 
@@ -277,7 +283,8 @@ module _ (laws : AreLaws) (split : Split) (labelled : Labelled) (needs : NeedsSh
         | inr apart ↦ outside world after c (Turn host) it step apart
       ]
   kept world after c (Take from to place) it step =
-      elim (decide_take split c it.view world (is world after c (Take from to place) it step) it.holder it.free it.stands
+      elim (decide_take split c it.view world (is world after c
+      (Take from to place) it step) it.holder it.free it.stands
       from to place) [
         | inl own ↦
             goes_on world after c (Take from to place) it step
@@ -329,7 +336,8 @@ module _ (laws : AreLaws) (split : Split) (labelled : Labelled) (needs : NeedsSh
         stands = begin.2;
       } in
       let it =
-      tracks.along Step one_quiet split.program split.exposure (Quiet split hosts.hosts bad store) kept events start last
+      tracks.along Step one_quiet split.program split.exposure
+      (Quiet split hosts.hosts bad store) kept events start last
       c first (ran_of events start last reach.ran quiet reach.own said) in
       record {
         run = c ∷ it.others;

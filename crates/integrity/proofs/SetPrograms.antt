@@ -20,7 +20,8 @@ use Rattle.integrity.proofs.QuietRuns.{follows}
 use Rattle.integrity.proofs.RootLaws.{AreSplitLaws}
 
 pub follows_set : AreSplitLaws → (program : Program) (labelled : Labelled) (needs : NeedsShape) (hosts : HostsShape)
-    (plan : PlanShape) (bad : ℕ) (store : List (List ℤ)) (events : List Event) (world : WorldShape) (state : HostShape) →
+    (plan : PlanShape) (bad : ℕ) (store : List (List ℤ)) (events : List Event) (world : WorldShape)
+    (state : HostShape) →
     IsSet program labelled needs hosts plan → CodeHasNumbers (split_code labelled needs hosts plan) →
     RowsHaveNumbers store → IsReached (split_code labelled needs hosts plan) hosts.hosts bad store events world →
     All EventHasNumbers events →

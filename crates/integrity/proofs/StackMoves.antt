@@ -1,4 +1,5 @@
--- What a step of one host makes of its stack: it stays, gets one entry more, or loses its top entry, to whoever presents
+-- What a step of one host makes of its stack: it stays, gets one entry more, or loses its top entry, to whoever
+-- presents
 -- the token of that.
 use Rattle.std.proofs.Common.{◌≡◌, ◌∙◌, ℕ, Bool, true, false, List, [], ◌∷◌, Option, Some, None, refl, sym, ap, subst}
 use Rattle.std.specs.Ordering.{int_eq}
@@ -25,7 +26,8 @@ use Rattle.host_core.specs.Host.{HostShape, Outcome, with_running, with_one_igno
 use Rattle.host_core.specs.Host.{after_pop, after_entering, without_message, with_message, value_in_thread}
 use Rattle.host_core.specs.Host.{after_clearing}
 use Rattle.host_core.specs.Taking.{IsTaking, Passes, after_taking, after_answer}
-use Rattle.host_core.specs.Turn.{with_thread, PassesWith, IsTurn, IsTurnOf, IsRunning, after_operation, after_read, after_put}
+use Rattle.host_core.specs.Turn.{with_thread, PassesWith, IsTurn, IsTurnOf}
+use Rattle.host_core.specs.Turn.{IsRunning, after_operation, after_read, after_put}
 use Rattle.host_core.specs.Turn.{after_own_push, after_ask, after_go, after_own_call, after_return, after_back}
 use Rattle.token_laws.proofs.Tests.{number_same}
 

@@ -251,7 +251,8 @@ stands_at_start split rows bad store state obeys =
       record {
         tight = tight_root (threat_in split) rows bad store state obeys it;
         holds = holds_at_start split rows bad store it.key;
-        sends = some_of (state_at world root) (λ s. Sends split (view_at_start split store it.key) s root) state obeys tt;
+        sends = some_of (state_at world root) (λ s. Sends split
+            (view_at_start split store it.key) s root) state obeys tt;
         does = ((refl, refl), main_at split store it.there it.found it.on_root it.key);
         halts = λ has.
             let at : IsTrue state.halted = subst (λ o. IsSomeAnd o (λ s. IsTrue s.halted)) obeys has in

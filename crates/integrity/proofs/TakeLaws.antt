@@ -28,7 +28,8 @@ use Rattle.token_laws.proofs.WorldTokens.{account}
 use Rattle.typed_steps.specs.Views.{Split, View, entries_of}
 use Rattle.typed_steps.proofs.Pops.{top_of}
 use Rattle.integrity.specs.Exposed.{bad_labels}
-use Rattle.integrity.specs.Holding.{IsAmong, Holder, runs, asked, answered, stuck, passes, lost, halted, IsOwn, OwnsMessage}
+use Rattle.integrity.specs.Holding.{IsAmong, Holder, runs, asked, answered}
+use Rattle.integrity.specs.Holding.{stuck, passes, lost, halted, IsOwn, OwnsMessage}
 use Rattle.integrity.specs.Holding.{IsStanding}
 use Rattle.integrity.specs.Standing.{threat_in, StandsBy, Goes}
 use Rattle.integrity.proofs.Among.{each_among, one_of_some, some_of}
@@ -77,7 +78,8 @@ answered_only split world is host w m state obeys place taken there number one o
     let second : Spot = record { from = w.asked; to = host; place = place } in
     let Answers : Flight → Type 0 = λ f. number_answered f.message ≡ Some w.request in
     let here : slice_get (world.flying w.asked host) k ≡ Some flight =
-    ap (λ h. slice_get (world.flying w.asked h) k) (sym own.1) ∙ ap (λ h. slice_get (world.flying h other) k) (sym own.0)
+    ap (λ h. slice_get (world.flying w.asked h) k) (sym own.1) ∙ ap (λ h. slice_get (world.flying h other) k)
+    (sym own.0)
     ∙ at in
     let same =
     one_under_way world host w.asked w.asked state w.request first second (is.asked.hosts host state obeys)
@@ -99,11 +101,13 @@ passed_once split world is (e ∷ list) token standing top from to k place first
     subst (λ (t : Token). IsSome (state_at world t.host)) same (subst (λ o. IsSome o) (sym at.is) refl) in
     let spot =
     held_once split.code world token (in_flight from to k) (in_flight from to place)
-    (tokens_known (threat_in split) world is) obeys (subst (λ (t : Token). ¬ IsSent world t) same it.unsent) first second in
+    (tokens_known (threat_in split) world is) obeys (subst (λ
+    (t : Token). ¬ IsSent world t) same it.unsent) first second in
     cc
 
 pub passes_only : (split : Split) (c : Configuration) (view : View) (world : WorldShape) →
-    IsLawful (threat_in split) world → (from to : HostId) (m : Message) → StandsBy split c view (passes from to m) world →
+    IsLawful (threat_in split) world → (from to : HostId) (m : Message) → StandsBy split c view
+    (passes from to m) world →
     (place : ℕ) (taken : Flight) → slice_get (world.flying from to) place ≡ Some taken → taken.message ≡ m →
     IsOnly (passes from to m) world from to place
 passes_only split c view world is from to m stands place taken there message_is one other k flight at own =

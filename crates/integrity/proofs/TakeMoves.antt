@@ -1,4 +1,5 @@
--- A message of the holder's is taken: the world stands for the same configuration again, or for one that a step leads to.
+-- A message of the holder's is taken: the world stands for the same configuration again, or for one that a step leads
+-- to.
 use Rattle.std.proofs.Common.{◌≡◌, ◌≢◌, ◌∙◌, ◌⊎◌, inr, ℕ, zero, suc, ◌<◌, Bool, true, false, List, [], ◌∷◌}
 use Rattle.std.proofs.Common.{length, Some, None, refl, sym, ap, subst, arith, get_or}
 use Rattle.std.specs.Prelude.{◌==◌, ◌&&◌, if◌then◌else◌, slice_get, slice_set, remove, nat_lt, position, All}
@@ -53,14 +54,16 @@ remove_all P Q [] zero each all = All-nil Q
 remove_all P Q [] (suc out) each all = All-nil Q
 remove_all P Q (x ∷ xs) zero each all =
     λ k d lt.
-    each (suc k) (get_or xs k d) (slice_get-get_or xs k d lt) (λ same. omega (arith, same)) (all (suc k) d (omega arith))
+    each (suc k) (get_or xs k d) (slice_get-get_or xs k d lt) (λ same. omega (arith, same)) (all (suc k) d
+    (omega arith))
 remove_all P Q (x ∷ xs) (suc out) each all =
     All-cons Q x (remove xs out) (each 0 x refl (λ same. omega (arith, same)) (all 0 x (omega arith)))
     (remove_all P Q xs out (λ k y is apart. each (suc k) y is (λ same. apart (omega (arith, same))))
     (λ k d lt. all (suc k) d (omega arith)))
 
 -- where a host is another, its test fails
-pub cell_apart : (P : List Flight → HostId → HostId → Type 0) (flying : Flying) (from to : HostId) (flights : List Flight)
+pub cell_apart : (P : List Flight → HostId → HostId → Type 0) (flying : Flying) (from to : HostId)
+    (flights : List Flight)
     (one other : HostId) (b c : Bool) → (one.0 == from.0) ≡ b → (other.0 == to.0) ≡ c →
     (one ≡ from → other ≡ to → P flights one other) → ((one ≡ from → other ≡ to → ⊥) → P (flying one other) one other) →
     P (if b && c then flights else flying one other) one other
@@ -141,7 +144,8 @@ waits_there threat world is host state waiting place obeys there =
     let at : slice_get state.waiting first ≡ Some (get_or state.waiting first waiting) =
     slice_get-get_or state.waiting first waiting lt in
     let one =
-    found_at state.waiting waiting.awaited waiting.request waiting.asked first (get_or state.waiting first waiting) found
+    found_at state.waiting waiting.awaited waiting.request waiting.asked first
+    (get_or state.waiting first waiting) found
     at in
     let same =
     waits_once world.flying host state first place (get_or state.waiting first waiting) waiting
@@ -203,7 +207,8 @@ module _ (split : Split) (c : Configuration) (view : View) (holder : Holder) (wo
   -- the message that was taken is the holder's
   pub taken_is : (m : Message) → Flies world from to m → OwnsMessage holder from to m → t.step.flight.message ≡ m
   taken_is m flies own =
-      let at = t.only from to flies.among.0 flies.flight flies.among.1 (subst (OwnsMessage holder from to) (sym flies.is) own)
+      let at = t.only from to flies.among.0 flies.flight flies.among.1 (subst (OwnsMessage holder from to)
+      (sym flies.is) own)
       in
       ap (λ (f : Flight). f.message)
       (same_item (world.flying from to) place t.step.flight flies.flight t.step.there

@@ -107,7 +107,8 @@ kept laws labelled needs hosts plan table bad store events world after event cha
     let own_here = own_there code hosts.hosts bad store events world event reach own in
     let next = one_more code hosts.hosts bad store events world after event reach own step in
     let leaves =
-    event_leaves threat (known laws labelled needs hosts plan table bad splittable allowed typed reach.sound) chain holder
+    event_leaves threat
+    (known laws labelled needs hosts plan table bad splittable allowed typed reach.sound) chain holder
     world after event is own_here step tight apart in
     let move = leaves.alone in (
       tight_after threat chain holder world after is

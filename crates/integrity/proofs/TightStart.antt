@@ -1,6 +1,8 @@
--- The world before the first event, where the root obeys: the entry that ends the program is on its stack, the thread at
+-- The world before the first event, where the root obeys: the entry that ends the program is on its stack, the thread
+-- at
 -- `main` holds the token of that, and nothing else goes on.
-use Rattle.std.proofs.Common.{◌≡◌, ◌≢◌, ◌∙◌, ◌⊎◌, ℕ, zero, suc, ◌+◌, ℤ, inl, inr, Bool, true, false, List, [], ◌∷◌, Option, Some}
+use Rattle.std.proofs.Common.{◌≡◌, ◌≢◌, ◌∙◌, ◌⊎◌, ℕ, zero, suc, ◌+◌, ℤ}
+use Rattle.std.proofs.Common.{inl, inr, Bool, true, false, List, [], ◌∷◌, Option, Some}
 use Rattle.std.proofs.Common.{None, refl, sym, ap, subst, arith}
 use Rattle.std.specs.Prelude.{◌==◌, if◌then◌else◌, slice_get, IfSome, IsSomeAnd, All}
 use Rattle.std.specs.Int.{bit_at}
@@ -49,7 +51,8 @@ started_before code store bad number (row ∷ rows) zero at state is there =
 started_before code store bad number (row ∷ rows) (suc place) at state is there =
     started_before code store bad (number + 1) rows place at state (omega arith) there
 
-pub started : (code : CodeShape) (rows : List declared_hosts.HostShape) (bad : ℕ) (store : List (List ℤ)) (host : HostId)
+pub started : (code : CodeShape) (rows : List declared_hosts.HostShape) (bad : ℕ) (store : List (List ℤ))
+    (host : HostId)
     (state : HostShape) → state_at (world_at_start code rows bad store) host ≡ Some state →
     IsStarted code store host state
 started code rows bad store host state there =
@@ -84,7 +87,8 @@ pub record IsRoot (code : CodeShape) (store : List (List ℤ)) (state : HostShap
 
 entered : (code : CodeShape) (store : List (List ℤ)) (key : List ℕ) (found : Option Entry) →
     entry_at code code.main ≡ found → IsSomeAnd found (λ there. there.host ≡ code.root) → (state : HostShape) →
-    state ≡ after_entering (after_push (idle_host code store key code.root) halt main_frame (last_token code.root)) found
+    state ≡ after_entering (after_push (idle_host code store key code.root) halt main_frame
+    (last_token code.root)) found
     main_frame (new_token (idle_host code store key code.root) halt main_frame) → IsRoot code store state
 entered code store key None is on state same = absurd on
 entered code store key (Some there) is on state same = record {

@@ -1,4 +1,5 @@
--- A turn of the holder's thread that tells misbehaving hosts nothing: the world stands for the same configuration again,
+-- A turn of the holder's thread that tells misbehaving hosts nothing: the world stands for the same configuration
+-- again,
 -- or for one that a step leads to.
 use Rattle.std.proofs.Common.{◌≡◌, ◌≢◌, ◌∙◌, ◌⊎◌, inl, inr, ℕ, Bool, true, false, List, [], ◌∷◌, ◌++◌}
 use Rattle.std.proofs.Common.{Some, None, refl, sym, ap, subst}
@@ -171,7 +172,8 @@ module _ (split : Split) (c : Configuration) (view : View) (host : HostId) (thre
         next,
         tt,
         record {
-          tight = tight_moved (threat_in split) (entries_of view.chain) (entries_of g.seen.chain) (runs host thread) next
+          tight = tight_moved (threat_in split) (entries_of view.chain) (entries_of g.seen.chain)
+              (runs host thread) next
               world after t.lawful t.fits t.account t.stands.tight (record {
                 me = host;
                 old = old;
@@ -183,7 +185,8 @@ module _ (split : Split) (c : Configuration) (view : View) (host : HostId) (thre
                     (λ e among. (standing_each e among).there);
                 known = grown_known split view.naming g.seen.naming world after host old new (RunsWith old.running)
                     t.lawful.held t.fits t.step.obeys there
-                    (restacked old new (turn_restacks split.code old t.step.outcome t.step.turns) g.is) t.quiet view.chain
+                    (restacked old new
+                    (turn_restacks split.code old t.step.outcome t.step.turns) g.is) t.quiet view.chain
                     g.seen.chain t.stands.does.0 g.is_chain g.grown standing_each;
                 there = some_of (state_at after host) (λ s. s.running ≡ Some g.next) new there refl;
                 has_top = g.at.held;
@@ -424,7 +427,8 @@ module _ (split : Split) (c : Configuration) (view : View) (host : HostId) (thre
     place = running_on host;
     not_kept = λ other at same. absurd (cc);
     held = λ token top.
-        some_of (state_at world host) (λ s. IsSomeAnd s.running (λ one. one.held ≡ Some token)) t.step.state t.step.obeys
+        some_of (state_at world host) (λ s. IsSomeAnd s.running
+        (λ one. one.held ≡ Some token)) t.step.state t.step.obeys
         (some_of t.step.state.running (λ one. one.held ≡ Some token) thread t.running (t.stands.does.1.held ∙ top));
     goes = λ same. absurd (cc);
   }

@@ -102,7 +102,8 @@ pub fn root_laws()
 }
 
 /// A chain of entries that are to be taken off, and whoever holds the token of the first of them, where some hosts
-/// misbehave. What is neither the chain's nor the holder's can't touch them: it has none of their tokens, wakes no thread
+/// misbehave. What is neither the chain's nor the holder's can't touch them: it has none of their tokens, wakes no
+/// thread
 /// that waits for the holder, and changes nothing that misbehaving hosts may not affect.
 pub fn chain_laws()
     // Where the root obeys, the entry that ends the program is such a chain before the first event, and the thread at
@@ -127,7 +128,8 @@ pub fn chain_laws()
     opening_laws();
 }
 
-/// While misbehaving hosts were sent no token of the chain, a world stands for a configuration of an altered run by what
+/// While misbehaving hosts were sent no token of the chain, a world stands for a configuration of an altered run by
+/// what
 /// is seen of it and by whoever holds the token.
 pub fn standing_laws()
     // Where the root obeys, the world before the first event stands for the start of the program.
@@ -165,7 +167,8 @@ pub fn standing_laws()
 }
 
 /// Where the root obeys and no turn tells a misbehaving host anything, the hosts follow an altered run of the program,
-/// whatever misbehaving hosts send and are answered: at every moment each field on an obeying host, which no misbehaving
+/// whatever misbehaving hosts send and are answered: at every moment each field on an obeying host, which no
+/// misbehaving
 /// host may affect, has the value of one configuration of it, and once the root has halted that is at its end.
 pub fn quiet_laws()
     ensures follows { (program : Program) (labelled : Labelled) (needs : NeedsShape) (hosts : HostsShape)
