@@ -22,6 +22,7 @@ pub mod TurnMoves
 pub mod TakeMoves
 pub mod AnswerMoves
 pub mod PassMoves
+pub mod ActMoves
 pub mod HolderLaws
 pub mod TakeLaws
 pub mod QuietRuns
