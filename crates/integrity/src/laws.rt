@@ -1,6 +1,6 @@
 //! What misbehaving hosts can't affect, whatever they do. The calls do nothing: their contracts are the laws.
 
-ghost use Rattle.std.specs.Prelude.{◌≡◌, ◌≢◌, ℕ, ℤ, List, [], ◌∷◌, All, Some};
+ghost use Rattle.std.specs.Prelude.{◌≡◌, ◌≢◌, ◌⊎◌, IfSome, ℕ, ℤ, List, [], ◌∷◌, All, Some};
 ghost use Rattle.std.specs.Int.{bit_at};
 ghost use Rattle.js_base.specs.declared.ids.FrameId.{FrameId};
 ghost use Rattle.js_base.specs.declared.ids.HostId.{HostId};
@@ -17,13 +17,15 @@ ghost use Rattle.msg_cost.specs.Moves.{PlannedShape, planned_of};
 ghost use Rattle.host_code.specs.declared.message.Message.TheVariants as message;
 ghost use Rattle.host_code.specs.Code.{halt};
 ghost use Rattle.host_code.specs.Sound.{IsSoundCode};
-ghost use Rattle.host_code.specs.Thread.{ThreadShape};
+ghost use Rattle.host_code.specs.Thread.{ThreadShape, WaitingShape};
 ghost use Rattle.host_core.specs.Host.{HostShape};
 ghost use Rattle.ics_stack.specs.declared.stack.StackEntry.{StackEntry};
 ghost use Rattle.event_text.specs.declared.event.Event.{Event};
-ghost use Rattle.event_text.specs.declared.event.Event.TheVariants.{Take, Turn};
+ghost use Rattle.event_text.specs.declared.event.Event.TheVariants.{Act, Take, Turn};
+ghost use Rattle.event_text.specs.declared.event.BadMessage.{BadMessage};
 ghost use Rattle.net_world.specs.Fits.{HasOwnToken};
-ghost use Rattle.net_world.specs.World.{WorldShape, IsStep, IsRun, has_halted, state_at, world_at_start};
+ghost use Rattle.net_world.specs.Told.{message_made};
+ghost use Rattle.net_world.specs.World.{WorldShape, IsStep, IsRun, has_halted, state_at, tokens_sent, world_at_start};
 ghost use Rattle.split_rules.specs.Walk.{entry_id};
 ghost use Rattle.split_rules.specs.Allowed.{IsAllowed};
 ghost use Rattle.split_rules.specs.OpenExamples.{untrusted, trusted_by_first};
@@ -31,7 +33,7 @@ ghost use Rattle.split_rules.specs.Worked.{field_id, var_id, statement_id};
 ghost use Rattle.split_rules.specs.SplitCode.{split_code};
 ghost use Rattle.split_rules.specs.Splittable.{IsSplittable};
 ghost use Rattle.split_rules.specs.TypedCode.{Table, IsTypedCode};
-ghost use Rattle.token_laws.specs.Numbers.{CodeHasNumbers, RowsHaveNumbers, EventHasNumbers};
+ghost use Rattle.token_laws.specs.Numbers.{CodeHasNumbers, RowsHaveNumbers, EventHasNumbers, MessageHasNumbers};
 ghost use Rattle.token_laws.specs.Reached.{IsReached};
 ghost use Rattle.typed_steps.specs.Views.{Split, View};
 ghost use Rattle.simulation.specs.Obeying.{IsSet};
@@ -39,7 +41,7 @@ ghost use Rattle.token_laws.specs.TokenExamples.{bad_start, first_token, given, 
 ghost use Rattle.integrity.specs.Altering.{StandsFor, FollowsAltered, RunsQuietly};
 ghost use Rattle.integrity.specs.Exposed.{AreAsBefore, FieldsStand, bad_labels, exposure_of};
 ghost use Rattle.integrity.specs.Holding.{AreLinked, Holder, runs, lost, IsOwn, IsOutsideBut, IsStanding, IsTight};
-ghost use Rattle.integrity.specs.Holding.{StartsTight};
+ghost use Rattle.integrity.specs.Holding.{stuck, StartsTight};
 ghost use Rattle.integrity.specs.IntegrityExamples.{sent_threat, sending, waiting, two_fields, exposed_to, store};
 ghost use Rattle.integrity.specs.IntegrityExamples.{before_set, sets_to_nine, after_set, after_refused, halted_world};
 ghost use Rattle.integrity.specs.IntegrityExamples.{at_end, not_at_end};
@@ -162,6 +164,17 @@ pub fn standing_laws()
         CodeHasNumbers split.code → RowsHaveNumbers store → All EventHasNumbers events →
         StandsBy split c view holder world → IsStep split.code world (Take from to place) after →
         IsOwn holder world (Take from to place) → Goes split c after }
+    // Where the holder's thread waits for a misbehaving host and that answers it, the thread goes on, or goes on waiting
+    // where it waits for an answer of another kind.
+    ensures acted { (split : Split) (rows : List HostRow) (bad : ℕ) (store : List (List ℤ)) (events : List Event)
+        (world after : WorldShape) (c : Configuration) (view : View) (host : HostId) (waiting : WaitingShape)
+        (made : BadMessage) →
+        let start = world_at_start split.code rows bad store in
+        let act = Act waiting.asked host made in
+        split.exposure.bad ≡ bad_labels bad 0 rows → IsReached split.code rows bad store events world →
+        StandsBy split c view (stuck host waiting) world → HasOwnToken start act → IsStep split.code world act after →
+        IfSome (message_made (tokens_sent world) made) MessageHasNumbers → IsOwn (stuck host waiting) world act →
+        Goes split c after ⊎ StandsBy split c view (stuck host waiting) after }
 {
     opening_laws();
 }

@@ -1,3 +1,8 @@
+use Rattle.net_world.specs.Told.{message_made}
+use Rattle.net_world.specs.World.{tokens_sent}
+use Rattle.token_laws.specs.Numbers.{MessageHasNumbers}
+use Rattle.integrity.proofs.ActMoves.{holder_acted}
+use Rattle.integrity.proofs.Among.{if_of}
 use Rattle.integrity.proofs.HolderLaws.{holder_turned}
 use Rattle.integrity.proofs.StandsAtStart.{stands_at_start}
 use Rattle.integrity.proofs.StandsOn.{stands_kept}
@@ -20,3 +25,9 @@ returns-clause-taken c =
     store_numbers said stands step own.
     holder_taken split rows bad store events world after configuration view same reach code_numbers store_numbers said
     holder from to place stands step own
+
+pub returns-clause-acted : goal.returns-clause-acted
+returns-clause-acted c =
+    λ split rows bad store events world after configuration view host waiting made same reach stands own step numbers its.
+    holder_acted split rows bad store events world after configuration view same reach host waiting stands made own step
+    (if_of (message_made (tokens_sent world) made) MessageHasNumbers step.message step.makes numbers) its
