@@ -1,11 +1,11 @@
 -- A holder that waits for a misbehaving host: it goes on with what that answers, or goes on waiting.
-use Rattle.std.proofs.Common.{◌≡◌, ◌≢◌, ◌∙◌, ◌⊎◌, inl, inr, ℕ, ℤ, Bool, true, false, List, [], ◌∷◌, ◌++◌, Option, Some, None}
+use Rattle.std.proofs.Common.{◌≡◌, ◌∙◌, ◌⊎◌, inl, inr, ℕ, ℤ, Bool, true, false, List, [], ◌∷◌, ◌++◌, Option, Some, None}
 use Rattle.std.proofs.Common.{refl, sym, ap, subst}
-use Rattle.std.specs.Prelude.{◌&&◌, slice_get, slice_set, remove, All, IfSome, IsSome, IsSomeAnd}
+use Rattle.std.specs.Prelude.{slice_get, IsSome, IsSomeAnd}
 use Rattle.std.specs.Option.{option_map}
 use Rattle.std.proofs.lemmas.List.Quantifiers.{position-Some}
-use Rattle.std.proofs.lemmas.Option.{slice_get-get_or, get_or_from_slice_get}
-use Rattle.std.specs.Prelude.{get_or, position}
+use Rattle.std.proofs.lemmas.Option.{slice_get-get_or}
+use Rattle.std.specs.Prelude.{get_or}
 use Rattle.js_base.specs.declared.ids.HostId.{HostId}
 use Rattle.js_base.specs.declared.ids.RequestId.{RequestId}
 use Rattle.jif_tree.specs.SourceRun.{Configuration}
@@ -14,8 +14,8 @@ use Rattle.host_code.specs.declared.message.Message.TheVariants as message
 use Rattle.host_code.specs.Thread.{ThreadShape, WaitingShape, Awaited}
 use Rattle.host_code.specs.Thread.Awaited.{value_of_field, acknowledgement, token_of_entry}
 use Rattle.host_core.specs.Awaiting.{awaits, is_same_answer}
-use Rattle.host_core.specs.Host.{HostShape, Outcome, without_message, with_one_ignored, with_temporary, with_token}
-use Rattle.host_core.specs.Taking.{IsTaking, after_taking, after_answer, place_of_awaiting, Passes}
+use Rattle.host_core.specs.Host.{HostShape, Outcome, without_message, with_one_ignored, with_temporary}
+use Rattle.host_core.specs.Taking.{after_taking, after_answer, place_of_awaiting, Passes}
 use Rattle.event_text.specs.declared.event.BadMessage.{BadMessage}
 use Rattle.net_world.specs.Fits.{ShapeFits, HasOwnToken}
 use Rattle.ics_stack.specs.declared.stack.StackEntry.{StackEntry}
@@ -38,7 +38,8 @@ use Rattle.typed_steps.specs.Threads.{IsAt}
 use Rattle.typed_steps.specs.Variables.{Sends}
 use Rattle.typed_steps.specs.Views.{Split, View, entries_of}
 use Rattle.typed_steps.proofs.HeldSteps.{holds_same}
-use Rattle.integrity.specs.Holding.{IsAmong, Holder, runs, stuck, halted, IsOwn, OwnsWaiting, OwnsMessage, StateIsOutside}
+use Rattle.integrity.specs.Holding.{IsAmong, Holder, runs, stuck, halted, IsOwn, OwnsWaiting, OwnsMessage}
+use Rattle.integrity.specs.Holding.{StateIsOutside}
 use Rattle.integrity.specs.Holding.{IsStanding}
 use Rattle.integrity.specs.Outside.{Threat, ThreadIsOpen, MessageIsOpen}
 use Rattle.integrity.specs.Standing as standing

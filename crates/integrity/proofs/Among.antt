@@ -35,10 +35,6 @@ among_without (z ∷ xs) (suc place) (suc out) x is apart =
     let rest = among_without xs place out x is (λ same. apart (ap (λ (n : ℕ). suc n) same)) in
     (suc rest.0, rest.1)
 
--- what holds of all holds of one
-pub of_among : {X : Type 0} (P : X → Type 0) (xs : List X) (x : X) → All P xs → IsAmong xs x → P x
-of_among P xs x all has = all_at P xs has.0 x all has.1
-
 -- the item at one place is one item
 pub same_item : {X : Type 0} (xs : List X) (place : ℕ) (x y : X) → slice_get xs place ≡ Some x →
     slice_get xs place ≡ Some y → x ≡ y

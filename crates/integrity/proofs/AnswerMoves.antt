@@ -99,8 +99,8 @@ module _ (split : Split) (c : Configuration) (view : View) (host : HostId) (w : 
                 obeys = t.step.obeys;
                 puts = moved.hosts;
                 linked = linked_of split a.seen.naming a.seen.chain a.is_chain;
-                stands = grown_stands world after owner old a.new t.step.obeys moved.hosts view.chain a.seen.chain a.grown
-                    (λ e among. (each e among).there);
+                stands = grown_stands world after owner old a.new t.step.obeys moved.hosts view.chain a.seen.chain
+                    a.grown (λ e among. (each e among).there);
                 known = grown_known split view.naming a.seen.naming world after owner old a.new
                     (GivesBack t.step.flight.message) t.lawful.held t.fits t.step.obeys there
                     (subst (Restacks (GivesBack t.step.flight.message) old) (ap (λ (o : Outcome). o.state) (sym a.is))
@@ -257,7 +257,8 @@ module _ (split : Split) (c : Configuration) (view : View) (host : HostId) (w : 
                   ⊎ MessageIsOpen (threat_in split) said)) (sym moved.flying)
                   (left_flying split c view (answered host w m) world after w.asked host place t next);
             });
-        holds = holds_same split c view world after host old new flying t.stands.holds t.step.obeys moved refl refl refl;
+        holds = holds_same split c view world after host old new flying t.stands.holds t.step.obeys moved refl refl
+            refl;
         sends = some_of (state_at after host) (λ s. Sends split view s host) new there
             (subst (λ o. IsSomeAnd o (λ s. Sends split view s host)) t.step.obeys t.stands.sends);
         does = (t.stands.does.0, r.at);

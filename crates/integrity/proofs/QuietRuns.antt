@@ -253,8 +253,8 @@ module _ (laws : AreLaws) (split : Split) (labelled : Labelled) (needs : NeedsSh
       more = [];
       altered = tt;
       holds = next_quiet c it.view it.holder it.free
-          (stands_kept laws split labelled needs hosts plan bad store it.events world after event c it.view it.holder same
-          splittable allowed it.reach step.own step.step it.stands apart);
+          (stands_kept laws split labelled needs hosts plan bad store it.events world after event c it.view it.holder
+          same splittable allowed it.reach step.own step.step it.stands apart);
     }
 
     is : IsLawful (threat_in split) world

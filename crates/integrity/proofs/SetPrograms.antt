@@ -32,8 +32,8 @@ pub follows_set : AreSplitLaws → (program : Program) (labelled : Labelled) (ne
     FollowsAltered program (exposure_of labelled needs hosts bad) (split_code labelled needs hosts plan) hosts.hosts bad
     store events
 unfolding typed_split
-follows_set laws program labelled needs hosts plan bad store events world state set code_numbers store_numbers reach said
-    obeys quiet =
+follows_set laws program labelled needs hosts plan bad store events world state set code_numbers store_numbers reach
+    said obeys quiet =
     let typed =
     laws.typed labelled needs hosts plan set.splittable (laws.typable labelled needs hosts plan set.allowed) in
     let split =

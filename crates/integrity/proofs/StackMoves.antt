@@ -1,6 +1,5 @@
 -- What a step of one host makes of its stack: it stays, gets one entry more, or loses its top entry, to whoever
--- presents
--- the token of that.
+-- presents the token of that.
 use Rattle.std.proofs.Common.{◌≡◌, ◌∙◌, ℕ, Bool, true, false, List, [], ◌∷◌, Option, Some, None, refl, sym, ap, subst}
 use Rattle.std.specs.Ordering.{int_eq}
 use Rattle.std.specs.Prelude.{pos, ◌≢◌, ◌==◌, if◌then◌else◌, IsTrue, IsSomeAnd, slice_index}

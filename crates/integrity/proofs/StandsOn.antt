@@ -125,8 +125,8 @@ pub stands_kept : AreLaws → (split : Split) (labelled : Labelled) (needs : Nee
     IsAllowed labelled needs hosts plan → IsReached split.code hosts.hosts bad store events world →
     HasOwnToken (world_at_start split.code hosts.hosts bad store) event → IsStep split.code world event after →
     StandsBy split c view holder world → ¬ IsOwn holder world event → StandsBy split c view holder after
-stands_kept laws split labelled needs hosts plan bad store events world after event c view holder same splittable allowed
-    reach own step stands apart =
+stands_kept laws split labelled needs hosts plan bad store events world after event c view holder same splittable
+    allowed reach own step stands apart =
     let threat = threat_in split in
     let chain = entries_of view.chain in
     let is =

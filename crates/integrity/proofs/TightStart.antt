@@ -1,6 +1,5 @@
 -- The world before the first event, where the root obeys: the entry that ends the program is on its stack, the thread
--- at
--- `main` holds the token of that, and nothing else goes on.
+-- at `main` holds the token of that, and nothing else goes on.
 use Rattle.std.proofs.Common.{◌≡◌, ◌≢◌, ◌∙◌, ◌⊎◌, ℕ, zero, suc, ◌+◌, ℤ}
 use Rattle.std.proofs.Common.{inl, inr, Bool, true, false, List, [], ◌∷◌, Option, Some}
 use Rattle.std.proofs.Common.{None, refl, sym, ap, subst, arith}

@@ -1,6 +1,5 @@
 -- A turn of the holder's thread that tells misbehaving hosts nothing: the world stands for the same configuration
--- again,
--- or for one that a step leads to.
+-- again, or for one that a step leads to.
 use Rattle.std.proofs.Common.{◌≡◌, ◌≢◌, ◌∙◌, ◌⊎◌, inl, inr, ℕ, Bool, true, false, List, [], ◌∷◌, ◌++◌}
 use Rattle.std.proofs.Common.{Some, None, refl, sym, ap, subst}
 use Rattle.std.specs.Prelude.{if◌then◌else◌, slice_get, slice_set, All, IfSome, IsSomeAnd}

@@ -1,6 +1,5 @@
 -- How a world where some hosts misbehave stands for a configuration of an altered run, while the chain of entries
--- stands
--- and misbehaving hosts were sent none of its tokens.
+-- stands and misbehaving hosts were sent none of its tokens.
 use Rattle.std.specs.Prelude.{◌≡◌, ⊤, ◌⊎◌, ℤ, [], Some, IsSomeAnd}
 use Rattle.js_base.specs.declared.ids.HostId.{HostId}
 use Rattle.jif_tree.specs.Altered.{MayStep}

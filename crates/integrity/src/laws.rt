@@ -105,8 +105,7 @@ pub fn root_laws()
 
 /// A chain of entries that are to be taken off, and whoever holds the token of the first of them, where some hosts
 /// misbehave. What is neither the chain's nor the holder's can't touch them: it has none of their tokens, wakes no
-/// thread
-/// that waits for the holder, and changes nothing that misbehaving hosts may not affect.
+/// thread that waits for the holder, and changes nothing that misbehaving hosts may not affect.
 pub fn chain_laws()
     // Where the root obeys, the entry that ends the program is such a chain before the first event, and the thread at
     // `main` holds its token.
@@ -131,8 +130,7 @@ pub fn chain_laws()
 }
 
 /// While misbehaving hosts were sent no token of the chain, a world stands for a configuration of an altered run by
-/// what
-/// is seen of it and by whoever holds the token.
+/// what is seen of it and by whoever holds the token.
 pub fn standing_laws()
     // Where the root obeys, the world before the first event stands for the start of the program.
     ensures start { (split : Split) (rows : List HostRow) (bad : ℕ) (store : List (List ℤ)) (state : HostShape) →
@@ -164,8 +162,8 @@ pub fn standing_laws()
         CodeHasNumbers split.code → RowsHaveNumbers store → All EventHasNumbers events →
         StandsBy split c view holder world → IsStep split.code world (Take from to place) after →
         IsOwn holder world (Take from to place) → Goes split c after }
-    // Where the holder's thread waits for a misbehaving host and that answers it, the thread goes on, or goes on waiting
-    // where it waits for an answer of another kind.
+    // Where the holder's thread waits for a misbehaving host and that answers it, the thread goes on. It waits on where
+    // it waits for an answer of another kind.
     ensures acted { (split : Split) (rows : List HostRow) (bad : ℕ) (store : List (List ℤ)) (events : List Event)
         (world after : WorldShape) (c : Configuration) (view : View) (host : HostId) (waiting : WaitingShape)
         (made : BadMessage) →
@@ -181,8 +179,8 @@ pub fn standing_laws()
 
 /// Where the root obeys and no turn tells a misbehaving host anything, the hosts follow an altered run of the program,
 /// whatever misbehaving hosts send and are answered: at every moment each field on an obeying host, which no
-/// misbehaving
-/// host may affect, has the value of one configuration of it, and once the root has halted that is at its end.
+/// misbehaving host may affect, has the value of one configuration of it, and once the root has halted that is at its
+/// end.
 pub fn quiet_laws()
     ensures follows { (program : Program) (labelled : Labelled) (needs : NeedsShape) (hosts : HostsShape)
         (plan : PlanShape) (bad : ℕ) (store : List (List ℤ)) (events : List Event) (world : WorldShape)

@@ -28,6 +28,7 @@ returns-clause-taken c =
 
 pub returns-clause-acted : goal.returns-clause-acted
 returns-clause-acted c =
-    λ split rows bad store events world after configuration view host waiting made same reach stands own step numbers its.
+    λ split rows bad store events world after configuration view host waiting made same reach stands own step numbers
+    its.
     holder_acted split rows bad store events world after configuration view same reach host waiting stands made own step
     (if_of (message_made (tokens_sent world) made) MessageHasNumbers step.message step.makes numbers) its
