@@ -19,6 +19,7 @@ pub mod TightMoves
 pub mod ChainMoves
 pub mod PopMoves
 pub mod TurnMoves
+pub mod TellMoves
 pub mod TakeMoves
 pub mod AnswerMoves
 pub mod PassMoves
