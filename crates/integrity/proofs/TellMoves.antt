@@ -1,6 +1,6 @@
 -- A turn of the holder's thread that sets a field of a misbehaving host: the step is made at once, and the thread waits
 -- for that host.
-use Rattle.std.proofs.Common.{◌≡◌, ◌≢◌, ◌∙◌, ◌⊎◌, inl, inr, ℕ, ℤ, suc, ◌+◌, ◌<◌, ◌≤◌, Bool, true, List, [], ◌∷◌, ◌++◌, length, Option}
+use Rattle.std.proofs.Common.{◌≡◌, ◌≢◌, ◌∙◌, ◌⊎◌, inl, inr, ℕ, ℤ, suc, ◌+◌, ◌<◌, ◌≤◌, Bool, true, false, List, [], ◌∷◌, ◌++◌, length, Option}
 use Rattle.std.proofs.Common.{Some, None, refl, sym, ap, subst, arith}
 use Rattle.std.specs.Prelude.{slice_get, All, IfSome, IsSomeAnd, unwrap_or}
 use Rattle.std.proofs.lemmas.Bool.Decides.{eqb_tells}
@@ -11,8 +11,36 @@ use Rattle.jif_tree.specs.SourceRun as plain
 use Rattle.jif_tree.specs.SourceRun.{Configuration}
 use Rattle.jif_tree.specs.Store.{row_of, store_after_write}
 use Rattle.host_code.specs.Code.{CodeFieldShape, field_at}
-use Rattle.host_core.specs.Host.{HostShape}
-use Rattle.net_world.specs.World.{WorldShape, state_at, misbehaves}
+use Rattle.host_code.specs.declared.message.Message.{Message}
+use Rattle.host_code.specs.declared.message.Message.TheVariants as message
+use Rattle.host_code.specs.Thread.{ThreadShape, WaitingShape, Awaited}
+use Rattle.ics_stack.specs.declared.stack.StackEntry.{StackEntry}
+use Rattle.ics_stack.specs.Stack.{top_token}
+use Rattle.host_core.specs.Host.{HostShape, with_message, without_message, with_running, after_asking}
+use Rattle.host_core.specs.Turn.{label_of_turn}
+use Rattle.net_world.specs.Fits.{ShapeFits}
+use Rattle.net_world.specs.Told.{SentMessage}
+use Rattle.net_world.proofs.Moved.{bad_moved, mover_state, moved_told, moved_posted, silent_sent}
+use Rattle.token_laws.proofs.EachFlight.{of_state}
+use Rattle.token_laws.proofs.WorldTokens.{Accounts}
+use Rattle.typed_steps.specs.Turns.{waiting_for}
+use Rattle.typed_steps.specs.Requests.{Does}
+use Rattle.typed_steps.specs.Variables.{Sends}
+use Rattle.typed_steps.specs.Views.{entries_of}
+use Rattle.typed_steps.proofs.HeldSteps.{holds_same}
+use Rattle.integrity.specs.Holding.{IsAmong, runs, stuck, halted, OwnsWaiting, OwnsMessage, StateIsOutside, IsStanding}
+use Rattle.integrity.specs.Outside.{ThreadIsOpen, MessageIsOpen}
+use Rattle.integrity.specs.Standing.{threat_in, IsFor, StandsBy}
+use Rattle.integrity.proofs.Among.{each_among, some_of, last_at}
+use Rattle.integrity.proofs.FliesOn.{FlyAs}
+use Rattle.integrity.proofs.HolderStays.{on_some}
+use Rattle.integrity.proofs.OpenWorlds.{state_fits}
+use Rattle.integrity.proofs.OutsideEvents.{other_of}
+use Rattle.integrity.proofs.StandsOn.{halted_before}
+use Rattle.integrity.proofs.TightKept.{IsLawful}
+use Rattle.integrity.proofs.TightMoves.{tight_moved, all_as}
+use Rattle.integrity.proofs.TurnMoves.{never_more}
+use Rattle.net_world.specs.World.{WorldShape, IsTurnStep, state_at, misbehaves}
 use Rattle.net_world.proofs.Fitting.{bad_differs}
 use Rattle.net_world.proofs.Present.{get_other}
 use Rattle.typed_steps.specs.Threads.{NoneKept}
@@ -68,3 +96,137 @@ holds_elsewhere split c now view world field to index value holds on bad store c
   agree = holds.agree;
   result = λ call into kept behind there pending is. absurd (none call into kept behind pending);
 }
+
+-- ---- the turn
+
+-- what is known before the turn, and after it
+pub record Telling (split : Split) (c : Configuration) (view : View) (host : HostId) (thread : ThreadShape)
+    (world after : WorldShape) (to : HostId) (m : Message) : Type 0 where
+  pub stands : StandsBy split c view (runs host thread) world
+  pub lawful : IsLawful (threat_in split) world
+  pub fits : ShapeFits split.code after
+  pub account : Accounts world after
+  pub step : IsTurnStep split.code world host after
+  pub sends : Sends split view step.state host
+  pub label : ℕ
+  pub labels : label_of_turn split.code step.state ≡ Some label
+  pub bad : misbehaves world to ≡ true
+  pub told : after.sent ≡ world.sent ++ (host, to, m) ∷ []
+
+same_last : {X : Type 0} (xs : List X) (x y : X) → xs ++ x ∷ [] ≡ xs ++ y ∷ [] → x ≡ y
+same_last [] x y is = cc
+same_last (z ∷ xs) x y is = same_last xs x y (let rest : xs ++ x ∷ [] ≡ xs ++ y ∷ [] = cc in rest)
+
+module _ (split : Split) (c : Configuration) (view : View) (host : HostId) (thread : ThreadShape)
+    (world after : WorldShape) (to : HostId) (m : Message) (t : Telling split c view host thread world after to m) where
+  not_silent : after.sent ≡ world.sent → ⊥
+  not_silent same = never_more world.sent (host, to, m) (sym t.told ∙ same)
+
+  -- what is sent is what is told
+  sent_if : (new : HostShape) (other : HostId) (said : Message) → with_message new other said ≡ t.step.outcome →
+      (bad : Bool) → misbehaves world other ≡ bad → (other ≡ to) × (said ≡ m)
+  sent_if new other said is true bad =
+      let told =
+      moved_told world host t.step.outcome t.step.state new other said (label_of_turn split.code t.step.state) t.label
+      after t.step.obeys bad t.labels is t.step.leaves in
+      let same : ◌≡◌ {A = SentMessage} (host, other, said) (host, to, m) =
+      same_last world.sent (host, other, said) (host, to, m) (sym told.sent ∙ t.told) in
+      (ap (λ (s : SentMessage). s.1) same, ap (λ (s : SentMessage). s.2) same)
+  sent_if new other said is false good =
+      let posted =
+      moved_posted world host t.step.outcome t.step.state new other said (label_of_turn split.code t.step.state) t.label
+      after t.step.obeys good t.labels is t.step.leaves in
+      absurd (not_silent posted.sent)
+
+  sent_is : (new : HostShape) (other : HostId) (said : Message) → with_message new other said ≡ t.step.outcome →
+      (other ≡ to) × (said ≡ m)
+  sent_is new other said is = sent_if new other said is (misbehaves world other) refl
+
+  silent_never : (new : HostShape) → without_message new ≡ t.step.outcome → ⊥
+  silent_never new is =
+      not_silent (silent_sent world host t.step.outcome new (label_of_turn split.code t.step.state) after is t.step.leaves)
+
+  was : StateIsOutside (threat_in split) (entries_of view.chain) (runs host thread) t.step.state
+  was = of_state (StateIsOutside (threat_in split) (entries_of view.chain) (runs host thread)) world host t.step.state
+      t.stands.tight.outside.states t.step.obeys
+
+  me_is : t.step.state.me ≡ host
+  me_is = (state_fits (threat_in split) world host t.step.state t.lawful.fits t.step.obeys).me
+
+  standing_each : (e : StackEntry) → IsAmong (entries_of view.chain) e → IsStanding world e
+  standing_each e = each_among (IsStanding world) (entries_of view.chain) e t.stands.tight.standing
+
+  -- the thread waits for the misbehaving host
+  waits_for : (next : ThreadShape) (awaited : Awaited) →
+      with_message (after_asking (with_running t.step.state None) thread.at next awaited to) to m ≡ t.step.outcome →
+      next.held ≡ top_token (entries_of view.chain) → (now : Configuration) →
+      ((later : WorldShape) → Holds split c view later → misbehaves later to ≡ true → Holds split now view later) →
+      IsFor split now view host (waiting_for t.step.state thread.at next awaited to) awaited →
+      StandsBy split now view (stuck host (waiting_for t.step.state thread.at next awaited to)) after
+  waits_for next awaited is top now holds ready =
+      let old = t.step.state in
+      let new : HostShape = after_asking (with_running old None) thread.at next awaited to in
+      let w = waiting_for old thread.at next awaited to in
+      let holder = stuck host w in
+      let told =
+      moved_told world host t.step.outcome old new to m (label_of_turn split.code old) t.label after t.step.obeys t.bad
+      t.labels is t.step.leaves in
+      let moved = told.moved in
+      let there : state_at after host ≡ Some new = mover_state world after host old new world.flying t.step.obeys moved in
+      let bad : misbehaves after to ≡ true =
+      bad_moved world after host old new world.flying t.step.obeys moved to ∙ t.bad in
+      let Waits : WaitingShape → Type 0 =
+      λ one. OwnsWaiting holder old.me one ⊎ ThreadIsOpen (threat_in split) old.me one.thread in
+      record {
+        tight = tight_moved (threat_in split) (entries_of view.chain) (entries_of view.chain) (runs host thread) holder
+            world after t.lawful t.fits t.account t.stands.tight (record {
+              me = host;
+              old = old;
+              new = new;
+              obeys = t.step.obeys;
+              puts = moved.hosts;
+              linked = t.stands.tight.linked;
+              stands = λ e here.
+                  on_some world after host e.token.host old new t.step.obeys moved.hosts
+                  (λ state. IsAmong state.entries e) (standing_each e here).there (λ same has. has);
+              known = λ e here. inl (standing_each e here);
+              there = (some_of (state_at after host) (λ s. IsAmong s.waiting w) new there (last_at old.waiting w), bad);
+              has_top = top;
+              held = λ same. absurd (cc);
+              state = record {
+                running = inr tt;
+                waiting = All-push Waits old.waiting w
+                    (all_as (λ one. OwnsWaiting (runs host thread) old.me one
+                    ⊎ ThreadIsOpen (threat_in split) old.me one.thread) Waits old.waiting
+                    (λ one either. inr (other_of either (λ never. never))) was.waiting) (inl (me_is, refl));
+                entries = was.entries;
+              };
+              runs_as = λ other far own. absurd (far own);
+              waits_as = λ other one far own. absurd own;
+              keeps_as = λ e far here. here;
+              flying = subst (FlyAs (λ one other said. OwnsMessage holder one other said
+                  ⊎ MessageIsOpen (threat_in split) said)) (sym moved.flying) (λ one other.
+                  all_as (λ flight. OwnsMessage (runs host thread) one other flight.message
+                  ⊎ MessageIsOpen (threat_in split) flight.message)
+                  (λ flight. OwnsMessage holder one other flight.message
+                  ⊎ MessageIsOpen (threat_in split) flight.message) (world.flying one other)
+                  (λ flight either. inr (other_of either (λ never. never)))
+                  (t.stands.tight.outside.flying one other));
+            });
+        holds = holds after (holds_same split c view world after host old new world.flying t.stands.holds t.step.obeys
+            moved refl refl refl) bad;
+        sends = some_of (state_at after host) (λ s. Sends split view s host) new there t.sends;
+        does = (t.stands.does.0, ready);
+        halts = λ has.
+            let never : runs host thread ≡ halted =
+            t.stands.halts
+            (halted_before world after split.code.root host old new t.step.obeys moved.hosts refl has) in
+            absurd (cc);
+      }
+
+-- a step was made, and the thread waits for the misbehaving host
+pub record WaitsFor (split : Split) (c : Configuration) (view : View) (host : HostId) (after : WorldShape) : Type 0 where
+  pub now : Configuration
+  pub does : Does split c now
+  pub waiting : WaitingShape
+  pub stands : StandsBy split now view (stuck host waiting) after

@@ -96,7 +96,7 @@ pub own_cell : (flying : Flying) (from to : HostId) (flights : List Flight) →
     with_flights flying from to flights from to ≡ flights
 own_cell flying from to flights = rw (eq-eqb from.0 from.0 refl, eq-eqb to.0 to.0 refl) refl
 
-never_more : {X : Type 0} (xs : List X) (x : X) → xs ++ x ∷ [] ≡ xs → ⊥
+pub never_more : {X : Type 0} (xs : List X) (x : X) → xs ++ x ∷ [] ≡ xs → ⊥
 never_more [] x same = absurd (cc)
 never_more (y ∷ xs) x same = never_more xs x (let rest : xs ++ x ∷ [] ≡ xs = cc in rest)
 
