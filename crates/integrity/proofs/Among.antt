@@ -1,9 +1,8 @@
 -- Items of a list where another is added or taken out.
 use Rattle.std.proofs.Common.{◌≡◌, ◌≢◌, ◌∙◌, ℕ, zero, suc, List, [], ◌∷◌, ◌++◌, Option, Some, None}
 use Rattle.std.proofs.Common.{refl, sym, ap, subst}
-use Rattle.std.specs.Prelude.{slice_get, remove, All, IfSome, IsSomeAnd}
+use Rattle.std.specs.Prelude.{slice_get, remove, IfSome, IsSomeAnd}
 use Rattle.std.specs.List.{AllByRecursion}
-use Rattle.token_laws.proofs.HeldLaws.{all_at}
 use Rattle.integrity.specs.Holding.{IsAmong}
 
 pub push_at : {X : Type 0} (xs : List X) (y x : X) (place : ℕ) → slice_get xs place ≡ Some x →

@@ -40,7 +40,7 @@ numbers_of split world host state numbers obeys =
     }
 
 -- what is there of a host is there of its state
-of_there : (world : WorldShape) (host : HostId) (state : HostShape) (P : HostShape → Type 0) →
+pub of_there : (world : WorldShape) (host : HostId) (state : HostShape) (P : HostShape → Type 0) →
     state_at world host ≡ Some state → IsSomeAnd (state_at world host) P → P state
 of_there world host state P obeys has = subst (λ o. IsSomeAnd o P) obeys has
 

@@ -19,12 +19,12 @@ pub mod TightMoves
 pub mod ChainMoves
 pub mod PopMoves
 pub mod TurnMoves
-pub mod TellMoves
 pub mod TakeMoves
 pub mod AnswerMoves
 pub mod PassMoves
 pub mod ActMoves
 pub mod HolderLaws
+pub mod TellMoves
 pub mod TakeLaws
 pub mod QuietRuns
 pub mod SetPrograms

@@ -1,8 +1,8 @@
 -- A turn of the holder's thread that sets a field of a misbehaving host: the step is made at once, and the thread waits
 -- for that host.
-use Rattle.std.proofs.Common.{◌≡◌, ◌≢◌, ◌∙◌, ◌⊎◌, inl, inr, ℕ, ℤ, suc, ◌+◌, ◌<◌, ◌≤◌, Bool, true, false, List, [], ◌∷◌, ◌++◌, length, Option}
-use Rattle.std.proofs.Common.{Some, None, refl, sym, ap, subst, arith}
-use Rattle.std.specs.Prelude.{slice_get, All, IfSome, IsSomeAnd, unwrap_or}
+use Rattle.std.proofs.Common.{◌≡◌, ◌∙◌, ◌⊎◌, inl, inr, ℕ, ℤ, ◌<◌, ◌≤◌, Bool, true, false, List, [], ◌∷◌, ◌++◌, length, Option}
+use Rattle.std.proofs.Common.{Some, None, refl, sym, ap, subst}
+use Rattle.std.specs.Prelude.{slice_get, All, unwrap_or}
 use Rattle.std.proofs.lemmas.Bool.Decides.{eqb_tells}
 use Rattle.std.proofs.lemmas.List.Elements.{All-push}
 use Rattle.js_base.specs.declared.ids.FieldId.{FieldId}
@@ -10,7 +10,7 @@ use Rattle.js_base.specs.declared.ids.HostId.{HostId}
 use Rattle.jif_tree.specs.SourceRun as plain
 use Rattle.jif_tree.specs.SourceRun.{Configuration}
 use Rattle.jif_tree.specs.Store.{row_of, store_after_write}
-use Rattle.host_code.specs.Code.{CodeFieldShape, field_at}
+use Rattle.host_code.specs.Code.{CodeFieldShape}
 use Rattle.host_code.specs.declared.message.Message.{Message}
 use Rattle.host_code.specs.declared.message.Message.TheVariants as message
 use Rattle.host_code.specs.Thread.{ThreadShape, WaitingShape, Awaited}
@@ -22,15 +22,27 @@ use Rattle.net_world.specs.Fits.{ShapeFits}
 use Rattle.net_world.specs.Told.{SentMessage}
 use Rattle.net_world.proofs.Moved.{bad_moved, mover_state, moved_told, moved_posted, silent_sent}
 use Rattle.token_laws.proofs.EachFlight.{of_state}
-use Rattle.token_laws.proofs.WorldTokens.{Accounts}
-use Rattle.typed_steps.specs.Turns.{waiting_for}
-use Rattle.typed_steps.specs.Requests.{Does}
+use Rattle.token_laws.proofs.WorldTokens.{Accounts, account}
+use Rattle.typed_steps.specs.Turns as turns
+use Rattle.typed_steps.specs.Turns.{IsActing, waiting_for}
+use Rattle.typed_steps.proofs.HolderTurns.{turned}
+use Rattle.js_base.specs.declared.ids.RequestId.{RequestId}
+use Rattle.host_decl.specs.Hosts as declared_hosts
+use Rattle.event_text.specs.declared.event.Event.{Event}
+use Rattle.event_text.specs.declared.event.Event.TheVariants.{Turn}
+use Rattle.token_laws.specs.Numbers.{CodeHasNumbers, RowsHaveNumbers, EventHasNumbers}
+use Rattle.token_laws.specs.Reached.{IsReached}
+use Rattle.token_laws.proofs.Walks.{fits_there, one_more}
+use Rattle.token_laws.proofs.WorldNumbers.{known_numbers}
+use Rattle.integrity.specs.Exposed.{bad_labels}
+use Rattle.integrity.proofs.HolderLaws.{numbers_of, of_there}
+use Rattle.integrity.proofs.TightLaws.{lawful}
 use Rattle.typed_steps.specs.Variables.{Sends}
 use Rattle.typed_steps.specs.Views.{entries_of}
 use Rattle.typed_steps.proofs.HeldSteps.{holds_same}
 use Rattle.integrity.specs.Holding.{IsAmong, runs, stuck, halted, OwnsWaiting, OwnsMessage, StateIsOutside, IsStanding}
 use Rattle.integrity.specs.Outside.{ThreadIsOpen, MessageIsOpen}
-use Rattle.integrity.specs.Standing.{threat_in, IsFor, StandsBy}
+use Rattle.integrity.specs.Standing.{threat_in, IsFor, StandsBy, SetsThere}
 use Rattle.integrity.proofs.Among.{each_among, some_of, last_at}
 use Rattle.integrity.proofs.FliesOn.{FlyAs}
 use Rattle.integrity.proofs.HolderStays.{on_some}
@@ -46,7 +58,7 @@ use Rattle.net_world.proofs.Present.{get_other}
 use Rattle.typed_steps.specs.Threads.{NoneKept}
 use Rattle.typed_steps.specs.Values.{AreRowsAlike}
 use Rattle.typed_steps.specs.Variables.{HaveFields, Holds}
-use Rattle.typed_steps.specs.Requests.{IsFieldOn}
+use Rattle.typed_steps.specs.Requests.{IsFieldOn, IsRequest}
 use Rattle.typed_steps.specs.Views.{Split, View}
 
 rows_on : (split : Split) (number : ℕ) (has row now : List ℤ) → AreRowsAlike split.exposure number has row →
@@ -224,9 +236,94 @@ module _ (split : Split) (c : Configuration) (view : View) (host : HostId) (thre
             absurd (cc);
       }
 
--- a step was made, and the thread waits for the misbehaving host
-pub record WaitsFor (split : Split) (c : Configuration) (view : View) (host : HostId) (after : WorldShape) : Type 0 where
-  pub now : Configuration
-  pub does : Does split c now
-  pub waiting : WaitingShape
-  pub stands : StandsBy split now view (stuck host waiting) after
+module _ (split : Split) (c : Configuration) (view : View) (host : HostId) (thread : ThreadShape)
+    (world after : WorldShape) (to : HostId) (m : Message) (t : Telling split c view host thread world after to m)
+    (request : RequestId) (field : FieldId) (index value : ℤ) (is_set : m ≡ message.Set request field index value) where
+  sets_there : (next : ThreadShape) (awaited : Awaited) →
+      with_message (after_asking (with_running t.step.state None) thread.at next awaited to) to m ≡ t.step.outcome →
+      IsRequest split c view host to (waiting_for t.step.state thread.at next awaited to)
+      (message.Set request field index value) → SetsThere split c view host after
+  sets_there next awaited is asks =
+      let sets = asks.4 in
+      record {
+        now = sets.now;
+        does = sets.does;
+        waiting = waiting_for t.step.state thread.at next awaited to;
+        stands = waits_for split c view host thread world after to m t next awaited is sets.at.held sets.now
+            (λ later holds bad.
+            holds_elsewhere split c sets.now view later field to index value holds asks.3 bad sets.store sets.calls
+            sets.plainly)
+            (subst (IsFor split sets.now view host (waiting_for t.step.state thread.at next awaited to)) (sym asks.0)
+            sets.at);
+      }
+
+  another : (new : HostShape) (other : HostId) (said : Message) → with_message new other said ≡ t.step.outcome →
+      said ≡ message.Set request field index value
+  another new other said is =
+      (sent_is split c view host thread world after to m t new other said is).1 ∙ is_set
+
+  pub told_by : turns.Turned split c view world host t.step.state thread t.step.outcome →
+      SetsThere split c view host after
+  told_by (turns.runs_on g) = absurd (silent_never split c view host thread world after to m t _ g.is)
+  told_by (turns.steps now does g) = absurd (silent_never split c view host thread world after to m t _ g.is)
+  told_by (turns.asks a) =
+      let same = sent_is split c view host thread world after to m t _ a.to a.asking a.is in
+      let new : HostId → HostShape =
+      λ h. after_asking (with_running t.step.state None) thread.at a.next a.awaited h in
+      let is : with_message (new to) to m ≡ t.step.outcome =
+      subst (λ h. with_message (new h) h m ≡ t.step.outcome) same.0
+      (subst (λ x. with_message (new a.to) a.to x ≡ t.step.outcome) same.1 a.is) in
+      sets_there a.next a.awaited is
+      (subst (IsRequest split c view host to (waiting_for t.step.state thread.at a.next a.awaited to))
+      (same.1 ∙ is_set)
+      (subst (λ h. IsRequest split c view host h (waiting_for t.step.state thread.at a.next a.awaited h) a.asking)
+      same.0 a.request))
+  told_by (turns.gives g) = (let same = another _ _ _ g.is in absurd (cc))
+  told_by (turns.hands h) = (let same = another _ _ _ h.is in absurd (cc))
+  told_by (turns.returns r) = (let same = another _ _ _ r.is in absurd (cc))
+  told_by (turns.ends e) = absurd (silent_never split c view host thread world after to m t _ e.is)
+
+-- ---- the law
+
+pub holder_told : (split : Split) (rows : List declared_hosts.HostShape) (bad : ℕ) (store : List (List ℤ))
+    (events : List Event) (world after : WorldShape) (host : HostId) (thread : ThreadShape) (c : Configuration)
+    (view : View) (to : HostId) (request : RequestId) (field : FieldId) (index value : ℤ) →
+    split.exposure.bad ≡ bad_labels bad 0 rows → IsReached split.code rows bad store events world →
+    CodeHasNumbers split.code → RowsHaveNumbers store → All EventHasNumbers events →
+    IsTurnStep split.code world host after → misbehaves world to ≡ true →
+    after.sent ≡ world.sent ++ (host, to, message.Set request field index value) ∷ [] →
+    StandsBy split c view (runs host thread) world → SetsThere split c view host after
+holder_told split rows bad store events world after host thread c view to request field index value same reach
+    code_numbers store_numbers said step misbehaving told stands =
+    let code = split.code in
+    let is = lawful (threat_in split) rows bad store events world same reach in
+    let next = one_more code rows bad store events world after (Turn host) reach tt step in
+    let numbers = known_numbers code rows bad store events world reach code_numbers store_numbers said in
+    let running = of_there world host step.state (λ s. s.running ≡ Some thread) step.obeys stands.tight.there in
+    let sends = of_there world host step.state (λ s. Sends split view s host) step.obeys stands.sends in
+    let acts : IsActing split c view world host step.state thread = record {
+      there = step.obeys;
+      many = is.fits.count;
+      fits = state_fits (threat_in split) world host step.state is.fits step.obeys;
+      numbers = numbers_of split world host step.state numbers step.obeys;
+      running = running;
+      is_chain = stands.does.0;
+      at = stands.does.1;
+      sent = sends;
+      holds = stands.holds;
+    } in
+    let turn = turned split c view world host step.state thread acts step.outcome step.turns in
+    let m = message.Set request field index value in
+    let t : Telling split c view host thread world after to m = record {
+      stands = stands;
+      lawful = is;
+      fits = fits_there code rows bad store (events ++ Turn host ∷ []) after next;
+      account = account code world after (Turn host) reach.sound is.fits tt step;
+      step = step;
+      sends = sends;
+      label = turn.0;
+      labels = turn.1;
+      bad = misbehaving;
+      told = told;
+    } in
+    told_by split c view host thread world after to m t request field index value refl turn.2

@@ -41,6 +41,15 @@ pub data Comes (world : WorldShape) (from to : HostId) (m : Message) : Type 0 wh
   flies : Flies world from to m → Comes world from to m
   told : misbehaves world from ≡ true → Comes world from to m
 
+one_waits : (threat : Threat) (world : WorldShape) → IsLawful threat world → (host : HostId)
+    (waiting one : WaitingShape) (state : HostShape) (place : ℕ) → state_at world host ≡ Some state →
+    slice_get state.waiting place ≡ Some one → one.request ≡ waiting.request → IsAmong state.waiting waiting →
+    one ≡ waiting
+one_waits threat world is host waiting one state place obeys there same (other, also) =
+    let place_is =
+    waits_once world.flying host state place other one waiting (is.asked.hosts host state obeys) there also same in
+    same_item state.waiting other one waiting (subst (λ n. slice_get state.waiting n ≡ Some one) place_is there) also
+
 -- who waits for the number that the holder's thread waits for is the holder's thread
 the_waiting : (threat : Threat) (world : WorldShape) → IsLawful threat world → (host : HostId)
     (waiting one : WaitingShape) (state : HostShape) (place : ℕ) → Waits world host waiting →
@@ -50,10 +59,8 @@ the_waiting threat world is host waiting one state place waits obeys there same 
     let at = one_of_some (state_at world host) (λ s. IsAmong s.waiting waiting) waits in
     let both : Some at.one ≡ Some state = sym at.is ∙ obeys in
     let same_state : at.one ≡ state = cc in
-    let also : IsAmong state.waiting waiting = subst (λ s. IsAmong s.waiting waiting) {y = state} same_state at.has in
-    let place_is =
-    waits_once world.flying host state place also.0 one waiting (is.asked.hosts host state obeys) there also.1 same in
-    same_item state.waiting also.0 one waiting (subst (λ n. slice_get state.waiting n ≡ Some one) place_is there) also.1
+    one_waits threat world is host waiting one state place obeys there same
+    (subst (λ s. IsAmong s.waiting waiting) same_state at.has)
 
 -- a request in flight has no answer yet
 not_answered : (threat : Threat) (world : WorldShape) → IsLawful threat world → (me : HostId) (waiting : WaitingShape)

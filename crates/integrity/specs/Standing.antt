@@ -114,3 +114,11 @@ pub data Goes (split : Split) (c : Configuration) (after : WorldShape) : Type 0 
   stays : (view : View) (holder : Holder) → IsFree holder → StandsBy split c view holder after → Goes split c after
   steps : (now : Configuration) (view : View) (holder : Holder) → IsFree holder →
       MayStep split.program split.exposure c c.pending now → StandsBy split now view holder after → Goes split c after
+
+-- A step was made, which sets a field of a misbehaving host, and the thread waits for that host.
+pub record SetsThere (split : Split) (c : Configuration) (view : View) (host : HostId) (after : WorldShape) : Type 0
+  where
+    pub now : Configuration
+    pub does : MayStep split.program split.exposure c c.pending now
+    pub waiting : WaitingShape
+    pub stands : StandsBy split now view (stuck host waiting) after

@@ -1,7 +1,8 @@
 //! What misbehaving hosts can't affect, whatever they do. The calls do nothing: their contracts are the laws.
 
-ghost use Rattle.std.specs.Prelude.{◌≡◌, ◌≢◌, ◌⊎◌, IfSome, ℕ, ℤ, List, [], ◌∷◌, All, Some};
+ghost use Rattle.std.specs.Prelude.{◌≡◌, ◌≢◌, ◌⊎◌, ◌++◌, true, IfSome, ℕ, ℤ, List, [], ◌∷◌, All, Some};
 ghost use Rattle.std.specs.Int.{bit_at};
+ghost use Rattle.js_base.specs.declared.ids.FieldId.{FieldId};
 ghost use Rattle.js_base.specs.declared.ids.FrameId.{FrameId};
 ghost use Rattle.js_base.specs.declared.ids.HostId.{HostId};
 ghost use Rattle.js_base.specs.declared.ids.RequestId.{RequestId};
@@ -25,7 +26,8 @@ ghost use Rattle.event_text.specs.declared.event.Event.TheVariants.{Act, Take, T
 ghost use Rattle.event_text.specs.declared.event.BadMessage.{BadMessage};
 ghost use Rattle.net_world.specs.Fits.{HasOwnToken};
 ghost use Rattle.net_world.specs.Told.{message_made};
-ghost use Rattle.net_world.specs.World.{WorldShape, IsStep, IsRun, has_halted, state_at, tokens_sent, world_at_start};
+ghost use Rattle.net_world.specs.World.{WorldShape, IsStep, IsRun, has_halted, misbehaves, state_at, tokens_sent};
+ghost use Rattle.net_world.specs.World.{world_at_start};
 ghost use Rattle.split_rules.specs.Walk.{entry_id};
 ghost use Rattle.split_rules.specs.Allowed.{IsAllowed};
 ghost use Rattle.split_rules.specs.OpenExamples.{untrusted, trusted_by_first};
@@ -45,7 +47,7 @@ ghost use Rattle.integrity.specs.Holding.{stuck, StartsTight};
 ghost use Rattle.integrity.specs.IntegrityExamples.{sent_threat, sending, waiting, two_fields, exposed_to, store};
 ghost use Rattle.integrity.specs.IntegrityExamples.{before_set, sets_to_nine, after_set, after_refused, halted_world};
 ghost use Rattle.integrity.specs.IntegrityExamples.{at_end, not_at_end};
-ghost use Rattle.integrity.specs.Standing.{Goes, StandsBy, threat_in};
+ghost use Rattle.integrity.specs.Standing.{Goes, SetsThere, StandsBy, threat_in};
 ghost use Rattle.integrity.specs.Outside.{EntryIsOpen, IsOutside, MessageIsOpen, StateIsOpen, Threat, threat_of};
 
 use split_rules::{opening_examples, opening_laws, split_laws, trust_laws};
@@ -162,6 +164,16 @@ pub fn standing_laws()
         CodeHasNumbers split.code → RowsHaveNumbers store → All EventHasNumbers events →
         StandsBy split c view holder world → IsStep split.code world (Take from to place) after →
         IsOwn holder world (Take from to place) → Goes split c after }
+    // Where a turn of the holder's thread sets a field of a misbehaving host, the step is made at once, and the thread
+    // waits for that host.
+    ensures told { (split : Split) (rows : List HostRow) (bad : ℕ) (store : List (List ℤ)) (events : List Event)
+        (world after : WorldShape) (host : HostId) (thread : ThreadShape) (c : Configuration) (view : View)
+        (to : HostId) (request : RequestId) (field : FieldId) (index value : ℤ) →
+        split.exposure.bad ≡ bad_labels bad 0 rows → IsReached split.code rows bad store events world →
+        CodeHasNumbers split.code → RowsHaveNumbers store → All EventHasNumbers events →
+        IsStep split.code world (Turn host) after → misbehaves world to ≡ true →
+        after.sent ≡ world.sent ++ (host, to, message.Set request field index value) ∷ [] →
+        StandsBy split c view (runs host thread) world → SetsThere split c view host after }
     // Where the holder's thread waits for a misbehaving host and that answers it, the thread goes on. It waits on where
     // it waits for an answer of another kind.
     ensures acted { (split : Split) (rows : List HostRow) (bad : ℕ) (store : List (List ℤ)) (events : List Event)

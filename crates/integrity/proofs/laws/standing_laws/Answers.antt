@@ -7,6 +7,7 @@ use Rattle.integrity.proofs.HolderLaws.{holder_turned}
 use Rattle.integrity.proofs.StandsAtStart.{stands_at_start}
 use Rattle.integrity.proofs.StandsOn.{stands_kept}
 use Rattle.integrity.proofs.TakeLaws.{holder_taken}
+use Rattle.integrity.proofs.TellMoves.{holder_told}
 use Rattle.integrity.proofs.laws.standing_laws.Goals as goal
 
 pub returns-clause-start : goal.returns-clause-start
@@ -32,3 +33,6 @@ returns-clause-acted c =
     its.
     holder_acted split rows bad store events world after configuration view same reach host waiting stands made own step
     (if_of (message_made (tokens_sent world) made) MessageHasNumbers step.message step.makes numbers) its
+
+pub returns-clause-told : goal.returns-clause-told
+returns-clause-told c = holder_told
