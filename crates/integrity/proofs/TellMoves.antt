@@ -1,6 +1,7 @@
 -- A turn of the holder's thread that sets a field of a misbehaving host: the step is made at once, and the thread waits
 -- for that host.
-use Rattle.std.proofs.Common.{◌≡◌, ◌∙◌, ◌⊎◌, inl, inr, ℕ, ℤ, ◌<◌, ◌≤◌, Bool, true, false, List, [], ◌∷◌, ◌++◌, length, Option}
+use Rattle.std.proofs.Common.{◌≡◌, ◌∙◌, ◌⊎◌, inl, inr, ℕ, ℤ, ◌<◌, ◌≤◌, Bool, true, false, List, [], ◌∷◌, ◌++◌}
+use Rattle.std.proofs.Common.{length, Option}
 use Rattle.std.proofs.Common.{Some, None, refl, sym, ap, subst}
 use Rattle.std.specs.Prelude.{slice_get, All, unwrap_or}
 use Rattle.std.proofs.lemmas.Bool.Decides.{eqb_tells}
@@ -156,7 +157,8 @@ module _ (split : Split) (c : Configuration) (view : View) (host : HostId) (thre
 
   silent_never : (new : HostShape) → without_message new ≡ t.step.outcome → ⊥
   silent_never new is =
-      not_silent (silent_sent world host t.step.outcome new (label_of_turn split.code t.step.state) after is t.step.leaves)
+      not_silent
+      (silent_sent world host t.step.outcome new (label_of_turn split.code t.step.state) after is t.step.leaves)
 
   was : StateIsOutside (threat_in split) (entries_of view.chain) (runs host thread) t.step.state
   was = of_state (StateIsOutside (threat_in split) (entries_of view.chain) (runs host thread)) world host t.step.state
@@ -184,7 +186,8 @@ module _ (split : Split) (c : Configuration) (view : View) (host : HostId) (thre
       moved_told world host t.step.outcome old new to m (label_of_turn split.code old) t.label after t.step.obeys t.bad
       t.labels is t.step.leaves in
       let moved = told.moved in
-      let there : state_at after host ≡ Some new = mover_state world after host old new world.flying t.step.obeys moved in
+      let there : state_at after host ≡ Some new =
+      mover_state world after host old new world.flying t.step.obeys moved in
       let bad : misbehaves after to ≡ true =
       bad_moved world after host old new world.flying t.step.obeys moved to ∙ t.bad in
       let Waits : WaitingShape → Type 0 =
