@@ -64,10 +64,10 @@ pub record IsKnown (threat : Threat) : Type 0 where
   pub variables : (label : Label) (x : VarId) → MayChange threat.code label x →
       IsSomeAnd (slice_get threat.exposure.variables x.0) (IntegFlows label)
 
-any_each : (P Q : Label → Type 0) (bad : List Label) → ((label : Label) → P label → Q label) → Any P bad → Any Q bad
+pub any_each : (P Q : Label → Type 0) (bad : List Label) → ((label : Label) → P label → Q label) → Any P bad → Any Q bad
 any_each P Q bad each any = (any.0, any.1, any.2, any.3, each any.1 any.4)
 
-some_each : {X : Type 0} (P Q : X → Type 0) (o : Option X) → ((x : X) → P x → Q x) → IsSomeAnd o P → IsSomeAnd o Q
+pub some_each : {X : Type 0} (P Q : X → Type 0) (o : Option X) → ((x : X) → P x → Q x) → IsSomeAnd o P → IsSomeAnd o Q
 some_each P Q None each has = has
 some_each P Q (Some x) each has = each x has
 
@@ -108,7 +108,7 @@ pub record HasOpen (threat : Threat) (kinds : Kinds threat) (state : HostShape) 
   pub entries : All kinds.keeps state.entries
 
 -- no site has fewer frames
-abbrev FramesStay : HostShape → HostShape → Type 0
+abbrev pub FramesStay : HostShape → HostShape → Type 0
 FramesStay old new = (site : ℕ) → slice_index old.frames site ≤ slice_index new.frames site
 
 pub record LeavesOpen (threat : Threat) (kinds : Kinds threat) (old : HostShape) (outcome : Outcome) : Type 0 where

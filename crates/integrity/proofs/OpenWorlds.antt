@@ -110,7 +110,7 @@ unchanged : (exposure : Exposure) (state : HostShape) → IsAsBefore exposure st
 unchanged exposure state = record { rows = λ field. inl refl; variables = λ frame x. inl refl }
 
 -- one host has changed
-before_after : (exposure : Exposure) (world after : WorldShape) (me : HostId) (old state : HostShape) →
+pub before_after : (exposure : Exposure) (world after : WorldShape) (me : HostId) (old state : HostShape) →
     state_at world me ≡ Some old → after.hosts ≡ slice_set world.hosts me.0 (Some state) →
     IsAsBefore exposure old state → AreAsBefore exposure world after
 before_after exposure world after me old state obeys puts stays host new at =
@@ -197,7 +197,8 @@ does_open threat state from (message.Token request token) was said = wakes_open 
 
 -- ---- the events
 
-state_fits : (threat : Threat) (world : WorldShape) (host : HostId) (state : HostShape) → ShapeFits threat.code world →
+pub state_fits : (threat : Threat) (world : WorldShape) (host : HostId) (state : HostShape) →
+    ShapeFits threat.code world →
     state_at world host ≡ Some state → IsStateOf threat.code host state
 state_fits threat world host state fits obeys =
     subst (λ (o : Option HostShape). IfSome o (IsStateOf threat.code host)) obeys (fits.states host)

@@ -1,6 +1,6 @@
 -- What hosts that run the code of a split program promise together, though some misbehave: what those may not affect
 -- follows a run of the program that is altered as they may alter it.
-use Rattle.std.specs.Prelude.{◌≡◌, ℕ, ◌+◌, ◌≤◌, ℤ, List, length, take, IsSomeAnd, slice_get, slice_index}
+use Rattle.std.specs.Prelude.{◌≡◌, ⊤, [], ◌∷◌, ℕ, ◌+◌, ◌≤◌, ℤ, List, length, take, IsSomeAnd, slice_get, slice_index}
 use Rattle.std.specs.List.Sorted.{IsNonDecreasing}
 use Rattle.host_decl.specs.Hosts as declared_hosts
 use Rattle.jif_tree.specs.declared.program.Program.{Program}
@@ -8,7 +8,8 @@ use Rattle.jif_tree.specs.Altered.{Exposure, IsAlteredRun}
 use Rattle.jif_tree.specs.SourceRun.{Configuration, IsAtEnd}
 use Rattle.host_code.specs.Code.{CodeShape}
 use Rattle.event_text.specs.declared.event.Event.{Event}
-use Rattle.net_world.specs.World.{WorldShape, IsRun, world_at_start, has_halted}
+use Rattle.event_text.specs.declared.event.Event.TheVariants.{Turn}
+use Rattle.net_world.specs.World.{WorldShape, IsStep, IsRun, world_at_start, has_halted}
 use Rattle.integrity.specs.Exposed.{FieldsStand}
 
 -- The fields of a world that may not be affected are those of a configuration, which is at its end where an obeying
@@ -31,3 +32,16 @@ pub record FollowsAltered (program : Program) (exposure : Exposure) (code : Code
   pub stands : (moment : ℕ) (world : WorldShape) → moment ≤ length events →
       IsRun code (world_at_start code rows bad store) (take moment events) world →
       IsSomeAnd (slice_get run (slice_index places moment)) (StandsFor code exposure world)
+
+-- ---- what misbehaving hosts are told
+
+-- where an event is a turn, it sends them nothing
+abbrev pub TellsNothing : Event → WorldShape → WorldShape → Type 0
+TellsNothing (Turn host) world after = after.sent ≡ world.sent
+TellsNothing other world after = ⊤
+
+-- So it is with each of some events. What a host answers a misbehaving one that asks it is not asked about.
+abbrev pub RunsQuietly : CodeShape → WorldShape → List Event → Type 0
+RunsQuietly code world [] = ⊤
+RunsQuietly code world (event ∷ events) = (next : WorldShape) → IsStep code world event next →
+    TellsNothing event world next × RunsQuietly code next events

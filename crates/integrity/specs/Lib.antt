@@ -1,4 +1,6 @@
 pub mod Exposed
 pub mod Outside
 pub mod Altering
+pub mod Holding
+pub mod Standing
 pub mod IntegrityExamples

@@ -1,10 +1,13 @@
 //! What misbehaving hosts can't affect, whatever they do. The calls do nothing: their contracts are the laws.
 
-ghost use Rattle.std.specs.Prelude.{◌≡◌, ℕ, ℤ, List, [], ◌∷◌, All};
+ghost use Rattle.std.specs.Prelude.{◌≡◌, ◌≢◌, ◌⊎◌, ◌++◌, true, IfSome, ℕ, ℤ, List, [], ◌∷◌, All, Some};
 ghost use Rattle.std.specs.Int.{bit_at};
+ghost use Rattle.js_base.specs.declared.ids.FieldId.{FieldId};
 ghost use Rattle.js_base.specs.declared.ids.FrameId.{FrameId};
+ghost use Rattle.js_base.specs.declared.ids.HostId.{HostId};
 ghost use Rattle.js_base.specs.declared.ids.RequestId.{RequestId};
 ghost use Rattle.host_decl.specs.Hosts.{HostsShape};
+ghost use Rattle.host_decl.specs.Hosts.{HostShape as HostRow};
 ghost use Rattle.jif_tree.specs.declared.program.Program.{Program};
 ghost use Rattle.jif_tree.specs.Altered.{Exposure, FieldIsAffected, StatementIsAffected, VariableIsAffected};
 ghost use Rattle.jif_tree.specs.SourceRun.{Configuration, configuration_at_start};
@@ -14,9 +17,17 @@ ghost use Rattle.need_labels.specs.Plan.{PlanShape};
 ghost use Rattle.msg_cost.specs.Moves.{PlannedShape, planned_of};
 ghost use Rattle.host_code.specs.declared.message.Message.TheVariants as message;
 ghost use Rattle.host_code.specs.Code.{halt};
+ghost use Rattle.host_code.specs.Sound.{IsSoundCode};
+ghost use Rattle.host_code.specs.Thread.{ThreadShape, WaitingShape};
+ghost use Rattle.host_core.specs.Host.{HostShape};
+ghost use Rattle.ics_stack.specs.declared.stack.StackEntry.{StackEntry};
 ghost use Rattle.event_text.specs.declared.event.Event.{Event};
+ghost use Rattle.event_text.specs.declared.event.Event.TheVariants.{Act, Take, Turn};
+ghost use Rattle.event_text.specs.declared.event.BadMessage.{BadMessage};
 ghost use Rattle.net_world.specs.Fits.{HasOwnToken};
-ghost use Rattle.net_world.specs.World.{WorldShape, IsStep, IsRun, world_at_start};
+ghost use Rattle.net_world.specs.Told.{message_made};
+ghost use Rattle.net_world.specs.World.{WorldShape, IsStep, IsRun, has_halted, misbehaves, state_at, tokens_sent};
+ghost use Rattle.net_world.specs.World.{world_at_start};
 ghost use Rattle.split_rules.specs.Walk.{entry_id};
 ghost use Rattle.split_rules.specs.Allowed.{IsAllowed};
 ghost use Rattle.split_rules.specs.OpenExamples.{untrusted, trusted_by_first};
@@ -24,16 +35,23 @@ ghost use Rattle.split_rules.specs.Worked.{field_id, var_id, statement_id};
 ghost use Rattle.split_rules.specs.SplitCode.{split_code};
 ghost use Rattle.split_rules.specs.Splittable.{IsSplittable};
 ghost use Rattle.split_rules.specs.TypedCode.{Table, IsTypedCode};
+ghost use Rattle.token_laws.specs.Numbers.{CodeHasNumbers, RowsHaveNumbers, EventHasNumbers, MessageHasNumbers};
 ghost use Rattle.token_laws.specs.Reached.{IsReached};
-ghost use Rattle.token_laws.specs.TokenExamples.{small, start};
-ghost use Rattle.integrity.specs.Altering.{StandsFor, FollowsAltered};
-ghost use Rattle.integrity.specs.Exposed.{AreAsBefore, FieldsStand, exposure_of};
+ghost use Rattle.typed_steps.specs.Views.{Split, View};
+ghost use Rattle.simulation.specs.Obeying.{IsSet};
+ghost use Rattle.token_laws.specs.TokenExamples.{bad_start, first_token, given, handing, host_id, small, start};
+ghost use Rattle.integrity.specs.Altering.{StandsFor, FollowsAltered, RunsQuietly};
+ghost use Rattle.integrity.specs.Exposed.{AreAsBefore, FieldsStand, bad_labels, exposure_of};
+ghost use Rattle.integrity.specs.Holding.{AreLinked, Holder, runs, lost, IsOwn, IsOutsideBut, IsStanding, IsTight};
+ghost use Rattle.integrity.specs.Holding.{stuck, StartsTight};
 ghost use Rattle.integrity.specs.IntegrityExamples.{sent_threat, sending, waiting, two_fields, exposed_to, store};
 ghost use Rattle.integrity.specs.IntegrityExamples.{before_set, sets_to_nine, after_set, after_refused, halted_world};
 ghost use Rattle.integrity.specs.IntegrityExamples.{at_end, not_at_end};
+ghost use Rattle.integrity.specs.Standing.{Goes, SetsThere, StandsBy, threat_in};
 ghost use Rattle.integrity.specs.Outside.{EntryIsOpen, IsOutside, MessageIsOpen, StateIsOpen, Threat, threat_of};
 
 use split_rules::{opening_examples, opening_laws, split_laws, trust_laws};
+use token_laws::token_examples;
 
 /// Where all that goes on in a world could be the doing of misbehaving hosts, it is so after any event, and no field or
 /// variable has changed that they may not affect.
@@ -87,6 +105,110 @@ pub fn root_laws()
     opening_laws();
 }
 
+/// A chain of entries that are to be taken off, and whoever holds the token of the first of them, where some hosts
+/// misbehave. What is neither the chain's nor the holder's can't touch them: it has none of their tokens, wakes no
+/// thread that waits for the holder, and changes nothing that misbehaving hosts may not affect.
+pub fn chain_laws()
+    // Where the root obeys, the entry that ends the program is such a chain before the first event, and the thread at
+    // `main` holds its token.
+    ensures start { (threat : Threat) (rows : List HostRow) (bad : ℕ) (store : List (List ℤ)) (state : HostShape) →
+        IsSoundCode threat.code →
+        state_at (world_at_start threat.code rows bad store) threat.code.root ≡ Some state →
+        StartsTight threat (world_at_start threat.code rows bad store) }
+    // An event that is none of the holder's leaves the chain, the holder and its token.
+    ensures kept { (labelled : Labelled) (needs : NeedsShape) (hosts : HostsShape) (plan : PlanShape) (table : Table)
+        (bad : ℕ) (store : List (List ℤ)) (events : List Event) (world after : WorldShape) (event : Event)
+        (chain : List StackEntry) (holder : Holder) →
+        let code = split_code labelled needs hosts plan in
+        let threat = threat_of labelled needs hosts plan table bad in
+        IsSplittable labelled hosts plan → IsAllowed labelled needs hosts plan →
+        IsTypedCode (planned_of labelled needs hosts plan) code table →
+        IsReached code hosts.hosts bad store events world →
+        HasOwnToken (world_at_start code hosts.hosts bad store) event → IsStep code world event after →
+        IsTight threat chain holder world → ¬ IsOwn holder world event →
+        IsTight threat chain holder after × AreAsBefore threat.exposure world after }
+{
+    opening_laws();
+}
+
+/// While misbehaving hosts were sent no token of the chain, a world stands for a configuration of an altered run by
+/// what is seen of it and by whoever holds the token.
+pub fn standing_laws()
+    // Where the root obeys, the world before the first event stands for the start of the program.
+    ensures start { (split : Split) (rows : List HostRow) (bad : ℕ) (store : List (List ℤ)) (state : HostShape) →
+        state_at (world_at_start split.code rows bad store) split.code.root ≡ Some state →
+        (view : View) × (thread : ThreadShape)
+        × StandsBy split (configuration_at_start split.program store) view (runs split.code.root thread)
+        (world_at_start split.code rows bad store) }
+    // It stands for the same configuration, by the same, after any event that is none of the holder's.
+    ensures kept { (split : Split) (labelled : Labelled) (needs : NeedsShape) (hosts : HostsShape) (plan : PlanShape)
+        (bad : ℕ) (store : List (List ℤ)) (events : List Event) (world after : WorldShape) (event : Event)
+        (c : Configuration) (view : View) (holder : Holder) →
+        threat_in split ≡ threat_of labelled needs hosts plan split.table bad →
+        IsSplittable labelled hosts plan → IsAllowed labelled needs hosts plan →
+        IsReached split.code hosts.hosts bad store events world →
+        HasOwnToken (world_at_start split.code hosts.hosts bad store) event → IsStep split.code world event after →
+        StandsBy split c view holder world → ¬ IsOwn holder world event → StandsBy split c view holder after }
+    // Where the holder's thread makes a turn that tells misbehaving hosts nothing, it stands for the same configuration
+    // again, or for one that a step leads to.
+    ensures turned { (split : Split) (rows : List HostRow) (bad : ℕ) (store : List (List ℤ)) (events : List Event)
+        (world after : WorldShape) (host : HostId) (thread : ThreadShape) (c : Configuration) (view : View) →
+        split.exposure.bad ≡ bad_labels bad 0 rows → IsReached split.code rows bad store events world →
+        CodeHasNumbers split.code → RowsHaveNumbers store → All EventHasNumbers events →
+        IsStep split.code world (Turn host) after → after.sent ≡ world.sent →
+        StandsBy split c view (runs host thread) world → Goes split c after }
+    // So it does where a message of the holder's is taken: its request, the answer to that, or the token in flight.
+    ensures taken { (split : Split) (rows : List HostRow) (bad : ℕ) (store : List (List ℤ)) (events : List Event)
+        (world after : WorldShape) (c : Configuration) (view : View) (holder : Holder) (from to : HostId) (place : ℕ) →
+        split.exposure.bad ≡ bad_labels bad 0 rows → IsReached split.code rows bad store events world →
+        CodeHasNumbers split.code → RowsHaveNumbers store → All EventHasNumbers events →
+        StandsBy split c view holder world → IsStep split.code world (Take from to place) after →
+        IsOwn holder world (Take from to place) → Goes split c after }
+    // Where a turn of the holder's thread sets a field of a misbehaving host, the step is made at once, and the thread
+    // waits for that host.
+    ensures told { (split : Split) (rows : List HostRow) (bad : ℕ) (store : List (List ℤ)) (events : List Event)
+        (world after : WorldShape) (host : HostId) (thread : ThreadShape) (c : Configuration) (view : View)
+        (to : HostId) (request : RequestId) (field : FieldId) (index value : ℤ) →
+        split.exposure.bad ≡ bad_labels bad 0 rows → IsReached split.code rows bad store events world →
+        CodeHasNumbers split.code → RowsHaveNumbers store → All EventHasNumbers events →
+        IsStep split.code world (Turn host) after → misbehaves world to ≡ true →
+        after.sent ≡ world.sent ++ (host, to, message.Set request field index value) ∷ [] →
+        StandsBy split c view (runs host thread) world → SetsThere split c view host after }
+    // Where the holder's thread waits for a misbehaving host and that answers it, the thread goes on. It waits on where
+    // it waits for an answer of another kind.
+    ensures acted { (split : Split) (rows : List HostRow) (bad : ℕ) (store : List (List ℤ)) (events : List Event)
+        (world after : WorldShape) (c : Configuration) (view : View) (host : HostId) (waiting : WaitingShape)
+        (made : BadMessage) →
+        let start = world_at_start split.code rows bad store in
+        let act = Act waiting.asked host made in
+        split.exposure.bad ≡ bad_labels bad 0 rows → IsReached split.code rows bad store events world →
+        StandsBy split c view (stuck host waiting) world → HasOwnToken start act → IsStep split.code world act after →
+        IfSome (message_made (tokens_sent world) made) MessageHasNumbers → IsOwn (stuck host waiting) world act →
+        Goes split c after ⊎ StandsBy split c view (stuck host waiting) after }
+{
+    opening_laws();
+}
+
+/// Where the root obeys and no turn tells a misbehaving host anything, the hosts follow an altered run of the program,
+/// whatever misbehaving hosts send and are answered: at every moment each field on an obeying host, which no
+/// misbehaving host may affect, has the value of one configuration of it, and once the root has halted that is at its
+/// end.
+pub fn quiet_laws()
+    ensures follows { (program : Program) (labelled : Labelled) (needs : NeedsShape) (hosts : HostsShape)
+        (plan : PlanShape) (bad : ℕ) (store : List (List ℤ)) (events : List Event) (world : WorldShape)
+        (state : HostShape) →
+        let code = split_code labelled needs hosts plan in
+        let start = world_at_start code hosts.hosts bad store in
+        IsSet program labelled needs hosts plan → CodeHasNumbers code → RowsHaveNumbers store →
+        IsReached code hosts.hosts bad store events world → All EventHasNumbers events →
+        state_at start code.root ≡ Some state → RunsQuietly code start events →
+        FollowsAltered program (exposure_of labelled needs hosts bad) code hosts.hosts bad store events }
+{
+    split_laws();
+    trust_laws();
+    opening_laws();
+}
+
 /// What the second of two hosts may affect in a small program and a small world.
 pub fn integrity_examples()
     // The hosts of the word's bits are known by their labels.
@@ -132,4 +254,30 @@ pub fn integrity_examples()
     ensures halted_denied { (exposure : Exposure) → ¬ StandsFor small exposure halted_world not_at_end }
 {
     opening_examples();
+}
+
+/// Chains and their holders in small worlds.
+pub fn chain_examples()
+    // Before the first event the thread at `main` holds the token of the entry that ends the program. So that is not
+    // lost, and not all is outside.
+    ensures not_lost { (threat : Threat) (last : StackEntry) (below : List StackEntry) → last.token ≡ first_token →
+        ¬ IsTight threat (last ∷ below) lost start }
+    ensures not_outside { (planned : PlannedShape) (table : Table) (exposure : Exposure) →
+        let threat : Threat = record { planned = planned; code = small; table = table; exposure = exposure } in
+        ¬ IsOutsideBut threat [] lost start }
+    // No entry of a chain has a token that a misbehaving host was sent.
+    ensures sent_falls { (on_stack : StackEntry) → on_stack.token ≡ first_token → ¬ IsStanding given on_stack }
+    // A turn of the host where the holder's thread runs is the holder's, and one of another host is not.
+    ensures own_turn { (thread : ThreadShape) → IsOwn (runs (host_id 0) thread) start (Turn (host_id 0)) }
+    ensures other_turn { (thread : ThreadShape) → ¬ IsOwn (runs (host_id 0) thread) start (Turn (host_id 1)) }
+    // Each entry of a chain keeps the token of the next.
+    ensures unlinked { (one next : StackEntry) → one.kept ≢ next.token → ¬ AreLinked (one ∷ next ∷ []) }
+    // A turn that pushes an entry tells misbehaving hosts nothing. One that hands a token over to such a host does.
+    ensures quiet { RunsQuietly small start (Turn (host_id 0) ∷ []) }
+    ensures told { ¬ RunsQuietly handing bad_start (Turn (host_id 0) ∷ []) }
+    // Where the root has halted, no thread is the holder.
+    ensures halted_denied { (split : Split) (c : Configuration) (view : View) (host : HostId) (thread : ThreadShape)
+        (world : WorldShape) → has_halted split.code.root world → ¬ StandsBy split c view (runs host thread) world }
+{
+    token_examples();
 }

@@ -3,4 +3,7 @@
 
 mod laws;
 
-pub use laws::{integrity_examples, outside_laws, root_laws};
+pub use laws::{
+    chain_examples, chain_laws, integrity_examples, outside_laws, quiet_laws, root_laws,
+    standing_laws,
+};

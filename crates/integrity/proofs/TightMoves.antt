@@ -1,0 +1,142 @@
+-- A chain that stands and its holder, after an event of the holder's.
+use Rattle.std.proofs.Common.{◌≡◌, ◌≢◌, ◌∙◌, ◌⊎◌, inl, inr, suc, List, [], ◌∷◌, Option, Some, None}
+use Rattle.std.proofs.Common.{refl, sym, ap, subst, get_or}
+use Rattle.std.specs.Prelude.{slice_set, All, IfSome}
+use Rattle.std.specs.List.{AllByRecursion}
+use Rattle.js_base.specs.declared.ids.HostId.{HostId}
+use Rattle.ics_stack.specs.declared.stack.StackEntry.{StackEntry}
+use Rattle.host_code.specs.Thread.{WaitingShape}
+use Rattle.host_core.specs.Fits.{EntryFits}
+use Rattle.host_core.specs.Host.{HostShape}
+use Rattle.net_world.specs.Fits.{ShapeFits}
+use Rattle.net_world.specs.World.{WorldShape, state_at}
+use Rattle.net_world.proofs.Moved.{either}
+use Rattle.token_laws.specs.Holders.{IsSent, IsHeld, kept_on}
+use Rattle.token_laws.proofs.EachFlight.{StatesHave, of_state}
+use Rattle.token_laws.proofs.HeldLaws.{own_before}
+use Rattle.token_laws.proofs.WorldTokens.{Accounts}
+use Rattle.integrity.specs.Holding.{IsAmong, Holder, lost, IsThere, HasTop, OwnsRunning, OwnsWaiting, OwnsMessage}
+use Rattle.integrity.specs.Holding.{StateIsOutside, AreLinked, IsStanding, IsTight}
+use Rattle.integrity.specs.Outside.{Threat, ThreadIsOpen, EntryIsOpen, MessageIsOpen}
+use Rattle.integrity.proofs.Among.{each_among, all_among, one_of_some}
+use Rattle.integrity.proofs.FliesOn.{FlyAs}
+use Rattle.integrity.proofs.HeldTokens.{StandsThere, top_kept, held_or_lost, later_held, still_unsent}
+use Rattle.integrity.proofs.OpenWorlds.{state_fits}
+use Rattle.integrity.proofs.TightKept.{IsLawful, tokens_known}
+
+-- ---- the states of hosts
+
+-- the host that changed has it, and others have it where they had another thing
+states_change : (P Q : HostShape → Type 0) (world after : WorldShape) (me : HostId) (old new : HostShape) →
+    state_at world me ≡ Some old → after.hosts ≡ slice_set world.hosts me.0 (Some new) → StatesHave P world → Q new →
+    ((host : HostId) (state : HostShape) → host ≢ me → state_at world host ≡ Some state → P state → Q state) →
+    (host : HostId) (o : Option HostShape) → state_at after host ≡ o → IfSome o Q
+states_change P Q world after me old new obeys puts has own other host None is = tt
+states_change P Q world after me old new obeys puts has own other host (Some there) is =
+    elim (either world after me old new after.flying obeys (record { hosts = puts; flying = refl }) host there is) [
+      | inl mover ↦ subst Q (sym mover.is) own
+      | inr one ↦
+          other host there (λ same. one.apart (ap (λ (h : HostId). h.0) same)) one.obeys
+          (of_state P world host there has one.obeys)
+    ]
+
+-- ---- a chain and its holder
+
+-- What an event of the holder's changes, and the chain and the holder after it.
+pub record Moves (threat : Threat) (chain now : List StackEntry) (holder next : Holder) (world after : WorldShape) :
+    Type 0 where
+  pub me : HostId
+  pub old : HostShape
+  pub new : HostShape
+  pub obeys : state_at world me ≡ Some old
+  pub puts : after.hosts ≡ slice_set world.hosts me.0 (Some new)
+  pub linked : AreLinked now
+  pub stands : (e : StackEntry) → IsAmong now e → StandsThere after e
+  pub known : (e : StackEntry) → IsAmong now e → IsStanding world e ⊎ (¬ IsSent after e.token)
+  pub there : IsThere after next
+  pub has_top : HasTop after now next
+  pub held : next ≡ lost → (e : StackEntry) → IsAmong now e → ¬ IsSent after e.token
+  pub state : StateIsOutside threat now next new
+  pub runs_as : (host : HostId) → host ≢ me → OwnsRunning holder host → OwnsRunning next host
+  pub waits_as : (host : HostId) (one : WaitingShape) → host ≢ me → OwnsWaiting holder host one →
+      OwnsWaiting next host one
+  pub keeps_as : (e : StackEntry) → e.token.host ≢ me → IsAmong chain e → IsAmong now e
+  pub flying : FlyAs (λ from to m. OwnsMessage next from to m ⊎ MessageIsOpen threat m) after.flying
+
+pub as_other : {A B C : Type 0} → (A → B) → A ⊎ C → B ⊎ C
+as_other change (inl a) = inl (change a)
+as_other change (inr c) = inr c
+
+pub all_as : {X : Type 0} (P Q : X → Type 0) (xs : List X) → ((x : X) → P x → Q x) → All P xs → All Q xs
+all_as P Q xs each all k d lt = each (get_or xs k d) (all k d lt)
+
+-- ... each entry of a stack has a token of its host
+entries_as : (threat : Threat) (state : HostShape) (P Q : StackEntry → Type 0) →
+    All (EntryFits threat.code state.me) state.entries →
+    ((e : StackEntry) → e.token.host ≡ state.me → P e → Q e) → All P state.entries → All Q state.entries
+entries_as threat state P Q fits each all k d lt = each (get_or state.entries k d) (fits k d lt).token (all k d lt)
+
+module _ (threat : Threat) (chain now : List StackEntry) (holder next : Holder) (world after : WorldShape)
+    (is : IsLawful threat world) (fits : ShapeFits threat.code after) (step : Accounts world after)
+    (tight : IsTight threat chain holder world) (move : Moves threat chain now holder next world after) where
+  others : (host : HostId) (state : HostShape) → host ≢ move.me → state_at world host ≡ Some state →
+      StateIsOutside threat chain holder state → StateIsOutside threat now next state
+  others host state apart obeys was =
+      let state_is = state_fits threat world host state is.fits obeys in
+      let far : state.me ≢ move.me = λ same. apart (sym state_is.me ∙ same) in
+      record {
+        running = as_other (move.runs_as state.me far) was.running;
+        waiting = all_as (λ w. OwnsWaiting holder state.me w ⊎ ThreadIsOpen threat state.me w.thread)
+            (λ w. OwnsWaiting next state.me w ⊎ ThreadIsOpen threat state.me w.thread) state.waiting
+            (λ w. as_other (move.waits_as state.me w far)) was.waiting;
+        entries = entries_as threat state (λ e. IsAmong chain e ⊎ EntryIsOpen threat e.entry)
+            (λ e. IsAmong now e ⊎ EntryIsOpen threat e.entry) state_is.fits.entries
+            (λ e own. as_other (move.keeps_as e (λ same. far (sym own ∙ same)))) was.entries;
+      }
+
+  unsent_if : (e : StackEntry) → IsStanding world e ⊎ (¬ IsSent after e.token) → IsHeld after e.token →
+      ¬ IsSent after e.token
+  unsent_if e (inl standing) held =
+      let at = one_of_some (state_at world e.token.host) (λ state. IsAmong state.entries e) standing.there in
+      still_unsent threat.code world after e.token at.one (tokens_known threat world is) fits step
+      (own_before threat.code world e.token.host at.one at.has.0 e is.fits at.is at.has.1) at.is standing.unsent held
+  unsent_if e (inr unsent) held = unsent
+
+  unsent_top : (top : StackEntry) (below : List StackEntry) → HasTop after (top ∷ below) next →
+      IsStanding world top ⊎ (¬ IsSent after top.token) →
+      (next ≡ lost → (e : StackEntry) → IsAmong (top ∷ below) e → ¬ IsSent after e.token) → ¬ IsSent after top.token
+  unsent_top top below has known gone =
+      elim (held_or_lost after next top.token (top_kept after next top below move.there has)) [
+        | inl held ↦ unsent_if top known held
+        | inr is_lost ↦ gone is_lost top (0, refl)
+      ]
+
+  stand_now : (list : List StackEntry) → AreLinked list → AllByRecursion (StandsThere after) list →
+      HasTop after list next → ((e : StackEntry) → IsAmong list e → IsStanding world e ⊎ (¬ IsSent after e.token)) →
+      (next ≡ lost → (e : StackEntry) → IsAmong list e → ¬ IsSent after e.token) →
+      AllByRecursion (IsStanding after) list
+  stand_now [] linked stands has known gone = tt
+  stand_now (top ∷ below) linked stands has known gone = (
+    record { there = stands.0; unsent = unsent_top top below has (known top (0, refl)) gone },
+    all_among (IsStanding after) below (λ e among. record {
+      there = each_among (StandsThere after) below e stands.1 among;
+      unsent =
+          let held = later_held after top below among.0 e linked stands among.1 in
+          unsent_if e (known e (suc among.0, among.1)) (kept_on held.0 held.1, held.2);
+    }),
+  )
+
+  pub tight_moved : IsTight threat now next after
+  tight_moved = record {
+    linked = move.linked;
+    standing = stand_now now move.linked (all_among (StandsThere after) now move.stands) move.has_top move.known
+        move.held;
+    there = move.there;
+    has_top = move.has_top;
+    outside = record {
+      states = λ host.
+          states_change (StateIsOutside threat chain holder) (StateIsOutside threat now next) world after move.me
+          move.old move.new move.obeys move.puts tight.outside.states move.state others host (state_at after host) refl;
+      flying = move.flying;
+    };
+  }
