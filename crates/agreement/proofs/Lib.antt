@@ -1,0 +1,4 @@
+pub mod Lists
+pub mod Exits
+pub mod ViewLaws
+pub mod Steps

@@ -1,0 +1,57 @@
+//! Laws of worlds of which the same may be seen. The calls do nothing: their contracts are the laws.
+
+ghost use Rattle.std.specs.Prelude.{◌≡◌, ℕ, true, false, List, [], ◌∷◌, ◌++◌, Some, filter, remove, slice_get};
+ghost use Rattle.js_base.specs.declared.ids.HostId.{HostId};
+ghost use Rattle.js_base.specs.declared.ids.FrameId.{FrameId};
+ghost use Rattle.capability.specs.declared.token.Token.{Token};
+ghost use Rattle.ics_stack.specs.declared.stack.StackEntry.{StackEntry};
+ghost use Rattle.host_code.specs.declared.instruction.Instr.{Instr};
+ghost use Rattle.host_code.specs.Code.{instruction_at};
+ghost use Rattle.host_code.specs.Thread.{ThreadShape};
+ghost use Rattle.host_core.specs.Host as host_state;
+ghost use Rattle.net_world.specs.Flying.{Flight};
+ghost use Rattle.seen_world.specs.Eyes.{Eyes, AreEyes, is_open, is_deep, is_hidden};
+ghost use Rattle.agreement.specs.Changes.{StaysSeen};
+ghost use Rattle.agreement.specs.Leads.{Link, links_on};
+ghost use Rattle.agreement.specs.Views.{View, HostView, ShowsHost, running_view, Owed, Completed, at, owed_at};
+ghost use Rattle.agreement.specs.Views.{flies_open, flights_view, is_shown, exit_of};
+
+/// What may be seen of a world, where something goes on unseen.
+pub fn view_laws()
+    // What is seen once all is done that is owed is one view.
+    ensures once { (eyes : Eyes) (owed : Owed) (view first second : View) →
+        Completed eyes owed view first → Completed eyes owed view second → first ≡ second }
+    // Whatever goes on with one token in blocks that may not be seen owes the same, wherever it is.
+    ensures deep { (eyes : Eyes) (host other : HostId) (place next : ℕ) (frame later : FrameId) (token : Token) →
+        is_deep eyes host place ≡ true → is_deep eyes other next ≡ true →
+        owed_at eyes (at host place frame token) ≡ owed_at eyes (at other next later token) }
+    // In the open it goes on at the very place, where that may be seen.
+    ensures in_open { (eyes : Eyes) (host : HostId) (place : ℕ) →
+        is_open eyes host place ≡ true → exit_of eyes host place ≡ place }
+    // In the guard of a loop that may not be seen it goes on in the open as behind the loop.
+    ensures guard { (eyes : Eyes) (host : HostId) (place loop : ℕ) (there : Instr) →
+        AreEyes eyes → instruction_at eyes.code host place ≡ Some there → is_open eyes host place ≡ false →
+        (eyes.shades.at host place).guard ≡ Some loop →
+        exit_of eyes host place ≡ exit_of eyes host (eyes.shades.exits host loop) }
+    // A message that carries a label which may not be seen leaves what is seen of a queue, where it is added at the end.
+    ensures added { (eyes : Eyes) (from to : HostId) (flights : List Flight) (flight : Flight) →
+        flies_open eyes flight ≡ false →
+        flights_view eyes from to (flights ++ flight ∷ []) ≡ flights_view eyes from to flights }
+    // So it does where it is taken out, wherever it stands.
+    ensures taken { (eyes : Eyes) (from to : HostId) (flights : List Flight) (place : ℕ) (flight : Flight) →
+        slice_get flights place ≡ Some flight → flies_open eyes flight ≡ false →
+        flights_view eyes from to (remove flights place) ≡ flights_view eyes from to flights }
+    // Nothing is seen of a thread at a place that may not be seen.
+    ensures thread { (eyes : Eyes) (host : HostId) (thread : ThreadShape) →
+        is_open eyes host thread.at ≡ false → running_view eyes host (Some thread) ≡ [] }
+    // A host shows the same where it leaves what may be seen of it.
+    ensures stays { (eyes : Eyes) (host : HostId) (old new : host_state.HostShape) (view : HostView) →
+        ShowsHost eyes host old view → StaysSeen eyes host old new →
+        running_view eyes host new.running ≡ running_view eyes host old.running →
+        filter (is_shown eyes) new.entries ≡ filter (is_shown eyes) old.entries → ShowsHost eyes host new view }
+    // A hidden entry that is pushed is the last of the chain of hidden ones, which stand above all others.
+    ensures chain { (eyes : Eyes) (host : HostId) (links : List Link) (entries : List StackEntry) (top : StackEntry) →
+        is_hidden eyes top.entry.0 ≡ true → entries ≡ links_on host links ++ filter (is_shown eyes) entries →
+        top ∷ entries
+        ≡ links_on host (record { host = host; entry = top } ∷ links) ++ filter (is_shown eyes) (top ∷ entries) }
+{}

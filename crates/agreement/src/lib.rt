@@ -1,0 +1,6 @@
+//! What two worlds have in common of which misbehaving hosts may see the same: definitions and their laws.
+#![tactic(auto)]
+
+mod laws;
+
+pub use laws::view_laws;
