@@ -2,3 +2,8 @@ pub mod Lists
 pub mod Exits
 pub mod ViewLaws
 pub mod Steps
+pub mod Places
+pub mod Ends
+pub mod Turns
+pub mod Transfers
+pub mod Branches
