@@ -7,3 +7,4 @@ pub mod Ends
 pub mod Turns
 pub mod Transfers
 pub mod Branches
+pub mod GivesBack
