@@ -8,3 +8,5 @@ pub mod Turns
 pub mod Transfers
 pub mod Branches
 pub mod GivesBack
+pub mod HiddenTurns
+pub mod Takes

@@ -51,7 +51,7 @@ record Standing (code : CodeShape) (host : HostId) (entry : EntryId) : Type 0 wh
   host_is : there.host ≡ host
   apart : entry.0 ≢ 0
 
-some_is : {X : Type 0} (P : X → Type 0) (found : Option X) → IsSomeAnd found P → (x : X) × (found ≡ Some x) × P x
+pub some_is : {X : Type 0} (P : X → Type 0) (found : Option X) → IsSomeAnd found P → (x : X) × (found ≡ Some x) × P x
 some_is P None some = absurd some
 some_is P (Some x) some = (x, refl, some)
 
@@ -233,7 +233,7 @@ push_ends eyes old thread links token owed now shown label here_is entry run is 
 
 -- ---- control goes to another place
 
-either_by : (P : Outcome → Type 0) (b : Bool) (one other : Outcome) → (b ≡ true → P one) → (b ≡ false → P other) →
+pub either_by : (P : Outcome → Type 0) (b : Bool) (one other : Outcome) → (b ≡ true → P one) → (b ≡ false → P other) →
     P (if b then one else other)
 either_by P true one other first second = first refl
 either_by P false one other first second = second refl

@@ -7,12 +7,18 @@ ghost use Rattle.capability.specs.declared.token.Token.{Token};
 ghost use Rattle.ics_stack.specs.declared.stack.StackEntry.{StackEntry};
 ghost use Rattle.host_code.specs.declared.instruction.Instr.{Instr};
 ghost use Rattle.host_code.specs.Code.{instruction_at};
+ghost use Rattle.host_code.specs.Sound.{IsSoundCode};
 ghost use Rattle.host_code.specs.Thread.{ThreadShape};
 ghost use Rattle.host_core.specs.Host as host_state;
+ghost use Rattle.event_text.specs.declared.event.Event.TheVariants.{Turn};
+ghost use Rattle.net_world.specs.Fits.{ShapeFits};
 ghost use Rattle.net_world.specs.Flying.{Flight};
-ghost use Rattle.seen_world.specs.Eyes.{Eyes, AreEyes, is_open, is_deep, is_hidden};
+ghost use Rattle.net_world.specs.Secret.{IsSecret};
+ghost use Rattle.net_world.specs.World.{WorldShape, IsStep};
+ghost use Rattle.seen_world.specs.Eyes.{Eyes, AreEyes, Watches, is_open, is_deep, is_hidden};
+ghost use Rattle.seen_world.specs.Points.{HostsKeep};
 ghost use Rattle.agreement.specs.Changes.{StaysSeen};
-ghost use Rattle.agreement.specs.Leads.{Link, links_on};
+ghost use Rattle.agreement.specs.Leads.{Link, links_on, Leads};
 ghost use Rattle.agreement.specs.Views.{View, HostView, ShowsHost, running_view, Owed, Completed, at, owed_at};
 ghost use Rattle.agreement.specs.Views.{flies_open, flights_view, is_shown, exit_of};
 
@@ -54,4 +60,14 @@ pub fn view_laws()
         is_hidden eyes top.entry.0 ≡ true → entries ≡ links_on host links ++ filter (is_shown eyes) entries →
         top ∷ entries
         ≡ links_on host (record { host = host; entry = top } ∷ links) ++ filter (is_shown eyes) (top ∷ entries) }
+{}
+
+/// What will be seen of a world, once what goes on unseen comes to an end, where a secret event happens.
+pub fn hidden_laws()
+    // After a secret turn the same will be seen: it goes on unseen with the same owed, or what was owed is seen now, or
+    // an entry that may be seen is taken off and its thread goes on at the guard of a loop, which is owed then.
+    ensures turn { (eyes : Eyes) (world after : WorldShape) (host : HostId) (shown : View) →
+        AreEyes eyes → IsSoundCode eyes.code → Watches eyes world → ShapeFits eyes.code world →
+        ShapeFits eyes.code after → HostsKeep eyes world → IsStep eyes.code world (Turn host) after →
+        IsSecret eyes.code world (Turn host) → Leads eyes world shown → Leads eyes after shown }
 {}
