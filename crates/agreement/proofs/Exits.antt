@@ -17,7 +17,7 @@ inside_of place count is = grind (arith, nat_tests)
 outside_of : (place count : ℕ) → count ≤ place → nat_lt place count ≡ false
 outside_of place count past = grind (arith, nat_tests)
 
-within_of : (place count : ℕ) → place < count → nat_lt place count ≡ true
+pub within_of : (place count : ℕ) → place < count → nat_lt place count ≡ true
 within_of place count lt = grind (arith, nat_tests)
 
 -- ---- one place

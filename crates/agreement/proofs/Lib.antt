@@ -10,3 +10,4 @@ pub mod Branches
 pub mod GivesBack
 pub mod HiddenTurns
 pub mod Takes
+pub mod AnswersTaken
