@@ -11,3 +11,4 @@ pub mod GivesBack
 pub mod HiddenTurns
 pub mod Takes
 pub mod AnswersTaken
+pub mod HiddenTakes

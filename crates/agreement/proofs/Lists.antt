@@ -38,7 +38,7 @@ left_removed p (first ∷ xs) (suc place) x there is =
     ap (λ others. if p first then first ∷ others else others) (left_removed p xs place x there is)
 
 -- whatever is there and passes is kept
-kept_some : {X : Type 0} (p : X → Bool) (xs : List X) (place : ℕ) (x : X) → slice_get xs place ≡ Some x →
+pub kept_some : {X : Type 0} (p : X → Bool) (xs : List X) (place : ℕ) (x : X) → slice_get xs place ≡ Some x →
     p x ≡ true → filter p xs ≢ []
 kept_some p [] place x there is none = absurd (cc)
 kept_some p (first ∷ xs) zero x there is none =

@@ -61,10 +61,6 @@ pub record Taken (eyes : Eyes) (state : HostShape) (holder : Holder) (links : Li
   pub owed_well : IsOwedWell eyes owed
   pub completed : Completed eyes owed now shown
   pub hidden : sees_at eyes flight.label ≡ false
-  pub asked : IsAskedBy eyes from state.me flight.message
-  pub labelled : IsLabelledAs eyes from state.me flight.message flight.label
-  pub sets : SetsHidden eyes flight.message
-  pub enters : EntersHidden eyes flight.message
 
 -- ---- what may not be seen
 
@@ -318,11 +314,11 @@ lgoto_ends eyes state from flight links token owed now shown passes take host is
 -- ---- an entry is pushed
 
 -- what an instruction that asks for a push says of the entry, where the instruction may not be seen
-record Asking (eyes : Eyes) (from : HostId) (request : RequestId) (entry : EntryId) : Type 0 where
-  hidden : is_hidden eyes entry.0 ≡ true
-  deep : is_deep eyes from request.at ≡ true
+pub record Asking (eyes : Eyes) (from : HostId) (request : RequestId) (entry : EntryId) : Type 0 where
+  pub hidden : is_hidden eyes entry.0 ≡ true
+  pub deep : is_deep eyes from request.at ≡ true
 
-asking : (eyes : Eyes) (from to : HostId) (request : RequestId) (entry : EntryId) (label : ℕ) → AreEyes eyes →
+pub asking : (eyes : Eyes) (from to : HostId) (request : RequestId) (entry : EntryId) (label : ℕ) → AreEyes eyes →
     IsAt eyes from request.at (op.Ask entry to) → HasLabelAt eyes from request.at label → sees_at eyes label ≡ false →
     Asking eyes from request entry
 asking eyes from to request entry label are asks has hidden =
