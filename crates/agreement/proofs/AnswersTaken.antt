@@ -262,6 +262,7 @@ answer_ends eyes state from waiting flight links before token owed now shown awa
       later = runs me thread;
       sends = λ i j. refl;
       leaves = record {
+        own = refl;
         chain = links;
         hides = record {
           running = unseen_runs eyes me new.running thread runs_it hidden;

@@ -115,6 +115,7 @@ comes_out eyes old thread links token owed now shown label target run calls shal
       later = nobody;
       sends = λ i j. refl;
       leaves = record {
+        own = tt;
         chain = links;
         hides = record {
           running = ap (λ (b : Bool). if b then None else Some later) seen;

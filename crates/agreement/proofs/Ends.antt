@@ -98,6 +98,7 @@ goes_on_unseen eyes old new thread later links token owed now shown label run is
       later = runs old.me later;
       sends = λ i j. refl;
       leaves = record {
+        own = refl;
         chain = links;
         hides = record {
           running = unseen_runs eyes old.me new.running later is hidden;
@@ -148,6 +149,7 @@ waits_unseen eyes old thread later links token owed now shown label awaited aske
       later = waits old.me one old.me asked flight;
       sends = λ i j. refl;
       leaves = record {
+        own = tt;
         chain = links;
         hides = record {
           running = refl;
@@ -195,6 +197,7 @@ hands_unseen eyes old thread links token owed now shown label to said spot run g
       later = flies old.me to flight;
       sends = λ i j. refl;
       leaves = record {
+        own = tt;
         chain = links;
         hides = record { running = refl; waiting = run.hides.waiting; entries = run.hides.entries };
         runs_apart = λ other apart. sym (runs_apart old.me other thread apart);

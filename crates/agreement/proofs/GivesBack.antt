@@ -62,6 +62,7 @@ out_leaves eyes bare new holder token owed now shown label shown_here given seen
       later = nobody;
       sends = λ i j. refl;
       leaves = record {
+        own = tt;
         chain = [];
         hides = record { running = none new.running refl; waiting = waiting; entries = entries };
         runs_apart = λ other apart. sym (given.runs_apart other apart);
@@ -256,6 +257,7 @@ pops_guard eyes bare holder token owed now shown label top below there given pop
       later = runs me thread;
       sends = λ i j. refl;
       leaves = record {
+        own = refl;
         chain = [];
         hides = record {
           running = unseen_runs eyes me new.running thread refl hidden;
@@ -427,6 +429,7 @@ pops_hidden eyes bare holder link links token owed now shown label there given t
       later = runs me thread;
       sends = λ i j. refl;
       leaves = record {
+        own = refl;
         chain = links;
         hides = record {
           running = unseen_runs eyes me new.running thread refl hidden;

@@ -12,3 +12,4 @@ pub mod HiddenTurns
 pub mod Takes
 pub mod AnswersTaken
 pub mod HiddenTakes
+pub mod HiddenEvents

@@ -1,27 +1,42 @@
 -- What a step of one host makes of what goes on unseen in a world, and of what will be seen of it.
 use Rattle.std.proofs.Common.{◌≡◌, ◌≢◌, ◌∙◌, ℕ, Bool, true, false, List, [], ◌∷◌, ◌++◌, Some, None, inl, inr, refl}
 use Rattle.std.proofs.Common.{ap, sym, subst}
-use Rattle.std.specs.Prelude.{◌==◌, ◌&&◌, if◌then◌else◌, not, filter, remove, slice_get}
+use Rattle.std.specs.Prelude.{◌==◌, ◌&&◌, if◌then◌else◌, not, filter, remove, slice_get, IsSome, ⊤}
 use Rattle.js_base.specs.declared.ids.HostId.{HostId}
 use Rattle.host_code.specs.Thread.{ThreadShape, WaitingShape}
 use Rattle.host_core.specs.Host.{HostShape}
 use Rattle.net_world.specs.Flying.{Flight, Flying, with_flights}
 use Rattle.net_world.specs.World.{WorldShape, state_at}
-use Rattle.net_world.proofs.Moved.{Moved, either}
+use Rattle.net_world.proofs.Moved.{Moved, mover_state, either}
 use Rattle.net_world.proofs.Present.{same_id}
 use Rattle.token_laws.proofs.Tests.{parts_same, number_same, different}
 use Rattle.seen_world.specs.Eyes.{Eyes}
 use Rattle.agreement.specs.Leads.{Holder, nobody, runs, waits, flies, runs_on, waits_on, flies_on, Link, links_on}
-use Rattle.agreement.specs.Leads.{hidden_flights, Hides, HeldAt, Owes, IsOwedWell, Keeps, Leads}
+use Rattle.agreement.specs.Leads.{IsPresent, hidden_flights, Hides, HeldAt, Owes, IsOwedWell, Keeps, Leads}
 use Rattle.agreement.specs.Views.{View, ShowsHost, Shows, Spot, Owed, Completed, flies_open, flights_view, is_shown}
 use Rattle.agreement.proofs.Lists.{kept_last, only_taken}
 use Rattle.agreement.proofs.ViewLaws.{flight_added, flight_taken}
 
 -- ---- hosts
 
+-- a thread that runs is on this host
+abbrev pub IsOwn : HostId → Holder → Type 0
+IsOwn me (runs host thread) = host ≡ me
+IsOwn me other = ⊤
+
+present_then : (world : WorldShape) (me : HostId) (new : HostShape) (later : Holder) → state_at world me ≡ Some new →
+    IsOwn me later → IsPresent world later
+present_then world me new nobody there own = tt
+present_then world me new (runs host thread) there own =
+    subst (λ (h : HostId). IsSome (state_at world h)) (sym own)
+    (subst (λ found. IsSome found) (sym there) refl)
+present_then world me new (waits host waiting from to flight) there own = tt
+present_then world me new (flies from to flight) there own = tt
+
 -- What a host leaves: what goes on unseen then, and what is seen and owed.
 pub record Leaves (eyes : Eyes) (me : HostId) (holder : Holder) (links : List Link) (now shown : View) (new : HostShape)
     (later : Holder) : Type 0 where
+  pub own : IsOwn me later
   pub chain : List Link
   pub hides : Hides eyes later chain me new
   pub runs_apart : (other : HostId) → other.0 ≢ me.0 → runs_on later other ≡ runs_on holder other
@@ -63,6 +78,7 @@ moved_leads eyes world after me old new owed keeps now shown later shows obeys m
   keeps = record {
     holder = later;
     links = leaves.chain;
+    present = present_then after me new later (mover_state world after me old new after.flying obeys moved) leaves.own;
     hides = each_host (Hides eyes keeps.holder keeps.links) (Hides eyes later leaves.chain) world after me old new obeys
         moved keeps.hides leaves.hides (λ host state apart was. record {
           running = was.running ∙ sym (leaves.runs_apart host apart);

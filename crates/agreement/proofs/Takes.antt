@@ -111,6 +111,7 @@ answers_unseen eyes state new host from waiting flight links token owed now show
       later = waits host waiting me from answer;
       sends = λ i j. refl;
       leaves = record {
+        own = tt;
         chain = links;
         hides = record {
           running = ap (hidden_running eyes me) running ∙ take.hides.running;
@@ -249,6 +250,7 @@ enters_unseen eyes state from flight links token owed now shown frame entry deep
       later = runs me thread;
       sends = λ i j. refl;
       leaves = record {
+        own = refl;
         chain = links;
         hides = record {
           running = unseen_runs eyes me new.running thread refl deep.unseen;
@@ -354,6 +356,7 @@ sync_ends eyes state host from waiting flight links token owed now shown request
       later = waits host waiting me from reply;
       sends = λ i j. refl;
       leaves = record {
+        own = tt;
         chain = record { host = me; entry = top } ∷ links;
         hides = record {
           running = take.hides.running;

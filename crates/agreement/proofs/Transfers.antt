@@ -176,6 +176,7 @@ push_unseen eyes old thread links token owed now shown label entry run stand pus
       later = runs old.me later;
       sends = λ i j. refl;
       leaves = record {
+        own = refl;
         chain = record { host = old.me; entry = top } ∷ links;
         hides = record {
           running = unseen_runs eyes old.me new.running later refl hidden;

@@ -1,6 +1,6 @@
 -- A world in which at most one thing goes on unseen, and what will be seen of it once that comes to an end.
 use Rattle.std.specs.Prelude.{◌≡◌, ◌⊎◌, true, false, not, ◌==◌, ◌&&◌, if◌then◌else◌, List, [], ◌∷◌, ◌++◌, filter}
-use Rattle.std.specs.Prelude.{Option, Some, None, ⊤}
+use Rattle.std.specs.Prelude.{Option, Some, None, IsSome, ⊤}
 use Rattle.js_base.specs.declared.ids.HostId.{HostId}
 use Rattle.capability.specs.declared.token.Token.{Token}
 use Rattle.ics_stack.specs.declared.stack.StackEntry.{StackEntry}
@@ -103,6 +103,11 @@ HeldAt eyes (waits host waiting from to flight) spot =
     × IsMailOf host waiting from to flight.message
 HeldAt eyes (flies from to flight) spot = FliesTo eyes to flight.message spot
 
+-- a thread that runs is on a host that obeys
+abbrev pub IsPresent : WorldShape → Holder → Type 0
+IsPresent world (runs host thread) = IsSome (state_at world host)
+IsPresent world other = ⊤
+
 -- ---- what is owed, from where it is read
 
 abbrev pub token_of : Spot → Option Token
@@ -145,6 +150,7 @@ IsOwedWell eyes (goes_on host place frame token) = ¬ IsHiddenToken eyes token
 pub record Keeps (eyes : Eyes) (world : WorldShape) (owed : Owed) : Type 0 where
   pub holder : Holder
   pub links : List Link
+  pub present : IsPresent world holder
   pub hides : (host : HostId) (state : HostShape) → state_at world host ≡ Some state →
       Hides eyes holder links host state
   pub flying : (from to : HostId) → hidden_flights eyes (world.flying from to) ≡ flies_on holder from to
