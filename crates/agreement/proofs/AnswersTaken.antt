@@ -1,11 +1,10 @@
 -- A secret answer passes its check, and what its taking leaves of what goes on unseen.
-use Rattle.std.proofs.Common.{◌≡◌, ◌≢◌, ◌∙◌, ℕ, suc, ◌+◌, ◌<◌, ◌≤◌, Bool, true, false, cond, List, [], ◌∷◌, length, arith}
-use Rattle.std.proofs.Common.{Option, Some, None, inl, inr, refl, ap, sym, subst}
-use Rattle.std.specs.Prelude.{◌==◌, ◌&&◌, if◌then◌else◌, not, ℤ, nat_lt, get_or, slice_get, remove, position, filter}
+use Rattle.std.proofs.Common.{◌≡◌, ◌∙◌, ℕ, suc, ◌+◌, ◌<◌, Bool, true, false, cond, List, [], ◌∷◌, length, arith}
+use Rattle.std.proofs.Common.{Some, None, inl, inr, refl, ap, sym, subst}
+use Rattle.std.specs.Prelude.{◌==◌, ◌&&◌, not, get_or, slice_get, remove, position}
 use Rattle.std.specs.Option.{option_map}
 use Rattle.std.specs.List.{position_or_len}
 use Rattle.std.proofs.lemmas.Bool.{false≢true, cases_lt}
-use Rattle.std.proofs.lemmas.Bool.Decides.{nat_tests}
 use Rattle.std.proofs.lemmas.List.Sums.{fails_before_first}
 use Rattle.std.proofs.lemmas.List.Quantifiers.{position-Some}
 use Rattle.std.proofs.lemmas.Option.{slice_get_within, get_or_from_slice_get, slice_get-get_or}
@@ -20,26 +19,24 @@ use Rattle.host_code.specs.Code.{CodeShape, part_of, instruction_at}
 use Rattle.host_code.specs.Thread.{ThreadShape, Awaited, WaitingShape}
 use Rattle.host_code.specs.Thread.Awaited.{value_of_field, acknowledgement, token_of_entry}
 use Rattle.host_core.specs.Awaiting.{is_same_answer, awaits}
-use Rattle.host_core.specs.Host.{HostShape, Outcome}
+use Rattle.host_core.specs.Host.{HostShape}
 use Rattle.host_core.specs.Taking.{place_of_awaiting, after_answer}
 use Rattle.net_world.specs.Flying.{Flight}
 use Rattle.split_shades.specs.ShadedCode.{IsShadedOp}
 use Rattle.split_shades.specs.Shades.{Ahead, Meets}
-use Rattle.token_laws.proofs.HeldLaws.{all_at}
 use Rattle.token_laws.proofs.Tests.{itself}
-use Rattle.seen_world.specs.Eyes.{Eyes, AreEyes, is_open, is_deep}
+use Rattle.seen_world.specs.Eyes.{Eyes, AreEyes, is_open}
 use Rattle.seen_world.specs.Points.{IsAt, AsksFor, AsksAt, WaitsWell}
 use Rattle.seen_world.proofs.TakesKept.{same_place, awaits_at}
 use Rattle.seen_world.proofs.TurnsKept.{meets_next}
-use Rattle.agreement.specs.Changes.{StaysSeen}
-use Rattle.agreement.specs.Leads.{runs, waits, Link, hidden_waiting, waits_on, Owes}
-use Rattle.agreement.specs.Views.{View, at, Owed, running_view, waits_open, is_shown}
-use Rattle.agreement.proofs.Ends.{Ends, nothing_seen, own_waiting, unseen_runs}
+use Rattle.agreement.specs.Leads.{runs, waits, Link, hidden_waiting, Owes}
+use Rattle.agreement.specs.Views.{View, at, Owed, running_view, waits_open}
+use Rattle.agreement.proofs.Ends.{Ends, nothing_seen, unseen_runs}
 use Rattle.agreement.proofs.Exits.{within_of}
 use Rattle.agreement.proofs.Lists.{left_removed, only_taken, only_there}
 use Rattle.agreement.proofs.Places.{instruction_within, deep_of, deep_hidden, begun_same, deep_moved, begun_moved}
 use Rattle.agreement.proofs.Steps.{runs_apart, waits_apart}
-use Rattle.agreement.proofs.Takes.{Taken, Mail}
+use Rattle.agreement.proofs.Takes.{Taken}
 use Rattle.agreement.proofs.Turns.{next_deep}
 use Rattle.agreement.proofs.ViewLaws.{still_shows}
 
@@ -53,9 +50,11 @@ position_there p xs place x there passes =
     let before : position_or_len p xs < length xs = elim (cases_lt place (position_or_len p xs)) [
       | inl less ↦ absurd (false≢true (sym (fails_before_first p xs place x less) ∙ at))
       | inr more ↦ omega (arith, more, within)
-    ] in
-    (position_or_len p xs, ap (λ (b : Bool). cond b (Some (position_or_len p xs)) None)
-    (within_of (position_or_len p xs) (length xs) before))
+    ] in (
+      position_or_len p xs,
+      ap (λ (b : Bool). cond b (Some (position_or_len p xs)) None)
+          (within_of (position_or_len p xs) (length xs) before),
+    )
 
 -- ---- what an instruction asks for
 
@@ -246,7 +245,8 @@ answer_ends eyes state from waiting flight links before token owed now shown awa
     let at_next : thread.at ≡ waiting.request.at + 1 = place ∙ found.well.0 in
     let asks = found.well.2 in
     let shaded = are_shaded asks.0 asks.1 in
-    let behind = behind_asking eyes me waiting.request.at asks.1.0 asks.0 waiting.awaited waiting.asked take.are asks.1.1
+    let behind = behind_asking eyes me waiting.request.at asks.1.0 asks.0 waiting.awaited waiting.asked take.are
+    asks.1.1
     found.hidden within shaded asks.2 in
     let hidden : is_open eyes me thread.at ≡ false = ap (is_open eyes me) at_next ∙ behind.hidden in
     let owes : Owes eyes (at me thread.at thread.frame token) links owed =

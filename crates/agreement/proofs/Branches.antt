@@ -1,8 +1,9 @@
 -- What a branch leaves of what goes on unseen: it goes on unseen, or comes into the open behind a loop.
-use Rattle.std.proofs.Common.{◌≡◌, ◌≢◌, ◌∙◌, ℕ, suc, ◌+◌, int_eq, Bool, true, false, List, [], ◌∷◌, Option, Some, None, inl, inr}
+use Rattle.std.proofs.Common.{◌≡◌, ◌≢◌, ◌∙◌, ℕ, suc, ◌+◌, int_eq, Bool, true, false, List, [], ◌∷◌, Option, Some, None}
+use Rattle.std.proofs.Common.{inl, inr}
 use Rattle.std.proofs.Common.{refl, ap, sym, subst}
-use Rattle.std.specs.Prelude.{◌==◌, if◌then◌else◌, not, pos, ℤ, IfSome}
-use Rattle.std.proofs.lemmas.Bool.{cases_Bool, false≢true, true≢false}
+use Rattle.std.specs.Prelude.{if◌then◌else◌, not, pos, IfSome}
+use Rattle.std.proofs.lemmas.Bool.{cases_Bool, false≢true}
 use Rattle.js_base.specs.declared.ids.HostId.{HostId}
 use Rattle.js_base.specs.declared.ids.FrameId.{FrameId}
 use Rattle.label_lattice.specs.declared.label.Label.{Label}
@@ -11,7 +12,7 @@ use Rattle.host_code.specs.declared.code_expr.Node.{Node}
 use Rattle.host_code.specs.declared.instruction.Instr.{Instr}
 use Rattle.host_code.specs.declared.instruction.Op.TheVariants as op
 use Rattle.host_code.specs.Thread.{ThreadShape}
-use Rattle.host_core.specs.Host.{HostShape, Outcome, with_running, after_clearing, value_in_thread}
+use Rattle.host_core.specs.Host.{HostShape, with_running, after_clearing, value_in_thread}
 use Rattle.host_core.specs.Turn.{after_branch, with_thread}
 use Rattle.split_shades.specs.ShadedCode.{IsShadedOp}
 use Rattle.split_shades.specs.Shades.{Begun, Ahead, Meets}
@@ -21,7 +22,8 @@ use Rattle.seen_world.specs.Eyes.{Eyes, is_open, is_deep}
 use Rattle.seen_world.proofs.SeenPlaces.{block_seen}
 use Rattle.seen_world.proofs.TurnsKept.{meets_next}
 use Rattle.agreement.specs.Leads.{nobody, runs, Link, Owes}
-use Rattle.agreement.specs.Views.{View, HostView, ShowsHost, nowhere, at, Owed, nothing, goes_on, gives, Completed, exit_of}
+use Rattle.agreement.specs.Views.{View, HostView, ShowsHost, nowhere, at, Owed, nothing, goes_on, gives, Completed}
+use Rattle.agreement.specs.Views.{exit_of}
 use Rattle.agreement.specs.Views.{masked_all, running_view, with_host, host_with_thread, thread_out}
 use Rattle.agreement.specs.Views as view
 use Rattle.agreement.proofs.Ends.{Ends, Unseen, shows_then, goes_on_unseen}
@@ -144,7 +146,8 @@ comes_out eyes old thread links token owed now shown label target run calls shal
 
 -- both ways of a branch are in blocks that may not be seen
 if_ends : (eyes : Eyes) (old : HostShape) (thread : ThreadShape) (links : List Link) (token : Token) (owed : Owed)
-    (now shown : View) (label : ℕ) (there : Instr) (guard : List Node) (target : ℕ) (next other : Ahead) (zero_is : Bool) →
+    (now shown : View) (label : ℕ) (there : Instr) (guard : List Node) (target : ℕ) (next other : Ahead) (zero_is :
+    Bool) →
     Unseen eyes old thread links token owed now shown → IsHere eyes old thread there →
     (eyes.shades.at old.me thread.at).guard ≡ None →
     Divides eyes.scene (eyes.shades.at old.me thread.at) guard None next other →
@@ -167,7 +170,8 @@ if_ends eyes old thread links token owed now shown label there guard target next
     (deep_as eyes next.block old.me target (lands.block ∙ block) hidden) refl refl refl refl run.hides.waiting
     (same_seen eyes old.me old (Some away)))
     (deep_on eyes old (with_running old (Some later)) thread later links token owed now shown label run deep
-    (deep_as eyes next.block old.me (thread.at + 1) (meets_next eyes old.me thread.at next meets).block hidden) refl refl
+    (deep_as eyes next.block old.me (thread.at + 1) (meets_next eyes old.me thread.at next meets).block hidden) refl
+    refl
     refl refl run.hides.waiting (same_seen eyes old.me old (Some later)))
 
 abbrev begun_with : Label → Option ℕ → Begun
@@ -184,7 +188,8 @@ loop_ends : (eyes : Eyes) (old : HostShape) (thread : ThreadShape) (links : List
     EndsIn eyes old thread links now shown label (if zero_is
     then with_thread (with_running old None) (record (after_clearing thread) { at = target })
     else with_thread (with_running old None) (after_clearing thread))
-loop_ends eyes old thread links token owed now shown label there guard target next other loop zero_is run is calls at_loop
+loop_ends eyes old thread links token owed now shown label there guard target next other loop zero_is run is calls
+    at_loop
     parts meets lands exits =
     let here = eyes.shades.at old.me thread.at in
     let later : ThreadShape = after_clearing thread in

@@ -1,25 +1,23 @@
 -- How a step of a host ends that goes on unseen: it goes on on the host, it waits, or it hands control over.
-use Rattle.std.proofs.Common.{◌≡◌, ◌≢◌, ◌∙◌, ℕ, ◌+◌, Bool, true, false, List, [], ◌∷◌, ◌++◌, Option, Some, None, inl, refl}
+use Rattle.std.proofs.Common.{◌≡◌, ◌∙◌, ℕ, Bool, false, List, [], ◌∷◌, ◌++◌, Option, Some, None, inl, refl}
 use Rattle.std.proofs.Common.{ap, sym, subst}
 use Rattle.std.specs.Prelude.{◌==◌, ◌&&◌, if◌then◌else◌, not, filter}
 use Rattle.std.proofs.lemmas.Bool.{false≢true}
 use Rattle.js_base.specs.declared.ids.HostId.{HostId}
 use Rattle.capability.specs.declared.token.Token.{Token}
-use Rattle.ics_stack.specs.declared.stack.StackEntry.{StackEntry}
-use Rattle.host_code.specs.declared.instruction.Instr.{Instr}
 use Rattle.host_code.specs.declared.message.Message.{Message}
-use Rattle.host_code.specs.Code.{instruction_at}
 use Rattle.host_code.specs.Sound.{IsSoundCode}
 use Rattle.host_code.specs.Thread.{ThreadShape, Awaited, WaitingShape}
 use Rattle.host_core.specs.Host.{HostShape, Outcome, with_running, next_request, after_asking}
 use Rattle.net_world.specs.Flying.{Flight}
 use Rattle.token_laws.specs.Requests.{number_asked}
 use Rattle.token_laws.proofs.Tests.{itself}
-use Rattle.seen_world.specs.Eyes.{Eyes, AreEyes, is_open, is_hidden}
+use Rattle.seen_world.specs.Eyes.{Eyes, AreEyes, is_open}
 use Rattle.seen_world.specs.Points.{RunsWell, HostKeeps}
 use Rattle.agreement.specs.Changes.{StaysSeen}
-use Rattle.agreement.specs.Leads.{Holder, runs, waits, flies, runs_on, waits_on, flies_on, Link, links_on, hidden_running}
-use Rattle.agreement.specs.Leads.{hidden_waiting, Hides, FliesTo, HeldAt, token_with, Owes, IsOwedWell}
+use Rattle.agreement.specs.Leads.{Holder, runs, waits, flies, runs_on, waits_on, flies_on, Link, links_on}
+use Rattle.agreement.specs.Leads.{hidden_running}
+use Rattle.agreement.specs.Leads.{hidden_waiting, Hides, FliesTo, token_with, Owes, IsOwedWell}
 use Rattle.agreement.specs.Views.{View, ShowsHost, Spot, at, Owed, Completed, running_view, waits_open, is_shown}
 use Rattle.agreement.proofs.Lists.{left_last, kept_last, index_apart}
 use Rattle.agreement.proofs.Steps.{Leaves, runs_apart, waits_apart}

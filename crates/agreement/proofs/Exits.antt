@@ -111,7 +111,8 @@ exit_open eyes host place seen = open_within (length (part_of eyes.code host)) e
 
 guard_within : (count : ℕ) (eyes : Eyes) (host : HostId) (place loop : ℕ) → AreEyes eyes →
     count ≡ length (part_of eyes.code host) → place < length (part_of eyes.code host) →
-    is_open eyes host place ≡ false → (eyes.shades.at host place).guard ≡ Some loop → place < eyes.shades.exits host loop →
+    is_open eyes host place ≡ false → (eyes.shades.at host place).guard ≡ Some loop → place < eyes.shades.exits host
+    loop →
     exit_within count eyes host place ≡ exit_within count eyes host (eyes.shades.exits host loop)
 guard_within zero eyes host place loop are all within hidden is less = absurd (omega arith)
 guard_within (suc more) eyes host place loop are all within hidden is less =

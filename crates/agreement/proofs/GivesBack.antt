@@ -1,31 +1,31 @@
 -- A token that is given back unseen: the thread of a hidden entry goes on unseen, or it all comes into the open.
-use Rattle.std.proofs.Common.{◌≡◌, ◌≢◌, ◌∙◌, ℕ, Bool, true, false, List, [], ◌∷◌, ◌++◌, Option, Some, None, inl, inr, refl}
+use Rattle.std.proofs.Common.{◌≡◌, ◌≢◌, ◌∙◌, ℕ, Bool, true, false, List, [], ◌∷◌, ◌++◌, Option, Some, None, inl, inr}
+use Rattle.std.proofs.Common.{refl}
 use Rattle.std.proofs.Common.{ap, sym, subst}
-use Rattle.std.specs.Prelude.{◌==◌, ◌⊎◌, if◌then◌else◌, not, IfSome, IsSomeAnd, All, filter, slice_get}
+use Rattle.std.specs.Prelude.{◌==◌, if◌then◌else◌, not, IsSomeAnd, All, filter, slice_get}
 use Rattle.std.proofs.lemmas.Bool.{cases_Bool, false≢true}
 use Rattle.js_base.specs.declared.ids.HostId.{HostId}
 use Rattle.js_base.specs.declared.ids.EntryId.{EntryId}
-use Rattle.label_lattice.specs.declared.label.Label.{Label}
 use Rattle.capability.specs.declared.token.Token.{Token}
 use Rattle.ics_stack.specs.declared.stack.StackEntry.{StackEntry}
 use Rattle.ics_stack.specs.Stack.{top_token}
 use Rattle.host_code.specs.declared.code.Entry.{Entry}
 use Rattle.host_code.specs.Code.{halt, entry_at}
 use Rattle.host_code.specs.Thread.{ThreadShape}
-use Rattle.host_core.specs.Host.{HostShape, Outcome, with_one_ignored, with_running, thread_at, after_entering, after_popped}
+use Rattle.host_core.specs.Host.{HostShape, with_one_ignored, with_running, thread_at, after_entering}
 use Rattle.host_core.specs.Host.{after_pop}
 use Rattle.net_world.proofs.Present.{same_id}
-use Rattle.split_shades.specs.Shades.{EntryShade, Meets, ahead_of}
+use Rattle.split_shades.specs.Shades.{Meets, ahead_of}
 use Rattle.token_laws.proofs.HeldLaws.{all_at}
 use Rattle.token_laws.proofs.Tests.{itself, different, number_same}
 use Rattle.seen_world.specs.Eyes.{Eyes, AreEyes, is_open, is_deep, is_hidden}
-use Rattle.seen_world.specs.Points.{IsHiddenToken, StandsWell}
-use Rattle.agreement.specs.Leads.{Holder, nobody, runs, runs_on, waits_on, Link, links_on, hidden_running, hidden_waiting, IsLink, Owes}
+use Rattle.seen_world.specs.Points.{StandsWell}
+use Rattle.agreement.specs.Leads.{Holder, nobody, runs, runs_on, waits_on, Link, links_on, hidden_running}
+use Rattle.agreement.specs.Leads.{hidden_waiting, IsLink, Owes}
 use Rattle.agreement.specs.Leads.{IsOwedWell}
-use Rattle.agreement.specs.Views.{View, HostView, ShowsHost, nowhere, at, given_back, Owed, nothing, goes_on, gives, owed_at}
+use Rattle.agreement.specs.Views.{View, HostView, ShowsHost, nowhere, at, given_back, Owed, nothing, goes_on, gives}
 use Rattle.agreement.specs.Views.{Completed, GivenBack, exit_of, is_shown, with_host, host_with_thread, thread_out}
 use Rattle.agreement.specs.Views.{thread_popped, host_popped, running_view}
-use Rattle.agreement.specs.Views as view
 use Rattle.agreement.proofs.Branches.{shown_out, own_view, other_view}
 use Rattle.agreement.proofs.Ends.{Ends, unseen_runs, nothing_seen}
 use Rattle.agreement.proofs.Exits.{exit_open}
@@ -288,7 +288,8 @@ pops_guard eyes bare holder token owed now shown label top below there given pop
         others = λ one one_apart. other_view now me one here one_apart;
         flying = refl;
         sent = refl;
-        completed = pop.is ∙ ap (with_host now me) (popped_on eyes me top (entry_at eyes.code top.entry) there here is other)
+        completed = pop.is ∙ ap (with_host now me) (popped_on eyes me top (entry_at eyes.code top.entry) there here is
+            other)
             ∙ sym (view_again now me here (λ (v : HostView). host_with_thread v out));
       };
     }
@@ -335,17 +336,20 @@ pops : (eyes : Eyes) (bare : HostShape) (holder : Holder) (token : Token) (owed 
     (top.entry.0 == halt.0) ≡ is_halt → entry_at eyes.code top.entry ≡ found →
     Ends eyes bare.me holder [] now shown label (record {
       state = if is_halt
-      then record bare { entries = below; running = None; halted = true }
-      else after_entering (record bare { entries = below }) found top.frame top.kept;
+          then record bare { entries = below; running = None; halted = true }
+          else after_entering (record bare { entries = below }) found top.frame top.kept;
       sent = None;
     })
 pops eyes bare holder token owed now shown label top below true found given pop halts is =
-    pops_none eyes bare (record bare { entries = below; running = None; halted = true }) holder token owed now shown label
+    pops_none eyes bare (record bare { entries = below; running = None; halted = true }) holder token owed now shown
+    label
     top below given pop refl refl refl
-    (shows_halted eyes bare.me (record bare { entries = below }) (record (now.hosts bare.me) { entries = below }) pop.shows)
+    (shows_halted eyes bare.me (record bare { entries = below }) (record (now.hosts bare.me) { entries = below })
+    pop.shows)
     (popped_halt eyes bare.me top (entry_at eyes.code top.entry) (record (now.hosts bare.me) { entries = below }) halts)
 pops eyes bare holder token owed now shown label top below false None given pop other is =
-    pops_none eyes bare (with_running (record bare { entries = below }) None) holder token owed now shown label top below
+    pops_none eyes bare (with_running (record bare { entries = below }) None) holder token owed now shown label top
+    below
     given pop refl refl refl pop.shows
     (ap (λ f. thread_popped eyes bare.me top f (record (now.hosts bare.me) { entries = below })) is)
 pops eyes bare holder token owed now shown label top below false (Some there) given pop other is =
@@ -414,7 +418,8 @@ no_halt eyes are entry hidden = elim (cases_Bool (entry.0 == halt.0)) [
 pops_hidden : (eyes : Eyes) (bare : HostShape) (holder : Holder) (link : Link) (links : List Link) (token : Token)
     (owed : Owed) (now shown : View) (label : ℕ) (there : Entry) →
     Given eyes bare holder (link ∷ links) token owed now shown →
-    (top : Top eyes bare link links token there owed) → Ends eyes bare.me holder (link ∷ links) now shown label (record {
+    (top : Top eyes bare link links token there owed) → Ends eyes bare.me holder (link ∷ links) now shown label
+    (record {
       state = with_running (record bare { entries = top.below })
           (Some (thread_at there link.entry.frame link.entry.kept));
       sent = None;
@@ -480,7 +485,8 @@ seen_passes eyes bare holder token owed now shown label [] given are is_top =
     let never : None ≡ Some token = sym (ap top_token are) ∙ is_top in
     absurd (cc)
 seen_passes eyes bare holder token owed now shown label (top ∷ below) given are is_top =
-    pops eyes bare holder token owed now shown label top below (top.entry.0 == halt.0) (entry_at eyes.code top.entry) given
+    pops eyes bare holder token owed now shown label top below (top.entry.0 == halt.0) (entry_at eyes.code top.entry)
+    given
     (popped eyes bare holder token owed now shown top below given are is_top) refl refl
 
 pub given_ends : (eyes : Eyes) (bare : HostShape) (holder : Holder) (links : List Link) (token : Token) (owed : Owed)
@@ -501,7 +507,7 @@ given_ends eyes bare holder (link ∷ links) token owed now shown label true giv
     let there = given.owes.2.0 in
     let b : HostShape = record bare { entries = top.below } in
     let on : after_pop eyes.code bare bare.entries
-        ≡ with_running b (Some (thread_at there link.entry.frame link.entry.kept)) =
+    ≡ with_running b (Some (thread_at there link.entry.frame link.entry.kept)) =
     ap (after_pop eyes.code bare) top.entries
     ∙ ap (λ (h : Bool). if h then record b { running = None; halted = true }
     else after_entering b (entry_at eyes.code link.entry.entry) link.entry.frame link.entry.kept)

@@ -1,5 +1,5 @@
 -- Secret events lead to the same view.
-use Rattle.std.proofs.Common.{◌≡◌, ◌∙◌, ℕ, ℤ, List, [], ◌∷◌, ◌++◌, inl, inr, sym, subst}
+use Rattle.std.proofs.Common.{◌≡◌, ℕ, ℤ, List, [], ◌∷◌, ◌++◌, inl, inr, subst}
 use Rattle.host_decl.specs.Hosts as declared_hosts
 use Rattle.event_text.specs.declared.event.Event.{Event}
 use Rattle.event_text.specs.declared.event.Event.TheVariants.{Take, Turn, Act}

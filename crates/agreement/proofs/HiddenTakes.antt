@@ -1,14 +1,14 @@
 -- A secret take leads to the same view.
-use Rattle.std.proofs.Common.{◌≡◌, ◌≢◌, ◌∙◌, ℕ, ◌+◌, ◌<◌, Bool, true, false, List, [], ◌∷◌, length, Option, Some, None, inl}
+use Rattle.std.proofs.Common.{◌≡◌, ◌∙◌, ℕ, ◌+◌, ◌<◌, Bool, true, false, List, [], ◌∷◌, length, Some, None, inl}
 use Rattle.std.proofs.Common.{inr, refl, ap, sym, subst}
-use Rattle.std.specs.Prelude.{◌==◌, ◌&&◌, ◌↔◌, ◌⊎◌, if◌then◌else◌, not, IfSome, IsSome, IsTrue, filter, remove, slice_get}
+use Rattle.std.specs.Prelude.{◌==◌, ◌&&◌, ◌↔◌, ◌⊎◌, if◌then◌else◌, not, IsSome, IsTrue, filter, remove, slice_get}
 use Rattle.js_base.specs.declared.ids.HostId.{HostId}
 use Rattle.js_base.specs.declared.ids.RequestId.{RequestId}
 use Rattle.capability.specs.declared.token.Token.{Token}
 use Rattle.host_code.specs.declared.code.Entry.{Entry}
 use Rattle.host_code.specs.declared.message.Message.{Message}
 use Rattle.host_code.specs.declared.message.Message.TheVariants as message
-use Rattle.host_code.specs.Code.{part_of, entry_at}
+use Rattle.host_code.specs.Code.{part_of}
 use Rattle.host_code.specs.Sound.{IsSoundCode}
 use Rattle.host_code.specs.Thread.{ThreadShape, Awaited, WaitingShape}
 use Rattle.host_code.specs.Thread.Awaited.{value_of_field, acknowledgement, token_of_entry}
@@ -24,7 +24,8 @@ use Rattle.net_world.proofs.Present.{same_id}
 use Rattle.token_laws.proofs.HeldLaws.{all_at}
 use Rattle.token_laws.proofs.Tests.{parts_same, number_same}
 use Rattle.seen_world.specs.Eyes.{Eyes, AreEyes, Watches, sees_at}
-use Rattle.seen_world.specs.Points.{AsksAt, WaitsWell, HostKeeps, IsAskedBy, FliesWell, IsLabelledAs, IsRequest, IsInFlight}
+use Rattle.seen_world.specs.Points.{AsksAt, WaitsWell, HostKeeps, IsAskedBy, FliesWell, IsLabelledAs, IsRequest}
+use Rattle.seen_world.specs.Points.{IsInFlight}
 use Rattle.seen_world.specs.Points.{SetsHidden, EntersHidden, PointsHold}
 use Rattle.seen_world.proofs.Answered.{answer_carries}
 use Rattle.seen_world.proofs.PointsAtStart.{own_state}
@@ -33,16 +34,17 @@ use Rattle.seen_world.proofs.SecretSets.{flight_sets, flight_enters}
 use Rattle.seen_world.proofs.SecretTurns.{held_by}
 use Rattle.seen_world.proofs.SeenWorlds.{take_secret}
 use Rattle.seen_world.proofs.TakesKept.{on_me}
-use Rattle.agreement.specs.Leads.{Holder, nobody, runs, waits, flies, flies_on, Link, IsMailOf, token_with, FliesTo, HeldAt}
+use Rattle.agreement.specs.Leads.{Holder, nobody, runs, waits, flies, flies_on, Link, IsMailOf, token_with, FliesTo}
+use Rattle.agreement.specs.Leads.{HeldAt}
 use Rattle.agreement.specs.Leads.{Leads}
-use Rattle.agreement.specs.Views.{View, Spot, at, given_back, Owed, flies_open}
-use Rattle.agreement.proofs.AnswersTaken.{Found, found_waiting, answer_ends}
+use Rattle.agreement.specs.Views.{View, Spot, at, Owed, flies_open}
+use Rattle.agreement.proofs.AnswersTaken.{found_waiting, answer_ends}
 use Rattle.agreement.proofs.Ends.{Ends, own_waiting}
 use Rattle.agreement.proofs.HiddenTurns.{ends_leads}
 use Rattle.agreement.proofs.Lists.{kept_some, only_taken}
 use Rattle.agreement.proofs.Steps.{FliesAlone, taken_openly, taken_alike}
-use Rattle.agreement.proofs.Takes.{Taken, Mail, get_ends, set_ends, forward_ends, deep_entry, enters_unseen, lgoto_ends}
-use Rattle.agreement.proofs.Takes.{Asking, asking, sync_ends}
+use Rattle.agreement.proofs.Takes.{Taken, get_ends, set_ends, forward_ends, deep_entry, enters_unseen, lgoto_ends}
+use Rattle.agreement.proofs.Takes.{asking, sync_ends}
 
 -- ---- who it is that goes on unseen
 
@@ -79,8 +81,11 @@ holder_flies nobody p flights place from to flight is there passes =
 holder_flies (runs host thread) p flights place from to flight is there passes =
     absurd (kept_some p flights place flight there passes is)
 holder_flies (waits host waiting i j one) p flights place from to flight is there passes =
-    inl (host, waiting,
-    same_flight p flights place i j from to flight one Holder (waits host waiting) is there passes)
+    inl (
+      host,
+      waiting,
+      same_flight p flights place i j from to flight one Holder (waits host waiting) is there passes,
+    )
 holder_flies (flies i j one) p flights place from to flight is there passes =
     inr (same_flight p flights place i j from to flight one Holder flies is there passes)
 
@@ -128,11 +133,12 @@ answered : (eyes : Eyes) (state : HostShape) (host from : HostId) (waiting : Wai
     ≡ after_taking eyes.code state from said true →
     Ends eyes state.me (waits host waiting from state.me flight) links now shown flight.label
     (after_taking eyes.code state from said passes)
-answered eyes state host from waiting flight links before token owed now shown awaited request said passes goes take fits
+answered eyes state host from waiting flight links before token owed now shown awaited request said passes goes take
+    fits
     asks number asked own same place frame held checks some leaves =
     let me = state.me in
     let mine : Taken eyes state (waits me waiting from me flight) links
-        (at me waiting.request.at waiting.thread.frame before) owed now shown from flight =
+    (at me waiting.request.at waiting.thread.frame before) owed now shown from flight =
     subst (λ (h : HostId). Taken eyes state (waits h waiting from me flight) links
     (at h waiting.request.at waiting.thread.frame before) owed now shown from flight) (sym own) take in
     let found = found_waiting eyes state from waiting awaited request
@@ -144,7 +150,7 @@ answered eyes state host from waiting flight links before token owed now shown a
     let within : waiting.request.at + 1 < length (part_of eyes.code me) =
     subst (λ (n : ℕ). n < length (part_of eyes.code me)) found.well.0 fit.place in
     let ends : Ends eyes me (waits me waiting from me flight) links now shown flight.label
-        (after_taking eyes.code state from said true) =
+    (after_taking eyes.code state from said true) =
     subst (Ends eyes me (waits me waiting from me flight) links now shown flight.label) leaves
     (answer_ends eyes state from waiting flight links before token owed now shown awaited request goes mine same found
     place frame held within) in
@@ -163,7 +169,8 @@ waits_ends : (eyes : Eyes) (state : HostShape) (host from : HostId) (waiting : W
     (after_taking eyes.code state from said passes)
 waits_ends eyes state host from waiting flight links token owed now shown (message.Get request field index) passes take
     fits carries (inl mail) says checks =
-    passed eyes state _ links now shown flight.label from (message.Get request field index) passes checks (says.passes tt)
+    passed eyes state _ links now shown flight.label from (message.Get request field index) passes checks (says.passes
+    tt)
     (get_ends eyes state host from waiting flight links token owed now shown request field index take (record {
       request_is = some_request request waiting.request mail.0;
       asker = mail.1;
@@ -258,7 +265,7 @@ flies_ends eyes state from flight links spot owed now shown (message.Rgoto frame
     let deep = deep_entry eyes me entry take.are take.sound holds.0 (on_me eyes me from entry holds) says.enters in
     let same : goes.0 ≡ deep.there = some_entry goes.0 deep.there (sym goes.1 ∙ deep.is) in
     let at_entry : Taken eyes state (flies from me flight) links (at me deep.there.at frame token) owed now shown from
-        flight =
+    flight =
     subst (λ (there : Entry).
     Taken eyes state (flies from me flight) links (at me there.at frame token) owed now shown from flight) same
     (subst (λ (s : Spot). Taken eyes state (flies from me flight) links s owed now shown from flight) goes.3 take) in
@@ -276,9 +283,11 @@ flies_ends eyes state from flight links spot owed now shown (message.Lgoto token
     goes.0 checks.0 checks.1
 flies_ends eyes state from flight links spot owed now shown (message.Get request field index) passes take goes says
     checks = absurd goes
-flies_ends eyes state from flight links spot owed now shown (message.Set request field index value) passes take goes says
+flies_ends eyes state from flight links spot owed now shown (message.Set request field index value) passes take goes
+    says
     checks = absurd goes
-flies_ends eyes state from flight links spot owed now shown (message.Forward request frame x value) passes take goes says
+flies_ends eyes state from flight links spot owed now shown (message.Forward request frame x value) passes take goes
+    says
     checks = absurd goes
 flies_ends eyes state from flight links spot owed now shown (message.Sync request frame entry token) passes take goes
     says checks = absurd goes
@@ -361,11 +370,13 @@ took eyes world after from place state flight outcome shown are sound watch fits
     } in
     let ends : Ends eyes me keeps.holder keeps.links leads.now shown flight.label outcome =
     subst (Ends eyes me keeps.holder keeps.links leads.now shown flight.label) takes.2
-    (holder_ends eyes state keeps.holder keeps.links keeps.spot leads.owed leads.now shown from flight takes.0 take unseen
+    (holder_ends eyes state keeps.holder keeps.links keeps.spot leads.owed leads.now shown from flight takes.0 take
+    unseen
     keeps.held fit says takes.1) in
     let alone : FliesAlone eyes world.flying from me flight =
     λ i j. keeps.flying i j ∙ flies_alone eyes world keeps.holder from me flight unseen i j in
-    ends_leads eyes world after (with_flights world.flying from me (remove (world.flying from me) place)) me state outcome
+    ends_leads eyes world after (with_flights world.flying from me (remove (world.flying from me) place)) me state
+    outcome
     flight.label leads.owed keeps leads.now shown leads.shows watch at_me
     (taken_openly eyes world.flying from me place flight alone there hidden)
     (taken_alike eyes world.flying from me place flight there hidden) hidden

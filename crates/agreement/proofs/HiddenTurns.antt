@@ -1,5 +1,5 @@
 -- A secret turn leads to the same view.
-use Rattle.std.proofs.Common.{◌≡◌, ◌≢◌, ◌∙◌, ℕ, Bool, true, false, List, [], ◌∷◌, length, Option, Some, None, inl, inr, refl}
+use Rattle.std.proofs.Common.{◌≡◌, ◌∙◌, ℕ, Bool, true, false, List, [], ◌∷◌, Option, Some, None, refl}
 use Rattle.std.proofs.Common.{ap, sym, subst}
 use Rattle.std.specs.Prelude.{◌==◌, ◌↔◌, if◌then◌else◌, IfSome, IsSome, IsTrue}
 use Rattle.std.proofs.lemmas.Bool.{false≢true}
@@ -11,17 +11,17 @@ use Rattle.host_code.specs.declared.instruction.Op.{Op}
 use Rattle.host_code.specs.declared.instruction.Op.TheVariants as op
 use Rattle.host_code.specs.declared.message.Message.{Message}
 use Rattle.host_code.specs.declared.message.Message.TheVariants as message
-use Rattle.host_code.specs.Code.{CodeShape, instruction_at, field_at}
+use Rattle.host_code.specs.Code.{instruction_at, field_at}
 use Rattle.host_code.specs.Sound.{IsSoundCode, OperationFits}
 use Rattle.host_code.specs.Thread.{ThreadShape}
 use Rattle.host_core.specs.Fits.{RunningFits, StateFits}
-use Rattle.host_core.specs.Host.{HostShape, Outcome, with_running, without_message, with_message, with_one_ignored, after_pop}
+use Rattle.host_core.specs.Host.{HostShape, Outcome, with_running, without_message, with_message}
 use Rattle.host_core.specs.Turn.{IsTurn, IsTurnOf, IsRunning, after_operation, after_back, PassesWith, label_of_turn}
 use Rattle.event_text.specs.declared.event.Event.TheVariants.{Turn}
 use Rattle.net_world.specs.Fits.{ShapeFits, IsStateOf}
 use Rattle.net_world.specs.Flying.{Flying, Flight}
 use Rattle.net_world.specs.Secret.{IsSecret}
-use Rattle.net_world.specs.World.{WorldShape, state_at, misbehaves, after_step, IsStep, IsTurnStep}
+use Rattle.net_world.specs.World.{WorldShape, state_at, after_step, IsStep}
 use Rattle.net_world.proofs.Moved.{Moved, mover_state, moved_silent, silent_sent, moved_posted}
 use Rattle.net_world.proofs.Present.{same_id}
 use Rattle.net_world.proofs.StepLaws.{turn_puts}
@@ -32,13 +32,15 @@ use Rattle.seen_world.specs.Points.{RunsWell, HostKeeps, HostsKeep}
 use Rattle.seen_world.proofs.PointsAtStart.{own_state}
 use Rattle.seen_world.proofs.SecretTurns.{secret_told}
 use Rattle.seen_world.proofs.SeenWorlds.{turn_secret}
-use Rattle.agreement.specs.Leads.{Holder, runs, flies_on, Link, hidden_running, hidden_flights, HeldAt, Hides, Owes, Keeps, Leads}
+use Rattle.agreement.specs.Leads.{Holder, runs, flies_on, Link, hidden_running, hidden_flights, HeldAt, Hides, Owes}
+use Rattle.agreement.specs.Leads.{Keeps, Leads}
 use Rattle.agreement.specs.Views.{View, Shows, Completed, at, given_back, Owed, gives, goes_on, exit_of, flights_view}
 use Rattle.agreement.proofs.Branches.{branch_ends}
 use Rattle.agreement.proofs.Ends.{Sends, Ends, Unseen, shows_then, hands_unseen}
-use Rattle.agreement.proofs.GivesBack.{Given, given_ends}
+use Rattle.agreement.proofs.GivesBack.{given_ends}
 use Rattle.agreement.proofs.Places.{instruction_within, deep_of}
-use Rattle.agreement.proofs.Steps.{moved_leads, FlyOpenly, FlyAlike, posted_alone, posted_alike, runs_apart, holder_runs}
+use Rattle.agreement.proofs.Steps.{moved_leads, FlyOpenly, FlyAlike, posted_alone, posted_alike, runs_apart}
+use Rattle.agreement.proofs.Steps.{holder_runs}
 use Rattle.agreement.proofs.Transfers.{push_ends, go_ends, call_ends, either_by}
 use Rattle.agreement.proofs.Turns.{EndsIn, IsHere, same_seen, read_ends, put_ends, let_ends, send_ends, frame_ends}
 use Rattle.agreement.proofs.Turns.{return_ends, ask_ends}
@@ -57,7 +59,8 @@ back_ends : (eyes : Eyes) (old : HostShape) (thread : ThreadShape) (links : List
     Unseen eyes old thread links token owed now shown → IsHere eyes old thread there →
     IsShadedOp eyes.scene eyes.shades old.me thread.at op.Back →
     (IsTrue passes ↔ PassesWith eyes.code (with_running old None) op.Back thread.held) →
-    EndsIn eyes old thread links now shown label (after_back eyes.code (with_running old None) thread thread.held passes)
+    EndsIn eyes old thread links now shown label (after_back eyes.code (with_running old None) thread thread.held
+    passes)
 back_ends eyes old thread links token owed now shown label there passes run is law checks =
     let bare = with_running old None in
     let deep = deep_of eyes run.are old.me thread.at there is law.2 run.hidden in
@@ -89,7 +92,8 @@ back_ends eyes old thread links token owed now shown label there passes run is l
 
 -- ---- each instruction
 
-operation_ends : (eyes : Eyes) (old : HostShape) (thread : ThreadShape) (links : List Link) (token : Token) (owed : Owed)
+operation_ends : (eyes : Eyes) (old : HostShape) (thread : ThreadShape) (links : List Link) (token : Token) (owed :
+    Owed)
     (now shown : View) (label count : ℕ) (there : Instr) (it : Op) (passes : Bool) →
     Unseen eyes old thread links token owed now shown → IsHere eyes old thread there →
     IsShadedOp eyes.scene eyes.shades old.me thread.at it → OperationFits eyes.code old.me count it →
@@ -100,7 +104,8 @@ operation_ends eyes old thread links token owed now shown label count there (op.
     read_ends eyes old thread links token owed now shown label there field index run is law (field_at eyes.code field)
 operation_ends eyes old thread links token owed now shown label count there (op.Let x value) passes run is law
     fits checks =
-    let_ends eyes old thread links token owed now shown label there thread.frame x value false law.0 run is law.1.1 law.1.2
+    let_ends eyes old thread links token owed now shown label there thread.frame x value false law.0 run is law.1.1
+    law.1.2
     law.1.3 law.2
 operation_ends eyes old thread links token owed now shown label count there (op.Put field index value) passes run is law
     fits checks =
@@ -158,7 +163,8 @@ ends_leads eyes world after flying me old outcome label owed keeps now shown sho
         IfSome sent (λ it. eyes.bad it.0 ≡ false) → Leads eyes after shown
     by None is sends told =
         let from : WorldShape = record world { flying = flying } in
-        let out : without_message outcome.state ≡ outcome = ap (λ s. record { state = outcome.state; sent = s }) (sym is) in
+        let out : without_message outcome.state ≡ outcome = ap (λ s. record { state = outcome.state; sent = s }) (sym
+        is) in
         let moved = moved_silent from me outcome outcome.state (Some label) after out leaves in
         let own : Moved world me outcome.state after.flying after = record { hosts = moved.hosts; flying = refl } in
         moved_leads eyes world after me old outcome.state owed keeps now shown ends.later shows obeys own
@@ -172,7 +178,10 @@ ends_leads eyes world after flying me old outcome label owed keeps now shown sho
         ap (λ s. record { state = outcome.state; sent = s }) (sym is) in
         let posted = moved_posted from me outcome old outcome.state it.0 it.1 (Some label) label after obeys
         (watch it.0 ∙ told) refl out leaves in
-        let own : Moved world me outcome.state after.flying after = record { hosts = posted.moved.hosts; flying = refl } in
+        let own : Moved world me outcome.state after.flying after = record {
+          hosts = posted.moved.hosts;
+          flying = refl;
+        } in
         moved_leads eyes world after me old outcome.state owed keeps now shown ends.later shows obeys own posted.sent
         (λ i j. ap (λ (f : Flying). hidden_flights eyes (f i j)) posted.moved.flying
         ∙ posted_alone eyes flying me it.0 flight openly hidden i j ∙ sym (sends i j))
@@ -181,7 +190,7 @@ ends_leads eyes world after flying me old outcome label owed keeps now shown sho
 
 -- ---- a turn
 
-some_of : {X : Type 0} (found : Option X) → IsSome found → (x : X) × (found ≡ Some x)
+pub some_of : {X : Type 0} (found : Option X) → IsSome found → (x : X) × (found ≡ Some x)
 some_of None is = absurd (false≢true is)
 some_of (Some x) is = (x, refl)
 
@@ -196,24 +205,29 @@ turn_unseen eyes world old thread owed keeps now shown are sound obeys own there
     let hides = keeps.hides old.me old there in
     let unseen : hidden_running eyes old.me old.running ≡ Some thread =
     ap (hidden_running eyes old.me) is ∙ ap (λ (b : Bool). if b then None else Some thread) hidden in
-    let holder : keeps.holder ≡ runs old.me thread = holder_runs keeps.holder old.me thread (sym hides.running ∙ unseen) in
-    let held : HeldAt eyes (runs old.me thread) keeps.spot = subst (λ h. HeldAt eyes h keeps.spot) holder keeps.held in (
+    let holder : keeps.holder ≡ runs old.me thread = holder_runs keeps.holder old.me thread (sym hides.running ∙
+    unseen) in
+    let held : HeldAt eyes (runs old.me thread) keeps.spot = subst (λ h. HeldAt eyes h keeps.spot) holder keeps.held
+    in (
       holder,
-      (held.0, record {
-        are = are;
-        sound = sound;
-        obeys = obeys;
-        keeps = own;
-        is_running = is;
-        well = subst (λ running. IfSome running (RunsWell eyes old.me)) is own.running;
-        hidden = hidden;
-        held = held.1;
-        hides = subst (λ h. Hides eyes h keeps.links old.me old) holder hides;
-        owes = subst (λ spot. Owes eyes spot keeps.links owed) held.2 keeps.owes;
-        owed_well = keeps.well;
-        shows = shows.hosts old.me old there;
-        completed = completed;
-      }),
+      (
+        held.0,
+        record {
+          are = are;
+          sound = sound;
+          obeys = obeys;
+          keeps = own;
+          is_running = is;
+          well = subst (λ running. IfSome running (RunsWell eyes old.me)) is own.running;
+          hidden = hidden;
+          held = held.1;
+          hides = subst (λ h. Hides eyes h keeps.links old.me old) holder hides;
+          owes = subst (λ spot. Owes eyes spot keeps.links owed) held.2 keeps.owes;
+          owed_well = keeps.well;
+          shows = shows.hosts old.me old there;
+          completed = completed;
+        },
+      ),
     )
 
 turned : (eyes : Eyes) (world after : WorldShape) (old : HostShape) (outcome : Outcome) (thread : ThreadShape)
@@ -223,7 +237,8 @@ turned : (eyes : Eyes) (world after : WorldShape) (old : HostShape) (outcome : O
     is_open eyes old.me thread.at ≡ false → IsTurn eyes.code old outcome →
     after_step world old.me outcome (label_of_turn eyes.code old) ≡ after → state_at after old.me ≡ Some outcome.state →
     Leads eyes world shown → Leads eyes after shown
-turned eyes world after old outcome thread there shown are sound watch fits_after fits obeys own at_me is here hidden turns
+turned eyes world after old outcome thread there shown are sound watch fits_after fits obeys own at_me is here hidden
+    turns
     leaves after_me leads =
     let unseen = turn_unseen eyes world old thread leads.owed leads.keeps leads.now shown are sound obeys own at_me is
     hidden leads.shows leads.completed in
@@ -240,7 +255,8 @@ turned eyes world after old outcome thread there shown are sound watch fits_afte
     (subst (λ running. IsTurnOf eyes.code old running outcome) is turns) in
     let ends : Ends eyes old.me (runs old.me thread) links leads.now shown label outcome =
     subst (λ (o : Outcome). EndsIn eyes old thread links leads.now shown label o) runs_it.2
-    (operation_ends eyes old thread links unseen.1.0 leads.owed leads.now shown label _ there there.op runs_it.0 run here
+    (operation_ends eyes old thread links unseen.1.0 leads.owed leads.now shown label _ there there.op runs_it.0 run
+    here
     shaded.law ((sound.parts old.me fits.me).instructions thread.at there here).operation runs_it.1) fit in
     ends_leads eyes world after world.flying old.me old outcome label leads.owed leads.keeps leads.now shown leads.shows
     watch at_me

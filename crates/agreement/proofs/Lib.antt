@@ -13,3 +13,5 @@ pub mod Takes
 pub mod AnswersTaken
 pub mod HiddenTakes
 pub mod HiddenEvents
+pub mod Quiet
+pub mod WorkedViews

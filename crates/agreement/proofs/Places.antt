@@ -1,5 +1,5 @@
 -- Places that may not be seen, and what is owed there.
-use Rattle.std.proofs.Common.{◌≡◌, ◌≢◌, ◌∙◌, ℕ, zero, suc, ◌+◌, ◌<◌, Bool, true, false, List, [], ◌∷◌, length, arith, Option}
+use Rattle.std.proofs.Common.{◌≡◌, ◌≢◌, ◌∙◌, ℕ, zero, suc, ◌<◌, Bool, true, false, List, [], ◌∷◌, length, arith, Option}
 use Rattle.std.proofs.Common.{Some, None, inl, inr, refl, ap, sym, subst}
 use Rattle.std.specs.Prelude.{◌==◌, ◌&&◌, if◌then◌else◌, not, ℤ, IfSome, slice_get}
 use Rattle.std.proofs.lemmas.Bool.{cases_Bool, false≢true}

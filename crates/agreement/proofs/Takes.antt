@@ -1,7 +1,7 @@
 -- What the taking of a request, or of a message that hands control over, leaves of what goes on unseen.
-use Rattle.std.proofs.Common.{◌≡◌, ◌≢◌, ◌∙◌, ℕ, ◌<◌, Bool, true, false, List, [], ◌∷◌, length, Option, Some, None, inl, inr}
+use Rattle.std.proofs.Common.{◌≡◌, ◌≢◌, ◌∙◌, ℕ, ◌<◌, Bool, true, false, List, ◌∷◌, length, Option, Some, None, inr}
 use Rattle.std.proofs.Common.{refl, ap, sym, subst}
-use Rattle.std.specs.Prelude.{◌==◌, ◌&&◌, ◌++◌, if◌then◌else◌, not, ℤ, IfSome, IsSomeAnd, filter}
+use Rattle.std.specs.Prelude.{◌++◌, if◌then◌else◌, not, ℤ, IfSome, IsSomeAnd, filter}
 use Rattle.std.proofs.lemmas.Bool.{false≢true}
 use Rattle.js_base.specs.declared.ids.HostId.{HostId}
 use Rattle.js_base.specs.declared.ids.FieldId.{FieldId}
@@ -12,27 +12,25 @@ use Rattle.js_base.specs.declared.ids.RequestId.{RequestId}
 use Rattle.capability.specs.declared.token.Token.{Token}
 use Rattle.ics_stack.specs.declared.stack.StackEntry.{StackEntry}
 use Rattle.host_code.specs.declared.code.Entry.{Entry}
-use Rattle.host_code.specs.declared.instruction.Op.{Op}
 use Rattle.host_code.specs.declared.instruction.Op.TheVariants as op
 use Rattle.host_code.specs.declared.message.Message.{Message}
 use Rattle.host_code.specs.declared.message.Message.TheVariants as message
 use Rattle.host_code.specs.Code.{CodeFieldShape, CodeVariableShape, halt, part_of, field_at, variable_at, entry_at}
 use Rattle.host_code.specs.Sound.{IsSoundCode, EntryFits}
-use Rattle.host_code.specs.Thread.{ThreadShape, WaitingShape}
-use Rattle.host_core.specs.Host.{HostShape, Outcome, with_running, with_row_written, with_variable_set, after_push}
+use Rattle.host_code.specs.Thread.{WaitingShape}
+use Rattle.host_core.specs.Host.{HostShape, with_running, with_row_written, with_variable_set, after_push}
 use Rattle.host_core.specs.Host.{new_token, thread_at, with_one_ignored, after_pop}
 use Rattle.host_core.specs.Taking.{Passes, after_passing, after_taking}
 use Rattle.net_world.specs.Flying.{Flight}
 use Rattle.split_shades.specs.ShadedCode.{IsShadedOp}
-use Rattle.split_shades.specs.Shades.{EntryShade, Meets, ahead_of}
-use Rattle.token_laws.specs.Requests.{number_asked, number_answered}
+use Rattle.split_shades.specs.Shades.{Meets, ahead_of}
+use Rattle.token_laws.specs.Requests.{number_answered}
 use Rattle.token_laws.proofs.HeldLaws.{all_at}
 use Rattle.token_laws.proofs.Tests.{different}
 use Rattle.seen_world.specs.Eyes.{Eyes, AreEyes, sees_at, is_open, is_deep, is_hidden}
-use Rattle.seen_world.specs.Points.{HostKeeps, IsAt, IsAskedBy, HasLabelAt, IsLabelledAs, SetsHidden, EntersHidden}
+use Rattle.seen_world.specs.Points.{HostKeeps, IsAt, HasLabelAt, SetsHidden}
 use Rattle.seen_world.specs.Points.{IsDeepEntry}
 use Rattle.seen_world.proofs.LabelsSent.{label_same}
-use Rattle.seen_world.proofs.TakesKept.{on_me}
 use Rattle.seen_world.proofs.TurnsKept.{hidden_is}
 use Rattle.agreement.specs.Changes.{StaysSeen}
 use Rattle.agreement.specs.Leads.{Holder, runs, waits, flies, Link, links_on, hidden_running, hidden_waiting}
@@ -40,7 +38,7 @@ use Rattle.agreement.specs.Leads.{Hides, token_with, Owes, IsOwedWell}
 use Rattle.agreement.specs.Views.{View, ShowsHost, Spot, at, given_back, Owed, Completed, running_view, sees_field}
 use Rattle.agreement.specs.Views.{sees_variable, is_shown}
 use Rattle.agreement.proofs.Ends.{Ends, nothing_seen, unseen_runs}
-use Rattle.agreement.proofs.GivesBack.{Given, given_ends}
+use Rattle.agreement.proofs.GivesBack.{given_ends}
 use Rattle.agreement.proofs.Lists.{left_first, index_apart}
 use Rattle.agreement.proofs.Places.{deep_of, deep_hidden, deep_as, stands_at, deep_moved, variable_stays, row_stays}
 use Rattle.agreement.proofs.Steps.{runs_apart}
@@ -103,7 +101,8 @@ answers_unseen : (eyes : Eyes) (state new : HostShape) (host from : HostId) (wai
     new.entries ≡ state.entries → StaysSeen eyes state.me state new →
     Ends eyes state.me (waits host waiting from state.me flight) links now shown flight.label
     (record { state = new; sent = Some (from, reply) })
-answers_unseen eyes state new host from waiting flight links token owed now shown request reply take mail carries answers
+answers_unseen eyes state new host from waiting flight links token owed now shown request reply take mail carries
+    answers
     running waits_same entries stays =
     let me = state.me in
     let answer : Flight = record { message = reply; label = flight.label } in
@@ -146,7 +145,8 @@ pub get_ends : (eyes : Eyes) (state : HostShape) (host from : HostId) (waiting :
     Ends eyes state.me (waits host waiting from state.me flight) links now shown flight.label
     (after_passing eyes.code state from (message.Get request field index))
 get_ends eyes state host from waiting flight links token owed now shown request field index take mail held =
-    answers_unseen eyes state state host from waiting flight links token owed now shown request (message.Value request _)
+    answers_unseen eyes state state host from waiting flight links token owed now shown request (message.Value request
+    _)
     take mail held refl refl refl refl (record {
       key = refl;
       rows = λ other seen. refl;
@@ -188,7 +188,8 @@ pub forward_ends : (eyes : Eyes) (state : HostShape) (host from : HostId) (waiti
     Ends eyes state.me (waits host waiting from state.me flight) links now shown flight.label
     (after_passing eyes.code state from (message.Forward request frame x value))
 forward_ends eyes state host from waiting flight links token owed now shown request frame x value take mail held sets =
-    answers_unseen eyes state (with_variable_set state frame x value) host from waiting flight links token owed now shown
+    answers_unseen eyes state (with_variable_set state frame x value) host from waiting flight links token owed now
+    shown
     request (message.Ack request) take mail held refl refl refl refl (record {
       key = refl;
       rows = λ field seen. refl;
@@ -290,7 +291,8 @@ pub lgoto_ends : (eyes : Eyes) (state : HostShape) (from : HostId) (flight : Fli
     Ends eyes state.me (flies from state.me flight) links now shown flight.label
     (after_taking eyes.code state from (message.Lgoto token) passes)
 lgoto_ends eyes state from flight links token owed now shown passes take host is_top is_passed =
-    by passes (given_ends eyes state (flies from state.me flight) links token owed now shown flight.label passes (record {
+    by passes (given_ends eyes state (flies from state.me flight) links token owed now shown flight.label passes
+    (record {
       are = take.are;
       rests = take.rests;
       stands = take.keeps.entries;
@@ -306,9 +308,9 @@ lgoto_ends eyes state from flight links token owed now shown passes take host is
     }) is_top is_passed)
   where
     by : (passed : Bool) → Ends eyes state.me (flies from state.me flight) links now shown flight.label (record {
-          state = if passed then after_pop eyes.code state state.entries else with_one_ignored state;
-          sent = None;
-        }) → Ends eyes state.me (flies from state.me flight) links now shown flight.label
+      state = if passed then after_pop eyes.code state state.entries else with_one_ignored state;
+      sent = None;
+    }) → Ends eyes state.me (flies from state.me flight) links now shown flight.label
         (after_taking eyes.code state from (message.Lgoto token) passed)
     by true ends = ends
     by false ends = ends
@@ -343,7 +345,8 @@ pub sync_ends : (eyes : Eyes) (state : HostShape) (host from : HostId) (waiting 
     is_deep eyes from request.at ≡ true →
     Ends eyes state.me (waits host waiting from state.me flight) links now shown flight.label
     (after_passing eyes.code state from (message.Sync request frame entry token))
-sync_ends eyes state host from waiting flight links token owed now shown request frame entry take mail deep hidden asks =
+sync_ends eyes state host from waiting flight links token owed now shown request frame entry take mail deep hidden
+    asks =
     let me = state.me in
     let fresh = new_token state entry frame in
     let top : StackEntry = record { token = fresh; entry = entry; frame = frame; kept = token } in
@@ -371,15 +374,24 @@ sync_ends eyes state host from waiting flight links token owed now shown request
         spot = at host waiting.request.at waiting.thread.frame fresh;
         held = (fresh, refl, refl, inr (ap Some mail.request_is, mail.asked, mail.asker));
         owed = owed;
-        owes = (asks_there, refl, (deep.there, record {
-          is = deep.is;
-          host = deep.host_is;
-          token = refl;
-          hidden = hidden;
-          obeys = take.obeys;
-          unseen = deep.unseen;
-        }, deep_moved eyes links owed host me waiting.request.at deep.there.at waiting.thread.frame frame token asks_there
-            deep.deep take.owes));
+        owes = (
+          asks_there,
+          refl,
+          (
+            deep.there,
+            record {
+              is = deep.is;
+              host = deep.host_is;
+              token = refl;
+              hidden = hidden;
+              obeys = take.obeys;
+              unseen = deep.unseen;
+            },
+            deep_moved eyes links owed host me waiting.request.at deep.there.at waiting.thread.frame frame token
+                asks_there
+                deep.deep take.owes,
+          ),
+        );
         well = take.owed_well;
         view = now;
         shows = still_shows eyes me state new (now.hosts me) take.shows (record {

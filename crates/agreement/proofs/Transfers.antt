@@ -1,45 +1,39 @@
 -- What a turn leaves of what goes on unseen, for each instruction that pushes an entry, branches or hands control over.
-use Rattle.std.proofs.Common.{◌≡◌, ◌≢◌, ◌∙◌, ℕ, suc, ◌+◌, ◌<◌, int_eq, Bool, true, false, List, [], ◌∷◌, length, Option, Some}
-use Rattle.std.proofs.Common.{None, inl, inr, refl, ap, sym, subst}
-use Rattle.std.specs.Prelude.{◌==◌, if◌then◌else◌, not, pos, IfSome, IsSomeAnd, slice_get}
-use Rattle.std.proofs.lemmas.Bool.{cases_Bool, false≢true, true≢false}
+use Rattle.std.proofs.Common.{◌≡◌, ◌≢◌, ◌∙◌, ℕ, suc, ◌+◌, ◌<◌, Bool, true, false, List, ◌∷◌, length, Option, Some}
+use Rattle.std.proofs.Common.{None, refl, ap, sym, subst}
+use Rattle.std.specs.Prelude.{◌==◌, if◌then◌else◌, not, IsSomeAnd, slice_get}
+use Rattle.std.proofs.lemmas.Bool.{false≢true}
 use Rattle.js_base.specs.declared.ids.HostId.{HostId}
 use Rattle.js_base.specs.declared.ids.EntryId.{EntryId}
-use Rattle.label_lattice.specs.declared.label.Label.{Label}
 use Rattle.capability.specs.declared.token.Token.{Token}
 use Rattle.ics_stack.specs.declared.stack.StackEntry.{StackEntry}
 use Rattle.host_code.specs.declared.code.Entry.{Entry}
-use Rattle.host_code.specs.declared.code_expr.Node.{Node}
 use Rattle.host_code.specs.declared.instruction.Instr.{Instr}
 use Rattle.host_code.specs.declared.instruction.Op.TheVariants as op
 use Rattle.host_code.specs.declared.message.Message.TheVariants as message
-use Rattle.host_code.specs.Code.{CodeShape, halt, part_of, instruction_at, entry_at}
+use Rattle.host_code.specs.Code.{CodeShape, part_of, entry_at}
 use Rattle.host_code.specs.Sound.{IsEntryOn, EntryFits}
 use Rattle.host_code.specs.Thread.{ThreadShape}
-use Rattle.host_core.specs.Host.{HostShape, Outcome, with_running, after_push, new_token, after_step, after_clearing}
-use Rattle.host_core.specs.Host.{with_token, value_in_thread}
-use Rattle.host_core.specs.Turn.{after_own_push, after_own_call, after_go, after_call, after_branch, with_thread}
+use Rattle.host_core.specs.Host.{HostShape, Outcome, with_running, after_push, new_token, after_step}
+use Rattle.host_core.specs.Host.{with_token}
+use Rattle.host_core.specs.Turn.{after_own_push, after_own_call, after_go, after_call, with_thread}
 use Rattle.net_world.proofs.Present.{same_id}
 use Rattle.split_shades.specs.ShadedCode.{IsShadedOp}
-use Rattle.split_shades.specs.Shades.{Shade, EntryShade, Ahead, Meets, ahead_of}
-use Rattle.split_shades.specs.Shading.{Divides, Names, PushesAt, Pushes}
+use Rattle.split_shades.specs.Shades.{EntryShade, Ahead, Meets, ahead_of}
+use Rattle.split_shades.specs.Shading.{Names, PushesAt, Pushes}
 use Rattle.token_laws.proofs.HeldLaws.{all_at}
-use Rattle.token_laws.proofs.Tests.{itself, different, number_same}
+use Rattle.token_laws.proofs.Tests.{different, number_same}
 use Rattle.seen_world.specs.Eyes.{Eyes, is_open, is_deep, is_hidden}
-use Rattle.seen_world.proofs.SeenPlaces.{block_seen}
 use Rattle.seen_world.proofs.TurnsKept.{meets_next, hidden_is}
-use Rattle.agreement.specs.Leads.{Holder, nobody, runs, Link, links_on, Owes}
-use Rattle.agreement.specs.Views.{View, HostView, ShowsHost, nowhere, at, Owed, nothing, goes_on, gives, owed_at, Completed}
-use Rattle.agreement.specs.Views.{exit_of, masked_all, thread_view, with_thread as view_with_thread, host_with_thread}
-use Rattle.agreement.specs.Views.{thread_out, is_shown}
-use Rattle.agreement.proofs.Ends.{Ends, Unseen, shows_then, nothing_seen, goes_on_unseen, hands_unseen, unseen_runs}
-use Rattle.agreement.proofs.Exits.{exit_guard, exit_open}
+use Rattle.agreement.specs.Leads.{runs, Link, links_on, Owes}
+use Rattle.agreement.specs.Views.{View, at, Owed}
+use Rattle.agreement.specs.Views.{is_shown}
+use Rattle.agreement.proofs.Ends.{Unseen, shows_then, nothing_seen, hands_unseen, unseen_runs}
 use Rattle.agreement.proofs.Lists.{left_first, index_apart}
 use Rattle.agreement.proofs.Places.{instruction_within, deep_of, deep_hidden, deep_as, block_hidden, flow_hidden}
-use Rattle.agreement.proofs.Places.{begun_same, stands_at, deep_moved, exit_moved, begun_moved}
+use Rattle.agreement.proofs.Places.{begun_same, stands_at, deep_moved, begun_moved}
 use Rattle.agreement.proofs.Steps.{runs_apart}
-use Rattle.agreement.proofs.Turns.{EndsIn, IsHere, either_ends, same_seen, next_there, stays_put, deep_on, next_deep}
-use Rattle.agreement.proofs.Turns.{begun_on}
+use Rattle.agreement.proofs.Turns.{EndsIn, IsHere, same_seen, next_there, deep_on, next_deep}
 use Rattle.agreement.proofs.ViewLaws.{entry_hidden}
 
 -- ---- entries
@@ -125,7 +119,8 @@ pushed_head eyes old thread links token owed now shown here_is entry next loop r
     let here = eyes.shades.at old.me thread.at in
     let names = pushes.0 in
     let place = entry_meets eyes old thread links token owed now shown old.me entry names.it run stand names.is in
-    let goes = begun_same (ahead_of names.it) (eyes.shades.at old.me stand.there.at) here.pc (Some loop) place pushes.1 in
+    let goes = begun_same (ahead_of names.it) (eyes.shades.at old.me stand.there.at) here.pc (Some loop) place
+    pushes.1 in
     let other = instruction_within eyes old.me stand.there.at
     (entry_within eyes old thread links token owed now shown old.me entry run stand) in
     record {
@@ -162,7 +157,8 @@ pushed eyes old thread links token owed now shown here_is entry next run is stan
 push_unseen : (eyes : Eyes) (old : HostShape) (thread : ThreadShape) (links : List Link) (token : Token) (owed : Owed)
     (now shown : View) (label : ℕ) (entry : EntryId) → Unseen eyes old thread links token owed now shown →
     (stand : Standing eyes.code old.me entry) → Pushed eyes old thread links token owed entry stand.there →
-    EndsIn eyes old thread links now shown label (with_thread (after_push (with_running old None) entry thread.frame token)
+    EndsIn eyes old thread links now shown label (with_thread (after_push (with_running old None) entry thread.frame
+    token)
     (with_token (Some (new_token (with_running old None) entry thread.frame)) (after_step thread)))
 push_unseen eyes old thread links token owed now shown label entry run stand push fits =
     let bare = with_running old None in
@@ -191,14 +187,22 @@ push_unseen eyes old thread links token owed now shown label entry run stand pus
         spot = at old.me (thread.at + 1) thread.frame fresh;
         held = (fresh, refl, refl);
         owed = owed;
-        owes = (push.next, refl, (stand.there, record {
-          is = stand.is;
-          host = stand.host_is;
-          token = refl;
-          hidden = push.hidden;
-          obeys = run.obeys;
-          unseen = push.unseen;
-        }, push.owes));
+        owes = (
+          push.next,
+          refl,
+          (
+            stand.there,
+            record {
+              is = stand.is;
+              host = stand.host_is;
+              token = refl;
+              hidden = push.hidden;
+              obeys = run.obeys;
+              unseen = push.unseen;
+            },
+            push.owes,
+          ),
+        );
         well = run.owed_well;
         view = now;
         shows = shows_then eyes old new thread links token owed now shown run (record {
@@ -226,7 +230,8 @@ pub push_ends : (eyes : Eyes) (old : HostShape) (thread : ThreadShape) (links : 
     EndsIn eyes old thread links now shown label (after_own_push (with_running old None) thread entry thread.held)
 push_ends eyes old thread links token owed now shown label here_is entry run is law on =
     let stand = standing eyes.code old.me entry on in
-    subst (λ held. EndsIn eyes old thread links now shown label (after_own_push (with_running old None) thread entry held))
+    subst (λ held. EndsIn eyes old thread links now shown label (after_own_push (with_running old None) thread entry
+    held))
     (sym run.held)
     (push_unseen eyes old thread links token owed now shown label entry run stand
     (pushed eyes old thread links token owed now shown here_is entry law.0 run is stand law.2
@@ -243,7 +248,8 @@ pub go_ends : (eyes : Eyes) (old : HostShape) (thread : ThreadShape) (links : Li
     (now shown : View) (label : ℕ) (here_is : Instr) (entry : EntryId) (on : HostId) →
     Unseen eyes old thread links token owed now shown → IsHere eyes old thread here_is →
     IsShadedOp eyes.scene eyes.shades old.me thread.at (op.Go entry on) → IsEntryOn eyes.code on entry →
-    EndsIn eyes old thread links now shown label (after_go (with_running old None) thread thread.frame entry on thread.held)
+    EndsIn eyes old thread links now shown label (after_go (with_running old None) thread thread.frame entry on
+    thread.held)
 go_ends eyes old thread links token owed now shown label here_is entry on run is law on_host =
     let here = eyes.shades.at old.me thread.at in
     let stand = standing eyes.code on entry on_host in

@@ -1,7 +1,7 @@
 -- What a turn leaves of what goes on unseen, for each instruction that leaves the control stack as it is.
-use Rattle.std.proofs.Common.{◌≡◌, ◌≢◌, ◌∙◌, ℕ, suc, ◌+◌, ◌<◌, int_eq, Bool, true, false, List, [], length, Option, Some}
+use Rattle.std.proofs.Common.{◌≡◌, ◌∙◌, ℕ, suc, ◌+◌, ◌<◌, Bool, true, false, List, [], length, Option, Some}
 use Rattle.std.proofs.Common.{None, refl, ap, sym, subst}
-use Rattle.std.specs.Prelude.{◌==◌, if◌then◌else◌, pos, ℤ, IfSome, slice_get, slice_index, slice_set}
+use Rattle.std.specs.Prelude.{◌==◌, if◌then◌else◌, IfSome, slice_get, slice_index, slice_set}
 use Rattle.std.proofs.lemmas.Bool.{false≢true}
 use Rattle.js_base.specs.declared.ids.HostId.{HostId}
 use Rattle.js_base.specs.declared.ids.FieldId.{FieldId}
@@ -14,14 +14,14 @@ use Rattle.capability.specs.declared.token.Token.{Token}
 use Rattle.host_code.specs.declared.code_expr.Node.{Node}
 use Rattle.host_code.specs.declared.instruction.Instr.{Instr}
 use Rattle.host_code.specs.declared.instruction.Op.TheVariants as op
-use Rattle.host_code.specs.Code.{CodeFieldShape, part_of, instruction_at, field_at}
+use Rattle.host_code.specs.Code.{CodeFieldShape, part_of, instruction_at}
 use Rattle.host_code.specs.Thread.{ThreadShape}
 use Rattle.host_code.specs.Thread.Awaited.{value_of_field, acknowledgement, token_of_entry}
 use Rattle.host_code.specs.declared.message.Message.TheVariants as message
 use Rattle.host_core.specs.Fits.{RunningFits, StateFits}
 use Rattle.host_core.specs.Host.{HostShape, Outcome, with_running, with_row_written, with_variable_set, after_clearing}
 use Rattle.host_core.specs.Host.{after_step, with_temporary, with_token, next_request, value_in_thread}
-use Rattle.host_core.specs.Turn.{after_read, after_put, after_let, after_send, after_frame, after_branch, after_ask}
+use Rattle.host_core.specs.Turn.{after_read, after_put, after_let, after_send, after_frame, after_ask}
 use Rattle.host_core.specs.Turn.{after_return, with_thread}
 use Rattle.split_shades.specs.ShadedCode.{IsShadedOp}
 use Rattle.split_shades.specs.Shades.{Ahead, Meets}
@@ -31,7 +31,7 @@ use Rattle.seen_world.specs.Eyes.{Eyes, is_open, is_deep}
 use Rattle.seen_world.proofs.TurnsKept.{meets_next}
 use Rattle.agreement.specs.Changes.{StaysSeen}
 use Rattle.agreement.specs.Leads.{runs, Link, hidden_waiting, Owes}
-use Rattle.agreement.specs.Views.{View, at, Owed, sees_variable, exit_of}
+use Rattle.agreement.specs.Views.{View, at, Owed}
 use Rattle.agreement.proofs.Ends.{Ends, Unseen, goes_on_unseen, waits_unseen}
 use Rattle.agreement.proofs.Lists.{index_apart}
 use Rattle.agreement.proofs.Places.{instruction_within, deep_of, deep_hidden, deep_as, block_hidden, begun_same}
@@ -78,7 +78,8 @@ pub stays_put : (eyes : Eyes) (old : HostShape) (thread : ThreadShape) (links : 
     (now shown : View) (label : ℕ) → Unseen eyes old thread links token owed now shown →
     EndsIn eyes old thread links now shown label (with_thread (with_running old None) thread)
 stays_put eyes old thread links token owed now shown label run fits =
-    goes_on_unseen eyes old (with_running old (Some thread)) thread thread links token owed now shown label run refl refl
+    goes_on_unseen eyes old (with_running old (Some thread)) thread thread links token owed now shown label run refl
+    refl
     run.hides.waiting (same_seen eyes old.me old (Some thread)) run.held run.hidden run.owes
 
 -- it goes on at another place, in a block that may not be seen
@@ -90,7 +91,8 @@ pub deep_on : (eyes : Eyes) (old new : HostShape) (thread later : ThreadShape) (
     EndsIn eyes old thread links now shown label (record { state = new; sent = None })
 deep_on eyes old new thread later links token owed now shown label run deep deep_next held is same entries none stays
     fits =
-    goes_on_unseen eyes old new thread later links token owed now shown label run is entries none stays (held ∙ run.held)
+    goes_on_unseen eyes old new thread later links token owed now shown label run is entries none stays (held ∙
+    run.held)
     (deep_hidden eyes run.are old.me later.at (next_there eyes old.me new later is same fits) deep_next)
     (deep_moved eyes links owed old.me old.me thread.at later.at thread.frame later.frame token deep deep_next run.owes)
 
@@ -235,7 +237,8 @@ frame_ends eyes old thread links token owed now shown label there site run is la
     let here = eyes.shades.at old.me thread.at in
     let deep = deep_of eyes run.are old.me thread.at there is law.1.1 run.hidden in
     deep_on eyes old _ thread
-    (record (after_step thread) { new_frame = record { site = site; count = slice_index old.frames site.0 } }) links token
+    (record (after_step thread) { new_frame = record { site = site; count = slice_index old.frames site.0 } }) links
+    token
     owed now shown label run deep
     (next_deep eyes old.me thread.at law.0 deep law.2 (ap (λ (it : Ahead). it.block) law.1.4)) refl refl refl refl
     run.hides.waiting (record {
@@ -255,7 +258,8 @@ pub return_ends : (eyes : Eyes) (old : HostShape) (thread : ThreadShape) (links 
     (owed : Owed) (now shown : View) (label : ℕ) (there : Instr) (x : VarId) (value : List Node) (passes : Bool) →
     Unseen eyes old thread links token owed now shown → IsHere eyes old thread there →
     IsShadedOp eyes.scene eyes.shades old.me thread.at (op.Ret x value) →
-    EndsIn eyes old thread links now shown label (after_return (with_running old None) thread x value thread.held passes)
+    EndsIn eyes old thread links now shown label (after_return (with_running old None) thread x value thread.held
+    passes)
 return_ends eyes old thread links token owed now shown label there x value passes run is law =
     let bare = with_running old None in
     let number = value_in_thread bare thread value in
@@ -280,7 +284,8 @@ pub ask_ends : (eyes : Eyes) (old : HostShape) (thread : ThreadShape) (links : L
     Unseen eyes old thread links token owed now shown →
     EndsIn eyes old thread links now shown label (after_ask (with_running old None) thread entry on thread.held)
 ask_ends eyes old thread links token owed now shown label entry on run =
-    subst (λ held. EndsIn eyes old thread links now shown label (after_ask (with_running old None) thread entry on held))
+    subst (λ held. EndsIn eyes old thread links now shown label (after_ask (with_running old None) thread entry on
+    held))
     (sym run.held)
     (λ fits. waits_unseen eyes old thread (with_token None (after_step thread)) links token owed now shown label
     token_of_entry on

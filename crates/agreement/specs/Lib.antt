@@ -1,3 +1,4 @@
 pub mod Views
 pub mod Changes
 pub mod Leads
+pub mod Worked

@@ -1,26 +1,34 @@
 //! Laws of worlds of which the same may be seen. The calls do nothing: their contracts are the laws.
 
-ghost use Rattle.std.specs.Prelude.{◌≡◌, ℕ, true, false, List, [], ◌∷◌, ◌++◌, Some, filter, remove, slice_get};
+ghost use Rattle.std.specs.Prelude.{◌≡◌, ℕ, ℤ, pos, true, false, List, [], ◌∷◌, ◌++◌, Some, filter, remove, slice_get};
 ghost use Rattle.js_base.specs.declared.ids.HostId.{HostId};
 ghost use Rattle.js_base.specs.declared.ids.FrameId.{FrameId};
 ghost use Rattle.capability.specs.declared.token.Token.{Token};
 ghost use Rattle.ics_stack.specs.declared.stack.StackEntry.{StackEntry};
+ghost use Rattle.host_decl.specs.Hosts as declared_hosts;
 ghost use Rattle.host_code.specs.declared.instruction.Instr.{Instr};
+ghost use Rattle.host_code.specs.declared.message.Message.TheVariants as message;
 ghost use Rattle.host_code.specs.Code.{instruction_at};
 ghost use Rattle.host_code.specs.Sound.{IsSoundCode};
 ghost use Rattle.host_code.specs.Thread.{ThreadShape};
 ghost use Rattle.host_core.specs.Host as host_state;
-ghost use Rattle.event_text.specs.declared.event.Event.TheVariants.{Turn};
+ghost use Rattle.host_core.specs.Start.{main_frame};
+ghost use Rattle.event_text.specs.declared.event.Event.{Event};
+ghost use Rattle.event_text.specs.declared.event.Event.TheVariants.{Take, Turn};
 ghost use Rattle.net_world.specs.Fits.{ShapeFits};
 ghost use Rattle.net_world.specs.Flying.{Flight};
-ghost use Rattle.net_world.specs.Secret.{IsSecret};
-ghost use Rattle.net_world.specs.World.{WorldShape, IsStep};
+ghost use Rattle.net_world.specs.Secret.{IsSecret, IsQuiet, IsSeenRun};
+ghost use Rattle.net_world.specs.World.{WorldShape, state_at, world_at_start, IsStep};
+ghost use Rattle.token_laws.specs.Reached.{IsReached};
+ghost use Rattle.token_laws.specs.TokenExamples.{host_id, first_request, first_token, second_token};
 ghost use Rattle.seen_world.specs.Eyes.{Eyes, AreEyes, Watches, is_open, is_deep, is_hidden};
-ghost use Rattle.seen_world.specs.Points.{HostsKeep};
+ghost use Rattle.seen_world.specs.Points.{HostsKeep, PointsHold};
 ghost use Rattle.agreement.specs.Changes.{StaysSeen};
-ghost use Rattle.agreement.specs.Leads.{Link, links_on, Leads};
-ghost use Rattle.agreement.specs.Views.{View, HostView, ShowsHost, running_view, Owed, Completed, at, owed_at};
-ghost use Rattle.agreement.specs.Views.{flies_open, flights_view, is_shown, exit_of};
+ghost use Rattle.agreement.specs.Leads.{Link, links_on, hidden_waiting, Leads};
+ghost use Rattle.agreement.specs.Views.{View, HostView, ShowsHost, Shows, running_view, Owed, goes_on, gives};
+ghost use Rattle.agreement.specs.Views.{Completed, at, owed_at};
+ghost use Rattle.agreement.specs.Views.{flies_open, flights_view, message_view, is_shown, exit_of};
+ghost use Rattle.agreement.specs.Worked.{small_eyes, one_entry, popped_at, a_variable};
 
 /// What may be seen of a world, where something goes on unseen.
 pub fn view_laws()
@@ -39,7 +47,8 @@ pub fn view_laws()
         AreEyes eyes → instruction_at eyes.code host place ≡ Some there → is_open eyes host place ≡ false →
         (eyes.shades.at host place).guard ≡ Some loop →
         exit_of eyes host place ≡ exit_of eyes host (eyes.shades.exits host loop) }
-    // A message that carries a label which may not be seen leaves what is seen of a queue, where it is added at the end.
+    // A message that carries a label which may not be seen leaves what is seen of a queue, where it is added at the
+    // end.
     ensures added { (eyes : Eyes) (from to : HostId) (flights : List Flight) (flight : Flight) →
         flies_open eyes flight ≡ false →
         flights_view eyes from to (flights ++ flight ∷ []) ≡ flights_view eyes from to flights }
@@ -64,10 +73,55 @@ pub fn view_laws()
 
 /// What will be seen of a world, once what goes on unseen comes to an end, where a secret event happens.
 pub fn hidden_laws()
-    // After a secret turn the same will be seen: it goes on unseen with the same owed, or what was owed is seen now, or
-    // an entry that may be seen is taken off and its thread goes on at the guard of a loop, which is owed then.
+    // After a secret event of a world that events lead to the same will be seen: it goes on unseen with the same
+    // owed, or
+    // what was owed is seen now, or an entry that may be seen is taken off and its thread goes on at the guard of a
+    // loop, which is owed then.
+    ensures kept { (eyes : Eyes) (rows : List declared_hosts.HostShape) (bad : ℕ) (store : List (List ℤ))
+        (events : List Event) (world after : WorldShape) (event : Event) (shown : View) →
+        AreEyes eyes → Watches eyes (world_at_start eyes.code rows bad store) →
+        IsReached eyes.code rows bad store events world → IsStep eyes.code world event after →
+        IsSecret eyes.code world event → Leads eyes world shown → Leads eyes after shown }
+    // So it is after events of which none may be seen.
+    ensures along { (eyes : Eyes) (rows : List declared_hosts.HostShape) (bad : ℕ) (store : List (List ℤ))
+        (events : List Event) (world : WorldShape) (later : List Event) (after : WorldShape) (shown : View) →
+        AreEyes eyes → Watches eyes (world_at_start eyes.code rows bad store) →
+        IsReached eyes.code rows bad store events world → IsSeenRun eyes.code world later [] after →
+        Leads eyes world shown → Leads eyes after shown }
+    // So it is after a secret turn, whatever instruction it runs.
     ensures turn { (eyes : Eyes) (world after : WorldShape) (host : HostId) (shown : View) →
         AreEyes eyes → IsSoundCode eyes.code → Watches eyes world → ShapeFits eyes.code world →
         ShapeFits eyes.code after → HostsKeep eyes world → IsStep eyes.code world (Turn host) after →
         IsSecret eyes.code world (Turn host) → Leads eyes world shown → Leads eyes after shown }
+    // So it is after a secret take, whatever message is taken.
+    ensures take { (eyes : Eyes) (world after : WorldShape) (from to : HostId) (place : ℕ) (shown : View) →
+        AreEyes eyes → IsSoundCode eyes.code → Watches eyes world → ShapeFits eyes.code world →
+        PointsHold eyes world → IsStep eyes.code world (Take from to place) after →
+        IsSecret eyes.code world (Take from to place) → Leads eyes world shown → Leads eyes after shown }
+    // Where nothing secret is in flight and no secret thread runs, what will be seen is seen now. Then no secret thread
+    // waits either, and no entry is hidden.
+    ensures quiet { (eyes : Eyes) (world : WorldShape) (shown : View) →
+        AreEyes eyes → Watches eyes world → ShapeFits eyes.code world → IsQuiet eyes.code world →
+        Leads eyes world shown →
+        Shows eyes world shown × ((host : HostId) (state : host_state.HostShape) → state_at world host ≡ Some state →
+        (hidden_waiting eyes host state.waiting ≡ []) × (state.entries ≡ filter (is_shown eyes) state.entries)) }
+{}
+
+/// What is owed and seen in small cases, which deny other definitions.
+pub fn worked_laws()
+    // At the guard of a loop that may not be seen it goes on behind the loop, and inside the loop its token is owed.
+    ensures behind { exit_of small_eyes (host_id 0) 0 ≡ 3 }
+    ensures at_guard { owed_at small_eyes (at (host_id 0) 1 main_frame second_token)
+        ≡ goes_on (host_id 0) 3 main_frame second_token }
+    ensures inside { owed_at small_eyes (at (host_id 0) 2 main_frame second_token) ≡ gives second_token }
+    // A token that is given back takes the entry off. Its thread goes on, behind the loop.
+    ensures pops { Completed small_eyes (gives first_token) one_entry (popped_at 3) }
+    ensures pops_more { ¬ (Completed small_eyes (gives first_token) one_entry one_entry) }
+    ensures pops_behind { ¬ (Completed small_eyes (gives first_token) one_entry (popped_at 0)) }
+    // Another token has no effect.
+    ensures other { Completed small_eyes (gives second_token) one_entry one_entry }
+    // Of a message that sets what may not be seen the value is not seen.
+    ensures masked_value { message_view small_eyes (host_id 0) (host_id 1) (message.Forward first_request main_frame
+        a_variable (pos 7))
+        ≡ message.Forward first_request main_frame a_variable (pos 0) }
 {}

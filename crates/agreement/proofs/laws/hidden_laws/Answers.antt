@@ -1,5 +1,14 @@
+use Rattle.agreement.proofs.HiddenEvents.{event_leads, run_leads}
+use Rattle.agreement.proofs.HiddenTakes.{take_leads}
 use Rattle.agreement.proofs.HiddenTurns.{turn_leads}
+use Rattle.agreement.proofs.Quiet.{quiet_shows}
 use Rattle.agreement.proofs.laws.hidden_laws.Goals as goal
 
 pub returns : goal.returns
-returns c = record { turn = turn_leads }
+returns c = record {
+  kept = event_leads;
+  along = run_leads;
+  turn = turn_leads;
+  take = take_leads;
+  quiet = quiet_shows;
+}
