@@ -15,3 +15,4 @@ pub mod HiddenTakes
 pub mod HiddenEvents
 pub mod Quiet
 pub mod WorkedViews
+pub mod Starts

@@ -39,6 +39,8 @@ pub fn view_laws()
     ensures deep { (eyes : Eyes) (host other : HostId) (place next : ℕ) (frame later : FrameId) (token : Token) →
         is_deep eyes host place ≡ true → is_deep eyes other next ≡ true →
         owed_at eyes (at host place frame token) ≡ owed_at eyes (at other next later token) }
+    // Each world shows some view.
+    ensures shown { (eyes : Eyes) (world : WorldShape) → (view : View) × Shows eyes world view }
     // In the open it goes on at the very place, where that may be seen.
     ensures in_open { (eyes : Eyes) (host : HostId) (place : ℕ) →
         is_open eyes host place ≡ true → exit_of eyes host place ≡ place }
@@ -73,6 +75,10 @@ pub fn view_laws()
 
 /// What will be seen of a world, once what goes on unseen comes to an end, where a secret event happens.
 pub fn hidden_laws()
+    // The world before the first event leads to a view.
+    ensures start { (eyes : Eyes) (rows : List declared_hosts.HostShape) (bad : ℕ) (store : List (List ℤ)) →
+        AreEyes eyes → IsSoundCode eyes.code → Watches eyes (world_at_start eyes.code rows bad store) →
+        (shown : View) × Leads eyes (world_at_start eyes.code rows bad store) shown }
     // After a secret event of a world that events lead to the same will be seen: it goes on unseen with the same
     // owed, or
     // what was owed is seen now, or an entry that may be seen is taken off and its thread goes on at the guard of a
