@@ -49,7 +49,7 @@ use Rattle.agreement.proofs.Takes.{asking, sync_ends}
 -- ---- who it is that goes on unseen
 
 -- a message in flight belongs to a thread that waits unseen, or hands control over unseen
-abbrev FliesUnseen : Holder → HostId → HostId → Flight → Type 0
+abbrev pub FliesUnseen : Holder → HostId → HostId → Flight → Type 0
 FliesUnseen holder from to flight =
     ((host : HostId) × (waiting : WaitingShape) × (holder ≡ waits host waiting from to flight))
     ⊎ (holder ≡ flies from to flight)
@@ -73,7 +73,7 @@ same_flight p flights place from to i j flight one A make is there passes =
         ∙ ap (make i j) (sym third)
     by false same none = absurd (kept_some p flights place flight there passes none)
 
-holder_flies : (holder : Holder) (p : Flight → Bool) (flights : List Flight) (place : ℕ) (from to : HostId)
+pub holder_flies : (holder : Holder) (p : Flight → Bool) (flights : List Flight) (place : ℕ) (from to : HostId)
     (flight : Flight) → filter p flights ≡ flies_on holder from to → slice_get flights place ≡ Some flight →
     p flight ≡ true → FliesUnseen holder from to flight
 holder_flies nobody p flights place from to flight is there passes =
@@ -99,10 +99,10 @@ record Says (eyes : Eyes) (state : HostShape) (from : HostId) (label : ℕ) (sai
   enters : EntersHidden eyes said
   passes : IsRequest said → Passes eyes.code state from said
 
-some_request : (one other : RequestId) → Some one ≡ Some other → one ≡ other
+pub some_request : (one other : RequestId) → Some one ≡ Some other → one ≡ other
 some_request one other is = cc
 
-no_request : {A : Type 0} (one : RequestId) → None ≡ Some one → A
+pub no_request : {A : Type 0} (one : RequestId) → None ≡ Some one → A
 no_request one is = absurd (cc)
 
 some_token : (one other : Token) → Some one ≡ Some other → one ≡ other

@@ -16,3 +16,4 @@ pub mod HiddenEvents
 pub mod Quiet
 pub mod WorkedViews
 pub mod Starts
+pub mod AnswersPass

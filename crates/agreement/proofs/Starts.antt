@@ -84,7 +84,7 @@ shows_of : (eyes : Eyes) (world : WorldShape) → Shows eyes world (view_of eyes
 shows_of eyes world = record {
   hosts = λ host state there.
       subst (λ found. ShowsHost eyes host state (host_view_of eyes host found)) (sym there) (host_shows eyes host
-          state);
+      state);
   flying = λ from to. refl;
   sent = refl;
 }
@@ -212,25 +212,27 @@ open_leads : (eyes : Eyes) (rows : List declared_hosts.HostShape) (bad : ℕ) (s
     is_open eyes eyes.code.root entry.at ≡ true → (shown : View) × Leads eyes (start_of eyes rows bad store) shown
 open_leads eyes rows bad store key entry are root seen =
     let world = start_of eyes rows bad store in
-    let thread = main_thread eyes.code store key eyes.code.root entry in
-    (view_of eyes world, record {
-      owed = nothing;
-      keeps = record {
-        holder = nobody;
-        links = [];
-        present = tt;
-        hides = start_hides eyes nobody rows bad store key entry are root
-            (ap (λ (b : Bool). if b then None else Some thread) seen) (λ host apart. refl) (λ host. refl);
-        flying = λ from to. refl;
-        spot = nowhere;
-        held = refl;
-        owes = refl;
-        well = tt;
-      };
-      now = view_of eyes world;
-      shows = shows_of eyes world;
-      completed = refl;
-    })
+    let thread = main_thread eyes.code store key eyes.code.root entry in (
+      view_of eyes world,
+      record {
+        owed = nothing;
+        keeps = record {
+          holder = nobody;
+          links = [];
+          present = tt;
+          hides = start_hides eyes nobody rows bad store key entry are root
+              (ap (λ (b : Bool). if b then None else Some thread) seen) (λ host apart. refl) (λ host. refl);
+          flying = λ from to. refl;
+          spot = nowhere;
+          held = refl;
+          owes = refl;
+          well = tt;
+        };
+        now = view_of eyes world;
+        shows = shows_of eyes world;
+        completed = refl;
+      },
+    )
 
 -- it may not be seen
 hidden_leads : (eyes : Eyes) (rows : List declared_hosts.HostShape) (bad : ℕ) (store : List (List ℤ)) (key : List ℕ)
@@ -289,14 +291,18 @@ root_leads eyes rows bad store key entry are root =
     elim (cases_Bool (is_open eyes me entry.at)) [
       | inl seen ↦ open_leads eyes rows bad store key entry are root seen
       | inr hidden ↦ elim (cases_Bool (is_deep eyes me entry.at)) [
-        | inl deep ↦ (with_host now me (host_popped eyes me top [] (now.hosts me)),
-            hidden_leads eyes rows bad store key entry (gives top.token) _ are root hidden
-            (ap (λ (b : Bool). if b then gives top.token else goes_on me exit main_frame top.token) deep)
-            (root.obeys, halt_shown eyes are) (ends_shown eyes rows bad store key entry are root))
-        | inr shallow ↦ (with_thread now me exit main_frame top.token,
-            hidden_leads eyes rows bad store key entry (goes_on me exit main_frame top.token) _ are root hidden
-            (ap (λ (b : Bool). if b then gives top.token else goes_on me exit main_frame top.token) shallow)
-            (λ is. false≢true (sym (halt_shown eyes are) ∙ is.1)) refl)
+        | inl deep ↦ (
+          with_host now me (host_popped eyes me top [] (now.hosts me)),
+          hidden_leads eyes rows bad store key entry (gives top.token) _ are root hidden
+              (ap (λ (b : Bool). if b then gives top.token else goes_on me exit main_frame top.token) deep)
+              (root.obeys, halt_shown eyes are) (ends_shown eyes rows bad store key entry are root),
+        )
+        | inr shallow ↦ (
+          with_thread now me exit main_frame top.token,
+          hidden_leads eyes rows bad store key entry (goes_on me exit main_frame top.token) _ are root hidden
+              (ap (λ (b : Bool). if b then gives top.token else goes_on me exit main_frame top.token) shallow)
+              (λ is. false≢true (sym (halt_shown eyes are) ∙ is.1)) refl,
+        )
       ]
     ]
 
@@ -305,25 +311,27 @@ rootless_leads : (eyes : Eyes) (rows : List declared_hosts.HostShape) (bad : ℕ
     state_at (start_of eyes rows bad store) eyes.code.root ≡ None →
     (shown : View) × Leads eyes (start_of eyes rows bad store) shown
 rootless_leads eyes rows bad store none =
-    let world = start_of eyes rows bad store in
-    (view_of eyes world, record {
-      owed = nothing;
-      keeps = record {
-        holder = nobody;
-        links = [];
-        present = tt;
-        hides = λ host state there. idle_hides eyes nobody host rows bad store state there
-            (nowhere_there host state there) refl refl;
-        flying = λ from to. refl;
-        spot = nowhere;
-        held = refl;
-        owes = refl;
-        well = tt;
-      };
-      now = view_of eyes world;
-      shows = shows_of eyes world;
-      completed = refl;
-    })
+    let world = start_of eyes rows bad store in (
+      view_of eyes world,
+      record {
+        owed = nothing;
+        keeps = record {
+          holder = nobody;
+          links = [];
+          present = tt;
+          hides = λ host state there. idle_hides eyes nobody host rows bad store state there
+              (nowhere_there host state there) refl refl;
+          flying = λ from to. refl;
+          spot = nowhere;
+          held = refl;
+          owes = refl;
+          well = tt;
+        };
+        now = view_of eyes world;
+        shows = shows_of eyes world;
+        completed = refl;
+      },
+    )
   where
     nowhere_there : (host : HostId) (state : HostShape) →
         state_at (start_of eyes rows bad store) host ≡ Some state → host.0 ≢ eyes.code.root.0

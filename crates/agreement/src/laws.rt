@@ -1,6 +1,7 @@
 //! Laws of worlds of which the same may be seen. The calls do nothing: their contracts are the laws.
 
-ghost use Rattle.std.specs.Prelude.{◌≡◌, ℕ, ℤ, pos, true, false, List, [], ◌∷◌, ◌++◌, Some, filter, remove, slice_get};
+ghost use Rattle.std.specs.Prelude.{◌≡◌, ℕ, ℤ, pos, true, false, List, [], ◌∷◌, ◌++◌, Some, IsSome, filter, remove};
+ghost use Rattle.std.specs.Prelude.{slice_get};
 ghost use Rattle.js_base.specs.declared.ids.HostId.{HostId};
 ghost use Rattle.js_base.specs.declared.ids.FrameId.{FrameId};
 ghost use Rattle.capability.specs.declared.token.Token.{Token};
@@ -13,6 +14,7 @@ ghost use Rattle.host_code.specs.Sound.{IsSoundCode};
 ghost use Rattle.host_code.specs.Thread.{ThreadShape};
 ghost use Rattle.host_core.specs.Host as host_state;
 ghost use Rattle.host_core.specs.Start.{main_frame};
+ghost use Rattle.host_core.specs.Taking.{Passes};
 ghost use Rattle.event_text.specs.declared.event.Event.{Event};
 ghost use Rattle.event_text.specs.declared.event.Event.TheVariants.{Take, Turn};
 ghost use Rattle.net_world.specs.Fits.{ShapeFits};
@@ -20,8 +22,9 @@ ghost use Rattle.net_world.specs.Flying.{Flight};
 ghost use Rattle.net_world.specs.Secret.{IsSecret, IsQuiet, IsSeenRun};
 ghost use Rattle.net_world.specs.World.{WorldShape, state_at, world_at_start, IsStep};
 ghost use Rattle.token_laws.specs.Reached.{IsReached};
+ghost use Rattle.token_laws.specs.Requests.{number_answered};
 ghost use Rattle.token_laws.specs.TokenExamples.{host_id, first_request, first_token, second_token};
-ghost use Rattle.seen_world.specs.Eyes.{Eyes, AreEyes, Watches, is_open, is_deep, is_hidden};
+ghost use Rattle.seen_world.specs.Eyes.{Eyes, AreEyes, Watches, sees_at, is_open, is_deep, is_hidden};
 ghost use Rattle.seen_world.specs.Points.{HostsKeep, PointsHold};
 ghost use Rattle.agreement.specs.Changes.{StaysSeen};
 ghost use Rattle.agreement.specs.Leads.{Link, links_on, hidden_waiting, Leads};
@@ -104,6 +107,13 @@ pub fn hidden_laws()
         AreEyes eyes → IsSoundCode eyes.code → Watches eyes world → ShapeFits eyes.code world →
         PointsHold eyes world → IsStep eyes.code world (Take from to place) after →
         IsSecret eyes.code world (Take from to place) → Leads eyes world shown → Leads eyes after shown }
+    // A secret answer in flight passes its check, and so the thread goes on that waits for it.
+    ensures answers { (eyes : Eyes) (world : WorldShape) (from to : HostId) (place : ℕ) (flight : Flight)
+        (state : host_state.HostShape) (shown : View) →
+        ShapeFits eyes.code world → PointsHold eyes world → slice_get (world.flying from to) place ≡ Some flight →
+        state_at world to ≡ Some state → sees_at eyes flight.label ≡ false →
+        IsSome (number_answered flight.message) → Leads eyes world shown →
+        Passes eyes.code state from flight.message }
     // Where nothing secret is in flight and no secret thread runs, what will be seen is seen now. Then no secret thread
     // waits either, and no entry is hidden.
     ensures quiet { (eyes : Eyes) (world : WorldShape) (shown : View) →

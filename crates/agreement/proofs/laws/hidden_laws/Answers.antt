@@ -1,3 +1,4 @@
+use Rattle.agreement.proofs.AnswersPass.{answer_passes}
 use Rattle.agreement.proofs.HiddenEvents.{event_leads, run_leads}
 use Rattle.agreement.proofs.HiddenTakes.{take_leads}
 use Rattle.agreement.proofs.HiddenTurns.{turn_leads}
@@ -12,5 +13,6 @@ returns c = record {
   along = run_leads;
   turn = turn_leads;
   take = take_leads;
+  answers = answer_passes;
   quiet = quiet_shows;
 }
