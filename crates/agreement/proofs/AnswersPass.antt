@@ -1,5 +1,5 @@
 -- A secret answer in flight passes its check.
-use Rattle.std.proofs.Common.{◌≡◌, ◌∙◌, ℕ, Bool, true, false, [], ◌∷◌, Option, Some, None, inl, inr, refl, ap, sym}
+use Rattle.std.proofs.Common.{◌≡◌, ◌∙◌, ℕ, false, [], Some, inl, inr, refl, ap, sym}
 use Rattle.std.proofs.Common.{subst}
 use Rattle.std.specs.Prelude.{not, IfSome, IsSome, slice_get}
 use Rattle.std.proofs.lemmas.Bool.{false≢true}
@@ -18,11 +18,11 @@ use Rattle.token_laws.specs.Requests.{number_answered}
 use Rattle.token_laws.proofs.HeldLaws.{all_at}
 use Rattle.seen_world.specs.Eyes.{Eyes, sees_at}
 use Rattle.seen_world.specs.Points.{AsksAt, WaitsWell, HostKeeps, IsAskedBy, IsInFlight, PointsHold}
-use Rattle.agreement.specs.Leads.{waits, flies, Hides, IsMailOf, FliesTo, HeldAt, Leads}
+use Rattle.agreement.specs.Leads.{waits, Hides, IsMailOf, FliesTo, HeldAt, Leads}
 use Rattle.agreement.specs.Views.{View, Spot, flies_open}
 use Rattle.agreement.proofs.AnswersTaken.{found_waiting}
 use Rattle.agreement.proofs.Ends.{own_waiting}
-use Rattle.agreement.proofs.HiddenTakes.{FliesUnseen, holder_flies, some_request, no_request}
+use Rattle.agreement.proofs.HiddenTakes.{holder_flies, some_request, no_request}
 
 -- the thread is found that waits for it
 waits_found : (eyes : Eyes) (state : HostShape) (host from : HostId) (waiting : WaitingShape) (flight : Flight)

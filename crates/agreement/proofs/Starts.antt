@@ -1,14 +1,13 @@
 -- Each world shows some view, and the world before the first event leads to one.
-use Rattle.std.proofs.Common.{◌≡◌, ◌≢◌, ◌∙◌, ℕ, zero, suc, ◌+◌, ℤ, Bool, true, false, List, [], ◌∷◌, ◌++◌, arith}
+use Rattle.std.proofs.Common.{◌≡◌, ◌≢◌, ◌∙◌, ℕ, zero, suc, ◌+◌, ℤ, Bool, true, false, List, [], ◌∷◌, arith}
 use Rattle.std.proofs.Common.{Option}
 use Rattle.std.proofs.Common.{Some, None, inl, inr, refl, ap, sym, subst}
-use Rattle.std.specs.Prelude.{◌==◌, if◌then◌else◌, not, pos, IfSome, IsSome, filter, slice_get, slice_index}
+use Rattle.std.specs.Prelude.{◌==◌, if◌then◌else◌, not, pos, IsSome, filter, slice_get, slice_index}
 use Rattle.std.specs.Int.{bit_at}
 use Rattle.std.proofs.lemmas.Bool.{cases_Bool, false≢true}
 use Rattle.std.proofs.lemmas.Bool.Decides.{eqb_tells}
 use Rattle.js_base.specs.declared.ids.HostId.{HostId}
 use Rattle.jif_tree.specs.Store.{row_of}
-use Rattle.capability.specs.declared.token.Token.{Token}
 use Rattle.ics_stack.specs.declared.stack.StackEntry.{StackEntry}
 use Rattle.host_decl.specs.Hosts as declared_hosts
 use Rattle.host_code.specs.declared.code.Entry.{Entry}
@@ -22,8 +21,8 @@ use Rattle.net_world.proofs.Present.{same_id}
 use Rattle.token_laws.proofs.Tests.{itself, different}
 use Rattle.seen_world.specs.Eyes.{Eyes, AreEyes, Watches, is_open, is_deep, is_hidden}
 use Rattle.seen_world.proofs.PointsAtStart.{present_obeys}
-use Rattle.agreement.specs.Leads.{Holder, nobody, runs, runs_on, waits_on, flies_on, IsPresent, hidden_running, Hides}
-use Rattle.agreement.specs.Leads.{IsOwedWell, Keeps, Leads}
+use Rattle.agreement.specs.Leads.{Holder, nobody, runs, runs_on, waits_on, hidden_running, Hides}
+use Rattle.agreement.specs.Leads.{IsOwedWell, Leads}
 use Rattle.agreement.specs.Views.{View, HostView, ShowsHost, Shows, nowhere, at, Owed, nothing, goes_on, gives, owed_at}
 use Rattle.agreement.specs.Views.{Completed, GivenBack, exit_of, running_view, waiting_view, flights_view, is_shown}
 use Rattle.agreement.specs.Views.{with_host, with_thread, host_popped}
