@@ -17,3 +17,4 @@ pub mod Quiet
 pub mod WorkedViews
 pub mod Starts
 pub mod AnswersPass
+pub mod ValueLaws

@@ -1,4 +1,5 @@
 pub mod Views
 pub mod Changes
 pub mod Leads
+pub mod Values
 pub mod Worked

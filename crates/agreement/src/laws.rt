@@ -4,6 +4,9 @@ ghost use Rattle.std.specs.Prelude.{◌≡◌, ℕ, ℤ, pos, true, false, List,
 ghost use Rattle.std.specs.Prelude.{slice_get};
 ghost use Rattle.js_base.specs.declared.ids.HostId.{HostId};
 ghost use Rattle.js_base.specs.declared.ids.FrameId.{FrameId};
+ghost use Rattle.js_base.specs.declared.ids.VarId.{VarId};
+ghost use Rattle.label_lattice.specs.declared.label.Label.{Label};
+ghost use Rattle.jif_tree.specs.Trees.{ExprTree};
 ghost use Rattle.capability.specs.declared.token.Token.{Token};
 ghost use Rattle.ics_stack.specs.declared.stack.StackEntry.{StackEntry};
 ghost use Rattle.host_decl.specs.Hosts as declared_hosts;
@@ -15,6 +18,8 @@ ghost use Rattle.host_code.specs.Thread.{ThreadShape};
 ghost use Rattle.host_core.specs.Host as host_state;
 ghost use Rattle.host_core.specs.Start.{main_frame};
 ghost use Rattle.host_core.specs.Taking.{Passes};
+ghost use Rattle.host_core.specs.Values.{value_of_nodes};
+ghost use Rattle.split_rules.specs.Expressions.{nodes_of};
 ghost use Rattle.event_text.specs.declared.event.Event.{Event};
 ghost use Rattle.event_text.specs.declared.event.Event.TheVariants.{Take, Turn};
 ghost use Rattle.net_world.specs.Fits.{ShapeFits};
@@ -28,6 +33,7 @@ ghost use Rattle.seen_world.specs.Eyes.{Eyes, AreEyes, Watches, sees_at, is_open
 ghost use Rattle.seen_world.specs.Points.{HostsKeep, PointsHold};
 ghost use Rattle.agreement.specs.Changes.{StaysSeen};
 ghost use Rattle.agreement.specs.Leads.{Link, links_on, hidden_waiting, Leads};
+ghost use Rattle.agreement.specs.Values.{IsSeen, HoldAlike};
 ghost use Rattle.agreement.specs.Views.{View, HostView, ShowsHost, Shows, running_view, Owed, goes_on, gives};
 ghost use Rattle.agreement.specs.Views.{Completed, at, owed_at};
 ghost use Rattle.agreement.specs.Views.{flies_open, flights_view, message_view, is_shown, exit_of};
@@ -74,6 +80,16 @@ pub fn view_laws()
         is_hidden eyes top.entry.0 ≡ true → entries ≡ links_on host links ++ filter (is_shown eyes) entries →
         top ∷ entries
         ≡ links_on host (record { host = host; entry = top } ∷ links) ++ filter (is_shown eyes) (top ∷ entries) }
+{}
+
+/// What two threads at the same place have in common.
+pub fn value_laws()
+    // A value that may be seen is the same in both, where they hold the same as far as it may be seen, and release the
+    // same.
+    ensures same { (eyes : Eyes) (pc : Label) (variables others : VarId → ℤ) (temps held : List ℤ) (first : ℕ)
+        (value : ExprTree) →
+        AreEyes eyes → HoldAlike eyes pc variables others temps held first value → IsSeen eyes pc value →
+        value_of_nodes variables temps (nodes_of first value) ≡ value_of_nodes others held (nodes_of first value) }
 {}
 
 /// What will be seen of a world, once what goes on unseen comes to an end, where a secret event happens.
