@@ -18,3 +18,4 @@ pub mod WorkedViews
 pub mod Starts
 pub mod AnswersPass
 pub mod ValueLaws
+pub mod Coming

@@ -2,4 +2,5 @@ pub mod Views
 pub mod Changes
 pub mod Leads
 pub mod Values
+pub mod Comes
 pub mod Worked

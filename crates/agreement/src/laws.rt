@@ -32,6 +32,7 @@ ghost use Rattle.token_laws.specs.TokenExamples.{host_id, first_request, first_t
 ghost use Rattle.seen_world.specs.Eyes.{Eyes, AreEyes, Watches, sees_at, is_open, is_deep, is_hidden};
 ghost use Rattle.seen_world.specs.Points.{HostsKeep, PointsHold};
 ghost use Rattle.agreement.specs.Changes.{StaysSeen};
+ghost use Rattle.agreement.specs.Comes.{Comes, HasCome};
 ghost use Rattle.agreement.specs.Leads.{Link, links_on, hidden_waiting, Leads};
 ghost use Rattle.agreement.specs.Values.{IsSeen, HoldAlike};
 ghost use Rattle.agreement.specs.Views.{View, HostView, ShowsHost, Shows, running_view, Owed, goes_on, gives};
@@ -90,6 +91,17 @@ pub fn value_laws()
         (value : ExprTree) →
         AreEyes eyes → HoldAlike eyes pc variables others temps held first value → IsSeen eyes pc value →
         value_of_nodes variables temps (nodes_of first value) ≡ value_of_nodes others held (nodes_of first value) }
+{}
+
+/// What will be seen of a world, where an event that may be seen brings a thread to its place.
+pub fn coming_laws()
+    // Where nothing else goes on unseen, the world leads to what is seen then: the thread at its place, or, where that
+    // may not be seen, what is seen once all is done that it owes. So what is seen does not depend on the place in a
+    // block that may not be seen.
+    ensures comes { (eyes : Eyes) (world : WorldShape) (me : HostId) (state : host_state.HostShape)
+        (thread : ThreadShape) (token : Token) (view after : View) →
+        AreEyes eyes → HasCome eyes world me state thread token view → Comes eyes view me thread token after →
+        Leads eyes world after }
 {}
 
 /// What will be seen of a world, once what goes on unseen comes to an end, where a secret event happens.
