@@ -18,11 +18,12 @@ use Rattle.token_laws.specs.Requests.{number_answered}
 use Rattle.token_laws.proofs.HeldLaws.{all_at}
 use Rattle.seen_world.specs.Eyes.{Eyes, sees_at}
 use Rattle.seen_world.specs.Points.{AsksAt, WaitsWell, HostKeeps, IsAskedBy, IsInFlight, PointsHold}
+use Rattle.seen_world.proofs.SeenPlaces.{some_is}
 use Rattle.agreement.specs.Leads.{waits, Hides, IsMailOf, FliesTo, HeldAt, Leads}
 use Rattle.agreement.specs.Views.{View, Spot, flies_open}
 use Rattle.agreement.proofs.AnswersTaken.{found_waiting}
 use Rattle.agreement.proofs.Ends.{own_waiting}
-use Rattle.agreement.proofs.HiddenTakes.{holder_flies, some_request, no_request}
+use Rattle.agreement.proofs.HiddenTakes.{holder_flies, no_request}
 
 -- the thread is found that waits for it
 waits_found : (eyes : Eyes) (state : HostShape) (host from : HostId) (waiting : WaitingShape) (flight : Flight)
@@ -38,7 +39,7 @@ waits_found eyes state host from waiting flight awaited request keeps hides asks
     let found = found_waiting eyes state from waiting awaited request
     (mine.waiting ∙ own_waiting me from me waiting flight)
     (λ n one there. all_at (WaitsWell eyes me) state.waiting n one keeps.waiting there) asks
-    (some_request request waiting.request number) asked in
+    (some_is number) asked in
     subst IsSome (sym found.is) refl
 
 waiting_passes : (eyes : Eyes) (state : HostShape) (host from : HostId) (waiting : WaitingShape) (flight : Flight)

@@ -27,13 +27,14 @@ use Rattle.split_shades.specs.Shades.{Ahead, Meets}
 use Rattle.token_laws.proofs.Tests.{itself}
 use Rattle.seen_world.specs.Eyes.{Eyes, AreEyes, is_open}
 use Rattle.seen_world.specs.Points.{IsAt, AsksFor, AsksAt, WaitsWell}
+use Rattle.seen_world.proofs.SeenPlaces.{some_is}
 use Rattle.seen_world.proofs.TakesKept.{same_place, awaits_at}
 use Rattle.seen_world.proofs.TurnsKept.{meets_next}
 use Rattle.agreement.specs.Leads.{runs, waits, Link, hidden_waiting, Owes}
 use Rattle.agreement.specs.Views.{View, at, Owed, running_view, waits_open}
 use Rattle.agreement.proofs.Ends.{Ends, nothing_seen, unseen_runs}
 use Rattle.agreement.proofs.Exits.{within_of}
-use Rattle.agreement.proofs.Lists.{left_removed, only_taken, only_there}
+use Rattle.agreement.proofs.Lists.{not_left, left_removed, only_taken, only_there}
 use Rattle.agreement.proofs.Places.{instruction_within, deep_of, deep_hidden, begun_same, deep_moved, begun_moved}
 use Rattle.agreement.proofs.Steps.{runs_apart, waits_apart}
 use Rattle.agreement.proofs.Takes.{Taken}
@@ -78,13 +79,10 @@ asks_one code (op.Branch guard target) one other on from first second = absurd f
 same_awaited : (eyes : Eyes) (host : HostId) (place : ℕ) (one other : Awaited) (on from : HostId) →
     AsksAt eyes host place one on → AsksAt eyes host place other from → one ≡ other
 same_awaited eyes host place one other on from first second =
-    let there : first.1.0 ≡ second.1.0 = some_same first.1.0 second.1.0 (sym first.1.1 ∙ second.1.1) in
+    let there : first.1.0 ≡ second.1.0 = some_is (sym first.1.1 ∙ second.1.1) in
     let same : second.0 ≡ first.0 = sym second.1.2 ∙ ap (λ (i : Instr). i.op) (sym there) ∙ first.1.2 in
     asks_one eyes.code first.0 one other on from first.2
     (subst (λ (it : Op). AsksFor eyes.code it other from) same second.2)
-  where
-    some_same : (a b : Instr) → Some a ≡ Some b → a ≡ b
-    some_same a b is = cc
 
 -- ---- behind an instruction that asks
 
@@ -155,10 +153,6 @@ pub record Found (eyes : Eyes) (state : HostShape) (waiting : WaitingShape) (awa
   pub well : WaitsWell eyes state.me waiting
   pub none : hidden_waiting eyes state.me (remove state.waiting place) ≡ []
 
-not_false : (b : Bool) → not b ≡ true → b ≡ false
-not_false true is = absurd (false≢true is)
-not_false false is = refl
-
 answer_awaited : (waiting : WaitingShape) (awaited : Awaited) (request : RequestId) (from : HostId) →
     waiting.awaited ≡ awaited → request ≡ waiting.request → from ≡ waiting.asked →
     awaits awaited request from waiting ≡ true
@@ -191,7 +185,7 @@ found_waiting eyes state from waiting awaited request only each asks number aske
     let unseen : WaitingShape → Bool = λ one. not (waits_open eyes state.me one) in
     let there = only_there unseen state.waiting waiting only in
     let hidden : is_open eyes state.me waiting.request.at ≡ false =
-    not_false (is_open eyes state.me waiting.request.at) there.2 in
+    not_left (is_open eyes state.me waiting.request.at) there.2 in
     let well = each there.0 waiting there.1 in
     let kind : waiting.awaited ≡ awaited =
     same_awaited eyes state.me waiting.request.at waiting.awaited awaited waiting.asked from well.2

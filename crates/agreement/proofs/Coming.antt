@@ -1,6 +1,7 @@
 -- Where a thread comes to its place, the world leads to what is seen then.
-use Rattle.std.proofs.Common.{◌≡◌, ◌≢◌, ◌∙◌, Bool, true, false, [], ◌∷◌, Option, Some, None, inl, inr, refl, ap, sym, subst}
-use Rattle.std.specs.Prelude.{◌==◌, if◌then◌else◌, not, IsSome, filter}
+use Rattle.std.proofs.Common.{◌≡◌, ◌≢◌, ◌∙◌, Bool, true, false, [], ◌∷◌, Some, None, inl, inr, refl, ap, sym}
+use Rattle.std.proofs.Common.{subst}
+use Rattle.std.specs.Prelude.{if◌then◌else◌, IsSome}
 use Rattle.std.proofs.lemmas.Bool.{cases_Bool, false≢true}
 use Rattle.std.proofs.lemmas.Bool.Decides.{eqb_tells}
 use Rattle.js_base.specs.declared.ids.HostId.{HostId}
@@ -13,7 +14,8 @@ use Rattle.seen_world.specs.Eyes.{Eyes, AreEyes, is_open, is_deep, is_hidden, se
 use Rattle.seen_world.proofs.SeenPlaces.{block_under}
 use Rattle.agreement.specs.Comes.{ComesTo, Comes, HasCome}
 use Rattle.agreement.specs.Leads.{Holder, nobody, runs, runs_on, waits_on, hidden_running, Hides, IsOwedWell, Leads}
-use Rattle.agreement.specs.Views.{View, HostView, ShowsHost, nowhere, at, Owed, nothing, goes_on, gives, owed_at, exit_of}
+use Rattle.agreement.specs.Views.{View, ShowsHost, nowhere, at, nothing, goes_on, gives, owed_at}
+use Rattle.agreement.specs.Views.{exit_of}
 use Rattle.agreement.specs.Views.{Completed, thread_view, with_host, host_with_thread, running_view}
 use Rattle.agreement.proofs.Branches.{own_view, other_view}
 use Rattle.agreement.proofs.Ends.{nothing_seen, unseen_runs}

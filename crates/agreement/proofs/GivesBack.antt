@@ -20,6 +20,7 @@ use Rattle.token_laws.proofs.HeldLaws.{all_at}
 use Rattle.token_laws.proofs.Tests.{itself, different, number_same}
 use Rattle.seen_world.specs.Eyes.{Eyes, AreEyes, is_open, is_deep, is_hidden}
 use Rattle.seen_world.specs.Points.{StandsWell}
+use Rattle.seen_world.proofs.SeenPlaces.{some_is}
 use Rattle.agreement.specs.Leads.{Holder, nobody, runs, runs_on, waits_on, Link, links_on, hidden_running}
 use Rattle.agreement.specs.Leads.{hidden_waiting, IsLink, Owes}
 use Rattle.agreement.specs.Leads.{IsOwedWell}
@@ -29,7 +30,7 @@ use Rattle.agreement.specs.Views.{thread_popped, host_popped, running_view}
 use Rattle.agreement.proofs.Branches.{shown_out, own_view, other_view}
 use Rattle.agreement.proofs.Ends.{Ends, unseen_runs, nothing_seen}
 use Rattle.agreement.proofs.Exits.{exit_open}
-use Rattle.agreement.proofs.Lists.{all_kept, left_first}
+use Rattle.agreement.proofs.Lists.{not_left, all_kept, left_first}
 use Rattle.agreement.proofs.Places.{stands_at}
 use Rattle.agreement.proofs.Steps.{runs_apart}
 
@@ -198,10 +199,6 @@ popped_on eyes host top found there shown is other =
     ∙ ap (λ (b : Bool). if b then shown
     else host_with_thread shown (thread_out (exit_of eyes host there.at) top.frame top.kept)) other
 
-not_shown : (b : Bool) → not b ≡ true → b ≡ false
-not_shown true is = absurd (false≢true is)
-not_shown false is = refl
-
 -- an entry that may be seen, of the stack whose token was given back
 record Popped (eyes : Eyes) (bare : HostShape) (now shown : View) (top : StackEntry) (below : List StackEntry) :
     Type 0 where
@@ -221,7 +218,7 @@ popped eyes bare holder token owed now shown top below given are is_top =
     (seen_whole eyes bare holder token owed now shown given) in
     record {
       stand = all_at (StandsWell eyes bare.me) bare.entries 0 top given.stands (ap (λ es. slice_get es 0) are);
-      hidden = not_shown (is_hidden eyes top.entry.0) all.0;
+      hidden = not_left (is_hidden eyes top.entry.0) all.0;
       kept = all.1;
       is = given_top eyes now shown token bare.me top below back (sym (ap top_token are) ∙ is_top) given.host;
       shows = shows_below eyes bare.me bare (now.hosts bare.me) below given.shows given.rests all.1;
@@ -380,7 +377,7 @@ top_of : (eyes : Eyes) (bare : HostShape) (holder : Holder) (link : Link) (links
 top_of eyes bare holder link links token owed now shown given =
     let me = bare.me in
     let it = given.owes.2.1 in
-    let token_is : token ≡ link.entry.token = some_same token link.entry.token given.owes.1 in
+    let token_is : token ≡ link.entry.token = some_is given.owes.1 in
     let host : link.host ≡ me = sym it.token ∙ ap (λ (t : Token). t.host) (sym token_is) ∙ given.host in
     let test : (me.0 == link.host.0) ≡ true = ap (λ (h : HostId). me.0 == h.0) host ∙ itself me.0 in
     let seen = filter (is_shown eyes) bare.entries in
@@ -401,9 +398,6 @@ top_of eyes bare holder link links token owed now shown given =
       owes = subst (λ (h : HostId). Owes eyes (at h given.owes.2.0.at link.entry.frame link.entry.kept) links owed) host
           given.owes.2.2;
     }
-  where
-    some_same : (one other : Token) → Some one ≡ Some other → one ≡ other
-    some_same one other is = cc
 
 no_halt : (eyes : Eyes) → AreEyes eyes → (entry : EntryId) → is_hidden eyes entry.0 ≡ true → (entry.0 == halt.0) ≡ false
 no_halt eyes are entry hidden = elim (cases_Bool (entry.0 == halt.0)) [

@@ -30,6 +30,7 @@ use Rattle.seen_world.specs.Points.{SetsHidden, EntersHidden, PointsHold}
 use Rattle.seen_world.proofs.Answered.{answer_carries}
 use Rattle.seen_world.proofs.PointsAtStart.{own_state}
 use Rattle.seen_world.proofs.PointsKept.{request_passes}
+use Rattle.seen_world.proofs.SeenPlaces.{some_is}
 use Rattle.seen_world.proofs.SecretSets.{flight_sets, flight_enters}
 use Rattle.seen_world.proofs.SecretTurns.{held_by}
 use Rattle.seen_world.proofs.SeenWorlds.{take_secret}
@@ -99,14 +100,8 @@ record Says (eyes : Eyes) (state : HostShape) (from : HostId) (label : ℕ) (sai
   enters : EntersHidden eyes said
   passes : IsRequest said → Passes eyes.code state from said
 
-pub some_request : (one other : RequestId) → Some one ≡ Some other → one ≡ other
-some_request one other is = cc
-
 pub no_request : {A : Type 0} (one : RequestId) → None ≡ Some one → A
 no_request one is = absurd (cc)
-
-some_token : (one other : Token) → Some one ≡ Some other → one ≡ other
-some_token one other is = cc
 
 -- a message passes its check
 passed : (eyes : Eyes) (state : HostShape) (holder : Holder) (links : List Link) (now shown : View) (label : ℕ)
@@ -144,7 +139,7 @@ answered eyes state host from waiting flight links before token owed now shown a
     let found = found_waiting eyes state from waiting awaited request
     (mine.hides.waiting ∙ own_waiting me from me waiting flight)
     (λ n one there. all_at (WaitsWell eyes me) state.waiting n one take.keeps.waiting there) asks
-    (some_request request waiting.request number) asked in
+    (some_is number) asked in
     let fit : WaitingFits eyes.code me waiting =
     all_at (WaitingFits eyes.code me) state.waiting found.place waiting fits.waiting found.there in
     let within : waiting.request.at + 1 < length (part_of eyes.code me) =
@@ -172,7 +167,7 @@ waits_ends eyes state host from waiting flight links token owed now shown (messa
     passed eyes state _ links now shown flight.label from (message.Get request field index) passes checks (says.passes
     tt)
     (get_ends eyes state host from waiting flight links token owed now shown request field index take (record {
-      request_is = some_request request waiting.request mail.0;
+      request_is = some_is mail.0;
       asker = mail.1;
       asked = mail.2;
     }) carries)
@@ -181,7 +176,7 @@ waits_ends eyes state host from waiting flight links token owed now shown (messa
     passed eyes state _ links now shown flight.label from (message.Set request field index value) passes checks
     (says.passes tt)
     (set_ends eyes state host from waiting flight links token owed now shown request field index value take (record {
-      request_is = some_request request waiting.request mail.0;
+      request_is = some_is mail.0;
       asker = mail.1;
       asked = mail.2;
     }) carries says.sets)
@@ -190,7 +185,7 @@ waits_ends eyes state host from waiting flight links token owed now shown (messa
     passed eyes state _ links now shown flight.label from (message.Forward request frame x value) passes checks
     (says.passes tt)
     (forward_ends eyes state host from waiting flight links token owed now shown request frame x value take (record {
-      request_is = some_request request waiting.request mail.0;
+      request_is = some_is mail.0;
       asker = mail.1;
       asked = mail.2;
     }) carries says.sets)
@@ -200,14 +195,14 @@ waits_ends eyes state host from waiting flight links token owed now shown (messa
     let asks = asking eyes from state.me request entry flight.label take.are says.asked says.labelled take.hidden in
     let deep = deep_entry eyes state.me entry take.are take.sound holds.0 (on_me eyes state.me from entry holds)
     says.enters in
-    let same : token ≡ kept = sym (some_token kept token carries) in
+    let same : token ≡ kept = sym (some_is carries) in
     subst (λ (t : Token). Ends eyes state.me (waits host waiting from state.me flight) links now shown flight.label
     (after_taking eyes.code state from (message.Sync request frame entry t) passes)) same
     (passed eyes state _ links now shown flight.label from (message.Sync request frame entry token) passes
     (subst (λ (t : Token). IsTrue passes ↔ Passes eyes.code state from (message.Sync request frame entry t)) (sym same)
     checks) holds
     (sync_ends eyes state host from waiting flight links token owed now shown request frame entry take (record {
-      request_is = some_request request waiting.request mail.0;
+      request_is = some_is mail.0;
       asker = mail.1;
       asked = mail.2;
     }) deep asks.hidden asks.deep))
@@ -225,7 +220,7 @@ waits_ends eyes state host from waiting flight links token owed now shown (messa
     carries (inr mail) says checks =
     answered eyes state host from waiting flight links token given owed now shown token_of_entry request
     (message.Token request given) passes (with_token (Some given)) take fits says.asked mail.0 mail.1 mail.2
-    (sym (some_token given token carries)) refl refl refl checks (λ some. some) refl
+    (sym (some_is carries)) refl refl refl checks (λ some. some) refl
 waits_ends eyes state host from waiting flight links token owed now shown (message.Get request field index) passes take
     fits carries (inr mail) says checks = no_request waiting.request mail.0
 waits_ends eyes state host from waiting flight links token owed now shown (message.Set request field index value) passes
@@ -263,7 +258,7 @@ flies_ends eyes state from flight links spot owed now shown (message.Rgoto frame
     let me = state.me in
     let holds = says.passes tt in
     let deep = deep_entry eyes me entry take.are take.sound holds.0 (on_me eyes me from entry holds) says.enters in
-    let same : goes.0 ≡ deep.there = some_entry goes.0 deep.there (sym goes.1 ∙ deep.is) in
+    let same : goes.0 ≡ deep.there = some_is (sym goes.1 ∙ deep.is) in
     let at_entry : Taken eyes state (flies from me flight) links (at me deep.there.at frame token) owed now shown from
     flight =
     subst (λ (there : Entry).
@@ -274,9 +269,6 @@ flies_ends eyes state from flight links spot owed now shown (message.Rgoto frame
       state = after_entering state found frame token;
       sent = None;
     })) (sym deep.is) (enters_unseen eyes state from flight links token owed now shown frame entry deep at_entry))
-  where
-    some_entry : (one other : Entry) → Some one ≡ Some other → one ≡ other
-    some_entry one other is = cc
 flies_ends eyes state from flight links spot owed now shown (message.Lgoto token) passes take goes says checks =
     lgoto_ends eyes state from flight links token owed now shown passes
     (subst (λ (s : Spot). Taken eyes state (flies from state.me flight) links s owed now shown from flight) goes.1 take)

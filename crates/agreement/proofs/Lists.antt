@@ -1,14 +1,18 @@
 -- Lists of which some elements are left out, and counts of which one changes.
 use Rattle.std.proofs.Common.{◌≡◌, ◌≢◌, ◌∙◌, ℕ, zero, suc, ◌≤◌, Bool, true, false, List, [], ◌∷◌, ◌++◌, length, arith}
-use Rattle.std.proofs.Common.{Some, inl, inr, ap, sym, get_or-set_other}
-use Rattle.std.specs.Prelude.{if◌then◌else◌, filter, remove, slice_get, slice_set, slice_index}
-use Rattle.std.proofs.lemmas.Bool.{cases_Bool}
+use Rattle.std.proofs.Common.{Some, inl, inr, refl, ap, sym, get_or-set_other}
+use Rattle.std.specs.Prelude.{if◌then◌else◌, filter, remove, slice_get, slice_set, slice_index, not}
+use Rattle.std.proofs.lemmas.Bool.{cases_Bool, false≢true}
 use Rattle.std.proofs.lemmas.List.{append-nil}
 use Rattle.std.proofs.lemmas.List.Elements.{filter-append}
 
 pub index_apart : (counts : List ℕ) (place other count : ℕ) → other ≢ place →
     slice_index (slice_set counts place count) other ≡ slice_index counts other
 index_apart counts place other count apart = get_or-set_other counts place other count 0 apart
+
+pub not_left : (b : Bool) → not b ≡ true → b ≡ false
+not_left true is = absurd (false≢true is)
+not_left false is = refl
 
 -- ---- one element
 

@@ -28,6 +28,7 @@ use Rattle.seen_world.proofs.SeenPlaces.{block_seen}
 use Rattle.agreement.specs.Leads.{Link, Owes}
 use Rattle.agreement.specs.Views.{Owed, at, goes_on, gives, owed_at, exit_of, sees_field, sees_variable}
 use Rattle.agreement.proofs.Exits.{exit_guard}
+use Rattle.agreement.proofs.Lists.{not_left}
 use Rattle.agreement.proofs.ViewLaws.{deep_owes}
 
 -- ---- places of code
@@ -66,11 +67,7 @@ deep_as eyes block host place same hidden = ap not (ap eyes.sees same ∙ hidden
 
 pub block_hidden : (eyes : Eyes) (host : HostId) (place : ℕ) → is_deep eyes host place ≡ true →
     eyes.sees (eyes.shades.at host place).block ≡ false
-block_hidden eyes host place deep = of (eyes.sees (eyes.shades.at host place).block) deep
-  where
-    of : (b : Bool) → not b ≡ true → b ≡ false
-    of true is = absurd (false≢true is)
-    of false is = refl
+block_hidden eyes host place deep = not_left (eyes.sees (eyes.shades.at host place).block) deep
 
 -- what a label that may not be seen flows to may not be seen
 pub flow_hidden : (eyes : Eyes) → AreEyes eyes → (lower upper : Label) → ConfFlows lower upper →

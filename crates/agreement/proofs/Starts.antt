@@ -29,7 +29,7 @@ use Rattle.agreement.specs.Views.{with_host, with_thread, host_popped}
 use Rattle.agreement.proofs.Ends.{unseen_runs}
 use Rattle.agreement.proofs.Lists.{kept_first}
 use Rattle.agreement.proofs.Steps.{runs_apart}
-use Rattle.agreement.proofs.Transfers.{some_is}
+use Rattle.agreement.proofs.Transfers.{there_with}
 
 -- ---- views
 
@@ -350,7 +350,7 @@ start_leads eyes rows bad store are sound watch = by (state_at (start_of eyes ro
     by None none = rootless_leads eyes rows bad store none
     by (Some state) there =
         let root = eyes.code.root in
-        let main = some_is (λ (it : Entry). it.host ≡ root) (entry_at eyes.code eyes.code.main) sound.main in
+        let main = there_with (λ (it : Entry). it.host ≡ root) (entry_at eyes.code eyes.code.main) sound.main in
         let began = started_as eyes.code store bad 0 rows root.0 root state (omega arith) there in
         let is = root_is eyes.code store began.0 root main.0 state refl main.1 began.1 in
         root_leads eyes rows bad store began.0 main.0 are (record {

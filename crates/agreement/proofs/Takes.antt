@@ -42,7 +42,7 @@ use Rattle.agreement.proofs.GivesBack.{given_ends}
 use Rattle.agreement.proofs.Lists.{left_first, index_apart}
 use Rattle.agreement.proofs.Places.{deep_of, deep_hidden, deep_as, stands_at, deep_moved, variable_stays, row_stays}
 use Rattle.agreement.proofs.Steps.{runs_apart}
-use Rattle.agreement.proofs.Transfers.{some_is}
+use Rattle.agreement.proofs.Transfers.{there_with}
 use Rattle.agreement.proofs.ViewLaws.{still_shows, entry_hidden}
 
 -- A host on which nothing runs takes a message of an obeying host, which goes on unseen.
@@ -218,7 +218,7 @@ pub deep_entry : (eyes : Eyes) (host : HostId) (entry : EntryId) → AreEyes eye
     entry ≢ halt → IsSomeAnd (entry_at eyes.code entry) (λ (it : Entry). it.host ≡ host) → IsDeepEntry eyes entry.0 →
     Deep eyes host entry
 deep_entry eyes host entry are sound apart on hidden =
-    let found = some_is (λ (it : Entry). it.host ≡ host) (entry_at eyes.code entry) on in
+    let found = there_with (λ (it : Entry). it.host ≡ host) (entry_at eyes.code entry) on in
     let there = found.0 in
     let meets : Meets (ahead_of hidden.0) (eyes.shades.at host there.at) =
     subst (λ (h : HostId). Meets (ahead_of hidden.0) (eyes.shades.at h there.at)) found.2

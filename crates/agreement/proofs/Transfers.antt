@@ -45,13 +45,13 @@ record Standing (code : CodeShape) (host : HostId) (entry : EntryId) : Type 0 wh
   host_is : there.host ≡ host
   apart : entry.0 ≢ 0
 
-pub some_is : {X : Type 0} (P : X → Type 0) (found : Option X) → IsSomeAnd found P → (x : X) × (found ≡ Some x) × P x
-some_is P None some = absurd some
-some_is P (Some x) some = (x, refl, some)
+pub there_with : {X : Type 0} (P : X → Type 0) (found : Option X) → IsSomeAnd found P → (x : X) × (found ≡ Some x) × P x
+there_with P None some = absurd some
+there_with P (Some x) some = (x, refl, some)
 
 standing : (code : CodeShape) (host : HostId) (entry : EntryId) → IsEntryOn code host entry → Standing code host entry
 standing code host entry on =
-    let found = some_is (λ (it : Entry). it.host ≡ host) (entry_at code entry) on.1 in
+    let found = there_with (λ (it : Entry). it.host ≡ host) (entry_at code entry) on.1 in
     record {
       there = found.0;
       is = found.1;

@@ -1,5 +1,5 @@
 -- A value that may be seen is the same in two threads that hold the same where it may be seen.
-use Rattle.std.proofs.Common.{◌≡◌, ◌∙◌, ℕ, ◌+◌, true, List, [], ◌∷◌, ◌++◌, refl, ap, sym, append_assoc, append-nil}
+use Rattle.std.proofs.Common.{◌≡◌, ◌∙◌, ℕ, ◌+◌, List, [], ◌∷◌, ◌++◌, refl, ap, sym, append_assoc, append-nil}
 use Rattle.std.specs.Prelude.{ℤ}
 use Rattle.js_base.specs.declared.ids.VarId.{VarId}
 use Rattle.label_lattice.specs.declared.label.Label.{Label}

@@ -13,7 +13,8 @@ use Rattle.seen_world.specs.Eyes.{Eyes}
 abbrev pub IsSeen : Eyes → Label → ExprTree → Type 0
 IsSeen eyes pc value = eyes.sees (value_label eyes.scene.basis pc value) ≡ true
 
--- The variables and the temporaries of two threads are the same where a value uses them and they may be seen, and so are
+-- The variables and the temporaries of two threads are the same where a value uses them and they may be seen, and so
+-- are
 -- the operands that it releases. Its first read left the temporary of this number.
 abbrev pub HoldAlike : Eyes → Label → (VarId → ℤ) → (VarId → ℤ) → List ℤ → List ℤ → ℕ → ExprTree → Type 0
 HoldAlike eyes pc variables others temps held first (number value) = ⊤
