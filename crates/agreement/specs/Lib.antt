@@ -3,4 +3,5 @@ pub mod Changes
 pub mod Leads
 pub mod Values
 pub mod Comes
+pub mod Alike
 pub mod Worked

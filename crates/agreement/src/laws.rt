@@ -32,8 +32,9 @@ ghost use Rattle.token_laws.specs.TokenExamples.{host_id, first_request, first_t
 ghost use Rattle.seen_world.specs.Eyes.{Eyes, AreEyes, Watches, sees_at, is_open, is_deep, is_hidden};
 ghost use Rattle.seen_world.specs.Points.{HostsKeep, PointsHold};
 ghost use Rattle.agreement.specs.Changes.{StaysSeen};
+ghost use Rattle.agreement.specs.Alike.{AreStartsAlike};
 ghost use Rattle.agreement.specs.Comes.{Comes, HasCome};
-ghost use Rattle.agreement.specs.Leads.{Link, links_on, hidden_waiting, Leads};
+ghost use Rattle.agreement.specs.Leads.{Link, links_on, hidden_waiting, Leads, Agree};
 ghost use Rattle.agreement.specs.Values.{IsSeen, HoldAlike};
 ghost use Rattle.agreement.specs.Views.{View, HostView, ShowsHost, Shows, running_view, Owed, goes_on, gives};
 ghost use Rattle.agreement.specs.Views.{Completed, at, owed_at};
@@ -110,6 +111,11 @@ pub fn hidden_laws()
     ensures start { (eyes : Eyes) (rows : List declared_hosts.HostShape) (bad : ℕ) (store : List (List ℤ)) →
         AreEyes eyes → IsSoundCode eyes.code → Watches eyes (world_at_start eyes.code rows bad store) →
         (shown : View) × Leads eyes (world_at_start eyes.code rows bad store) shown }
+    // Two worlds before the first event agree that have the same values in all fields of obeying hosts that may be seen.
+    ensures starts { (eyes : Eyes) (rows : List declared_hosts.HostShape) (bad : ℕ) (one other : List (List ℤ)) →
+        AreEyes eyes → IsSoundCode eyes.code → Watches eyes (world_at_start eyes.code rows bad one) →
+        Watches eyes (world_at_start eyes.code rows bad other) → AreStartsAlike eyes one other →
+        Agree eyes (world_at_start eyes.code rows bad one) (world_at_start eyes.code rows bad other) }
     // After a secret event of a world that events lead to the same will be seen: it goes on unseen with the same
     // owed, or
     // what was owed is seen now, or an entry that may be seen is taken off and its thread goes on at the guard of a

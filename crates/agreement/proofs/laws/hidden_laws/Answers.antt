@@ -3,12 +3,13 @@ use Rattle.agreement.proofs.HiddenEvents.{event_leads, run_leads}
 use Rattle.agreement.proofs.HiddenTakes.{take_leads}
 use Rattle.agreement.proofs.HiddenTurns.{turn_leads}
 use Rattle.agreement.proofs.Quiet.{quiet_shows}
-use Rattle.agreement.proofs.Starts.{start_leads}
+use Rattle.agreement.proofs.Starts.{start_leads, starts_agree}
 use Rattle.agreement.proofs.laws.hidden_laws.Goals as goal
 
 pub returns : goal.returns
 returns c = record {
   start = start_leads;
+  starts = starts_agree;
   kept = event_leads;
   along = run_leads;
   turn = turn_leads;
