@@ -11,7 +11,7 @@ use Rattle.token_laws.specs.Reached.{IsReached}
 use Rattle.token_laws.proofs.Walks.{fits_there, one_more}
 use Rattle.seen_world.specs.Eyes.{Eyes, AreEyes, Watches}
 use Rattle.seen_world.proofs.PointsKept.{points_kept}
-use Rattle.agreement.specs.Leads.{Leads}
+use Rattle.agreement.specs.Leads.{Leads, Agree}
 use Rattle.agreement.specs.Views.{View}
 use Rattle.agreement.proofs.HiddenTakes.{take_leads}
 use Rattle.agreement.proofs.HiddenTurns.{turn_leads}
@@ -57,3 +57,14 @@ run_leads eyes rows bad store events world (event ∷ later) after shown are wat
     (event_leads eyes rows bad store events world next event shown are watch reach step secret.0 leads)
 run_leads eyes rows bad store events world (event ∷ later) after shown are watch reach (next, step, inr seen) leads =
     no_event event seen.1.0 seen.1.1
+
+-- so a world goes on agreeing with another
+pub run_agrees : (eyes : Eyes) (rows : List declared_hosts.HostShape) (bad : ℕ) (store : List (List ℤ))
+    (events : List Event) (world : WorldShape) (later : List Event) (after other : WorldShape) → AreEyes eyes →
+    Watches eyes (world_at_start eyes.code rows bad store) → IsReached eyes.code rows bad store events world →
+    IsSeenRun eyes.code world later [] after → Agree eyes world other → Agree eyes after other
+run_agrees eyes rows bad store events world later after other are watch reach ran agree = record {
+  shown = agree.shown;
+  first = run_leads eyes rows bad store events world later after agree.shown are watch reach ran agree.first;
+  second = agree.second;
+}

@@ -3,7 +3,7 @@ use Rattle.std.proofs.Common.{◌≡◌, ◌≢◌, ◌∙◌, ℕ, zero, suc, �
 use Rattle.std.proofs.Common.{Option, Some, None, inl, inr, refl, ap, sym, subst}
 use Rattle.std.specs.Prelude.{◌==◌, ◌⊎◌, if◌then◌else◌, not, pos, IsSome, filter, slice_get, slice_index}
 use Rattle.std.specs.Int.{bit_at}
-use Rattle.std.proofs.lemmas.Bool.{cases_Bool, false≢true}
+use Rattle.std.proofs.lemmas.Bool.{false≢true}
 use Rattle.std.proofs.lemmas.Bool.Decides.{eqb_tells}
 use Rattle.js_base.specs.declared.ids.HostId.{HostId}
 use Rattle.js_base.specs.declared.ids.FieldId.{FieldId}
@@ -319,7 +319,8 @@ root_leads eyes rows bad store key entry now false true are root shows hidden is
 root_leads eyes rows bad store key entry now false false are root shows hidden is_it =
     let me = eyes.code.root in
     let top = top_of eyes.code store key me in
-    hidden_leads eyes rows bad store key entry (goes_on me (exit_of eyes me entry.at) main_frame top.token) now _ are root
+    hidden_leads eyes rows bad store key entry (goes_on me (exit_of eyes me entry.at) main_frame top.token) now _ are
+    root
     shows hidden
     (ap (λ (b : Bool). if b then gives top.token else goes_on me (exit_of eyes me entry.at) main_frame top.token) is_it)
     (λ is. false≢true (sym (halt_shown eyes are) ∙ is.1)) refl
@@ -388,7 +389,8 @@ started_leads : (eyes : Eyes) (rows : List declared_hosts.HostShape) (bad : ℕ)
     Leads eyes (start_of eyes rows bad store) (started_view eyes store key entry now)
 started_leads eyes rows bad store key entry now are watch main shows there =
     root_leads eyes rows bad store key entry now (is_open eyes eyes.code.root entry.at)
-    (is_deep eyes eyes.code.root entry.at) are (made_root eyes rows bad store key entry watch main there) shows refl refl
+    (is_deep eyes eyes.code.root entry.at) are (made_root eyes rows bad store key entry watch main there) shows refl
+    refl
 
 pub start_leads : (eyes : Eyes) (rows : List declared_hosts.HostShape) (bad : ℕ) (store : List (List ℤ)) →
     AreEyes eyes → IsSoundCode eyes.code → Watches eyes (world_at_start eyes.code rows bad store) →
@@ -398,11 +400,15 @@ start_leads eyes rows bad store are sound watch =
     let root = eyes.code.root in
     let main = main_there eyes sound in
     elim (paired_at eyes.code store store bad 0 rows root.0 root (omega arith)) [
-      | inl none ↦ (view_of eyes world,
-          rootless_leads eyes rows bad store (view_of eyes world) (shows_of eyes world) none.0)
-      | inr some ↦ (started_view eyes store some.0 main.0 (view_of eyes world),
-          started_leads eyes rows bad store some.0 main.0 (view_of eyes world) are watch main.1 (shows_of eyes world)
-          some.1)
+      | inl none ↦ (
+        view_of eyes world,
+        rootless_leads eyes rows bad store (view_of eyes world) (shows_of eyes world) none.0,
+      )
+      | inr some ↦ (
+        started_view eyes store some.0 main.0 (view_of eyes world),
+        started_leads eyes rows bad store some.0 main.0 (view_of eyes world) are watch main.1 (shows_of eyes world)
+            some.1,
+      )
     ]
 
 -- ---- rows
@@ -498,7 +504,7 @@ shows_other eyes rows bad one other watch alike = record {
     | inr some ↦
         let is : host_at_start eyes.code other some.0 host ≡ state = some_is (sym some.2 ∙ there) in
         let obeys : eyes.bad host ≡ false = sym (watch host)
-            ∙ present_obeys (slice_get (hosts_before eyes.code other bad 0 rows) host.0) state there in
+        ∙ present_obeys (slice_get (hosts_before eyes.code other bad 0 rows) host.0) state there in
         subst (λ (s : HostShape). ShowsHost eyes host s
         (host_view_of eyes host (state_at (start_of eyes rows bad one) host))) is
         (subst (λ found. ShowsHost eyes host (host_at_start eyes.code other some.0 host)

@@ -111,7 +111,8 @@ pub fn hidden_laws()
     ensures start { (eyes : Eyes) (rows : List declared_hosts.HostShape) (bad : ℕ) (store : List (List ℤ)) →
         AreEyes eyes → IsSoundCode eyes.code → Watches eyes (world_at_start eyes.code rows bad store) →
         (shown : View) × Leads eyes (world_at_start eyes.code rows bad store) shown }
-    // Two worlds before the first event agree that have the same values in all fields of obeying hosts that may be seen.
+    // Two worlds before the first event agree that have the same values in all fields of obeying hosts that may be
+    // seen.
     ensures starts { (eyes : Eyes) (rows : List declared_hosts.HostShape) (bad : ℕ) (one other : List (List ℤ)) →
         AreEyes eyes → IsSoundCode eyes.code → Watches eyes (world_at_start eyes.code rows bad one) →
         Watches eyes (world_at_start eyes.code rows bad other) → AreStartsAlike eyes one other →
@@ -131,6 +132,12 @@ pub fn hidden_laws()
         AreEyes eyes → Watches eyes (world_at_start eyes.code rows bad store) →
         IsReached eyes.code rows bad store events world → IsSeenRun eyes.code world later [] after →
         Leads eyes world shown → Leads eyes after shown }
+    // So a world goes on agreeing with another, whatever happens in it that may not be seen.
+    ensures agrees { (eyes : Eyes) (rows : List declared_hosts.HostShape) (bad : ℕ) (store : List (List ℤ))
+        (events : List Event) (world : WorldShape) (later : List Event) (after other : WorldShape) →
+        AreEyes eyes → Watches eyes (world_at_start eyes.code rows bad store) →
+        IsReached eyes.code rows bad store events world → IsSeenRun eyes.code world later [] after →
+        Agree eyes world other → Agree eyes after other }
     // So it is after a secret turn, whatever instruction it runs.
     ensures turn { (eyes : Eyes) (world after : WorldShape) (host : HostId) (shown : View) →
         AreEyes eyes → IsSoundCode eyes.code → Watches eyes world → ShapeFits eyes.code world →

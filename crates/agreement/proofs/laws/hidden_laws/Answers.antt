@@ -1,5 +1,5 @@
 use Rattle.agreement.proofs.AnswersPass.{answer_passes}
-use Rattle.agreement.proofs.HiddenEvents.{event_leads, run_leads}
+use Rattle.agreement.proofs.HiddenEvents.{event_leads, run_leads, run_agrees}
 use Rattle.agreement.proofs.HiddenTakes.{take_leads}
 use Rattle.agreement.proofs.HiddenTurns.{turn_leads}
 use Rattle.agreement.proofs.Quiet.{quiet_shows}
@@ -12,6 +12,7 @@ returns c = record {
   starts = starts_agree;
   kept = event_leads;
   along = run_leads;
+  agrees = run_agrees;
   turn = turn_leads;
   take = take_leads;
   answers = answer_passes;
