@@ -60,8 +60,7 @@ pub fn view_laws()
         AreEyes eyes → instruction_at eyes.code host place ≡ Some there → is_open eyes host place ≡ false →
         (eyes.shades.at host place).guard ≡ Some loop →
         exit_of eyes host place ≡ exit_of eyes host (eyes.shades.exits host loop) }
-    // A message that carries a label which may not be seen leaves what is seen of a queue, where it is added at the
-    // end.
+    // A message whose label may not be seen leaves what is seen of a queue, where it is added at the end.
     ensures added { (eyes : Eyes) (from to : HostId) (flights : List Flight) (flight : Flight) →
         flies_open eyes flight ≡ false →
         flights_view eyes from to (flights ++ flight ∷ []) ≡ flights_view eyes from to flights }
@@ -111,15 +110,14 @@ pub fn hidden_laws()
     ensures start { (eyes : Eyes) (rows : List declared_hosts.HostShape) (bad : ℕ) (store : List (List ℤ)) →
         AreEyes eyes → IsSoundCode eyes.code → Watches eyes (world_at_start eyes.code rows bad store) →
         (shown : View) × Leads eyes (world_at_start eyes.code rows bad store) shown }
-    // Two worlds before the first event agree that have the same values in all fields of obeying hosts that may be
-    // seen.
+    // Two worlds before the first event agree that have the same values in all fields which may be seen and stand on
+    // obeying hosts.
     ensures starts { (eyes : Eyes) (rows : List declared_hosts.HostShape) (bad : ℕ) (one other : List (List ℤ)) →
         AreEyes eyes → IsSoundCode eyes.code → Watches eyes (world_at_start eyes.code rows bad one) →
         Watches eyes (world_at_start eyes.code rows bad other) → AreStartsAlike eyes one other →
         Agree eyes (world_at_start eyes.code rows bad one) (world_at_start eyes.code rows bad other) }
-    // After a secret event of a world that events lead to the same will be seen: it goes on unseen with the same
-    // owed, or
-    // what was owed is seen now, or an entry that may be seen is taken off and its thread goes on at the guard of a
+    // After a secret event of a world that events lead to the same will be seen. It goes on unseen with the same owed,
+    // or what was owed is seen now, or an entry that may be seen is taken off and its thread goes on at the guard of a
     // loop, which is owed then.
     ensures kept { (eyes : Eyes) (rows : List declared_hosts.HostShape) (bad : ℕ) (store : List (List ℤ))
         (events : List Event) (world after : WorldShape) (event : Event) (shown : View) →
@@ -178,7 +176,6 @@ pub fn worked_laws()
     // Another token has no effect.
     ensures other { Completed small_eyes (gives second_token) one_entry one_entry }
     // Of a message that sets what may not be seen the value is not seen.
-    ensures masked_value { message_view small_eyes (host_id 0) (host_id 1) (message.Forward first_request main_frame
-        a_variable (pos 7))
+    ensures masked_value { message_view small_eyes (host_id 0) (host_id 1) (message.Forward first_request main_frame a_variable (pos 7))
         ≡ message.Forward first_request main_frame a_variable (pos 0) }
 {}
