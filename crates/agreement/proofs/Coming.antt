@@ -14,12 +14,13 @@ use Rattle.seen_world.specs.Eyes.{Eyes, AreEyes, is_open, is_deep, is_hidden, se
 use Rattle.seen_world.proofs.SeenPlaces.{block_under}
 use Rattle.agreement.specs.Comes.{ComesTo, Comes, HasCome}
 use Rattle.agreement.specs.Leads.{Holder, nobody, runs, runs_on, waits_on, hidden_running, Hides, IsOwedWell, Leads}
-use Rattle.agreement.specs.Views.{View, ShowsHost, nowhere, at, nothing, goes_on, gives, owed_at}
+use Rattle.agreement.specs.Views.{Owed, View, ShowsHost, nowhere, at, nothing, goes_on, gives, owed_at}
 use Rattle.agreement.specs.Views.{exit_of}
 use Rattle.agreement.specs.Views.{Completed, thread_view, with_host, host_with_thread, running_view}
 use Rattle.agreement.proofs.Branches.{own_view, other_view}
 use Rattle.agreement.proofs.Ends.{nothing_seen, unseen_runs}
 use Rattle.agreement.proofs.Steps.{runs_apart}
+use Rattle.agreement.proofs.ViewLaws.{completed_once, deep_owes}
 
 -- a fact for the host of the thread, and one for the others
 either_host : (P : HostId → HostShape → Type 0) (world : WorldShape) (me : HostId) (state : HostShape) →
@@ -174,3 +175,30 @@ comes_leads eyes world me state thread token view after are come comes = by (is_
         Leads eyes world after
     by true seen is = open_comes eyes world me state thread token view after come seen is
     by false hidden is = hidden_comes eyes world me state thread token view after are come hidden is
+
+-- ---- what is seen then
+
+pub comes_once : (eyes : Eyes) (view : View) (host : HostId) (thread : ThreadShape) (token : Token)
+    (first second : View) → Comes eyes view host thread token first → Comes eyes view host thread token second →
+    first ≡ second
+comes_once eyes view host thread token first second one two = by (is_open eyes host thread.at) one two
+  where
+    by : (seen : Bool) → ComesTo eyes view host thread token seen first →
+        ComesTo eyes view host thread token seen second → first ≡ second
+    by true comes also = comes ∙ sym also
+    by false comes also =
+        completed_once eyes (owed_at eyes (at host thread.at thread.frame token)) view first second comes also
+
+-- in blocks that may not be seen what is seen then does not depend on the place
+pub deep_comes : (eyes : Eyes) (view : View) (host other : HostId) (thread later : ThreadShape) (token : Token)
+    (first second : View) → is_open eyes host thread.at ≡ false → is_open eyes other later.at ≡ false →
+    is_deep eyes host thread.at ≡ true → is_deep eyes other later.at ≡ true →
+    Comes eyes view host thread token first → Comes eyes view other later token second → first ≡ second
+deep_comes eyes view host other thread later token first second hidden hidden_later deep deep_later one two =
+    let comes : ComesTo eyes view host thread token false first =
+    subst (λ (b : Bool). ComesTo eyes view host thread token b first) hidden one in
+    let also : ComesTo eyes view other later token false second =
+    subst (λ (b : Bool). ComesTo eyes view other later token b second) hidden_later two in
+    completed_once eyes (owed_at eyes (at other later.at later.frame token)) view first second
+    (subst (λ (o : Owed). Completed eyes o view first)
+    (deep_owes eyes host other thread.at later.at thread.frame later.frame token deep deep_later) comes) also

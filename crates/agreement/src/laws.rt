@@ -96,12 +96,21 @@ pub fn value_laws()
 /// What will be seen of a world, where an event that may be seen brings a thread to its place.
 pub fn coming_laws()
     // Where nothing else goes on unseen, the world leads to what is seen then: the thread at its place, or, where that
-    // may not be seen, what is seen once all is done that it owes. So what is seen does not depend on the place in a
-    // block that may not be seen.
+    // may not be seen, what is seen once all is done that it owes.
     ensures comes { (eyes : Eyes) (world : WorldShape) (me : HostId) (state : host_state.HostShape)
         (thread : ThreadShape) (token : Token) (view after : View) →
         AreEyes eyes → HasCome eyes world me state thread token view → Comes eyes view me thread token after →
         Leads eyes world after }
+    // That is one view.
+    ensures once { (eyes : Eyes) (view : View) (host : HostId) (thread : ThreadShape) (token : Token)
+        (first second : View) →
+        Comes eyes view host thread token first → Comes eyes view host thread token second → first ≡ second }
+    // In blocks that may not be seen it does not depend on the place, as behind a branch whose guard may not be seen.
+    ensures deep { (eyes : Eyes) (view : View) (host other : HostId) (thread later : ThreadShape) (token : Token)
+        (first second : View) →
+        is_open eyes host thread.at ≡ false → is_open eyes other later.at ≡ false →
+        is_deep eyes host thread.at ≡ true → is_deep eyes other later.at ≡ true →
+        Comes eyes view host thread token first → Comes eyes view other later token second → first ≡ second }
 {}
 
 /// What will be seen of a world, once what goes on unseen comes to an end, where a secret event happens.
@@ -176,6 +185,7 @@ pub fn worked_laws()
     // Another token has no effect.
     ensures other { Completed small_eyes (gives second_token) one_entry one_entry }
     // Of a message that sets what may not be seen the value is not seen.
-    ensures masked_value { message_view small_eyes (host_id 0) (host_id 1) (message.Forward first_request main_frame a_variable (pos 7))
+    ensures masked_value { message_view small_eyes (host_id 0) (host_id 1) (message.Forward first_request main_frame
+        a_variable (pos 7))
         ≡ message.Forward first_request main_frame a_variable (pos 0) }
 {}
