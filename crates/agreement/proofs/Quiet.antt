@@ -108,3 +108,34 @@ quiet_shows eyes world shown are watch fits quiet leads =
           (subst (λ h. Hides eyes h keeps.links host state) holder (keeps.hides host state there)) in
           (hides.waiting, hides.entries),
     )
+
+-- and the other way
+pub calm_leads : (eyes : Eyes) (world : WorldShape) (shown : View) → AreEyes eyes → Watches eyes world →
+    ShapeFits eyes.code world → IsQuiet eyes.code world → Shows eyes world shown →
+    ((host : HostId) (state : HostShape) → state_at world host ≡ Some state →
+    (hidden_waiting eyes host state.waiting ≡ []) × (state.entries ≡ filter (is_shown eyes) state.entries)) →
+    Leads eyes world shown
+calm_leads eyes world shown are watch fits quiet shows calm = record {
+  owed = nothing;
+  keeps = record {
+    holder = nobody;
+    links = [];
+    present = tt;
+    hides = λ host state there. record {
+      running = runs_seen eyes world host state are watch
+          (subst (λ one. IfSome one (IsStateOf eyes.code host)) there (fits.states host))
+          (quiet.running host state there) state.running refl;
+      waiting = (calm host state there).0;
+      entries = (calm host state there).1;
+    };
+    flying = λ i j. none_left (λ one. not (flies_open eyes one)) (world.flying i j) (λ k d lt.
+        ap not ((label_read eyes world _ are watch).1 (quiet.flying i j k d lt)));
+    spot = nowhere;
+    held = refl;
+    owes = refl;
+    well = tt;
+  };
+  now = shown;
+  shows = shows;
+  completed = refl;
+}

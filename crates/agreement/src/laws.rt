@@ -169,6 +169,13 @@ pub fn hidden_laws()
         Leads eyes world shown →
         Shows eyes world shown × ((host : HostId) (state : host_state.HostShape) → state_at world host ≡ Some state →
         (hidden_waiting eyes host state.waiting ≡ []) × (state.entries ≡ filter (is_shown eyes) state.entries)) }
+    // Such a world leads to what it shows.
+    ensures calm { (eyes : Eyes) (world : WorldShape) (shown : View) →
+        AreEyes eyes → Watches eyes world → ShapeFits eyes.code world → IsQuiet eyes.code world →
+        Shows eyes world shown →
+        ((host : HostId) (state : host_state.HostShape) → state_at world host ≡ Some state →
+        (hidden_waiting eyes host state.waiting ≡ []) × (state.entries ≡ filter (is_shown eyes) state.entries)) →
+        Leads eyes world shown }
 {}
 
 /// What is owed and seen in small cases, which deny other definitions.

@@ -2,7 +2,7 @@ use Rattle.agreement.proofs.AnswersPass.{answer_passes}
 use Rattle.agreement.proofs.HiddenEvents.{event_leads, run_leads, run_agrees}
 use Rattle.agreement.proofs.HiddenTakes.{take_leads}
 use Rattle.agreement.proofs.HiddenTurns.{turn_leads}
-use Rattle.agreement.proofs.Quiet.{quiet_shows}
+use Rattle.agreement.proofs.Quiet.{quiet_shows, calm_leads}
 use Rattle.agreement.proofs.Starts.{start_leads, starts_agree}
 use Rattle.agreement.proofs.laws.hidden_laws.Goals as goal
 
@@ -17,4 +17,5 @@ returns c = record {
   take = take_leads;
   answers = answer_passes;
   quiet = quiet_shows;
+  calm = calm_leads;
 }
