@@ -1,0 +1,7 @@
+pub mod Views
+pub mod Changes
+pub mod Leads
+pub mod Values
+pub mod Comes
+pub mod Alike
+pub mod Worked

@@ -1,0 +1,198 @@
+//! Laws of worlds of which the same may be seen. The calls do nothing: their contracts are the laws.
+
+ghost use Rattle.std.specs.Prelude.{◌≡◌, ℕ, ℤ, pos, true, false, List, [], ◌∷◌, ◌++◌, Some, IsSome, filter, remove};
+ghost use Rattle.std.specs.Prelude.{slice_get};
+ghost use Rattle.js_base.specs.declared.ids.HostId.{HostId};
+ghost use Rattle.js_base.specs.declared.ids.FrameId.{FrameId};
+ghost use Rattle.js_base.specs.declared.ids.VarId.{VarId};
+ghost use Rattle.label_lattice.specs.declared.label.Label.{Label};
+ghost use Rattle.jif_tree.specs.Trees.{ExprTree};
+ghost use Rattle.capability.specs.declared.token.Token.{Token};
+ghost use Rattle.ics_stack.specs.declared.stack.StackEntry.{StackEntry};
+ghost use Rattle.host_decl.specs.Hosts as declared_hosts;
+ghost use Rattle.host_code.specs.declared.instruction.Instr.{Instr};
+ghost use Rattle.host_code.specs.declared.message.Message.TheVariants as message;
+ghost use Rattle.host_code.specs.Code.{instruction_at};
+ghost use Rattle.host_code.specs.Sound.{IsSoundCode};
+ghost use Rattle.host_code.specs.Thread.{ThreadShape};
+ghost use Rattle.host_core.specs.Host as host_state;
+ghost use Rattle.host_core.specs.Start.{main_frame};
+ghost use Rattle.host_core.specs.Taking.{Passes};
+ghost use Rattle.host_core.specs.Values.{value_of_nodes};
+ghost use Rattle.split_rules.specs.Expressions.{nodes_of};
+ghost use Rattle.event_text.specs.declared.event.Event.{Event};
+ghost use Rattle.event_text.specs.declared.event.Event.TheVariants.{Take, Turn};
+ghost use Rattle.net_world.specs.Fits.{ShapeFits};
+ghost use Rattle.net_world.specs.Flying.{Flight};
+ghost use Rattle.net_world.specs.Secret.{IsSecret, IsQuiet, IsSeenRun};
+ghost use Rattle.net_world.specs.World.{WorldShape, state_at, world_at_start, IsStep};
+ghost use Rattle.token_laws.specs.Reached.{IsReached};
+ghost use Rattle.token_laws.specs.Requests.{number_answered};
+ghost use Rattle.token_laws.specs.TokenExamples.{host_id, first_request, first_token, second_token};
+ghost use Rattle.seen_world.specs.Eyes.{Eyes, AreEyes, Watches, sees_at, is_open, is_deep, is_hidden};
+ghost use Rattle.seen_world.specs.Points.{HostsKeep, PointsHold};
+ghost use Rattle.agreement.specs.Changes.{StaysSeen};
+ghost use Rattle.agreement.specs.Alike.{AreStartsAlike};
+ghost use Rattle.agreement.specs.Comes.{Comes, HasCome};
+ghost use Rattle.agreement.specs.Leads.{Link, links_on, hidden_waiting, Leads, Agree};
+ghost use Rattle.agreement.specs.Values.{IsSeen, HoldAlike};
+ghost use Rattle.agreement.specs.Views.{View, HostView, ShowsHost, Shows, running_view, Owed, goes_on, gives};
+ghost use Rattle.agreement.specs.Views.{Completed, at, owed_at};
+ghost use Rattle.agreement.specs.Views.{flies_open, flights_view, message_view, is_shown, exit_of};
+ghost use Rattle.agreement.specs.Worked.{small_eyes, one_entry, popped_at, a_variable};
+
+/// What may be seen of a world, where something goes on unseen.
+pub fn view_laws()
+    // What is seen once all is done that is owed is one view.
+    ensures once { (eyes : Eyes) (owed : Owed) (view first second : View) →
+        Completed eyes owed view first → Completed eyes owed view second → first ≡ second }
+    // Whatever goes on with one token in blocks that may not be seen owes the same, wherever it is.
+    ensures deep { (eyes : Eyes) (host other : HostId) (place next : ℕ) (frame later : FrameId) (token : Token) →
+        is_deep eyes host place ≡ true → is_deep eyes other next ≡ true →
+        owed_at eyes (at host place frame token) ≡ owed_at eyes (at other next later token) }
+    // Each world shows some view.
+    ensures shown { (eyes : Eyes) (world : WorldShape) → (view : View) × Shows eyes world view }
+    // In the open it goes on at the very place, where that may be seen.
+    ensures in_open { (eyes : Eyes) (host : HostId) (place : ℕ) →
+        is_open eyes host place ≡ true → exit_of eyes host place ≡ place }
+    // In the guard of a loop that may not be seen it goes on in the open as behind the loop.
+    ensures guard { (eyes : Eyes) (host : HostId) (place loop : ℕ) (there : Instr) →
+        AreEyes eyes → instruction_at eyes.code host place ≡ Some there → is_open eyes host place ≡ false →
+        (eyes.shades.at host place).guard ≡ Some loop →
+        exit_of eyes host place ≡ exit_of eyes host (eyes.shades.exits host loop) }
+    // A message whose label may not be seen leaves what is seen of a queue, where it is added at the end.
+    ensures added { (eyes : Eyes) (from to : HostId) (flights : List Flight) (flight : Flight) →
+        flies_open eyes flight ≡ false →
+        flights_view eyes from to (flights ++ flight ∷ []) ≡ flights_view eyes from to flights }
+    // So it does where it is taken out, wherever it stands.
+    ensures taken { (eyes : Eyes) (from to : HostId) (flights : List Flight) (place : ℕ) (flight : Flight) →
+        slice_get flights place ≡ Some flight → flies_open eyes flight ≡ false →
+        flights_view eyes from to (remove flights place) ≡ flights_view eyes from to flights }
+    // Nothing is seen of a thread at a place that may not be seen.
+    ensures thread { (eyes : Eyes) (host : HostId) (thread : ThreadShape) →
+        is_open eyes host thread.at ≡ false → running_view eyes host (Some thread) ≡ [] }
+    // A host shows the same where it leaves what may be seen of it.
+    ensures stays { (eyes : Eyes) (host : HostId) (old new : host_state.HostShape) (view : HostView) →
+        ShowsHost eyes host old view → StaysSeen eyes host old new →
+        running_view eyes host new.running ≡ running_view eyes host old.running →
+        filter (is_shown eyes) new.entries ≡ filter (is_shown eyes) old.entries → ShowsHost eyes host new view }
+    // A hidden entry that is pushed is the last of the chain of hidden ones, which stand above all others.
+    ensures chain { (eyes : Eyes) (host : HostId) (links : List Link) (entries : List StackEntry) (top : StackEntry) →
+        is_hidden eyes top.entry.0 ≡ true → entries ≡ links_on host links ++ filter (is_shown eyes) entries →
+        top ∷ entries
+        ≡ links_on host (record { host = host; entry = top } ∷ links) ++ filter (is_shown eyes) (top ∷ entries) }
+{}
+
+/// What two threads at the same place have in common.
+pub fn value_laws()
+    // A value that may be seen is the same in both, where they hold the same as far as it may be seen, and release the
+    // same.
+    ensures same { (eyes : Eyes) (pc : Label) (variables others : VarId → ℤ) (temps held : List ℤ) (first : ℕ)
+        (value : ExprTree) →
+        AreEyes eyes → HoldAlike eyes pc variables others temps held first value → IsSeen eyes pc value →
+        value_of_nodes variables temps (nodes_of first value) ≡ value_of_nodes others held (nodes_of first value) }
+{}
+
+/// What will be seen of a world, where an event that may be seen brings a thread to its place.
+pub fn coming_laws()
+    // Where nothing else goes on unseen, the world leads to what is seen then: the thread at its place, or, where that
+    // may not be seen, what is seen once all is done that it owes.
+    ensures comes { (eyes : Eyes) (world : WorldShape) (me : HostId) (state : host_state.HostShape)
+        (thread : ThreadShape) (token : Token) (view after : View) →
+        AreEyes eyes → HasCome eyes world me state thread token view → Comes eyes view me thread token after →
+        Leads eyes world after }
+    // That is one view.
+    ensures once { (eyes : Eyes) (view : View) (host : HostId) (thread : ThreadShape) (token : Token)
+        (first second : View) →
+        Comes eyes view host thread token first → Comes eyes view host thread token second → first ≡ second }
+    // In blocks that may not be seen it does not depend on the place, as behind a branch whose guard may not be seen.
+    ensures deep { (eyes : Eyes) (view : View) (host other : HostId) (thread later : ThreadShape) (token : Token)
+        (first second : View) →
+        is_open eyes host thread.at ≡ false → is_open eyes other later.at ≡ false →
+        is_deep eyes host thread.at ≡ true → is_deep eyes other later.at ≡ true →
+        Comes eyes view host thread token first → Comes eyes view other later token second → first ≡ second }
+{}
+
+/// What will be seen of a world, once what goes on unseen comes to an end, where a secret event happens.
+pub fn hidden_laws()
+    // The world before the first event leads to a view.
+    ensures start { (eyes : Eyes) (rows : List declared_hosts.HostShape) (bad : ℕ) (store : List (List ℤ)) →
+        AreEyes eyes → IsSoundCode eyes.code → Watches eyes (world_at_start eyes.code rows bad store) →
+        (shown : View) × Leads eyes (world_at_start eyes.code rows bad store) shown }
+    // Two worlds before the first event agree that have the same values in all fields which may be seen and stand on
+    // obeying hosts.
+    ensures starts { (eyes : Eyes) (rows : List declared_hosts.HostShape) (bad : ℕ) (one other : List (List ℤ)) →
+        AreEyes eyes → IsSoundCode eyes.code → Watches eyes (world_at_start eyes.code rows bad one) →
+        Watches eyes (world_at_start eyes.code rows bad other) → AreStartsAlike eyes one other →
+        Agree eyes (world_at_start eyes.code rows bad one) (world_at_start eyes.code rows bad other) }
+    // After a secret event of a world that events lead to the same will be seen. It goes on unseen with the same owed,
+    // or what was owed is seen now, or an entry that may be seen is taken off and its thread goes on at the guard of a
+    // loop, which is owed then.
+    ensures kept { (eyes : Eyes) (rows : List declared_hosts.HostShape) (bad : ℕ) (store : List (List ℤ))
+        (events : List Event) (world after : WorldShape) (event : Event) (shown : View) →
+        AreEyes eyes → Watches eyes (world_at_start eyes.code rows bad store) →
+        IsReached eyes.code rows bad store events world → IsStep eyes.code world event after →
+        IsSecret eyes.code world event → Leads eyes world shown → Leads eyes after shown }
+    // So it is after events of which none may be seen.
+    ensures along { (eyes : Eyes) (rows : List declared_hosts.HostShape) (bad : ℕ) (store : List (List ℤ))
+        (events : List Event) (world : WorldShape) (later : List Event) (after : WorldShape) (shown : View) →
+        AreEyes eyes → Watches eyes (world_at_start eyes.code rows bad store) →
+        IsReached eyes.code rows bad store events world → IsSeenRun eyes.code world later [] after →
+        Leads eyes world shown → Leads eyes after shown }
+    // So a world goes on agreeing with another, whatever happens in it that may not be seen.
+    ensures agrees { (eyes : Eyes) (rows : List declared_hosts.HostShape) (bad : ℕ) (store : List (List ℤ))
+        (events : List Event) (world : WorldShape) (later : List Event) (after other : WorldShape) →
+        AreEyes eyes → Watches eyes (world_at_start eyes.code rows bad store) →
+        IsReached eyes.code rows bad store events world → IsSeenRun eyes.code world later [] after →
+        Agree eyes world other → Agree eyes after other }
+    // So it is after a secret turn, whatever instruction it runs.
+    ensures turn { (eyes : Eyes) (world after : WorldShape) (host : HostId) (shown : View) →
+        AreEyes eyes → IsSoundCode eyes.code → Watches eyes world → ShapeFits eyes.code world →
+        ShapeFits eyes.code after → HostsKeep eyes world → IsStep eyes.code world (Turn host) after →
+        IsSecret eyes.code world (Turn host) → Leads eyes world shown → Leads eyes after shown }
+    // So it is after a secret take, whatever message is taken.
+    ensures take { (eyes : Eyes) (world after : WorldShape) (from to : HostId) (place : ℕ) (shown : View) →
+        AreEyes eyes → IsSoundCode eyes.code → Watches eyes world → ShapeFits eyes.code world →
+        PointsHold eyes world → IsStep eyes.code world (Take from to place) after →
+        IsSecret eyes.code world (Take from to place) → Leads eyes world shown → Leads eyes after shown }
+    // A secret answer in flight passes its check, and so the thread goes on that waits for it.
+    ensures answers { (eyes : Eyes) (world : WorldShape) (from to : HostId) (place : ℕ) (flight : Flight)
+        (state : host_state.HostShape) (shown : View) →
+        ShapeFits eyes.code world → PointsHold eyes world → slice_get (world.flying from to) place ≡ Some flight →
+        state_at world to ≡ Some state → sees_at eyes flight.label ≡ false →
+        IsSome (number_answered flight.message) → Leads eyes world shown →
+        Passes eyes.code state from flight.message }
+    // Where nothing secret is in flight and no secret thread runs, what will be seen is seen now. Then no secret thread
+    // waits either, and no entry is hidden.
+    ensures quiet { (eyes : Eyes) (world : WorldShape) (shown : View) →
+        AreEyes eyes → Watches eyes world → ShapeFits eyes.code world → IsQuiet eyes.code world →
+        Leads eyes world shown →
+        Shows eyes world shown × ((host : HostId) (state : host_state.HostShape) → state_at world host ≡ Some state →
+        (hidden_waiting eyes host state.waiting ≡ []) × (state.entries ≡ filter (is_shown eyes) state.entries)) }
+    // Such a world leads to what it shows.
+    ensures calm { (eyes : Eyes) (world : WorldShape) (shown : View) →
+        AreEyes eyes → Watches eyes world → ShapeFits eyes.code world → IsQuiet eyes.code world →
+        Shows eyes world shown →
+        ((host : HostId) (state : host_state.HostShape) → state_at world host ≡ Some state →
+        (hidden_waiting eyes host state.waiting ≡ []) × (state.entries ≡ filter (is_shown eyes) state.entries)) →
+        Leads eyes world shown }
+{}
+
+/// What is owed and seen in small cases, which deny other definitions.
+pub fn worked_laws()
+    // At the guard of a loop that may not be seen it goes on behind the loop, and inside the loop its token is owed.
+    ensures behind { exit_of small_eyes (host_id 0) 0 ≡ 3 }
+    ensures at_guard { owed_at small_eyes (at (host_id 0) 1 main_frame second_token)
+        ≡ goes_on (host_id 0) 3 main_frame second_token }
+    ensures inside { owed_at small_eyes (at (host_id 0) 2 main_frame second_token) ≡ gives second_token }
+    // A token that is given back takes the entry off. Its thread goes on, behind the loop.
+    ensures pops { Completed small_eyes (gives first_token) one_entry (popped_at 3) }
+    ensures pops_more { ¬ (Completed small_eyes (gives first_token) one_entry one_entry) }
+    ensures pops_behind { ¬ (Completed small_eyes (gives first_token) one_entry (popped_at 0)) }
+    // Another token has no effect.
+    ensures other { Completed small_eyes (gives second_token) one_entry one_entry }
+    // Of a message that sets what may not be seen the value is not seen.
+    ensures masked_value { message_view small_eyes (host_id 0) (host_id 1) (message.Forward first_request main_frame
+        a_variable (pos 7))
+        ≡ message.Forward first_request main_frame a_variable (pos 0) }
+{}
