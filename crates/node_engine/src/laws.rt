@@ -1,15 +1,22 @@
 //! Laws of what a node does.
 
-ghost use Rattle.std.specs.Prelude.{◌≡◌, ◌∷◌, ℕ, List};
+ghost use Rattle.std.specs.Prelude.{◌≡◌, ◌∷◌, ◌++◌, [], ℕ, List, codes};
+ghost use Rattle.js_base.specs.declared.text.TheConstants.{LINE_FEED};
 ghost use Rattle.js_base.specs.declared.ids.HostId.{HostId};
 ghost use Rattle.host_code.specs.Code.{CodeShape};
 ghost use Rattle.host_core.specs.Host.{HostShape};
+ghost use Rattle.wire_msg.specs.declared.error.WireError.TheVariants as wire_error;
+ghost use Rattle.wire_msg.specs.declared.frame.Frame.TheVariants as frame;
+ghost use Rattle.wire_msg.specs.Spelling.{frame_bytes};
 ghost use Rattle.node_engine.specs.declared.arrivals.Arrival.{Arrival};
+ghost use Rattle.node_engine.specs.declared.arrivals.Arrival.TheVariants as arrival;
 ghost use Rattle.node_engine.specs.Arrivals.{Arrives};
-ghost use Rattle.node_engine.specs.NodeWorlds.{NodeWorld, Part, Taking};
-ghost use Rattle.node_engine.specs.Units.{AreUnitParts, AreTakingParts};
+ghost use Rattle.node_engine.specs.NodeWorlds.{NodeWorld, Part, Taking, Line, Sending};
+ghost use Rattle.node_engine.specs.Serving.{closing_from};
+ghost use Rattle.node_engine.specs.Units.{AreArrivalParts, AreTakingParts, AreUnitParts};
 
 use host_core::step_laws;
+use wire_msg::wire_laws;
 
 /// Laws of the units of a node, for who reasons about them. The call does nothing.
 pub fn unit_laws()
@@ -24,6 +31,24 @@ pub fn unit_laws()
         (others : List Part) × AreTakingParts code me host left (Taking ∷ others) }
     ensures some_parts { (code : CodeShape) (me : HostId) (world : NodeWorld) →
         (parts : List Part) × AreUnitParts code me world parts }
+
+    // And only these.
+    ensures one_parts { (code : CodeShape) (me : HostId) (world : NodeWorld) (first second : List Part) →
+        AreUnitParts code me world first → AreUnitParts code me world second → first ≡ second }
+
+    // Worked: no bytes are dropped as a frame that is too short, and have one line in the journal.
+    ensures worked_short { (code : CodeShape) (me : HostId) → Arrives code me [] (arrival.Dropped wire_error.Short) }
+    ensures worked_line { (code : CodeShape) (me : HostId) (host : HostShape) (parts : List Part) →
+        AreArrivalParts code me host (arrival.Dropped wire_error.Short) parts →
+        parts ≡ Line (codes "bad short" ++ LINE_FEED ∷ []) ∷ [] }
+
+    // Worked: the first of three hosts tells the two others that the program is done, and the second of two the first.
+    ensures worked_closing { let me : HostId = record { 0 = 0 } in closing_from me 0 3
+        ≡ Sending (record { 0 = 1 }) (frame_bytes me frame.Done)
+        ∷ Sending (record { 0 = 2 }) (frame_bytes me frame.Done) ∷ [] }
+    ensures worked_closing_second { let me : HostId = record { 0 = 1 } in closing_from me 0 2
+        ≡ Sending (record { 0 = 0 }) (frame_bytes me frame.Done) ∷ [] }
 {
     step_laws();
+    wire_laws();
 }

@@ -1,3 +1,5 @@
+use Rattle.std.proofs.Common.{refl}
+use Rattle.node_engine.proofs.OneUnit.{one_parts}
 use Rattle.node_engine.proofs.UnitParts.{some_arrival, some_parts, some_taking}
 use Rattle.node_engine.proofs.laws.unit_laws.Goals as goal
 
@@ -9,3 +11,9 @@ returns-clause-some_taking c = some_taking c.step_laws.ensures.some_taking
 
 pub returns-clause-some_parts : goal.returns-clause-some_parts
 returns-clause-some_parts c = some_parts c.step_laws.ensures.some_taking c.step_laws.ensures.some_turn
+
+pub returns-clause-one_parts : goal.returns-clause-one_parts
+returns-clause-one_parts c = one_parts
+
+pub returns-clause-worked_short : goal.returns-clause-worked_short
+returns-clause-worked_short c = λ code me. rw c.wire_laws.ensures.worked_nothing refl
