@@ -3,6 +3,7 @@ pub mod Breaking
 pub mod Closing
 pub mod NodeAnswers
 pub mod NodeStages
+pub mod OneNode
 pub mod OneUnit
 pub mod Rows
 pub mod Served
