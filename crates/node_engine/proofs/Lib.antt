@@ -1,6 +1,7 @@
 pub mod Askings
 pub mod Breaking
 pub mod Closing
+pub mod Complete
 pub mod NodeAnswers
 pub mod NodeStages
 pub mod OneNode
