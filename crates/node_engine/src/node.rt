@@ -7,8 +7,8 @@ ghost use Rattle.front_end.specs.Loading.{EndsAs, IsLoaded};
 ghost use Rattle.front_end.specs.Loads.{AreKept, files_change};
 ghost use Rattle.node_engine.specs.NodeSources as sources;
 ghost use Rattle.node_engine.specs.NodeSources.{IsStarted, NodeSources, NodeStarts, node_source, node_start};
-ghost use Rattle.node_engine.specs.Nodes.{HoldsNode, IsEnded, IsNodeDue, IsStatusOf, NodeAnswer, OptionsAnswer, RunsNode};
-ghost use Rattle.node_engine.specs.Nodes.{most_of, name_of, refusal_status};
+ghost use Rattle.node_engine.specs.Nodes.{HoldsNode, IsEnded, IsNodeDue, IsStatusOf, NodeAnswer};
+ghost use Rattle.node_engine.specs.Nodes.{OptionsAnswer, RunsNode, most_of, name_of, refusal_status};
 ghost use Rattle.node_engine.specs.Options.{Asked, IsAsked, asked_shape, source_name};
 ghost use Rattle.node_engine.specs.Serving.{IsServed};
 ghost use Rattle.node_engine.specs.Told.{outside};
@@ -33,8 +33,8 @@ use std::alloc::Global;
 /// - `Usage`: the words ask for no node.
 /// - `SourceRefused`: the program is refused for its text, its names or its labels; or no host may hold some part of
 ///   it.
-/// - `InputRefused`: a file is absent; the host file, the split file or the file of starting values is refused; the host
-///   file has no host of the name; or the code is for other hosts.
+/// - `InputRefused`: a file is absent; the host file, the split file or the file of starting values is refused; the
+///   host file has no host of the name; or the code is for other hosts.
 /// - `FileFault`: a file could not be read.
 /// - `LinkFault`, `OutFault`: links or journal could not begin.
 /// - `NoMemory`: memory ran out.
