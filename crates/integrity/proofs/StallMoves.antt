@@ -1,0 +1,142 @@
+-- A turn of the holder's thread that sends a misbehaving host a message without a token: the thread waits for that host.
+use Rattle.std.proofs.Common.{◌≡◌, ◌∙◌, inl, inr, ℕ, ℤ, true, List, [], ◌∷◌, ◌++◌, None}
+use Rattle.std.proofs.Common.{refl, sym, ap, subst}
+use Rattle.std.specs.Prelude.{All}
+use Rattle.js_base.specs.declared.ids.FieldId.{FieldId}
+use Rattle.js_base.specs.declared.ids.HostId.{HostId}
+use Rattle.host_decl.specs.Hosts as declared_hosts
+use Rattle.jif_tree.specs.Altered.{FieldIsAffected}
+use Rattle.jif_tree.specs.SourceRun.{Configuration}
+use Rattle.jif_tree.specs.Store.{row_of, element_at}
+use Rattle.host_code.specs.declared.message.Message.{Message}
+use Rattle.host_code.specs.declared.message.Message.TheVariants as message
+use Rattle.host_code.specs.Thread.{ThreadShape, Awaited}
+use Rattle.host_code.specs.Thread.Awaited.{acknowledgement}
+use Rattle.host_core.specs.Host.{HostShape, with_message, with_running, after_asking}
+use Rattle.event_text.specs.declared.event.Event.{Event}
+use Rattle.net_world.specs.Told.{token_in}
+use Rattle.net_world.specs.World.{WorldShape, IsTurnStep, misbehaves}
+use Rattle.token_laws.specs.Numbers.{CodeHasNumbers, RowsHaveNumbers, EventHasNumbers}
+use Rattle.token_laws.specs.Reached.{IsReached}
+use Rattle.typed_steps.specs.Requests.{IsFieldOn, IsRequest}
+use Rattle.typed_steps.specs.Turns as turns
+use Rattle.typed_steps.specs.Turns.{waiting_for}
+use Rattle.typed_steps.specs.Variables.{AreSent, Sends}
+use Rattle.typed_steps.specs.Views.{Split, View, values_set, with_out}
+use Rattle.integrity.specs.Exposed.{bad_labels}
+use Rattle.integrity.specs.Holding.{runs}
+use Rattle.integrity.specs.Standing.{IsFor, StandsBy, Stalls, waits, waits_behind}
+use Rattle.integrity.proofs.Elsewhere.{holds_elsewhere, holds_sent, holds_result_sent}
+use Rattle.integrity.proofs.HolderLaws.{turn_of}
+use Rattle.integrity.proofs.TellMoves.{Telling, telling, sent_is, silent_never, waits_for}
+
+module _ (split : Split) (c : Configuration) (view : View) (host : HostId) (thread : ThreadShape)
+    (world after : WorldShape) (to : HostId) (m : Message) (t : Telling split c view host thread world after to m)
+    (none : token_in m ≡ None)
+    (opens : (field : FieldId) → IsFieldOn split.code field to → FieldIsAffected split.exposure field) where
+  abbrev Asked : ThreadShape → Awaited → Type 0
+  Asked next awaited =
+      with_message (after_asking (with_running t.step.state None) thread.at next awaited to) to m ≡ t.step.outcome
+
+  -- what the thread waits for
+  asked_stalls : (next : ThreadShape) (awaited : Awaited) → Asked next awaited → (said : Message) → said ≡ m →
+      IsRequest split c view host to (waiting_for t.step.state thread.at next awaited to) said → Stalls split c host
+      after
+  asked_stalls next awaited is (message.Get request field place) same asks =
+      let w = waiting_for t.step.state thread.at next awaited to in
+      let at = asks.4 (element_at (row_of c.store field.0) place) (inl refl) in
+      waits view w (waits_for split c view host thread world after to m t view next awaited is refl t.stands.does.0
+      at.held t.sends c (λ later holds bad. holds)
+      (subst (IsFor split c view host w) (sym asks.0)
+      (λ value number. asks.4 value (inr (opens field asks.3, number)))))
+  asked_stalls next awaited is (message.Set request field index value) same asks =
+      let w = waiting_for t.step.state thread.at next awaited to in
+      let sets = asks.4 in
+      waits_behind sets.now view w sets.does
+      (waits_for split c view host thread world after to m t view next awaited is refl t.stands.does.0 sets.at.held
+      t.sends sets.now (λ later holds bad.
+      holds_elsewhere split c sets.now view later field to index value holds asks.3 bad sets.store sets.calls
+      sets.plainly) (subst (IsFor split sets.now view host w) (sym asks.0) sets.at))
+  asked_stalls next awaited is (message.Forward request frame x value) same asks =
+      let w = waiting_for t.step.state thread.at next awaited to in
+      let seen = with_out view asks.8 in
+      let sends =
+      subst (AreSent split (view.values view.sender) (t.step.state.variables (view.naming.frame view.sender)) host)
+      asks.9 t.sends in
+      waits seen w (waits_for split c view host thread world after to m t seen next awaited is refl t.stands.does.0
+      asks.10.held sends.2 c (λ later holds bad.
+      holds_sent split c view asks.8 later to x asks.7 holds bad asks.9)
+      (subst (IsFor split c seen host w) (sym asks.0) asks.10))
+  asked_stalls next awaited is (message.Sync request frame entry token) same asks =
+      absurd (let never : token_in (message.Sync request frame entry token) ≡ None = ap token_in same ∙ none in cc)
+  asked_stalls next awaited is (message.Rgoto frame entry token) same asks = absurd asks
+  asked_stalls next awaited is (message.Lgoto token) same asks = absurd asks
+  asked_stalls next awaited is (message.Value request value) same asks = absurd asks
+  asked_stalls next awaited is (message.Ack request) same asks = absurd asks
+  asked_stalls next awaited is (message.Token request token) same asks = absurd asks
+
+  -- a result is given to the misbehaving host
+  gives_stalls : (g : turns.Gives split c view host t.step.state thread t.step.outcome) → g.to ≡ to →
+      Asked g.next acknowledgement → Stalls split c host after
+  gives_stalls g same is =
+      let result = g.result in
+      let w = waiting_for t.step.state thread.at g.next acknowledgement to in
+      let seen : HostId → View = λ keeper.
+      record view { values = values_set view.values result.caller g.x.0 g.value; keeper = keeper } in
+      let sends : Sends split (seen to) t.step.state host =
+      subst (AreSent split ((seen to).values view.sender) (t.step.state.variables (view.naming.frame view.sender)) host)
+      (sym result.none_out) tt in
+      waits_behind result.now (seen to) w result.does
+      (waits_for split c view host thread world after to m t (seen to) g.next acknowledgement is refl t.stands.does.0
+      result.at.held sends result.now (λ later holds bad.
+      holds_result_sent split c result.now view later to result.caller g.x g.value holds bad result.made result.unread
+      result.store result.calls)
+      (subst (λ keeper. IsFor split result.now (seen keeper) host w acknowledgement) same result.at))
+
+  with_token : (said : Message) → said ≡ m → (token_in said ≡ None → ⊥) → ⊥
+  with_token said same has = has (ap token_in same ∙ none)
+
+  pub stalls_by : turns.Turned split c view world host t.step.state thread t.step.outcome → Stalls split c host after
+  stalls_by (turns.runs_on g) = absurd (silent_never split c view host thread world after to m t _ g.is)
+  stalls_by (turns.steps now does g) = absurd (silent_never split c view host thread world after to m t _ g.is)
+  stalls_by (turns.asks a) =
+      let same = sent_is split c view host thread world after to m t _ a.to a.asking a.is in
+      let new : HostId → HostShape =
+      λ h. after_asking (with_running t.step.state None) thread.at a.next a.awaited h in
+      asked_stalls a.next a.awaited
+      (subst (λ h. with_message (new h) h m ≡ t.step.outcome) same.0
+      (subst (λ x. with_message (new a.to) a.to x ≡ t.step.outcome) same.1 a.is)) a.asking same.1
+      (subst (λ h. IsRequest split c view host h (waiting_for t.step.state thread.at a.next a.awaited h) a.asking)
+      same.0 a.request)
+  stalls_by (turns.gives g) =
+      let same = sent_is split c view host thread world after to m t _ _ _ g.is in
+      let new : HostId → HostShape =
+      λ h. after_asking (with_running t.step.state None) thread.at g.next acknowledgement h in
+      gives_stalls g same.0
+      (subst (λ h. with_message (new h) h m ≡ t.step.outcome) same.0
+      (subst (λ x. with_message (new g.to) g.to x ≡ t.step.outcome) same.1 g.is))
+  stalls_by (turns.hands h) =
+      let same = sent_is split c view host thread world after to m t _ _ _ h.is in
+      absurd (with_token (message.Rgoto h.frame h.entry h.token) same.1 (λ is. cc))
+  stalls_by (turns.returns r) =
+      let same = sent_is split c view host thread world after to m t _ _ _ r.is in
+      absurd (with_token (message.Lgoto r.token) same.1 (λ is. cc))
+  stalls_by (turns.ends e) = absurd (silent_never split c view host thread world after to m t _ e.is)
+
+-- ---- the law
+
+pub holder_stalls : (split : Split) (rows : List declared_hosts.HostShape) (bad : ℕ) (store : List (List ℤ))
+    (events : List Event) (world after : WorldShape) (host : HostId) (thread : ThreadShape) (c : Configuration)
+    (view : View) (to : HostId) (m : Message) → split.exposure.bad ≡ bad_labels bad 0 rows →
+    IsReached split.code rows bad store events world → CodeHasNumbers split.code → RowsHaveNumbers store →
+    All EventHasNumbers events → IsTurnStep split.code world host after → misbehaves world to ≡ true →
+    after.sent ≡ world.sent ++ (host, to, m) ∷ [] → token_in m ≡ None →
+    ((field : FieldId) → IsFieldOn split.code field to → FieldIsAffected split.exposure field) →
+    StandsBy split c view (runs host thread) world → Stalls split c host after
+holder_stalls split rows bad store events world after host thread c view to m same reach code_numbers store_numbers said
+    step misbehaving told none opens stands =
+    let turn =
+    turn_of split rows bad store events world after host thread c view same reach code_numbers store_numbers said step
+    stands in
+    stalls_by split c view host thread world after to m
+    (telling split c view host thread world after to m step turn stands misbehaving told) none opens turn.turned
