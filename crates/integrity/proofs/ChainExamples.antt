@@ -11,8 +11,7 @@ use Rattle.host_code.specs.Code.{halt}
 use Rattle.host_code.specs.Thread.{ThreadShape}
 use Rattle.host_core.specs.Start.{main_frame}
 use Rattle.event_text.specs.declared.event.Event.TheVariants.{Turn}
-use Rattle.net_world.specs.Told.{tokens_in}
-use Rattle.net_world.specs.World.{WorldShape, IsRun, has_halted}
+use Rattle.net_world.specs.World.{WorldShape, IsRun, has_halted, tokens_sent}
 use Rattle.net_world.proofs.StepLaws.{one_step}
 use Rattle.split_rules.specs.TypedCode.{Table}
 use Rattle.token_laws.specs.Holders.{HoldsAt, running_on, IsSent}
@@ -56,13 +55,13 @@ unlinked one next apart linked = apart linked.0
 pub quiet : IsRun small start (Turn (host_id 0) ∷ []) pushed → RunsQuietly small start (Turn (host_id 0) ∷ [])
 quiet ran next step =
     let same : next ≡ pushed = one_step small start next ran.0 (Turn (host_id 0)) step ran.1 ∙ ran.2 in
-    (ap (λ (w : WorldShape). w.sent) same, tt)
+    (ap tokens_sent same, tt)
 
 pub told : IsRun handing bad_start (Turn (host_id 0) ∷ []) given → IsSent given first_token →
     ¬ RunsQuietly handing bad_start (Turn (host_id 0) ∷ [])
 told ran sent quietly =
-    let same : given.sent ≡ [] = ap (λ (w : WorldShape). w.sent) (sym ran.2) ∙ (quietly ran.0 ran.1).0 in
-    let none = subst (λ list. Contains (tokens_in list) first_token) same sent in
+    let same : tokens_sent given ≡ [] = ap tokens_sent (sym ran.2) ∙ (quietly ran.0 ran.1).0 in
+    let none = subst (λ list. Contains list first_token) same sent in
     let lt = none.1 in
     omega arith
 

@@ -29,6 +29,7 @@ pub mod TellMoves
 pub mod HeldFields
 pub mod StallMoves
 pub mod TakeLaws
+pub mod OwnEvents
 pub mod QuietRuns
 pub mod SetPrograms
 pub mod IntegrityExamples

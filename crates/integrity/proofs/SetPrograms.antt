@@ -39,5 +39,5 @@ follows_set laws program labelled needs hosts plan bad store events world state 
     let split =
     typed_split program labelled needs hosts plan set reach.sound typed.0 typed.1 (λ host at. 0)
     (exposure_of labelled needs hosts bad) in
-    follows laws.opening split labelled needs hosts plan bad store refl set.splittable set.allowed code_numbers
+    follows laws.opening split labelled needs hosts plan bad store refl set.splittable set.allowed set.held code_numbers
     store_numbers events world state reach said obeys quiet

@@ -1,5 +1,5 @@
 -- A turn of the holder's thread that sends a misbehaving host a message without a token: the thread waits for that host.
-use Rattle.std.proofs.Common.{◌≡◌, ◌∙◌, inl, inr, ℕ, ℤ, true, List, [], ◌∷◌, ◌++◌, None}
+use Rattle.std.proofs.Common.{◌≡◌, ◌∙◌, ◌⊎◌, inl, inr, ℕ, ℤ, Bool, true, false, List, [], ◌∷◌, ◌++◌, Option, Some, None}
 use Rattle.std.proofs.Common.{refl, sym, ap, subst}
 use Rattle.std.specs.Prelude.{All}
 use Rattle.js_base.specs.declared.ids.FieldId.{FieldId}
@@ -12,10 +12,14 @@ use Rattle.host_code.specs.declared.message.Message.{Message}
 use Rattle.host_code.specs.declared.message.Message.TheVariants as message
 use Rattle.host_code.specs.Thread.{ThreadShape, Awaited}
 use Rattle.host_code.specs.Thread.Awaited.{acknowledgement}
-use Rattle.host_core.specs.Host.{HostShape, with_message, with_running, after_asking}
+use Rattle.host_core.specs.Host.{HostShape, with_message, without_message, with_running, after_asking}
 use Rattle.event_text.specs.declared.event.Event.{Event}
-use Rattle.net_world.specs.Told.{token_in}
-use Rattle.net_world.specs.World.{WorldShape, IsTurnStep, misbehaves}
+use Rattle.capability.specs.declared.token.Token.{Token}
+use Rattle.host_core.specs.Turn.{label_of_turn}
+use Rattle.net_world.specs.Told.{token_in, token_list, tokens_in}
+use Rattle.net_world.proofs.Moved.{moved_told, moved_posted, silent_sent}
+use Rattle.net_world.proofs.ToldTokens.{tokens_more}
+use Rattle.net_world.specs.World.{WorldShape, IsTurnStep, misbehaves, tokens_sent}
 use Rattle.token_laws.specs.Numbers.{CodeHasNumbers, RowsHaveNumbers, EventHasNumbers}
 use Rattle.token_laws.specs.Reached.{IsReached}
 use Rattle.typed_steps.specs.Requests.{IsFieldOn, IsRequest}
@@ -25,9 +29,10 @@ use Rattle.typed_steps.specs.Variables.{AreSent, Sends}
 use Rattle.typed_steps.specs.Views.{Split, View, values_set, with_out}
 use Rattle.integrity.specs.Exposed.{bad_labels}
 use Rattle.integrity.specs.Holding.{runs}
-use Rattle.integrity.specs.Standing.{IsFor, StandsBy, Stalls, waits, waits_behind}
+use Rattle.integrity.specs.Standing.{IsFor, StandsBy, Goes, Stalls, waits, waits_behind}
 use Rattle.integrity.proofs.Elsewhere.{holds_elsewhere, holds_sent, holds_result_sent}
-use Rattle.integrity.proofs.HolderLaws.{turn_of}
+use Rattle.integrity.proofs.HolderLaws.{HolderTurn, turn_of, holder_turned}
+use Rattle.integrity.proofs.TurnMoves.{never_more}
 use Rattle.integrity.proofs.TellMoves.{Telling, telling, sent_is, silent_never, waits_for}
 
 module _ (split : Split) (c : Configuration) (view : View) (host : HostId) (thread : ThreadShape)
@@ -140,3 +145,76 @@ holder_stalls split rows bad store events world after host thread c view to m sa
     stands in
     stalls_by split c view host thread world after to m
     (telling split c view host thread world after to m step turn stands misbehaving told) none opens turn.turned
+
+-- ---- a turn tells a misbehaving host something, or nothing
+
+record TellsOne (host : HostId) (world after : WorldShape) : Type 0 where
+  pub to : HostId
+  pub m : Message
+  pub bad : misbehaves world to ≡ true
+  pub told : after.sent ≡ world.sent ++ (host, to, m) ∷ []
+
+module _ (split : Split) (c : Configuration) (view : View) (host : HostId) (thread : ThreadShape)
+    (world after : WorldShape) (step : IsTurnStep split.code world host after)
+    (turn : HolderTurn split c view host thread world after step) where
+  told_if : (new : HostShape) (to : HostId) (m : Message) → with_message new to m ≡ step.outcome → (bad : Bool) →
+      misbehaves world to ≡ bad → (after.sent ≡ world.sent) ⊎ TellsOne host world after
+  told_if new to m is true bad = inr (record {
+    to = to;
+    m = m;
+    bad = bad;
+    told = (moved_told world host step.outcome step.state new to m (label_of_turn split.code step.state) turn.label
+        after step.obeys bad turn.labels is step.leaves).sent;
+  })
+  told_if new to m is false good =
+      inl (moved_posted world host step.outcome step.state new to m (label_of_turn split.code step.state) turn.label
+      after step.obeys good turn.labels is step.leaves).sent
+
+  told_there : (new : HostShape) (to : HostId) (m : Message) → with_message new to m ≡ step.outcome →
+      (after.sent ≡ world.sent) ⊎ TellsOne host world after
+  told_there new to m is = told_if new to m is (misbehaves world to) refl
+
+  silent_there : (new : HostShape) → without_message new ≡ step.outcome →
+      (after.sent ≡ world.sent) ⊎ TellsOne host world after
+  silent_there new is =
+      inl (silent_sent world host step.outcome new (label_of_turn split.code step.state) after is step.leaves)
+
+  tells : turns.Turned split c view world host step.state thread step.outcome →
+      (after.sent ≡ world.sent) ⊎ TellsOne host world after
+  tells (turns.runs_on g) = silent_there _ g.is
+  tells (turns.steps now does g) = silent_there _ g.is
+  tells (turns.asks a) = told_there _ _ _ a.is
+  tells (turns.gives g) = told_there _ _ _ g.is
+  tells (turns.hands h) = told_there _ _ _ h.is
+  tells (turns.returns r) = told_there _ _ _ r.is
+  tells (turns.ends e) = silent_there _ e.is
+
+none_more : (tokens : List Token) (more : Option Token) → tokens ++ token_list more ≡ tokens → more ≡ None
+none_more tokens None same = refl
+none_more tokens (Some token) same = absurd (never_more tokens token same)
+
+-- a turn that hands no token over
+pub holder_moves : (split : Split) (rows : List declared_hosts.HostShape) (bad : ℕ) (store : List (List ℤ))
+    (events : List Event) (world after : WorldShape) (host : HostId) (thread : ThreadShape) (c : Configuration)
+    (view : View) → split.exposure.bad ≡ bad_labels bad 0 rows →
+    IsReached split.code rows bad store events world → CodeHasNumbers split.code → RowsHaveNumbers store →
+    All EventHasNumbers events → IsTurnStep split.code world host after → tokens_sent after ≡ tokens_sent world →
+    ((field : FieldId) (to : HostId) → IsFieldOn split.code field to → misbehaves world to ≡ true →
+    FieldIsAffected split.exposure field) → StandsBy split c view (runs host thread) world →
+    Goes split c after ⊎ Stalls split c host after
+holder_moves split rows bad store events world after host thread c view same reach code_numbers store_numbers said step
+    kept opens stands =
+    let turn =
+    turn_of split rows bad store events world after host thread c view same reach code_numbers store_numbers said step
+    stands in
+    elim (tells split c view host thread world after step turn turn.turned) [
+      | inl quiet ↦
+          inl (holder_turned split rows bad store events world after host thread c view same reach code_numbers
+          store_numbers said step quiet stands)
+      | inr one ↦
+          inr (holder_stalls split rows bad store events world after host thread c view one.to one.m same reach
+          code_numbers store_numbers said step one.bad one.told
+          (none_more (tokens_sent world) (token_in one.m)
+          (sym (tokens_more world.sent host one.to one.m) ∙ ap tokens_in (sym one.told) ∙ kept))
+          (λ field on. opens field one.to on one.bad) stands)
+    ]

@@ -9,7 +9,7 @@ use Rattle.jif_tree.specs.SourceRun.{Configuration, IsAtEnd}
 use Rattle.host_code.specs.Code.{CodeShape}
 use Rattle.event_text.specs.declared.event.Event.{Event}
 use Rattle.event_text.specs.declared.event.Event.TheVariants.{Turn}
-use Rattle.net_world.specs.World.{WorldShape, IsStep, IsRun, world_at_start, has_halted}
+use Rattle.net_world.specs.World.{WorldShape, IsStep, IsRun, world_at_start, has_halted, tokens_sent}
 use Rattle.integrity.specs.Exposed.{FieldsStand}
 
 -- The fields of a world that may not be affected are those of a configuration, which is at its end where an obeying
@@ -35,13 +35,13 @@ pub record FollowsAltered (program : Program) (exposure : Exposure) (code : Code
 
 -- ---- what misbehaving hosts are told
 
--- where an event is a turn, it sends them nothing
-abbrev pub TellsNothing : Event → WorldShape → WorldShape → Type 0
-TellsNothing (Turn host) world after = after.sent ≡ world.sent
-TellsNothing other world after = ⊤
+-- where an event is a turn, it hands them no token
+abbrev pub HandsNoToken : Event → WorldShape → WorldShape → Type 0
+HandsNoToken (Turn host) world after = tokens_sent after ≡ tokens_sent world
+HandsNoToken other world after = ⊤
 
--- So it is with each of some events. What a host answers a misbehaving one that asks it is not asked about.
+-- So it is with each of some events. The token that a host answers a misbehaving one with is not asked about.
 abbrev pub RunsQuietly : CodeShape → WorldShape → List Event → Type 0
 RunsQuietly code world [] = ⊤
 RunsQuietly code world (event ∷ events) = (next : WorldShape) → IsStep code world event next →
-    TellsNothing event world next × RunsQuietly code next events
+    HandsNoToken event world next × RunsQuietly code next events
