@@ -1,5 +1,6 @@
 -- Chains and their holders in small worlds, as they are computed.
-use Rattle.std.proofs.Common.{◌≡◌, ◌≢◌, ◌∙◌, inl, inr, ℕ, List, [], ◌∷◌, Some, refl, sym, ap, subst, arith}
+use Rattle.std.proofs.Common.{◌≡◌, ◌≢◌, ◌∙◌, inl, inr, ℕ, List, [], ◌∷◌, ◌++◌, Some, None, refl, sym, ap, subst, arith}
+use Rattle.std.proofs.Common.{append-nil}
 use Rattle.std.specs.Prelude.{Contains}
 use Rattle.js_base.specs.declared.ids.HostId.{HostId}
 use Rattle.jif_tree.specs.Altered.{Exposure}
@@ -12,12 +13,15 @@ use Rattle.host_code.specs.Thread.{ThreadShape}
 use Rattle.host_core.specs.Start.{main_frame}
 use Rattle.event_text.specs.declared.event.Event.TheVariants.{Turn}
 use Rattle.net_world.specs.World.{WorldShape, IsRun, has_halted, tokens_sent}
+use Rattle.net_world.specs.Told.{token_in, token_list, tokens_in}
 use Rattle.net_world.proofs.StepLaws.{one_step}
+use Rattle.net_world.proofs.ToldTokens.{tokens_more}
+use Rattle.host_code.specs.declared.message.Message.{Message}
 use Rattle.split_rules.specs.TypedCode.{Table}
 use Rattle.token_laws.specs.Holders.{HoldsAt, running_on, IsSent}
 use Rattle.token_laws.specs.TokenExamples.{host_id, small, start, first_token, pushed, handing, bad_start, given}
 use Rattle.typed_steps.specs.Views.{Split, View}
-use Rattle.integrity.specs.Altering.{RunsQuietly}
+use Rattle.integrity.specs.Altering.{HandsNoToken, RunsQuietly}
 use Rattle.integrity.specs.Holding.{runs, lost, halted, IsOwn, AreLinked, IsOutsideBut, IsStanding, IsTight}
 use Rattle.integrity.specs.Outside.{Threat}
 use Rattle.integrity.specs.Standing.{StandsBy}
@@ -64,6 +68,12 @@ told ran sent quietly =
     let none = subst (λ list. Contains list first_token) same sent in
     let lt = none.1 in
     omega arith
+
+pub tokenless : (world after : WorldShape) (host to : HostId) (sent : Message) →
+    after.sent ≡ world.sent ++ (host, to, sent) ∷ [] → token_in sent ≡ None → HandsNoToken (Turn host) world after
+tokenless world after host to sent told none =
+    ap tokens_in told ∙ tokens_more world.sent host to sent
+    ∙ ap (λ more. tokens_sent world ++ token_list more) none ∙ append-nil (tokens_sent world)
 
 pub halted_denied : (split : Split) (c : Configuration) (view : View) (host : HostId) (thread : ThreadShape)
     (world : WorldShape) → has_halted split.code.root world → ¬ StandsBy split c view (runs host thread) world

@@ -30,7 +30,9 @@ use Rattle.split_rules.proofs.AllowedTyping.{zipped_there}
 use Rattle.split_rules.proofs.SeenPrograms.{zip_at}
 use Rattle.typed_steps.specs.Requests.{IsFieldOn}
 use Rattle.typed_steps.proofs.Calls.{there_within}
-use Rattle.integrity.specs.Outside.{threat_of}
+use Rattle.integrity.specs.Outside.{Threat, threat_of}
+use Rattle.integrity.specs.Standing.{threat_in}
+use Rattle.typed_steps.specs.Views.{Split}
 use Rattle.integrity.proofs.OpenSteps.{any_each}
 use Rattle.integrity.proofs.OpenWorlds.{AreBad}
 
@@ -80,7 +82,7 @@ affected_by bad (Some other) tree is any =
     let same : other ≡ tree = cc in
     subst (λ (one : FieldTree). Any (λ host. IntegFlows host one.label) bad) (sym same) any
 
-pub field_open : (labelled : Labelled) (needs : NeedsShape) (hosts : HostsShape) (plan : PlanShape) (table : Table)
+field_open : (labelled : Labelled) (needs : NeedsShape) (hosts : HostsShape) (plan : PlanShape) (table : Table)
     (bad : ℕ) (world : WorldShape) → IsAllowed labelled needs hosts plan → IsHeld labelled needs hosts plan →
     AreBad (threat_of labelled needs hosts plan table bad) world → (field : FieldId) (to : HostId) →
     IsFieldOn (split_code labelled needs hosts plan) field to → misbehaves world to ≡ true →
@@ -122,3 +124,13 @@ field_open labelled needs hosts plan table bad world allowed held are_bad field 
         (option_map (λ (host : HostShape). record { name = host.name; label = host.label }) found)
     labels_of None = refl
     labels_of (Some row) = refl
+
+pub field_on_bad : (split : Split) (labelled : Labelled) (needs : NeedsShape) (hosts : HostsShape) (plan : PlanShape)
+    (bad : ℕ) (world : WorldShape) → threat_in split ≡ threat_of labelled needs hosts plan split.table bad →
+    IsAllowed labelled needs hosts plan → IsHeld labelled needs hosts plan → AreBad (threat_in split) world →
+    (field : FieldId) (to : HostId) → IsFieldOn split.code field to → misbehaves world to ≡ true →
+    FieldIsAffected split.exposure field
+field_on_bad split labelled needs hosts plan bad world same allowed held =
+    subst (λ (t : Threat). AreBad t world → (field : FieldId) (to : HostId) → IsFieldOn t.code field to →
+    misbehaves world to ≡ true → FieldIsAffected t.exposure field) (sym same)
+    (field_open labelled needs hosts plan split.table bad world allowed held)

@@ -1,12 +1,10 @@
 -- Where no turn hands a misbehaving host a token, the hosts follow an altered run, whatever those hosts send.
-use Rattle.std.proofs.Common.{◌≡◌, ◌⊎◌, inl, inr, ℕ, zero, suc, ℤ, List, [], ◌∷◌, ◌++◌, take}
-use Rattle.std.proofs.Common.{true, Some, refl, sym, ap, subst, arith}
+use Rattle.std.proofs.Common.{◌≡◌, ◌∙◌, ◌⊎◌, inl, inr, ℕ, zero, suc, ℤ, List, [], ◌∷◌, ◌++◌, take}
+use Rattle.std.proofs.Common.{Some, refl, sym, ap, subst, arith}
 use Rattle.std.specs.Prelude.{slice_get, slice_index, All, IsSomeAnd}
 use Rattle.std.proofs.lemmas.List.Elements.{All-push, All-nil, All-take}
-use Rattle.js_base.specs.declared.ids.FieldId.{FieldId}
 use Rattle.js_base.specs.declared.ids.HostId.{HostId}
 use Rattle.host_code.specs.Thread.{WaitingShape}
-use Rattle.typed_steps.specs.Requests.{IsFieldOn}
 use Rattle.split_rules.specs.Held.{IsHeld}
 use Rattle.host_decl.specs.Hosts as declared_hosts
 use Rattle.jif_tree.specs.Altered as altering
@@ -20,8 +18,10 @@ use Rattle.event_text.specs.declared.event.Event.TheVariants.{Take, Turn, Act}
 use Rattle.event_text.specs.declared.event.BadMessage.{BadMessage}
 use Rattle.net_world.specs.Fits.{HasOwnToken}
 use Rattle.net_world.specs.World.{WorldShape, IsStep, IsRun, IsTurnStep, IsActStep}
-use Rattle.net_world.specs.World.{state_at, misbehaves, tokens_sent, world_at_start}
-use Rattle.net_world.proofs.StepLaws.{one_step}
+use Rattle.net_world.specs.World.{state_at, tokens_sent, world_at_start}
+use Rattle.net_world.proofs.StepLaws.{one_step, told_more}
+use Rattle.net_world.specs.Told.{SentMessage, token_in, tokens_in}
+use Rattle.std.proofs.lemmas.List.Elements.{filter_map-append}
 use Rattle.token_laws.specs.Numbers.{CodeHasNumbers, RowsHaveNumbers, EventHasNumbers, MessageHasNumbers}
 use Rattle.token_laws.specs.Reached.{IsReached}
 use Rattle.token_laws.proofs.Walks.{one_more}
@@ -40,8 +40,7 @@ use Rattle.integrity.specs.Outside.{Threat, threat_of}
 use Rattle.integrity.specs.Standing as standing
 use Rattle.integrity.specs.Standing.{threat_in, IsFree, StandsBy, Goes, Stalls, Does}
 use Rattle.integrity.proofs.ActMoves.{answer_numbers, holder_acted}
-use Rattle.integrity.proofs.HeldFields.{field_open}
-use Rattle.integrity.proofs.OpenWorlds.{AreBad}
+use Rattle.integrity.proofs.HeldFields.{field_on_bad}
 use Rattle.integrity.proofs.StallMoves.{holder_moves}
 use Rattle.integrity.proofs.TakeLaws.{holder_taken}
 use Rattle.integrity.proofs.OwnEvents.{decide_take, decide_turn, decide_act, no_act}
@@ -95,6 +94,39 @@ quiet_front code events zero world quiet = tt
 quiet_front code [] (suc moment) world quiet = tt
 quiet_front code (event ∷ events) (suc moment) world quiet =
     λ next step. let it = quiet next step in (it.0, quiet_front code events moment next it.1)
+
+-- ---- misbehaving hosts were sent no token
+
+hands_none : (event : Event) (world after : WorldShape) → tokens_sent world ≡ [] → tokens_sent after ≡ [] →
+    HandsNoToken event world after
+hands_none (Turn host) world after before none = none ∙ sym before
+hands_none (Take from to place) world after before none = tt
+hands_none (Act from to made) world after before none = tt
+
+front_none : {X : Type 0} (xs ys : List X) → xs ++ ys ≡ [] → xs ≡ []
+front_none [] ys none = refl
+front_none (x ∷ xs) ys none = absurd (cc)
+
+none_before : (code : CodeShape) (events : List Event) (world last : WorldShape) → IsRun code world events last →
+    tokens_sent last ≡ [] → tokens_sent world ≡ []
+none_before code [] world last ran none = ap tokens_sent ran ∙ none
+none_before code (event ∷ events) world last ran none =
+    let more = told_more code world ran.0 event ran.1 in
+    front_none (tokens_sent world) (tokens_in more.0)
+    (sym (filter_map-append (λ (letter : SentMessage). token_in letter.2) world.sent more.0)
+    ∙ ap tokens_in (sym more.1) ∙ none_before code events ran.0 last ran.2 none)
+
+-- so no turn has handed one over
+pub unsent_quiet : (code : CodeShape) (events : List Event) (world last : WorldShape) → IsRun code world events last →
+    tokens_sent last ≡ [] → RunsQuietly code world events
+unsent_quiet code [] world last ran none = tt
+unsent_quiet code (event ∷ events) world last ran none = λ next step.
+    subst (λ w. HandsNoToken event world w × RunsQuietly code w events)
+    (one_step code world ran.0 next event ran.1 step) (
+      hands_none event world ran.0 (none_before code (event ∷ events) world last ran none)
+          (none_before code events ran.0 last ran.2 none),
+      unsent_quiet code events ran.0 last ran.2 none,
+    )
 
 -- ---- the law
 
@@ -159,19 +191,13 @@ module _ (laws : AreLaws) (split : Split) (labelled : Labelled) (needs : NeedsSh
     is : IsLawful (threat_in split) world
     is = lawful (threat_in split) hosts.hosts bad store it.events world exposed it.reach
 
-    opens : (field : FieldId) (to : HostId) → IsFieldOn split.code field to → misbehaves world to ≡ true →
-        FieldIsAffected split.exposure field
-    opens =
-        subst (λ t. AreBad t world → (field : FieldId) (to : HostId) → IsFieldOn t.code field to →
-        misbehaves world to ≡ true → FieldIsAffected t.exposure field) (sym same)
-        (field_open labelled needs hosts plan split.table bad world allowed held) is.bad
-
     turn_own : (host : HostId) (holder : Holder) → OwnsRunning holder host → StandsBy split c it.view holder world →
         IsTurnStep split.code world host after → tokens_sent after ≡ tokens_sent world →
         Goes split c after ⊎ Stalls split c host after
     turn_own host (runs other thread) own stands turns kept =
         holder_moves split hosts.hosts bad store it.events world after host thread c it.view exposed it.reach
-        code_numbers store_numbers it.said turns kept opens
+        code_numbers store_numbers it.said turns kept
+        (field_on_bad split labelled needs hosts plan bad world same allowed held is.bad)
         (subst (λ h. StandsBy split c it.view (runs h thread) world) (sym own) stands)
     turn_own host (asked other w m) own stands turns kept = absurd own
     turn_own host (answered other w m) own stands turns kept = absurd own

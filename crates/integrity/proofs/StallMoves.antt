@@ -29,7 +29,16 @@ use Rattle.typed_steps.specs.Variables.{AreSent, Sends}
 use Rattle.typed_steps.specs.Views.{Split, View, values_set, with_out}
 use Rattle.integrity.specs.Exposed.{bad_labels}
 use Rattle.integrity.specs.Holding.{runs}
-use Rattle.integrity.specs.Standing.{IsFor, StandsBy, Goes, Stalls, waits, waits_behind}
+use Rattle.integrity.specs.Outside.{Threat, threat_of}
+use Rattle.host_decl.specs.Hosts.{HostsShape}
+use Rattle.need_labels.specs.Labelled.{Labelled}
+use Rattle.need_labels.specs.Needs.{NeedsShape}
+use Rattle.need_labels.specs.Plan.{PlanShape}
+use Rattle.split_rules.specs.Allowed.{IsAllowed}
+use Rattle.split_rules.specs.Held.{IsHeld}
+use Rattle.integrity.proofs.HeldFields.{field_on_bad}
+use Rattle.integrity.proofs.TightLaws.{lawful}
+use Rattle.integrity.specs.Standing.{threat_in, IsFor, StandsBy, Goes, Stalls, waits, waits_behind}
 use Rattle.integrity.proofs.Elsewhere.{holds_elsewhere, holds_sent, holds_result_sent}
 use Rattle.integrity.proofs.HolderLaws.{HolderTurn, turn_of, holder_turned}
 use Rattle.integrity.proofs.TurnMoves.{never_more}
@@ -130,7 +139,7 @@ module _ (split : Split) (c : Configuration) (view : View) (host : HostId) (thre
 
 -- ---- the law
 
-pub holder_stalls : (split : Split) (rows : List declared_hosts.HostShape) (bad : ℕ) (store : List (List ℤ))
+holder_stalls : (split : Split) (rows : List declared_hosts.HostShape) (bad : ℕ) (store : List (List ℤ))
     (events : List Event) (world after : WorldShape) (host : HostId) (thread : ThreadShape) (c : Configuration)
     (view : View) (to : HostId) (m : Message) → split.exposure.bad ≡ bad_labels bad 0 rows →
     IsReached split.code rows bad store events world → CodeHasNumbers split.code → RowsHaveNumbers store →
@@ -145,6 +154,24 @@ holder_stalls split rows bad store events world after host thread c view to m sa
     stands in
     stalls_by split c view host thread world after to m
     (telling split c view host thread world after to m step turn stands misbehaving told) none opens turn.turned
+
+pub holder_sends : (split : Split) (labelled : Labelled) (needs : NeedsShape) (hosts : HostsShape) (plan : PlanShape)
+    (bad : ℕ) (store : List (List ℤ)) (events : List Event) (world after : WorldShape) (host : HostId)
+    (thread : ThreadShape) (c : Configuration) (view : View) (to : HostId) (m : Message) →
+    threat_in split ≡ threat_of labelled needs hosts plan split.table bad → IsAllowed labelled needs hosts plan →
+    IsHeld labelled needs hosts plan → IsReached split.code hosts.hosts bad store events world →
+    CodeHasNumbers split.code → RowsHaveNumbers store → All EventHasNumbers events →
+    IsTurnStep split.code world host after → misbehaves world to ≡ true →
+    after.sent ≡ world.sent ++ (host, to, m) ∷ [] → token_in m ≡ None →
+    StandsBy split c view (runs host thread) world → Stalls split c host after
+holder_sends split labelled needs hosts plan bad store events world after host thread c view to m same allowed held
+    reach code_numbers store_numbers said step misbehaving told none stands =
+    let exposed = ap (λ (t : Threat). t.exposure.bad) same in
+    let is = lawful (threat_in split) hosts.hosts bad store events world exposed reach in
+    holder_stalls split hosts.hosts bad store events world after host thread c view to m exposed reach code_numbers
+    store_numbers said step misbehaving told none
+    (λ field on. field_on_bad split labelled needs hosts plan bad world same allowed held is.bad field to on misbehaving)
+    stands
 
 -- ---- a turn tells a misbehaving host something, or nothing
 
