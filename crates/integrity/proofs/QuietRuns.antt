@@ -1,5 +1,6 @@
--- Where no turn hands a misbehaving host a token, the hosts follow an altered run, whatever those hosts send.
-use Rattle.std.proofs.Common.{◌≡◌, ◌∙◌, ◌⊎◌, inl, inr, ℕ, zero, suc, ℤ, List, [], ◌∷◌, ◌++◌, take}
+-- Where no turn hands a misbehaving host a new token of an obeying one, the hosts follow an altered run, whatever those
+-- hosts send.
+use Rattle.std.proofs.Common.{true, ◌≡◌, ◌∙◌, ◌⊎◌, inl, inr, ℕ, zero, suc, ℤ, List, [], ◌∷◌, ◌++◌, take}
 use Rattle.std.proofs.Common.{Some, refl, sym, ap, subst, arith}
 use Rattle.std.specs.Prelude.{slice_get, slice_index, All, IsSomeAnd}
 use Rattle.std.proofs.lemmas.List.Elements.{All-push, All-nil, All-take}
@@ -17,11 +18,14 @@ use Rattle.event_text.specs.declared.event.Event.{Event}
 use Rattle.event_text.specs.declared.event.Event.TheVariants.{Take, Turn, Act}
 use Rattle.event_text.specs.declared.event.BadMessage.{BadMessage}
 use Rattle.net_world.specs.Fits.{HasOwnToken}
-use Rattle.net_world.specs.World.{WorldShape, IsStep, IsRun, IsTurnStep, IsActStep}
+use Rattle.net_world.specs.World.{WorldShape, IsStep, IsRun, IsTurnStep, IsActStep, misbehaves}
 use Rattle.net_world.specs.World.{state_at, tokens_sent, world_at_start}
-use Rattle.net_world.proofs.StepLaws.{one_step, told_more}
+use Rattle.net_world.proofs.StepLaws.{one_step, told_more, same_misbehave}
+use Rattle.capability.specs.declared.token.Token.{Token}
+use Rattle.token_laws.specs.Holders.{IsSent}
+use Rattle.std.specs.Prelude.{Contains}
 use Rattle.net_world.specs.Told.{SentMessage, token_in, tokens_in}
-use Rattle.std.proofs.lemmas.List.Elements.{filter_map-append}
+use Rattle.std.proofs.lemmas.List.Elements.{filter_map-append, Contains-append_left}
 use Rattle.token_laws.specs.Numbers.{CodeHasNumbers, RowsHaveNumbers, EventHasNumbers, MessageHasNumbers}
 use Rattle.token_laws.specs.Reached.{IsReached}
 use Rattle.token_laws.proofs.Walks.{one_more}
@@ -32,7 +36,7 @@ use Rattle.need_labels.specs.Plan.{PlanShape}
 use Rattle.split_rules.specs.Allowed.{IsAllowed}
 use Rattle.split_rules.specs.Splittable.{IsSplittable}
 use Rattle.typed_steps.specs.Views.{Split, View}
-use Rattle.integrity.specs.Altering.{StandsFor, FollowsAltered, HandsNoToken, RunsQuietly}
+use Rattle.integrity.specs.Altering.{StandsFor, FollowsAltered, HandsNoNewToken, RunsQuietly}
 use Rattle.integrity.specs.Exposed.{bad_labels}
 use Rattle.integrity.specs.Holding.{Holder, runs, asked, answered, stuck, passes, lost, halted, IsOwn}
 use Rattle.integrity.specs.Holding.{OwnsRunning, OwnsMessage}
@@ -67,7 +71,7 @@ pub record QuietStep (code : CodeShape) (start world : WorldShape) (event : Even
   pub step : IsStep code world event after
   pub own : HasOwnToken start event
   pub numbers : EventHasNumbers event
-  pub quiet : HandsNoToken event world after
+  pub quiet : HandsNoNewToken event world after
 
 -- the fields and the end of a configuration
 halted_ends : (split : Split) (c : Configuration) (view : View) (holder : Holder) → Does split c view holder →
@@ -95,37 +99,42 @@ quiet_front code [] (suc moment) world quiet = tt
 quiet_front code (event ∷ events) (suc moment) world quiet =
     λ next step. let it = quiet next step in (it.0, quiet_front code events moment next it.1)
 
--- ---- misbehaving hosts were sent no token
+-- ---- misbehaving hosts were sent no token but their own
 
-hands_none : (event : Event) (world after : WorldShape) → tokens_sent world ≡ [] → tokens_sent after ≡ [] →
-    HandsNoToken event world after
-hands_none (Turn host) world after before none = none ∙ sym before
-hands_none (Take from to place) world after before none = tt
-hands_none (Act from to made) world after before none = tt
+bad_on : (code : CodeShape) (events : List Event) (world last : WorldShape) → IsRun code world events last →
+    (host : HostId) → misbehaves last host ≡ misbehaves world host
+bad_on code [] world last ran host = ap (λ w. misbehaves w host) (sym ran)
+bad_on code (event ∷ events) world last ran host =
+    bad_on code events ran.0 last ran.2 host ∙ same_misbehave code world ran.0 event host ran.1
 
-front_none : {X : Type 0} (xs ys : List X) → xs ++ ys ≡ [] → xs ≡ []
-front_none [] ys none = refl
-front_none (x ∷ xs) ys none = absurd (cc)
-
-none_before : (code : CodeShape) (events : List Event) (world last : WorldShape) → IsRun code world events last →
-    tokens_sent last ≡ [] → tokens_sent world ≡ []
-none_before code [] world last ran none = ap tokens_sent ran ∙ none
-none_before code (event ∷ events) world last ran none =
+-- what they were sent they were sent later too
+sent_on : (code : CodeShape) (events : List Event) (world last : WorldShape) → IsRun code world events last →
+    (token : Token) → IsSent world token → IsSent last token
+sent_on code [] world last ran token sent = subst (λ w. IsSent w token) ran sent
+sent_on code (event ∷ events) world last ran token sent =
     let more = told_more code world ran.0 event ran.1 in
-    front_none (tokens_sent world) (tokens_in more.0)
+    sent_on code events ran.0 last ran.2 token
+    (subst (λ list. Contains list token)
     (sym (filter_map-append (λ (letter : SentMessage). token_in letter.2) world.sent more.0)
-    ∙ ap tokens_in (sym more.1) ∙ none_before code events ran.0 last ran.2 none)
+    ∙ ap tokens_in (sym more.1)) (Contains-append_left (tokens_sent world) (tokens_in more.0) token sent))
+
+hands_theirs : (event : Event) (world after : WorldShape) →
+    ((token : Token) → IsSent after token → misbehaves world token.host ≡ true) → HandsNoNewToken event world after
+hands_theirs (Turn host) world after theirs = λ token sent. inr (theirs token sent)
+hands_theirs (Take from to place) world after theirs = tt
+hands_theirs (Act from to made) world after theirs = tt
 
 -- so no turn has handed one over
 pub unsent_quiet : (code : CodeShape) (events : List Event) (world last : WorldShape) → IsRun code world events last →
-    tokens_sent last ≡ [] → RunsQuietly code world events
-unsent_quiet code [] world last ran none = tt
-unsent_quiet code (event ∷ events) world last ran none = λ next step.
-    subst (λ w. HandsNoToken event world w × RunsQuietly code w events)
+    ((token : Token) → IsSent last token → misbehaves last token.host ≡ true) → RunsQuietly code world events
+unsent_quiet code [] world last ran theirs = tt
+unsent_quiet code (event ∷ events) world last ran theirs = λ next step.
+    subst (λ w. HandsNoNewToken event world w × RunsQuietly code w events)
     (one_step code world ran.0 next event ran.1 step) (
-      hands_none event world ran.0 (none_before code (event ∷ events) world last ran none)
-          (none_before code events ran.0 last ran.2 none),
-      unsent_quiet code events ran.0 last ran.2 none,
+      hands_theirs event world ran.0 (λ token sent.
+          sym (bad_on code (event ∷ events) world last ran token.host)
+          ∙ theirs token (sent_on code events ran.0 last ran.2 token sent)),
+      unsent_quiet code events ran.0 last ran.2 theirs,
     )
 
 -- ---- the law
@@ -192,7 +201,7 @@ module _ (laws : AreLaws) (split : Split) (labelled : Labelled) (needs : NeedsSh
     is = lawful (threat_in split) hosts.hosts bad store it.events world exposed it.reach
 
     turn_own : (host : HostId) (holder : Holder) → OwnsRunning holder host → StandsBy split c it.view holder world →
-        IsTurnStep split.code world host after → tokens_sent after ≡ tokens_sent world →
+        IsTurnStep split.code world host after → HandsNoNewToken (Turn host) world after →
         Goes split c after ⊎ Stalls split c host after
     turn_own host (runs other thread) own stands turns kept =
         holder_moves split hosts.hosts bad store it.events world after host thread c it.view exposed it.reach

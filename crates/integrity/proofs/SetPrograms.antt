@@ -1,5 +1,5 @@
 -- The law along events for programs with a plan, whose code has what it needs.
-use Rattle.std.proofs.Common.{◌≡◌, ℕ, ℤ, List, [], Some, refl}
+use Rattle.std.proofs.Common.{◌≡◌, ℕ, ℤ, true, List, Some, refl}
 use Rattle.std.specs.Prelude.{All}
 use Rattle.host_decl.specs.Hosts.{HostsShape}
 use Rattle.jif_tree.specs.declared.program.Program.{Program}
@@ -8,7 +8,9 @@ use Rattle.need_labels.specs.Needs.{NeedsShape}
 use Rattle.need_labels.specs.Plan.{PlanShape}
 use Rattle.host_core.specs.Host.{HostShape}
 use Rattle.event_text.specs.declared.event.Event.{Event}
-use Rattle.net_world.specs.World.{WorldShape, state_at, tokens_sent, world_at_start}
+use Rattle.net_world.specs.World.{WorldShape, state_at, misbehaves, world_at_start}
+use Rattle.token_laws.specs.Holders.{IsSent}
+use Rattle.capability.specs.declared.token.Token.{Token}
 use Rattle.split_rules.specs.SplitCode.{split_code}
 use Rattle.token_laws.specs.Numbers.{CodeHasNumbers, RowsHaveNumbers, EventHasNumbers}
 use Rattle.token_laws.specs.Reached.{IsReached}
@@ -49,11 +51,12 @@ pub follows_unsent : AreSplitLaws → (program : Program) (labelled : Labelled) 
     RowsHaveNumbers store → IsReached (split_code labelled needs hosts plan) hosts.hosts bad store events world →
     All EventHasNumbers events →
     state_at (world_at_start (split_code labelled needs hosts plan) hosts.hosts bad store)
-    (split_code labelled needs hosts plan).root ≡ Some state → tokens_sent world ≡ [] →
+    (split_code labelled needs hosts plan).root ≡ Some state →
+    ((token : Token) → IsSent world token → misbehaves world token.host ≡ true) →
     FollowsAltered program (exposure_of labelled needs hosts bad) (split_code labelled needs hosts plan) hosts.hosts bad
     store events
 follows_unsent laws program labelled needs hosts plan bad store events world state set code_numbers store_numbers reach
-    said obeys none =
+    said obeys theirs =
     let code = split_code labelled needs hosts plan in
     follows_set laws program labelled needs hosts plan bad store events world state set code_numbers store_numbers reach
-    said obeys (unsent_quiet code events (world_at_start code hosts.hosts bad store) world reach.ran none)
+    said obeys (unsent_quiet code events (world_at_start code hosts.hosts bad store) world reach.ran theirs)

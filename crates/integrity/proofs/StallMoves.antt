@@ -1,6 +1,19 @@
 -- A turn of the holder's thread that sends a misbehaving host a message without a token: the thread waits for that host.
-use Rattle.std.proofs.Common.{◌≡◌, ◌∙◌, ◌⊎◌, inl, inr, ℕ, ℤ, Bool, true, false, List, [], ◌∷◌, ◌++◌, Option, Some, None}
+use Rattle.std.proofs.Common.{◌≡◌, ◌∙◌, ◌⊎◌, inl, inr, ℕ, ℤ, Bool, true, false, List, [], ◌∷◌, ◌++◌, Some, None}
 use Rattle.std.proofs.Common.{refl, sym, ap, subst}
+use Rattle.std.specs.Prelude.{Contains}
+use Rattle.std.specs.List.{AllByRecursion}
+use Rattle.std.proofs.lemmas.List.Elements.{Contains-push}
+use Rattle.ics_stack.specs.declared.stack.StackEntry.{StackEntry}
+use Rattle.ics_stack.specs.Stack.{top_token}
+use Rattle.event_text.specs.declared.event.Event.TheVariants.{Turn}
+use Rattle.net_world.specs.World.{state_at}
+use Rattle.net_world.proofs.Fitting.{bad_differs}
+use Rattle.token_laws.specs.Holders.{IsSent}
+use Rattle.typed_steps.specs.Views.{entries_of}
+use Rattle.integrity.specs.Altering.{HandsNoNewToken}
+use Rattle.integrity.specs.Holding.{IsAmong, IsStanding}
+use Rattle.integrity.proofs.Among.{one_of_some}
 use Rattle.std.specs.Prelude.{All}
 use Rattle.js_base.specs.declared.ids.FieldId.{FieldId}
 use Rattle.js_base.specs.declared.ids.HostId.{HostId}
@@ -41,12 +54,11 @@ use Rattle.integrity.proofs.TightLaws.{lawful}
 use Rattle.integrity.specs.Standing.{threat_in, IsFor, StandsBy, Goes, Stalls, waits, waits_behind}
 use Rattle.integrity.proofs.Elsewhere.{holds_elsewhere, holds_sent, holds_result_sent}
 use Rattle.integrity.proofs.HolderLaws.{HolderTurn, turn_of, holder_turned}
-use Rattle.integrity.proofs.TurnMoves.{never_more}
 use Rattle.integrity.proofs.TellMoves.{Telling, telling, sent_is, silent_never, waits_for}
 
 module _ (split : Split) (c : Configuration) (view : View) (host : HostId) (thread : ThreadShape)
     (world after : WorldShape) (to : HostId) (m : Message) (t : Telling split c view host thread world after to m)
-    (none : token_in m ≡ None)
+    (fresh : (token : Token) → token_in m ≡ Some token → top_token (entries_of view.chain) ≡ Some token → ⊥)
     (opens : (field : FieldId) → IsFieldOn split.code field to → FieldIsAffected split.exposure field) where
   abbrev Asked : ThreadShape → Awaited → Type 0
   Asked next awaited =
@@ -82,7 +94,7 @@ module _ (split : Split) (c : Configuration) (view : View) (host : HostId) (thre
       holds_sent split c view asks.8 later to x asks.7 holds bad asks.9)
       (subst (IsFor split c seen host w) (sym asks.0) asks.10))
   asked_stalls next awaited is (message.Sync request frame entry token) same asks =
-      absurd (let never : token_in (message.Sync request frame entry token) ≡ None = ap token_in same ∙ none in cc)
+      absurd (fresh token (ap token_in (sym same)) asks.4)
   asked_stalls next awaited is (message.Rgoto frame entry token) same asks = absurd asks
   asked_stalls next awaited is (message.Lgoto token) same asks = absurd asks
   asked_stalls next awaited is (message.Value request value) same asks = absurd asks
@@ -107,9 +119,6 @@ module _ (split : Split) (c : Configuration) (view : View) (host : HostId) (thre
       result.store result.calls)
       (subst (λ keeper. IsFor split result.now (seen keeper) host w acknowledgement) same result.at))
 
-  with_token : (said : Message) → said ≡ m → (token_in said ≡ None → ⊥) → ⊥
-  with_token said same has = has (ap token_in same ∙ none)
-
   pub stalls_by : turns.Turned split c view world host t.step.state thread t.step.outcome → Stalls split c host after
   stalls_by (turns.runs_on g) = absurd (silent_never split c view host thread world after to m t _ g.is)
   stalls_by (turns.steps now does g) = absurd (silent_never split c view host thread world after to m t _ g.is)
@@ -131,10 +140,10 @@ module _ (split : Split) (c : Configuration) (view : View) (host : HostId) (thre
       (subst (λ x. with_message (new g.to) g.to x ≡ t.step.outcome) same.1 g.is))
   stalls_by (turns.hands h) =
       let same = sent_is split c view host thread world after to m t _ _ _ h.is in
-      absurd (with_token (message.Rgoto h.frame h.entry h.token) same.1 (λ is. cc))
+      absurd (fresh h.token (ap token_in (sym same.1)) h.top)
   stalls_by (turns.returns r) =
       let same = sent_is split c view host thread world after to m t _ _ _ r.is in
-      absurd (with_token (message.Lgoto r.token) same.1 (λ is. cc))
+      absurd (fresh r.token (ap token_in (sym same.1)) r.top)
   stalls_by (turns.ends e) = absurd (silent_never split c view host thread world after to m t _ e.is)
 
 -- ---- the law
@@ -144,16 +153,17 @@ holder_stalls : (split : Split) (rows : List declared_hosts.HostShape) (bad : �
     (view : View) (to : HostId) (m : Message) → split.exposure.bad ≡ bad_labels bad 0 rows →
     IsReached split.code rows bad store events world → CodeHasNumbers split.code → RowsHaveNumbers store →
     All EventHasNumbers events → IsTurnStep split.code world host after → misbehaves world to ≡ true →
-    after.sent ≡ world.sent ++ (host, to, m) ∷ [] → token_in m ≡ None →
+    after.sent ≡ world.sent ++ (host, to, m) ∷ [] →
+    ((token : Token) → token_in m ≡ Some token → top_token (entries_of view.chain) ≡ Some token → ⊥) →
     ((field : FieldId) → IsFieldOn split.code field to → FieldIsAffected split.exposure field) →
     StandsBy split c view (runs host thread) world → Stalls split c host after
 holder_stalls split rows bad store events world after host thread c view to m same reach code_numbers store_numbers said
-    step misbehaving told none opens stands =
+    step misbehaving told fresh opens stands =
     let turn =
     turn_of split rows bad store events world after host thread c view same reach code_numbers store_numbers said step
     stands in
     stalls_by split c view host thread world after to m
-    (telling split c view host thread world after to m step turn stands misbehaving told) none opens turn.turned
+    (telling split c view host thread world after to m step turn stands misbehaving told) fresh opens turn.turned
 
 pub holder_sends : (split : Split) (labelled : Labelled) (needs : NeedsShape) (hosts : HostsShape) (plan : PlanShape)
     (bad : ℕ) (store : List (List ℤ)) (events : List Event) (world after : WorldShape) (host : HostId)
@@ -169,7 +179,8 @@ holder_sends split labelled needs hosts plan bad store events world after host t
     let exposed = ap (λ (t : Threat). t.exposure.bad) same in
     let is = lawful (threat_in split) hosts.hosts bad store events world exposed reach in
     holder_stalls split hosts.hosts bad store events world after host thread c view to m exposed reach code_numbers
-    store_numbers said step misbehaving told none
+    store_numbers said step misbehaving told
+    (λ token has top. absurd (let never : None ≡ Some token = sym none ∙ has in cc))
     (λ field on. field_on_bad split labelled needs hosts plan bad world same allowed held is.bad field to on misbehaving)
     stands
 
@@ -216,16 +227,25 @@ module _ (split : Split) (c : Configuration) (view : View) (host : HostId) (thre
   tells (turns.returns r) = told_there _ _ _ r.is
   tells (turns.ends e) = silent_there _ e.is
 
-none_more : (tokens : List Token) (more : Option Token) → tokens ++ token_list more ≡ tokens → more ≡ None
-none_more tokens None same = refl
-none_more tokens (Some token) same = absurd (never_more tokens token same)
+-- misbehaving hosts were not sent the token of the first entry, and it is none of theirs
+top_stands : (world : WorldShape) (list : List StackEntry) (token : Token) → AllByRecursion (IsStanding world) list →
+    top_token list ≡ Some token → IsSent world token ⊎ (misbehaves world token.host ≡ true) → ⊥
+top_stands world [] token standing top either = absurd (cc)
+top_stands world (e ∷ list) token standing top either =
+    let same : e.token ≡ token = cc in
+    let at = one_of_some (state_at world e.token.host) (λ state. IsAmong state.entries e) standing.0.there in
+    elim either [
+      | inl sent ↦ standing.0.unsent (subst (IsSent world) (sym same) sent)
+      | inr bad ↦
+          bad_differs world token.host e.token.host at.one bad at.is (ap (λ (t : Token). t.host) (sym same))
+    ]
 
--- a turn that hands no token over
+-- a turn that hands over no new token of an obeying host
 pub holder_moves : (split : Split) (rows : List declared_hosts.HostShape) (bad : ℕ) (store : List (List ℤ))
     (events : List Event) (world after : WorldShape) (host : HostId) (thread : ThreadShape) (c : Configuration)
     (view : View) → split.exposure.bad ≡ bad_labels bad 0 rows →
     IsReached split.code rows bad store events world → CodeHasNumbers split.code → RowsHaveNumbers store →
-    All EventHasNumbers events → IsTurnStep split.code world host after → tokens_sent after ≡ tokens_sent world →
+    All EventHasNumbers events → IsTurnStep split.code world host after → HandsNoNewToken (Turn host) world after →
     ((field : FieldId) (to : HostId) → IsFieldOn split.code field to → misbehaves world to ≡ true →
     FieldIsAffected split.exposure field) → StandsBy split c view (runs host thread) world →
     Goes split c after ⊎ Stalls split c host after
@@ -241,7 +261,10 @@ holder_moves split rows bad store events world after host thread c view same rea
       | inr one ↦
           inr (holder_stalls split rows bad store events world after host thread c view one.to one.m same reach
           code_numbers store_numbers said step one.bad one.told
-          (none_more (tokens_sent world) (token_in one.m)
-          (sym (tokens_more world.sent host one.to one.m) ∙ ap tokens_in (sym one.told) ∙ kept))
+          (λ token has top.
+          top_stands world (entries_of view.chain) token stands.tight.standing top
+          (kept token (subst (λ list. Contains list token)
+          (sym (ap tokens_in one.told ∙ tokens_more world.sent host one.to one.m
+          ∙ ap (λ o. tokens_sent world ++ token_list o) has)) (Contains-push (tokens_sent world) token))))
           (λ field on. opens field one.to on one.bad) stands)
     ]

@@ -21,6 +21,7 @@ ghost use Rattle.host_code.specs.Code.{halt};
 ghost use Rattle.host_code.specs.Sound.{IsSoundCode};
 ghost use Rattle.host_code.specs.Thread.{ThreadShape, WaitingShape};
 ghost use Rattle.host_core.specs.Host.{HostShape};
+ghost use Rattle.capability.specs.declared.token.Token.{Token};
 ghost use Rattle.ics_stack.specs.declared.stack.StackEntry.{StackEntry};
 ghost use Rattle.event_text.specs.declared.event.Event.{Event};
 ghost use Rattle.event_text.specs.declared.event.Event.TheVariants.{Act, Take, Turn};
@@ -37,12 +38,13 @@ ghost use Rattle.split_rules.specs.Worked.{field_id, var_id, statement_id};
 ghost use Rattle.split_rules.specs.SplitCode.{split_code};
 ghost use Rattle.split_rules.specs.Splittable.{IsSplittable};
 ghost use Rattle.split_rules.specs.TypedCode.{Table, IsTypedCode};
+ghost use Rattle.token_laws.specs.Holders.{IsSent};
 ghost use Rattle.token_laws.specs.Numbers.{CodeHasNumbers, RowsHaveNumbers, EventHasNumbers, MessageHasNumbers};
 ghost use Rattle.token_laws.specs.Reached.{IsReached};
 ghost use Rattle.typed_steps.specs.Views.{Split, View};
 ghost use Rattle.simulation.specs.Obeying.{IsSet};
 ghost use Rattle.token_laws.specs.TokenExamples.{bad_start, first_token, given, handing, host_id, small, start};
-ghost use Rattle.integrity.specs.Altering.{StandsFor, FollowsAltered, HandsNoToken, RunsQuietly};
+ghost use Rattle.integrity.specs.Altering.{StandsFor, FollowsAltered, HandsNoNewToken, RunsQuietly};
 ghost use Rattle.integrity.specs.Exposed.{AreAsBefore, FieldsStand, bad_labels, exposure_of};
 ghost use Rattle.integrity.specs.Holding.{AreLinked, Holder, runs, lost, IsOwn, IsOutsideBut, IsStanding, IsTight};
 ghost use Rattle.integrity.specs.Holding.{stuck, StartsTight};
@@ -202,10 +204,10 @@ pub fn standing_laws()
     opening_laws();
 }
 
-/// Where the root obeys and no turn hands a misbehaving host a token, the hosts follow an altered run of the program,
-/// whatever else misbehaving hosts are told, and whatever they send and are answered: at every moment each field on an
-/// obeying host, which no misbehaving host may affect, has the value of one configuration of it, and once the root has
-/// halted that is at its end.
+/// Where the root obeys and no turn hands a misbehaving host a token of an obeying host that such hosts were not sent
+/// before, the hosts follow an altered run of the program, whatever else misbehaving hosts are told, and whatever they
+/// send and are answered: at every moment each field on an obeying host, which no misbehaving host may affect, has the
+/// value of one configuration of it, and once the root has halted that is at its end.
 pub fn quiet_laws()
     ensures follows { (program : Program) (labelled : Labelled) (needs : NeedsShape) (hosts : HostsShape)
         (plan : PlanShape) (bad : ℕ) (store : List (List ℤ)) (events : List Event) (world : WorldShape)
@@ -216,14 +218,15 @@ pub fn quiet_laws()
         IsReached code hosts.hosts bad store events world → All EventHasNumbers events →
         state_at start code.root ≡ Some state → RunsQuietly code start events →
         FollowsAltered program (exposure_of labelled needs hosts bad) code hosts.hosts bad store events }
-    // So they do where misbehaving hosts were sent no token before the end of the events.
+    // So they do where misbehaving hosts were sent no token but their own before the end of the events.
     ensures unsent { (program : Program) (labelled : Labelled) (needs : NeedsShape) (hosts : HostsShape)
         (plan : PlanShape) (bad : ℕ) (store : List (List ℤ)) (events : List Event) (world : WorldShape)
         (state : HostShape) →
         let code = split_code labelled needs hosts plan in
         IsSet program labelled needs hosts plan → CodeHasNumbers code → RowsHaveNumbers store →
         IsReached code hosts.hosts bad store events world → All EventHasNumbers events →
-        state_at (world_at_start code hosts.hosts bad store) code.root ≡ Some state → tokens_sent world ≡ [] →
+        state_at (world_at_start code hosts.hosts bad store) code.root ≡ Some state →
+        ((token : Token) → IsSent world token → misbehaves world token.host ≡ true) →
         FollowsAltered program (exposure_of labelled needs hosts bad) code hosts.hosts bad store events }
 {
     split_laws();
@@ -294,13 +297,17 @@ pub fn chain_examples()
     ensures other_turn { (thread : ThreadShape) → ¬ IsOwn (runs (host_id 0) thread) start (Turn (host_id 1)) }
     // Each entry of a chain keeps the token of the next.
     ensures unlinked { (one next : StackEntry) → one.kept ≢ next.token → ¬ AreLinked (one ∷ next ∷ []) }
-    // A turn that pushes an entry hands misbehaving hosts no token. One that hands control over to such a host does.
+    // A turn that pushes an entry hands misbehaving hosts no token. One that hands control over to such a host hands it
+    // a new one.
     ensures quiet { RunsQuietly small start (Turn (host_id 0) ∷ []) }
     ensures told { ¬ RunsQuietly handing bad_start (Turn (host_id 0) ∷ []) }
-    // Whatever else a turn sends such a host, it hands it no token.
+    // One that sends such a host a message without a token, or with one of theirs, does not.
     ensures tokenless { (world after : WorldShape) (host to : HostId) (sent : Message) →
         after.sent ≡ world.sent ++ (host, to, sent) ∷ [] → token_in sent ≡ None →
-        HandsNoToken (Turn host) world after }
+        HandsNoNewToken (Turn host) world after }
+    ensures theirs { (world after : WorldShape) (host to : HostId) (sent : Message) (token : Token) →
+        after.sent ≡ world.sent ++ (host, to, sent) ∷ [] → token_in sent ≡ Some token →
+        misbehaves world token.host ≡ true → HandsNoNewToken (Turn host) world after }
     // Where the root has halted, no thread is the holder.
     ensures halted_denied { (split : Split) (c : Configuration) (view : View) (host : HostId) (thread : ThreadShape)
         (world : WorldShape) → has_halted split.code.root world → ¬ StandsBy split c view (runs host thread) world }

@@ -28,5 +28,8 @@ returns-clause-told c = example.told c.token_examples.ensures.hands_over c.token
 pub returns-clause-tokenless : goal.returns-clause-tokenless
 returns-clause-tokenless c = example.tokenless
 
+pub returns-clause-theirs : goal.returns-clause-theirs
+returns-clause-theirs c = example.theirs
+
 pub returns-clause-halted_denied : goal.returns-clause-halted_denied
 returns-clause-halted_denied c = example.halted_denied
