@@ -1,6 +1,6 @@
 -- Chains and their holders in small worlds, as they are computed.
-use Rattle.std.proofs.Common.{◌≡◌, ◌≢◌, ◌∙◌, inl, inr, ℕ, zero, suc, true, false, Option, List, [], ◌∷◌, ◌++◌, Some, None, refl, sym, ap, subst, arith}
-use Rattle.std.proofs.Common.{append-nil}
+use Rattle.std.proofs.Common.{◌≡◌, ◌≢◌, ◌∙◌, inl, inr, ℕ, zero, suc, true, false, Option, List, [], ◌∷◌, ◌++◌, Some}
+use Rattle.std.proofs.Common.{None, refl, sym, ap, subst, arith, append-nil}
 use Rattle.std.specs.Prelude.{Contains}
 use Rattle.std.proofs.lemmas.List.Elements.{Contains-append_cases}
 use Rattle.js_base.specs.declared.ids.HostId.{HostId}
@@ -8,17 +8,17 @@ use Rattle.jif_tree.specs.Altered.{Exposure}
 use Rattle.jif_tree.specs.SourceRun.{Configuration}
 use Rattle.capability.specs.declared.token.Token.{Token}
 use Rattle.ics_stack.specs.declared.stack.StackEntry.{StackEntry}
-use Rattle.msg_cost.specs.Moves.{PlannedShape}
 use Rattle.host_code.specs.Code.{halt}
 use Rattle.host_code.specs.Thread.{ThreadShape}
+use Rattle.host_code.specs.declared.message.Message.{Message}
 use Rattle.host_core.specs.Start.{main_frame}
 use Rattle.event_text.specs.declared.event.Event.TheVariants.{Turn}
+use Rattle.msg_cost.specs.Moves.{PlannedShape}
+use Rattle.split_rules.specs.TypedCode.{Table}
 use Rattle.net_world.specs.World.{WorldShape, IsRun, has_halted, misbehaves, tokens_sent}
 use Rattle.net_world.specs.Told.{token_in, token_list, tokens_in}
 use Rattle.net_world.proofs.StepLaws.{one_step}
 use Rattle.net_world.proofs.ToldTokens.{tokens_more}
-use Rattle.host_code.specs.declared.message.Message.{Message}
-use Rattle.split_rules.specs.TypedCode.{Table}
 use Rattle.token_laws.specs.Holders.{HoldsAt, running_on, IsSent}
 use Rattle.token_laws.specs.TokenExamples.{host_id, small, start, first_token, pushed, handing, bad_start, given}
 use Rattle.typed_steps.specs.Views.{Split, View}

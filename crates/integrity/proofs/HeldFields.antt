@@ -1,6 +1,6 @@
 -- Where each field stands on a host that may hold it, one that stands on a misbehaving host may be affected.
-use Rattle.std.proofs.Common.{◌≡◌, ◌∙◌, ℕ, zero, suc, ◌+◌, true, List, [], ◌∷◌, length, Option, Some, None}
-use Rattle.std.proofs.Common.{refl, sym, ap, subst, arith}
+use Rattle.std.proofs.Common.{◌≡◌, ◌∙◌, ℕ, zero, suc, ◌+◌, true, List, [], ◌∷◌, length, Option, Some, None, refl, sym}
+use Rattle.std.proofs.Common.{ap, subst, arith}
 use Rattle.std.specs.Prelude.{slice_get, unwrap_or, Any}
 use Rattle.std.specs.List.{range_with_len, zip}
 use Rattle.std.specs.Option.{IsSomeAnd, option_map}
@@ -20,7 +20,6 @@ use Rattle.need_labels.specs.Labelled.{Labelled}
 use Rattle.need_labels.specs.Needs.{NeedsShape}
 use Rattle.need_labels.specs.Plan.{PlanShape, field_host, first_host}
 use Rattle.msg_cost.specs.Moves.{planned_of}
-use Rattle.net_world.specs.World.{WorldShape, misbehaves}
 use Rattle.split_rules.specs.Allowed.{IsAllowed}
 use Rattle.split_rules.specs.Held.{HoldsField, IsHeld}
 use Rattle.split_rules.specs.SplitCode.{placed_code_fields, code_labels, split_code}
@@ -28,11 +27,12 @@ use Rattle.split_rules.specs.TypedCode.{Table}
 use Rattle.split_rules.specs.Walk.{program_emissions}
 use Rattle.split_rules.proofs.AllowedTyping.{zipped_there}
 use Rattle.split_rules.proofs.SeenPrograms.{zip_at}
+use Rattle.net_world.specs.World.{WorldShape, misbehaves}
 use Rattle.typed_steps.specs.Requests.{IsFieldOn}
+use Rattle.typed_steps.specs.Views.{Split}
 use Rattle.typed_steps.proofs.Calls.{there_within}
 use Rattle.integrity.specs.Outside.{Threat, threat_of}
 use Rattle.integrity.specs.Standing.{threat_in}
-use Rattle.typed_steps.specs.Views.{Split}
 use Rattle.integrity.proofs.OpenSteps.{any_each}
 use Rattle.integrity.proofs.OpenWorlds.{AreBad}
 

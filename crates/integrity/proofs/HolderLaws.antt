@@ -8,11 +8,12 @@ use Rattle.jif_tree.specs.Store.{row_of}
 use Rattle.host_code.specs.Thread.{ThreadShape}
 use Rattle.host_core.specs.Host.{HostShape}
 use Rattle.host_core.specs.Turn.{label_of_turn}
-use Rattle.net_world.specs.Fits.{ShapeFits}
 use Rattle.event_text.specs.declared.event.Event.{Event}
 use Rattle.event_text.specs.declared.event.Event.TheVariants.{Turn}
+use Rattle.net_world.specs.Fits.{ShapeFits}
 use Rattle.net_world.specs.World.{WorldShape, IsTurnStep, state_at}
-use Rattle.token_laws.specs.Numbers.{CodeHasNumbers, RowsHaveNumbers, EventHasNumbers, StateHasNumbers, WorldHasNumbers}
+use Rattle.token_laws.specs.Numbers.{CodeHasNumbers, RowsHaveNumbers, EventHasNumbers, StateHasNumbers}
+use Rattle.token_laws.specs.Numbers.{WorldHasNumbers}
 use Rattle.token_laws.specs.Reached.{IsReached}
 use Rattle.token_laws.proofs.ValueNumbers.{row_fits, element_fits}
 use Rattle.token_laws.proofs.Walks.{fits_there, one_more}

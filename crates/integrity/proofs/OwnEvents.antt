@@ -1,26 +1,23 @@
 -- An event is the holder's, or it is not.
-use Rattle.std.proofs.Common.{◌≡◌, ◌∙◌, ◌⊎◌, inl, inr, ℕ}
-use Rattle.std.proofs.Common.{true, Some, None, Option, refl, sym, ap, subst}
+use Rattle.std.proofs.Common.{◌≡◌, ◌∙◌, ◌⊎◌, inl, inr, ℕ, true, Some, None, Option, refl, sym, ap, subst}
 use Rattle.std.specs.Prelude.{slice_get, IsSomeAnd}
 use Rattle.std.proofs.lemmas.Bool.Decides.{eqb_tells}
 use Rattle.js_base.specs.declared.ids.HostId.{HostId}
 use Rattle.js_base.specs.declared.ids.RequestId.{RequestId}
-use Rattle.host_code.specs.declared.message.Message.{Message}
 use Rattle.jif_tree.specs.SourceRun.{Configuration}
+use Rattle.host_code.specs.declared.message.Message.{Message}
 use Rattle.event_text.specs.declared.event.Event.TheVariants.{Take, Turn, Act}
 use Rattle.event_text.specs.declared.event.BadMessage.{BadMessage}
 use Rattle.net_world.specs.Flying.{Flight}
 use Rattle.net_world.specs.Told.{message_made}
-use Rattle.net_world.specs.World.{WorldShape}
-use Rattle.net_world.specs.World.{state_at, misbehaves, tokens_sent}
+use Rattle.net_world.specs.World.{WorldShape, state_at, misbehaves, tokens_sent}
 use Rattle.net_world.proofs.Fitting.{bad_differs}
 use Rattle.net_world.proofs.Present.{same_id}
 use Rattle.token_laws.specs.Requests.{number_asked, number_answered}
 use Rattle.token_laws.proofs.AskedLaws.{ends_obey}
 use Rattle.token_laws.proofs.HeldLaws.{has_state}
 use Rattle.typed_steps.specs.Views.{Split, View}
-use Rattle.integrity.specs.Holding.{Holder, runs, asked, answered, stuck, passes, lost, halted, IsOwn}
-use Rattle.integrity.specs.Holding.{OwnsMessage}
+use Rattle.integrity.specs.Holding.{Holder, runs, asked, answered, stuck, passes, lost, halted, IsOwn, OwnsMessage}
 use Rattle.integrity.specs.Standing.{threat_in, IsFree, StandsBy}
 use Rattle.integrity.proofs.Among.{one_of_some, some_of}
 use Rattle.integrity.proofs.TakeLaws.{IsOnly, state_of, asked_only, answered_only, passes_only}
@@ -107,8 +104,8 @@ module _ (split : Split) (c : Configuration) (view : View) (world : WorldShape) 
         (own_there (answered host w m) world w.asked host flies.flight flies.among.0 flies.among.1 (refl, refl, number))
         (answered_only split world is host w m state.0 state.1 flies.among.0 flies.flight flies.among.1 number)
     decide_take (stuck host w) stands from to k = inr (λ own.
-        let at = one_of_some (slice_get (world.flying from to) k) (λ f. OwnsMessage (stuck host w) from to f.message) own
-        in
+        let at =
+        one_of_some (slice_get (world.flying from to) k) (λ f. OwnsMessage (stuck host w) from to f.message) own in
         let ends = ends_obey split.code world from to k at.one is.fits is.asked at.is in
         let state = has_state (state_at world from) ends.0 in
         bad_differs world w.asked from state.0 stands.tight.there.1 state.1 (sym at.has.0))

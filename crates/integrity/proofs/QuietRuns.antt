@@ -1,45 +1,43 @@
 -- Where no turn hands a misbehaving host a new token of an obeying one, the hosts follow an altered run, whatever those
 -- hosts send.
-use Rattle.std.proofs.Common.{true, ◌≡◌, ◌∙◌, ◌⊎◌, inl, inr, ℕ, zero, suc, ℤ, List, [], ◌∷◌, ◌++◌, take}
-use Rattle.std.proofs.Common.{Some, refl, sym, ap, subst, arith}
-use Rattle.std.specs.Prelude.{slice_get, slice_index, All, IsSomeAnd}
-use Rattle.std.proofs.lemmas.List.Elements.{All-push, All-nil, All-take}
+use Rattle.std.proofs.Common.{true, ◌≡◌, ◌∙◌, ◌⊎◌, inl, inr, ℕ, zero, suc, ℤ, List, [], ◌∷◌, ◌++◌, take, Some, refl}
+use Rattle.std.proofs.Common.{sym, ap, subst, arith}
+use Rattle.std.specs.Prelude.{slice_get, slice_index, All, IsSomeAnd, Contains}
+use Rattle.std.proofs.lemmas.List.Elements.{All-push, All-nil, All-take, filter_map-append, Contains-append_left}
 use Rattle.js_base.specs.declared.ids.HostId.{HostId}
-use Rattle.host_code.specs.Thread.{WaitingShape}
-use Rattle.split_rules.specs.Held.{IsHeld}
 use Rattle.host_decl.specs.Hosts as declared_hosts
+use Rattle.host_decl.specs.Hosts.{HostsShape}
 use Rattle.jif_tree.specs.Altered as altering
 use Rattle.jif_tree.specs.Altered.{MayStep, FieldIsAffected}
 use Rattle.jif_tree.specs.SourceRun.{Configuration, IsAtEnd, configuration_at_start}
 use Rattle.jif_tree.proofs.AlteredTracks as tracks
-use Rattle.host_core.specs.Host.{HostShape}
+use Rattle.capability.specs.declared.token.Token.{Token}
+use Rattle.host_code.specs.Thread.{WaitingShape}
 use Rattle.host_code.specs.Code.{CodeShape}
+use Rattle.host_core.specs.Host.{HostShape}
 use Rattle.event_text.specs.declared.event.Event.{Event}
 use Rattle.event_text.specs.declared.event.Event.TheVariants.{Take, Turn, Act}
 use Rattle.event_text.specs.declared.event.BadMessage.{BadMessage}
-use Rattle.net_world.specs.Fits.{HasOwnToken}
-use Rattle.net_world.specs.World.{WorldShape, IsStep, IsRun, IsTurnStep, IsActStep, misbehaves}
-use Rattle.net_world.specs.World.{state_at, tokens_sent, world_at_start}
-use Rattle.net_world.proofs.StepLaws.{one_step, told_more, same_misbehave}
-use Rattle.capability.specs.declared.token.Token.{Token}
-use Rattle.token_laws.specs.Holders.{IsSent}
-use Rattle.std.specs.Prelude.{Contains}
-use Rattle.net_world.specs.Told.{SentMessage, token_in, tokens_in}
-use Rattle.std.proofs.lemmas.List.Elements.{filter_map-append, Contains-append_left}
-use Rattle.token_laws.specs.Numbers.{CodeHasNumbers, RowsHaveNumbers, EventHasNumbers, MessageHasNumbers}
-use Rattle.token_laws.specs.Reached.{IsReached}
-use Rattle.token_laws.proofs.Walks.{one_more}
-use Rattle.host_decl.specs.Hosts.{HostsShape}
 use Rattle.need_labels.specs.Labelled.{Labelled}
 use Rattle.need_labels.specs.Needs.{NeedsShape}
 use Rattle.need_labels.specs.Plan.{PlanShape}
+use Rattle.split_rules.specs.Held.{IsHeld}
 use Rattle.split_rules.specs.Allowed.{IsAllowed}
 use Rattle.split_rules.specs.Splittable.{IsSplittable}
+use Rattle.net_world.specs.Fits.{HasOwnToken}
+use Rattle.net_world.specs.World.{WorldShape, IsStep, IsRun, IsTurnStep, IsActStep, misbehaves, state_at, tokens_sent}
+use Rattle.net_world.specs.World.{world_at_start}
+use Rattle.net_world.specs.Told.{SentMessage, token_in, tokens_in}
+use Rattle.net_world.proofs.StepLaws.{one_step, told_more, same_misbehave}
+use Rattle.token_laws.specs.Holders.{IsSent}
+use Rattle.token_laws.specs.Numbers.{CodeHasNumbers, RowsHaveNumbers, EventHasNumbers, MessageHasNumbers}
+use Rattle.token_laws.specs.Reached.{IsReached}
+use Rattle.token_laws.proofs.Walks.{one_more}
 use Rattle.typed_steps.specs.Views.{Split, View}
 use Rattle.integrity.specs.Altering.{StandsFor, FollowsAltered, HandsNoNewToken, RunsQuietly}
 use Rattle.integrity.specs.Exposed.{bad_labels}
-use Rattle.integrity.specs.Holding.{Holder, runs, asked, answered, stuck, passes, lost, halted, IsOwn}
-use Rattle.integrity.specs.Holding.{OwnsRunning, OwnsMessage}
+use Rattle.integrity.specs.Holding.{Holder, runs, asked, answered, stuck, passes, lost, halted, IsOwn, OwnsRunning}
+use Rattle.integrity.specs.Holding.{OwnsMessage}
 use Rattle.integrity.specs.Outside.{Threat, threat_of}
 use Rattle.integrity.specs.Standing as standing
 use Rattle.integrity.specs.Standing.{threat_in, IsFree, StandsBy, Goes, Stalls, Does}

@@ -3,15 +3,15 @@ use Rattle.std.proofs.Common.{◌≡◌, ℕ, ℤ, true, List, Some, refl}
 use Rattle.std.specs.Prelude.{All}
 use Rattle.host_decl.specs.Hosts.{HostsShape}
 use Rattle.jif_tree.specs.declared.program.Program.{Program}
+use Rattle.capability.specs.declared.token.Token.{Token}
+use Rattle.host_core.specs.Host.{HostShape}
+use Rattle.event_text.specs.declared.event.Event.{Event}
 use Rattle.need_labels.specs.Labelled.{Labelled}
 use Rattle.need_labels.specs.Needs.{NeedsShape}
 use Rattle.need_labels.specs.Plan.{PlanShape}
-use Rattle.host_core.specs.Host.{HostShape}
-use Rattle.event_text.specs.declared.event.Event.{Event}
+use Rattle.split_rules.specs.SplitCode.{split_code}
 use Rattle.net_world.specs.World.{WorldShape, state_at, misbehaves, world_at_start}
 use Rattle.token_laws.specs.Holders.{IsSent}
-use Rattle.capability.specs.declared.token.Token.{Token}
-use Rattle.split_rules.specs.SplitCode.{split_code}
 use Rattle.token_laws.specs.Numbers.{CodeHasNumbers, RowsHaveNumbers, EventHasNumbers}
 use Rattle.token_laws.specs.Reached.{IsReached}
 use Rattle.simulation.specs.Obeying.{IsSet}

@@ -1,60 +1,57 @@
--- A turn of the holder's thread that sends a misbehaving host a message without a token: the thread waits for that host.
-use Rattle.std.proofs.Common.{◌≡◌, ◌∙◌, ◌⊎◌, inl, inr, ℕ, ℤ, Bool, true, false, List, [], ◌∷◌, ◌++◌, Some, None}
-use Rattle.std.proofs.Common.{refl, sym, ap, subst}
-use Rattle.std.specs.Prelude.{Contains}
+-- A turn of the holder's thread that sends a misbehaving host a message without the token of the first entry: the
+-- thread waits for that host.
+use Rattle.std.proofs.Common.{◌≡◌, ◌∙◌, ◌⊎◌, inl, inr, ℕ, ℤ, Bool, true, false, List, [], ◌∷◌, ◌++◌, Some, None, refl}
+use Rattle.std.proofs.Common.{sym, ap, subst}
+use Rattle.std.specs.Prelude.{Contains, All}
 use Rattle.std.specs.List.{AllByRecursion}
 use Rattle.std.proofs.lemmas.List.Elements.{Contains-push}
-use Rattle.ics_stack.specs.declared.stack.StackEntry.{StackEntry}
-use Rattle.ics_stack.specs.Stack.{top_token}
-use Rattle.event_text.specs.declared.event.Event.TheVariants.{Turn}
-use Rattle.net_world.specs.World.{state_at}
-use Rattle.net_world.proofs.Fitting.{bad_differs}
-use Rattle.token_laws.specs.Holders.{IsSent}
-use Rattle.typed_steps.specs.Views.{entries_of}
-use Rattle.integrity.specs.Altering.{HandsNoNewToken}
-use Rattle.integrity.specs.Holding.{IsAmong, IsStanding}
-use Rattle.integrity.proofs.Among.{one_of_some}
-use Rattle.std.specs.Prelude.{All}
 use Rattle.js_base.specs.declared.ids.FieldId.{FieldId}
 use Rattle.js_base.specs.declared.ids.HostId.{HostId}
 use Rattle.host_decl.specs.Hosts as declared_hosts
+use Rattle.host_decl.specs.Hosts.{HostsShape}
 use Rattle.jif_tree.specs.Altered.{FieldIsAffected}
 use Rattle.jif_tree.specs.SourceRun.{Configuration}
 use Rattle.jif_tree.specs.Store.{row_of, element_at}
+use Rattle.capability.specs.declared.token.Token.{Token}
+use Rattle.ics_stack.specs.declared.stack.StackEntry.{StackEntry}
+use Rattle.ics_stack.specs.Stack.{top_token}
 use Rattle.host_code.specs.declared.message.Message.{Message}
 use Rattle.host_code.specs.declared.message.Message.TheVariants as message
 use Rattle.host_code.specs.Thread.{ThreadShape, Awaited}
 use Rattle.host_code.specs.Thread.Awaited.{acknowledgement}
 use Rattle.host_core.specs.Host.{HostShape, with_message, without_message, with_running, after_asking}
-use Rattle.event_text.specs.declared.event.Event.{Event}
-use Rattle.capability.specs.declared.token.Token.{Token}
 use Rattle.host_core.specs.Turn.{label_of_turn}
-use Rattle.net_world.specs.Told.{token_in, token_list, tokens_in}
-use Rattle.net_world.proofs.Moved.{moved_told, moved_posted, silent_sent}
-use Rattle.net_world.proofs.ToldTokens.{tokens_more}
-use Rattle.net_world.specs.World.{WorldShape, IsTurnStep, misbehaves, tokens_sent}
-use Rattle.token_laws.specs.Numbers.{CodeHasNumbers, RowsHaveNumbers, EventHasNumbers}
-use Rattle.token_laws.specs.Reached.{IsReached}
-use Rattle.typed_steps.specs.Requests.{IsFieldOn, IsRequest}
-use Rattle.typed_steps.specs.Turns as turns
-use Rattle.typed_steps.specs.Turns.{waiting_for}
-use Rattle.typed_steps.specs.Variables.{AreSent, Sends}
-use Rattle.typed_steps.specs.Views.{Split, View, values_set, with_out}
-use Rattle.integrity.specs.Exposed.{bad_labels}
-use Rattle.integrity.specs.Holding.{runs}
-use Rattle.integrity.specs.Outside.{Threat, threat_of}
-use Rattle.host_decl.specs.Hosts.{HostsShape}
+use Rattle.event_text.specs.declared.event.Event.TheVariants.{Turn}
+use Rattle.event_text.specs.declared.event.Event.{Event}
 use Rattle.need_labels.specs.Labelled.{Labelled}
 use Rattle.need_labels.specs.Needs.{NeedsShape}
 use Rattle.need_labels.specs.Plan.{PlanShape}
 use Rattle.split_rules.specs.Allowed.{IsAllowed}
 use Rattle.split_rules.specs.Held.{IsHeld}
+use Rattle.net_world.specs.World.{state_at, WorldShape, IsTurnStep, misbehaves, tokens_sent}
+use Rattle.net_world.specs.Told.{token_in, token_list, tokens_in}
+use Rattle.net_world.proofs.Fitting.{bad_differs}
+use Rattle.net_world.proofs.Moved.{moved_told, moved_posted, silent_sent}
+use Rattle.net_world.proofs.ToldTokens.{tokens_more}
+use Rattle.token_laws.specs.Holders.{IsSent}
+use Rattle.token_laws.specs.Numbers.{CodeHasNumbers, RowsHaveNumbers, EventHasNumbers}
+use Rattle.token_laws.specs.Reached.{IsReached}
+use Rattle.typed_steps.specs.Views.{entries_of, Split, View, values_set, with_out}
+use Rattle.typed_steps.specs.Requests.{IsFieldOn, IsRequest}
+use Rattle.typed_steps.specs.Turns as turns
+use Rattle.typed_steps.specs.Turns.{waiting_for}
+use Rattle.typed_steps.specs.Variables.{AreSent, Sends}
+use Rattle.integrity.specs.Altering.{HandsNoNewToken}
+use Rattle.integrity.specs.Holding.{IsAmong, IsStanding, runs}
+use Rattle.integrity.specs.Exposed.{bad_labels}
+use Rattle.integrity.specs.Outside.{Threat, threat_of}
+use Rattle.integrity.specs.Standing.{threat_in, IsFor, StandsBy, Goes, Stalls, waits, waits_behind}
+use Rattle.integrity.proofs.Among.{one_of_some}
 use Rattle.integrity.proofs.HeldFields.{field_on_bad}
 use Rattle.integrity.proofs.TightLaws.{lawful}
-use Rattle.integrity.specs.Standing.{threat_in, IsFor, StandsBy, Goes, Stalls, waits, waits_behind}
-use Rattle.integrity.proofs.Elsewhere.{holds_elsewhere, holds_sent, holds_result_sent}
+use Rattle.integrity.proofs.Elsewhere.{holds_sent, holds_result_sent}
 use Rattle.integrity.proofs.HolderLaws.{HolderTurn, turn_of, holder_turned}
-use Rattle.integrity.proofs.TellMoves.{Telling, telling, sent_is, silent_never, waits_for}
+use Rattle.integrity.proofs.TellMoves.{Telling, telling, sent_is, silent_never, waits_for, sets_there}
 
 module _ (split : Split) (c : Configuration) (view : View) (host : HostId) (thread : ThreadShape)
     (world after : WorldShape) (to : HostId) (m : Message) (t : Telling split c view host thread world after to m)
@@ -76,13 +73,10 @@ module _ (split : Split) (c : Configuration) (view : View) (host : HostId) (thre
       (subst (IsFor split c view host w) (sym asks.0)
       (λ value number. asks.4 value (inr (opens field asks.3, number)))))
   asked_stalls next awaited is (message.Set request field index value) same asks =
-      let w = waiting_for t.step.state thread.at next awaited to in
-      let sets = asks.4 in
-      waits_behind sets.now view w sets.does
-      (waits_for split c view host thread world after to m t view next awaited is refl t.stands.does.0 sets.at.held
-      t.sends sets.now (λ later holds bad.
-      holds_elsewhere split c sets.now view later field to index value holds asks.3 bad sets.store sets.calls
-      sets.plainly) (subst (IsFor split sets.now view host w) (sym asks.0) sets.at))
+      let sets =
+      sets_there split c view host thread world after to m t request field index value (sym same) next awaited is asks
+      in
+      waits_behind sets.now view sets.waiting sets.does sets.stands
   asked_stalls next awaited is (message.Forward request frame x value) same asks =
       let w = waiting_for t.step.state thread.at next awaited to in
       let seen = with_out view asks.8 in
@@ -181,8 +175,8 @@ holder_sends split labelled needs hosts plan bad store events world after host t
     holder_stalls split hosts.hosts bad store events world after host thread c view to m exposed reach code_numbers
     store_numbers said step misbehaving told
     (λ token has top. absurd (let never : None ≡ Some token = sym none ∙ has in cc))
-    (λ field on. field_on_bad split labelled needs hosts plan bad world same allowed held is.bad field to on misbehaving)
-    stands
+    (λ field on.
+    field_on_bad split labelled needs hosts plan bad world same allowed held is.bad field to on misbehaving) stands
 
 -- ---- a turn tells a misbehaving host something, or nothing
 

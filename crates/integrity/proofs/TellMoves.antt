@@ -1,41 +1,44 @@
 -- A turn of the holder's thread that sets a field of a misbehaving host: the step is made at once, and the thread waits
 -- for that host.
-use Rattle.std.proofs.Common.{◌≡◌, ◌∙◌, ◌⊎◌, inl, inr, ℕ, ℤ, Bool, true, false, List, [], ◌∷◌, ◌++◌}
-use Rattle.std.proofs.Common.{Some, None, refl, sym, ap, subst}
+use Rattle.std.proofs.Common.{◌≡◌, ◌∙◌, ◌⊎◌, inl, inr, ℕ, ℤ, Bool, true, false, List, [], ◌∷◌, ◌++◌, Some, None, refl}
+use Rattle.std.proofs.Common.{sym, ap, subst}
 use Rattle.std.specs.Prelude.{All}
 use Rattle.std.proofs.lemmas.List.Elements.{All-push}
 use Rattle.js_base.specs.declared.ids.FieldId.{FieldId}
 use Rattle.js_base.specs.declared.ids.HostId.{HostId}
+use Rattle.js_base.specs.declared.ids.RequestId.{RequestId}
+use Rattle.host_decl.specs.Hosts as declared_hosts
 use Rattle.jif_tree.specs.SourceRun.{Configuration}
+use Rattle.ics_stack.specs.declared.stack.StackEntry.{StackEntry}
+use Rattle.ics_stack.specs.Stack.{top_token}
 use Rattle.host_code.specs.declared.message.Message.{Message}
 use Rattle.host_code.specs.declared.message.Message.TheVariants as message
 use Rattle.host_code.specs.Thread.{ThreadShape, WaitingShape, Awaited}
-use Rattle.ics_stack.specs.declared.stack.StackEntry.{StackEntry}
-use Rattle.ics_stack.specs.Stack.{top_token}
 use Rattle.host_core.specs.Host.{HostShape, with_message, without_message, with_running, after_asking}
 use Rattle.host_core.specs.Turn.{label_of_turn}
+use Rattle.event_text.specs.declared.event.Event.{Event}
 use Rattle.net_world.specs.Fits.{ShapeFits}
 use Rattle.net_world.specs.Told.{SentMessage}
+use Rattle.net_world.specs.World.{WorldShape, IsTurnStep, state_at, misbehaves}
 use Rattle.net_world.proofs.Moved.{bad_moved, mover_state, moved_told, moved_posted, silent_sent}
+use Rattle.token_laws.specs.Numbers.{CodeHasNumbers, RowsHaveNumbers, EventHasNumbers}
+use Rattle.token_laws.specs.Reached.{IsReached}
 use Rattle.token_laws.proofs.EachFlight.{of_state}
 use Rattle.token_laws.proofs.WorldTokens.{Accounts}
 use Rattle.typed_steps.specs.Turns as turns
 use Rattle.typed_steps.specs.Turns.{waiting_for}
-use Rattle.js_base.specs.declared.ids.RequestId.{RequestId}
-use Rattle.host_decl.specs.Hosts as declared_hosts
-use Rattle.event_text.specs.declared.event.Event.{Event}
-use Rattle.token_laws.specs.Numbers.{CodeHasNumbers, RowsHaveNumbers, EventHasNumbers}
-use Rattle.token_laws.specs.Reached.{IsReached}
-use Rattle.integrity.specs.Exposed.{bad_labels}
-use Rattle.integrity.proofs.Elsewhere.{holds_elsewhere}
-use Rattle.integrity.proofs.HolderLaws.{HolderTurn, turn_of}
-use Rattle.typed_steps.specs.Variables.{Sends}
-use Rattle.typed_steps.specs.Views.{entries_of}
+use Rattle.typed_steps.specs.Variables.{Sends, Holds}
+use Rattle.typed_steps.specs.Views.{entries_of, Split, View}
+use Rattle.typed_steps.specs.Chains.{IsChain}
+use Rattle.typed_steps.specs.Requests.{IsRequest}
 use Rattle.typed_steps.proofs.HeldSteps.{holds_same}
-use Rattle.integrity.specs.Holding.{IsAmong, runs, stuck, halted, OwnsWaiting, OwnsMessage, StateIsOutside, IsStanding}
-use Rattle.integrity.specs.Holding.{IsTight}
+use Rattle.integrity.specs.Exposed.{bad_labels}
+use Rattle.integrity.specs.Holding.{IsAmong, runs, stuck, halted, OwnsWaiting, OwnsMessage, StateIsOutside}
+use Rattle.integrity.specs.Holding.{IsStanding, IsTight}
 use Rattle.integrity.specs.Outside.{ThreadIsOpen, MessageIsOpen}
 use Rattle.integrity.specs.Standing.{threat_in, IsFor, StandsBy, SetsThere}
+use Rattle.integrity.proofs.Elsewhere.{holds_elsewhere}
+use Rattle.integrity.proofs.HolderLaws.{HolderTurn, turn_of}
 use Rattle.integrity.proofs.Among.{each_among, some_of, last_at}
 use Rattle.integrity.proofs.FliesOn.{FlyAs}
 use Rattle.integrity.proofs.HolderStays.{on_some}
@@ -45,11 +48,6 @@ use Rattle.integrity.proofs.StandsOn.{halted_before}
 use Rattle.integrity.proofs.TightKept.{IsLawful}
 use Rattle.integrity.proofs.TightMoves.{tight_moved, all_as}
 use Rattle.integrity.proofs.TurnMoves.{never_more}
-use Rattle.net_world.specs.World.{WorldShape, IsTurnStep, state_at, misbehaves}
-use Rattle.typed_steps.specs.Variables.{Holds}
-use Rattle.typed_steps.specs.Chains.{IsChain}
-use Rattle.typed_steps.specs.Requests.{IsRequest}
-use Rattle.typed_steps.specs.Views.{Split, View}
 
 -- ---- the turn
 
@@ -185,7 +183,7 @@ module _ (split : Split) (c : Configuration) (view : View) (host : HostId) (thre
 module _ (split : Split) (c : Configuration) (view : View) (host : HostId) (thread : ThreadShape)
     (world after : WorldShape) (to : HostId) (m : Message) (t : Telling split c view host thread world after to m)
     (request : RequestId) (field : FieldId) (index value : ℤ) (is_set : m ≡ message.Set request field index value) where
-  sets_there : (next : ThreadShape) (awaited : Awaited) →
+  pub sets_there : (next : ThreadShape) (awaited : Awaited) →
       with_message (after_asking (with_running t.step.state None) thread.at next awaited to) to m ≡ t.step.outcome →
       IsRequest split c view host to (waiting_for t.step.state thread.at next awaited to)
       (message.Set request field index value) → SetsThere split c view host after
@@ -265,4 +263,5 @@ holder_told split rows bad store events world after host thread c view to reques
     turn_of split rows bad store events world after host thread c view same reach code_numbers store_numbers said step
     stands in
     told_by split c view host thread world after to m
-    (telling split c view host thread world after to m step turn stands misbehaving told) request field index value refl turn.turned
+    (telling split c view host thread world after to m step turn stands misbehaving told) request field index value refl
+    turn.turned

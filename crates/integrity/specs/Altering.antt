@@ -1,6 +1,7 @@
 -- What hosts that run the code of a split program promise together, though some misbehave: what those may not affect
 -- follows a run of the program that is altered as they may alter it.
-use Rattle.std.specs.Prelude.{◌≡◌, ◌⊎◌, true, ⊤, [], ◌∷◌, ℕ, ◌+◌, ◌≤◌, ℤ, List, length, take, IsSomeAnd, slice_get, slice_index}
+use Rattle.std.specs.Prelude.{◌≡◌, ◌⊎◌, true, ⊤, [], ◌∷◌, ℕ, ◌+◌, ◌≤◌, ℤ, List, length, take, IsSomeAnd, slice_get}
+use Rattle.std.specs.Prelude.{slice_index}
 use Rattle.std.specs.List.Sorted.{IsNonDecreasing}
 use Rattle.host_decl.specs.Hosts as declared_hosts
 use Rattle.jif_tree.specs.declared.program.Program.{Program}

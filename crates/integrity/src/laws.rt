@@ -179,7 +179,8 @@ pub fn standing_laws()
         after.sent ≡ world.sent ++ (host, to, message.Set request field index value) ∷ [] →
         StandsBy split c view (runs host thread) world → SetsThere split c view host after }
     // So the thread waits for a misbehaving host where its turn sends that anything but a token: a request for a field
-    // or to set one, a variable, or a result. To set a field and to give a result are steps, and are made at once.
+    // or to set one, a variable, or a result. The world stands for the same configuration, or for one that a step leads
+    // to.
     ensures stalled { (split : Split) (labelled : Labelled) (needs : NeedsShape) (hosts : HostsShape)
         (plan : PlanShape) (bad : ℕ) (store : List (List ℤ)) (events : List Event) (world after : WorldShape)
         (host : HostId) (thread : ThreadShape) (c : Configuration) (view : View) (to : HostId) (sent : Message) →
