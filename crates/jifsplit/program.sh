@@ -1,7 +1,12 @@
-# Where the proved program is built, and whether it is newer than all sources. `top` is the folder of the repository.
+# Where the proved programs are built, and whether they are newer than all sources. `top` is the folder of the repository.
 program=$top/crates/jifsplit/out/jifsplit
+node=$top/crates/jifhost/out/jifhost
+
+is_built() {
+  [ -x "$1" ] && [ -z "$(find "$top/crates" "$top/crates.txt" -name out -prune -o -type f \
+    \( -name '*.rt' -o -name '*.antt' -o -name crates.txt \) -newer "$1" -print -quit)" ]
+}
 
 is_current() {
-  [ -x "$program" ] && [ -z "$(find "$top/crates" "$top/crates.txt" -name out -prune -o -type f \
-    \( -name '*.rt' -o -name '*.antt' -o -name crates.txt \) -newer "$program" -print -quit)" ]
+  is_built "$program"
 }

@@ -169,7 +169,7 @@ parsed_once laws list (stopped verdict) (stopped other) one two =
 
 -- ---- hosts
 
-hosts_once : HostLaws → (bytes : List ℕ) → IsOne (HostsRead bytes)
+pub hosts_once : HostLaws → (bytes : List ℕ) → IsOne (HostsRead bytes)
 hosts_once laws bytes (given first) (given second) one two =
     ap (give {X = HostsShape}) (laws.one_meaning bytes first second one two)
 hosts_once laws bytes (given first) (stopped verdict) one two =

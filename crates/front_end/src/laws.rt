@@ -2,10 +2,11 @@
 
 ghost use Rattle.std.specs.Prelude.{◌≡◌, ◌<◌, ℕ, List};
 ghost use Rattle.js_base.specs.Counts.{last_count};
+ghost use Rattle.host_decl.specs.Hosts.{HostsShape};
 ghost use Rattle.front_end.specs.Verdicts.{VerdictShape};
 ghost use Rattle.front_end.specs.Loads.{FilesChange, IsFileFault};
 ghost use Rattle.front_end.specs.PlacedSources.{PlacedSource, PlacedSources};
-ghost use Rattle.front_end.specs.Sources.{Source, Sources};
+ghost use Rattle.front_end.specs.Sources.{HostsRead, Source, Sources};
 ghost use Rattle.front_end.specs.Stages.{Outcome};
 
 use host_decl::host_file_laws;
@@ -26,7 +27,11 @@ pub fn source_laws()
     // One of the two comes of all bytes.
     ensures some_source { (program hosts : List ℕ) → (end : Outcome Source) × Sources program hosts end }
 
-    // Its parts get one row of places, or the first that no host may hold is named.
+    // A host file alone says one row of hosts, or is refused for one cause.
+    ensures one_hosts { (bytes : List ℕ) (first second : Outcome HostsShape) →
+        HostsRead bytes first → HostsRead bytes second → first ≡ second }
+
+    // The parts of a program get one row of places, or the first that no host may hold is named.
     ensures one_plan { (program hosts : List ℕ) (first second : Outcome PlacedSource) →
         PlacedSources program hosts first → PlacedSources program hosts second → first ≡ second }
 

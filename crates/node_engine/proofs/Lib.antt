@@ -1,8 +1,10 @@
 pub mod Askings
 pub mod Breaking
 pub mod Closing
+pub mod Complete
 pub mod NodeAnswers
 pub mod NodeStages
+pub mod OneNode
 pub mod OneUnit
 pub mod Rows
 pub mod Served

@@ -22,7 +22,7 @@ use Rattle.node_engine.specs.NodeSources.{NodeStart, NodeStarts, node_start}
 use Rattle.node_engine.specs.NodeWorlds.{NodeWorld}
 use Rattle.node_engine.specs.Nodes.{IsNodeDue, IsStatusOf, IsUnbegun, OptionsAnswer, most_of, name_of}
 use Rattle.node_engine.specs.Options.{Asked}
-use Rattle.node_engine.specs.Serving.{status_of}
+use Rattle.node_engine.specs.Serving.{IsServed, status_of}
 use Rattle.node_engine.specs.Told.{Outside, Told}
 
 -- ---- files that were loaded
@@ -84,6 +84,11 @@ pub unbegun : (error : NodeError) → IsUnbegun (status_of error)
 unbegun node_error.OutOfMemory = tt
 unbegun node_error.LinkFault = tt
 unbegun node_error.OutFault = tt
+
+pub error_served : (error : NodeError) → IsServed (status_of error)
+error_served node_error.OutOfMemory = tt
+error_served node_error.LinkFault = tt
+error_served node_error.OutFault = tt
 
 -- the host as it starts is the one that serves
 pub told_at_start : (world : NodeWorld) (host first : HostShape) (old mid : Outside) → host ≡ first → mid ≡ old →

@@ -1,6 +1,6 @@
 -- What a node begins with: the code of all hosts, the hosts of a host file, and starting values. The code comes from a
 -- program, which is placed on the hosts, or from a split file.
-use Rattle.std.specs.Prelude.{◌≡◌, ◌≢◌, ◌⊎◌, ℕ, ◌<◌, ◌≤◌, ℤ, List, [], length, map, Some, Ok, Err, All, slice_get}
+use Rattle.std.specs.Prelude.{◌≡◌, ◌≢◌, ◌⊎◌, ℕ, ◌<◌, ◌≤◌, ℤ, List, [], length, map, Some, Ok, Err, All, slice_get, take}
 use Rattle.js_base.specs.declared.ids.HostId.{HostId}
 use Rattle.js_base.specs.declared.limits.TheConstants.{SPLIT_FILE_BYTES}
 use Rattle.js_base.specs.declared.status.Status.TheVariants.{InputRefused}
@@ -69,9 +69,11 @@ FromCode code hosts file start =
 
 -- ---- the node's host
 
--- the place of the row of this name, which no two rows have
+-- the number of the first row of this name
 abbrev pub IsNamed : HostsShape → List ℕ → HostId → Type 0
-IsNamed hosts name me = (row : HostShape) × (slice_get hosts.hosts me.0 ≡ Some row) × (row.name ≡ name)
+IsNamed hosts name me =
+    (row : HostShape) × (slice_get hosts.hosts me.0 ≡ Some row) × (row.name ≡ name)
+    × All (λ other. other.name ≢ name) (take me.0 hosts.hosts)
 
 -- the hosts of a code are those of a host file, with their names and labels
 abbrev pub named_host : HostShape → CodeHostShape

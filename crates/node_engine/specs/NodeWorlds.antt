@@ -39,9 +39,9 @@ do_all (part ∷ parts) world = do_all parts (do_part part world)
 
 -- ---- parts that break
 
--- This error breaks the part, and leaves this world. A link fault comes only at a taking, where nothing was taken, or at
--- a send, where the frame was sent or not; an output fault only at a line, of which a front was put. Want of memory may
--- come at each part but the hearing, which wants none, and leaves no more than these; after it a step was not made.
+-- This error breaks the part, and leaves this world. A link fault comes only at a taking, where nothing was taken, or
+-- at a send, where the frame was sent or not; an output fault only at a line, of which a front was put. Want of memory
+-- may come at each part but the hearing, which wants none, and leaves no more than these; after it a step was not made.
 abbrev pub Breaks : NodeError → Part → NodeWorld → NodeWorld → Type 0
 Breaks OutOfMemory Taking world new = new ≡ world
 Breaks OutOfMemory (Step host) world new = new ≡ world

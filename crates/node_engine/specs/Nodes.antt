@@ -1,5 +1,5 @@
 -- A node from its words and files to its end: what is due, and what is left of links and journal.
-use Rattle.std.specs.Prelude.{◌≡◌, ◌⊎◌, ⊤, ℕ, false, List, [], ◌∷◌, Some, slice_get}
+use Rattle.std.specs.Prelude.{◌≡◌, ◌⊎◌, ⊤, ℕ, false, List, [], ◌∷◌, Option, Some, slice_get}
 use Rattle.js_base.specs.declared.limits.TheConstants.{PROGRAM_BYTES, SPLIT_FILE_BYTES}
 use Rattle.js_base.specs.declared.ids.HostId.{HostId}
 use Rattle.js_base.specs.declared.status.Status.{Status}
@@ -17,7 +17,7 @@ use Rattle.front_end.specs.Verdicts.{VerdictShape, Refuse, Print, verdict_shape}
 use Rattle.node_engine.specs.NodeSources.{NodeStart, NodeStarts}
 use Rattle.node_engine.specs.NodeWorlds.{NodeWorld}
 use Rattle.node_engine.specs.Options.{Asked, IsAsked, SourceName, Program, Code}
-use Rattle.node_engine.specs.Serving.{Serves}
+use Rattle.node_engine.specs.Serving.{IsServed, Serves}
 use Rattle.node_engine.specs.Told.{Outside, Told, TellsOf}
 
 -- ---- files
@@ -83,10 +83,12 @@ IsUnbegun _ = ⊥
 abbrev pub Runs : CodeShape → HostId → ℕ → Status → NodeWorld → NodeWorld → Type 0
 Runs code me turns answer world new = (IsUnbegun answer × (new ≡ world)) ⊎ Serves code me turns answer world new
 
--- Where links and journal tell what they gave and took: from the host as it starts, with the key of its row.
+-- It ends as a node does that has begun; and where links and journal tell what they gave and took, it ran from the host
+-- as it starts, with the key of its row.
 pub record RunsNode (turns : ℕ) (node : NodeStart) (answer : Status) (old new : Outside) : Type 0 where
   pub row : declared_hosts.HostShape
   pub row_is : slice_get node.source.hosts.hosts node.me.0 ≡ Some row
+  pub served : IsServed answer
   pub runs : (world : NodeWorld) →
       Told world (host_at_start node.source.code node.source.values row.key node.me) old → world.ended ≡ false →
       (later : HostShape) × TellsOf (Runs node.source.code node.me turns answer world) later new
@@ -107,3 +109,22 @@ NodeAnswer words files answer old new =
     ((answer ≡ status.NoMemory) × (new ≡ old))
     ⊎ ((answer ≡ status.Usage) × ((asked : Asked) → ¬ IsAsked words asked) × (new ≡ old))
     ⊎ ((asked : Asked) × IsAsked words asked × OptionsAnswer asked files answer old new)
+
+-- ---- files that are accepted
+
+-- what the files of a node hold gives this node
+pub record HoldsNode (asked : Asked) (holds : List ℕ → Option (List ℕ)) (node : NodeStart) : Type 0 where
+  pub source : List ℕ
+  pub hosts : List ℕ
+  pub start : List ℕ
+  pub source_is : holds (name_of asked.source) ≡ Some source
+  pub hosts_is : holds asked.hosts ≡ Some hosts
+  pub start_is : holds asked.start ≡ Some start
+  pub starts : NodeStarts asked source hosts start (given node)
+
+-- with these a node ends where nothing outside fails
+abbrev pub IsEnded : Status → Type 0
+IsEnded status.Done = ⊤
+IsEnded status.Spent = ⊤
+IsEnded status.NoMemory = ⊤
+IsEnded _ = ⊥

@@ -1,6 +1,11 @@
 //! Laws of what a node does.
 
-ghost use Rattle.std.specs.Prelude.{◌≡◌, ◌∷◌, ◌++◌, [], ℕ, List, codes};
+ghost use Rattle.std.specs.Prelude.{◌≡◌, ◌∷◌, ◌++◌, [], ℕ, List, Option, Some, codes};
+ghost use Rattle.front_end.specs.Loads.{FilesChange};
+ghost use Rattle.front_end.specs.Stages.{Outcome};
+ghost use Rattle.node_engine.specs.NodeSources.{NodeStart, NodeStarts};
+ghost use Rattle.node_engine.specs.Nodes.{LoadedNode};
+ghost use Rattle.node_engine.specs.Options.{Asked};
 ghost use Rattle.js_base.specs.declared.text.TheConstants.{LINE_FEED};
 ghost use Rattle.js_base.specs.declared.ids.HostId.{HostId};
 ghost use Rattle.host_code.specs.Code.{CodeShape};
@@ -15,6 +20,7 @@ ghost use Rattle.node_engine.specs.NodeWorlds.{NodeWorld, Part, Taking, Line, Se
 ghost use Rattle.node_engine.specs.Serving.{closing_from};
 ghost use Rattle.node_engine.specs.Units.{AreArrivalParts, AreTakingParts, AreUnitParts};
 
+use front_end::source_laws;
 use host_core::step_laws;
 use wire_msg::wire_laws;
 
@@ -51,4 +57,18 @@ pub fn unit_laws()
 {
     step_laws();
     wire_laws();
+}
+
+/// Laws of what a node begins with. The call does nothing.
+pub fn node_laws()
+    // What the files of a node hold gives one node, or is refused with one status.
+    ensures one_node { (asked : Asked) (source hosts start : List ℕ) (first second : Outcome NodeStart) →
+        NodeStarts asked source hosts start first → NodeStarts asked source hosts start second → first ≡ second }
+
+    // Two nodes that are due by what files hold are the same.
+    ensures one_loaded { (asked : Asked) (files : FilesChange) (holds : List ℕ → Option (List ℕ))
+        (first second : Outcome NodeStart) → files.held ≡ Some holds →
+        LoadedNode asked files first → LoadedNode asked files second → first ≡ second }
+{
+    source_laws();
 }

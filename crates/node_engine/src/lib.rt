@@ -14,7 +14,7 @@ mod serving;
 mod units;
 
 pub use arrivals::Arrival;
-pub use laws::unit_laws;
+pub use laws::{node_laws, unit_laws};
 pub use node::jifhost;
 pub use node_error::NodeError;
 pub use options::{OptionError, Options, SourceWord, option_laws, read_options};

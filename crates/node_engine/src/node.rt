@@ -1,23 +1,25 @@
 //! A node from its words and files to its end.
 
-ghost use Rattle.std.specs.Prelude.{◌≡◌, ◌≢◌, ◌≤◌, ◌+◌, ℕ, List, IfOk, IsErrOf, map, string_bytes};
-ghost use Rattle.js_base.specs.Counts.{Rose};
+ghost use Rattle.std.specs.Prelude.{◌≡◌, ◌≢◌, ◌<◌, ◌≤◌, ◌+◌, ℕ, List, Option, Some, IfOk, IsErrOf, map, string_bytes};
+ghost use Rattle.js_base.specs.Counts.{Rose, last_count};
 ghost use Rattle.js_base.specs.declared.limits.TheConstants.{HOSTS_BYTES, SCRIPT_BYTES};
 ghost use Rattle.front_end.specs.Loading.{EndsAs, IsLoaded};
 ghost use Rattle.front_end.specs.Loads.{AreKept, files_change};
+ghost use Rattle.node_engine.specs.NodeSources as sources;
 ghost use Rattle.node_engine.specs.NodeSources.{IsStarted, NodeSources, NodeStarts, node_source, node_start};
-ghost use Rattle.node_engine.specs.Nodes.{IsNodeDue, IsStatusOf, NodeAnswer, OptionsAnswer, RunsNode};
-ghost use Rattle.node_engine.specs.Nodes.{most_of, name_of, refusal_status};
-ghost use Rattle.node_engine.specs.Options.{asked_shape, source_name};
+ghost use Rattle.node_engine.specs.Nodes.{HoldsNode, IsEnded, IsNodeDue, IsStatusOf, NodeAnswer};
+ghost use Rattle.node_engine.specs.Nodes.{OptionsAnswer, RunsNode, most_of, name_of, refusal_status};
+ghost use Rattle.node_engine.specs.Options.{Asked, IsAsked, asked_shape, source_name};
 ghost use Rattle.node_engine.specs.Serving.{IsServed};
 ghost use Rattle.node_engine.specs.Told.{outside};
 
+use crate::laws::node_laws;
 use crate::node_error::NodeError;
 use crate::node_source::{NodeSource, code_source, program_source};
 use crate::node_start::{NodeStart, of_host};
-use crate::options::{OptionError, Options, SourceWord, read_options};
+use crate::options::{OptionError, Options, SourceWord, option_laws, read_options};
 use crate::serving::serve;
-use front_end::{Asked, Loaded, Stop, Verdict, load_all};
+use front_end::{Asked as File, Loaded, Stop, Verdict, load_all};
 use host_core::Host;
 use host_decl::HostRow;
 use js_base::limits::{HOSTS_BYTES, PROGRAM_BYTES, SCRIPT_BYTES, SPLIT_FILE_BYTES};
@@ -31,8 +33,8 @@ use std::alloc::Global;
 /// - `Usage`: the words ask for no node.
 /// - `SourceRefused`: the program is refused for its text, its names or its labels; or no host may hold some part of
 ///   it.
-/// - `InputRefused`: a file is absent; the host file, the split file or the file of starting values is refused; the host
-///   file has no host of the name; or the code is for other hosts.
+/// - `InputRefused`: a file is absent; the host file, the split file or the file of starting values is refused; the
+///   host file has no host of the name; or the code is for other hosts.
 /// - `FileFault`: a file could not be read.
 /// - `LinkFault`, `OutFault`: links or journal could not begin.
 /// - `NoMemory`: memory ran out.
@@ -49,9 +51,37 @@ pub fn jifhost<F: Files, L: Links, R: Journal>(
     // What is answered, sent and noted is what is due for the words and the files, and what serving leaves.
     ensures answer { NodeAnswer (map string_bytes words.now) (files_change F.Files files.old files.new) result
         (outside L.Links R.Sink links.old journal.old) (outside L.Links R.Sink links.new journal.new) }
+    // Where the files that the words name are accepted, and nothing outside counts a fault, it serves to an end.
+    ensures complete { (asked : Asked) (node : sources.NodeStart) (holds : List ℕ → Option (List ℕ)) →
+        IsAsked (map string_bytes words.now) asked → F.held files.old ≡ Some holds → HoldsNode asked holds node →
+        F.faults files.new ≡ F.faults files.old → F.faults files.old < last_count →
+        L.faults links.new ≡ L.faults links.old → L.faults links.old < last_count →
+        R.faults journal.new ≡ R.faults journal.old → R.faults journal.old < last_count → IsEnded result }
     ensures loads { F.loads files.new ≤ F.loads files.old + 3 }
     ensures kept { AreKept (files_change F.Files files.old files.new) }
     // A fault of links or journal is answered only where it was counted in this call.
+    ensures link_faults { L.faults links.old ≤ L.faults links.new }
+    ensures link_cause { result ≡ Status.LinkFault → Rose (L.faults links.old) (L.faults links.new) }
+    ensures journal_faults { R.faults journal.old ≤ R.faults journal.new }
+    ensures journal_cause { result ≡ Status.OutFault → Rose (R.faults journal.old) (R.faults journal.new) }
+{
+    node_laws();
+    option_laws();
+    answered(alloc, words, files, links, journal)
+}
+
+/// The answer for the words.
+fn answered<F: Files, L: Links, R: Journal>(
+    alloc: Global,
+    words: &[String],
+    files: &mut F,
+    links: &mut L,
+    journal: &mut R,
+) -> Status
+    ensures answer { NodeAnswer (map string_bytes words.now) (files_change F.Files files.old files.new) result
+        (outside L.Links R.Sink links.old journal.old) (outside L.Links R.Sink links.new journal.new) }
+    ensures loads { F.loads files.new ≤ F.loads files.old + 3 }
+    ensures kept { AreKept (files_change F.Files files.old files.new) }
     ensures link_faults { L.faults links.old ≤ L.faults links.new }
     ensures link_cause { result ≡ Status.LinkFault → Rose (L.faults links.old) (L.faults links.new) }
     ensures journal_faults { R.faults journal.old ≤ R.faults journal.new }
@@ -137,16 +167,16 @@ fn node_for<F: Files>(
 }
 
 /// The file of a node's code.
-fn source_file(source: SourceWord<'_>) -> Asked<'_>
+fn source_file(source: SourceWord<'_>) -> File<'_>
     ensures name { result.name.now ≡ name_of (source_name source.entry) }
     ensures most { result.most ≡ most_of (source_name source.entry) }
 {
     match source {
-        SourceWord::Program(name) => Asked {
+        SourceWord::Program(name) => File {
             name,
             most: PROGRAM_BYTES,
         },
-        SourceWord::Code(name) => Asked {
+        SourceWord::Code(name) => File {
             name,
             most: SPLIT_FILE_BYTES,
         },
@@ -154,22 +184,22 @@ fn source_file(source: SourceWord<'_>) -> Asked<'_>
 }
 
 /// A host file.
-fn host_file(name: &str) -> Asked<'_>
+fn host_file(name: &str) -> File<'_>
     ensures name { result.name.now ≡ name.now }
     ensures most { result.most ≡ HOSTS_BYTES }
 {
-    Asked {
+    File {
         name,
         most: HOSTS_BYTES,
     }
 }
 
 /// A file of starting values.
-fn start_file(name: &str) -> Asked<'_>
+fn start_file(name: &str) -> File<'_>
     ensures name { result.name.now ≡ name.now }
     ensures most { result.most ≡ SCRIPT_BYTES }
 {
-    Asked {
+    File {
         name,
         most: SCRIPT_BYTES,
     }

@@ -1,7 +1,8 @@
 //! What a node begins with: the code of all hosts, the host file, and the starting values of the fields.
 
 ghost use Rattle.std.specs.Prelude.{◌≡◌, ◌<◌, ◌^◌, ℕ, List, IfOk, map, length};
-ghost use Rattle.js_base.specs.declared.limits.TheConstants.{HOSTS_BYTES, PROGRAM_BYTES, SCRIPT_BYTES, SPLIT_FILE_BYTES};
+ghost use Rattle.js_base.specs.declared.limits.TheConstants.{HOSTS_BYTES, PROGRAM_BYTES, SCRIPT_BYTES};
+ghost use Rattle.js_base.specs.declared.limits.TheConstants.{SPLIT_FILE_BYTES};
 ghost use Rattle.event_text.specs.Settings.{form_of};
 ghost use Rattle.event_text.specs.Start.{program_form};
 ghost use Rattle.front_end.specs.Loading.{EndsAs, IsLoaded, StopsWith};

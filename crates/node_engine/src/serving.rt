@@ -1,6 +1,7 @@
 //! A node at work: units one after the other, to the end of the program or of the turns that were given.
 
-ghost use Rattle.std.specs.Prelude.{◌≡◌, ◌<◌, ◌≤◌, ◌⊎◌, ◌+◌, ℕ, IsTrue, false, List, Option, IfErr, OnOk, IsErrOf, length, drop};
+ghost use Rattle.std.specs.Prelude.{◌≡◌, ◌<◌, ◌≤◌, ◌⊎◌, ◌+◌, ℕ, IsTrue, false, List, Option};
+ghost use Rattle.std.specs.Prelude.{IfErr, OnOk, IsErrOf, length, drop};
 ghost use Rattle.js_base.specs.Counts.{Rose};
 ghost use Rattle.js_base.specs.declared.limits.TheConstants.{HOSTS};
 ghost use Rattle.host_code.specs.Sound.{IsHost};
@@ -26,8 +27,8 @@ use wire_msg::Frame;
 /// otherwise takes one frame, for which it may wait. Halting is looked at before each of them.
 ///
 /// It answers `Done` where the host is the root's and has halted, once each other host was told so, and where the root
-/// told it so; and `Spent` where the units are used up before. `LinkFault`, `OutFault` and `NoMemory` end it at the part
-/// of a unit that failed.
+/// told it so; and `Spent` where the units are used up before. `LinkFault`, `OutFault` and `NoMemory` end it at the
+/// part of a unit that failed.
 pub fn serve<L: Links, R: Sink>(
     alloc: Global,
     host: &mut Host,
@@ -41,7 +42,8 @@ pub fn serve<L: Links, R: Sink>(
     requires me { host.old.me ≡ me }
     // Where links and journal tell what they gave and took, what they and the host are at the end is what so many units
     // leave, and the part that failed.
-    ensures serves { (world : NodeWorld) → Told world (state_of host.old) (outside L.Links R.Sink links.old journal.old) →
+    ensures serves { (world : NodeWorld) →
+        Told world (state_of host.old) (outside L.Links R.Sink links.old journal.old) →
         world.ended ≡ false →
         TellsOf (Serves code.now me units result world) (state_of host.new)
         (outside L.Links R.Sink links.new journal.new) }

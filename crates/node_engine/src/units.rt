@@ -1,6 +1,7 @@
 //! One unit of a node's work: an instruction where a thread runs, and otherwise a frame that is taken.
 
-ghost use Rattle.std.specs.Prelude.{◌≡◌, ◌<◌, ◌≤◌, ◌∷◌, [], ℕ, false, List, Option, None, IfOk, OnOk, IfErr, IsErrOf, IsSome};
+ghost use Rattle.std.specs.Prelude.{◌≡◌, ◌<◌, ◌≤◌, ◌∷◌, [], ℕ, false, List, Option, None};
+ghost use Rattle.std.specs.Prelude.{IfOk, OnOk, IfErr, IsErrOf, IsSome};
 ghost use Rattle.js_base.specs.Counts.{Rose};
 ghost use Rattle.host_code.specs.Sound.{IsHost, IsOther};
 ghost use Rattle.host_code.specs.Messages.{MessageFits};
@@ -146,11 +147,13 @@ fn handled<L: Links, R: Sink>(
     requires fits { HostFits code.now host.old }
     requires me { host.old.me ≡ me }
     requires arrival { ArrivalFits code.now me arrival.now }
-    ensures ok { IfOk result (λ ended. (parts : List Part) × AreArrivalParts code.now me (state_of host.old) arrival.now parts
+    ensures ok { IfOk result (λ ended. (parts : List Part) ×
+        AreArrivalParts code.now me (state_of host.old) arrival.now parts
         × Works parts (state_of host.old) (state_of host.new) (outside L.Links R.Sink links.old journal.old)
         (outside L.Links R.Sink links.new journal.new)
         × ((world : NodeWorld) → world.ended ≡ false → (do_all parts world).ended ≡ ended)) }
-    ensures err { IfErr result (λ error. (parts : List Part) × AreArrivalParts code.now me (state_of host.old) arrival.now parts
+    ensures err { IfErr result (λ error. (parts : List Part) ×
+        AreArrivalParts code.now me (state_of host.old) arrival.now parts
         × Fails error parts (state_of host.old) (state_of host.new) (outside L.Links R.Sink links.old journal.old)
         (outside L.Links R.Sink links.new journal.new)) }
     ensures fits { HostFits code.now host.new }
@@ -215,10 +218,12 @@ fn delivered<L: Links, R: Sink>(
     requires me { host.old.me ≡ me }
     requires from { IsOther code.now me from }
     requires message { MessageFits code.now message.now }
-    ensures ok { OnOk result ((parts : List Part) × AreDeliveryParts code.now me (state_of host.old) from message.now parts
+    ensures ok { OnOk result ((parts : List Part) ×
+        AreDeliveryParts code.now me (state_of host.old) from message.now parts
         × Works parts (state_of host.old) (state_of host.new) (outside L.Links R.Sink links.old journal.old)
         (outside L.Links R.Sink links.new journal.new)) }
-    ensures err { IfErr result (λ error. (parts : List Part) × AreDeliveryParts code.now me (state_of host.old) from message.now parts
+    ensures err { IfErr result (λ error. (parts : List Part) ×
+        AreDeliveryParts code.now me (state_of host.old) from message.now parts
         × Fails error parts (state_of host.old) (state_of host.new) (outside L.Links R.Sink links.old journal.old)
         (outside L.Links R.Sink links.new journal.new)) }
     ensures fits { HostFits code.now host.new }

@@ -1,6 +1,7 @@
 //! Links in memory that fail at listed calls.
 
-ghost use Rattle.std.specs.Prelude.{◌≡◌, ◌≤◌, ◌⊎◌, ◌↔◌, [], Some, IsTrue, IfOk, OnOk, OnErr, IsErrOf, map, Contains, Ok, Err};
+ghost use Rattle.std.specs.Prelude.{◌≡◌, ◌≤◌, ◌⊎◌, ◌↔◌, [], Some, IsTrue, map, Contains, Ok, Err};
+ghost use Rattle.std.specs.Prelude.{IfOk, OnOk, OnErr, IsErrOf};
 ghost use Rattle.js_base.specs.Counts.{Rose};
 ghost use Rattle.node_links.specs.Links.{Gave, Took};
 ghost use Rattle.node_links.specs.MemLinks.{IsListed, after_call, after_fault, after_next, after_send};

@@ -11,6 +11,7 @@ returns-then-eq-clause-found c = (
       (row_at c.hosts-rows.result.now c.loop-number.number c.index-rows-number.result c.loop-number-test.true
       c.index-rows-number.is),
   sym c.name.ensures ∙ (bytes_eq-Decides c.name.result.now c.args.name.now).0 (sym c.if-eq.ensures),
+  rw (← c.hosts-rows.ensures.hosts) c.loop-number.invariant,
 )
 
 pub loop-number-preserved : goal.loop-number-preserved
