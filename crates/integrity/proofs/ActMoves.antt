@@ -17,6 +17,10 @@ use Rattle.host_core.specs.Awaiting.{awaits, is_same_answer}
 use Rattle.host_core.specs.Host.{HostShape, Outcome, without_message, with_one_ignored, with_temporary}
 use Rattle.host_core.specs.Taking.{after_taking, after_answer, place_of_awaiting, Passes}
 use Rattle.event_text.specs.declared.event.BadMessage.{BadMessage}
+use Rattle.event_text.specs.declared.event.BadMessage.TheVariants as bad
+use Rattle.net_world.specs.Told.{message_made, token_presented}
+use Rattle.capability.specs.declared.token.Token.{Token}
+use Rattle.jif_tree.specs.Numbers.{IsNumber}
 use Rattle.net_world.specs.Fits.{ShapeFits, HasOwnToken}
 use Rattle.ics_stack.specs.declared.stack.StackEntry.{StackEntry}
 use Rattle.net_world.specs.World.{WorldShape, IsActStep, has_halted, state_at, world_at_start}
@@ -24,7 +28,7 @@ use Rattle.net_world.proofs.Moved.{Moved, bad_moved, moved_acted, mover_state}
 use Rattle.host_decl.specs.Hosts as declared_hosts
 use Rattle.event_text.specs.declared.event.Event.{Event}
 use Rattle.event_text.specs.declared.event.Event.TheVariants.{Act}
-use Rattle.token_laws.specs.Numbers.{MessageHasNumbers}
+use Rattle.token_laws.specs.Numbers.{MessageHasNumbers, MadeHasNumbers}
 use Rattle.token_laws.specs.Requests.{number_answered}
 use Rattle.token_laws.proofs.AskedLaws.{waits_once}
 use Rattle.token_laws.proofs.EachFlight.{of_state}
@@ -67,6 +71,43 @@ answer_open threat (message.Lgoto token) number is = tt
 answer_open threat (message.Value request value) number is = tt
 answer_open threat (message.Ack request) number is = tt
 answer_open threat (message.Token request token) number is = tt
+
+none_made : (make : Token → Message) (found : Option Token) (m : Message) → ((token : Token) → make token ≡ m → ⊥) →
+    option_map make found ≡ Some m → ⊥
+none_made make None m never is = absurd (cc)
+none_made make (Some token) m never is = never token (let same : make token ≡ m = cc in same)
+
+made_value : (tokens : List Token) (made : BadMessage) (request : RequestId) (value : ℤ) → MadeHasNumbers made →
+    message_made tokens made ≡ Some (message.Value request value) → IsNumber value
+made_value tokens (bad.Get other field index) request value numbers is = absurd (cc)
+made_value tokens (bad.Set other field index written) request value numbers is = absurd (cc)
+made_value tokens (bad.Forward other frame x sent) request value numbers is = absurd (cc)
+made_value tokens (bad.Value other answer) request value numbers is =
+    let same : answer ≡ value = cc in subst IsNumber same numbers
+made_value tokens (bad.Ack other) request value numbers is = absurd (cc)
+made_value tokens (bad.Sync other frame entry token) request value numbers is =
+    absurd (none_made (λ known. message.Sync other frame entry known) (token_presented tokens token) _
+    (λ known same. cc) is)
+made_value tokens (bad.Rgoto frame entry token) request value numbers is =
+    absurd (none_made (λ known. message.Rgoto frame entry known) (token_presented tokens token) _ (λ known same. cc) is)
+made_value tokens (bad.Lgoto token) request value numbers is =
+    absurd (none_made (λ known. message.Lgoto known) (token_presented tokens token) _ (λ known same. cc) is)
+made_value tokens (bad.Token other token) request value numbers is =
+    absurd (none_made (λ known. message.Token other known) (token_presented tokens token) _ (λ known same. cc) is)
+
+-- what a misbehaving host answers is a number, where it sends numbers
+pub answer_numbers : (tokens : List Token) (made : BadMessage) (m : Message) (request : RequestId) →
+    MadeHasNumbers made → message_made tokens made ≡ Some m → number_answered m ≡ Some request → MessageHasNumbers m
+answer_numbers tokens made (message.Get other field index) request numbers is number = absurd (cc)
+answer_numbers tokens made (message.Set other field index value) request numbers is number = absurd (cc)
+answer_numbers tokens made (message.Forward other frame x value) request numbers is number = absurd (cc)
+answer_numbers tokens made (message.Sync other frame entry token) request numbers is number = tt
+answer_numbers tokens made (message.Rgoto frame entry token) request numbers is number = tt
+answer_numbers tokens made (message.Lgoto token) request numbers is number = tt
+answer_numbers tokens made (message.Value other value) request numbers is number =
+    made_value tokens made other value numbers is
+answer_numbers tokens made (message.Ack other) request numbers is number = tt
+answer_numbers tokens made (message.Token other token) request numbers is number = tt
 
 same_kind : (one other : Awaited) → is_same_answer one other ≡ true → one ≡ other
 same_kind value_of_field value_of_field is = refl

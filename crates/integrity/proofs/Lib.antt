@@ -24,8 +24,12 @@ pub mod AnswerMoves
 pub mod PassMoves
 pub mod ActMoves
 pub mod HolderLaws
+pub mod Elsewhere
 pub mod TellMoves
+pub mod HeldFields
+pub mod StallMoves
 pub mod TakeLaws
+pub mod OwnEvents
 pub mod QuietRuns
 pub mod SetPrograms
 pub mod IntegrityExamples

@@ -1,49 +1,44 @@
 -- A turn of the holder's thread that sets a field of a misbehaving host: the step is made at once, and the thread waits
 -- for that host.
-use Rattle.std.proofs.Common.{◌≡◌, ◌∙◌, ◌⊎◌, inl, inr, ℕ, ℤ, ◌<◌, ◌≤◌, Bool, true, false, List, [], ◌∷◌, ◌++◌}
-use Rattle.std.proofs.Common.{length, Option}
-use Rattle.std.proofs.Common.{Some, None, refl, sym, ap, subst}
-use Rattle.std.specs.Prelude.{slice_get, All, unwrap_or}
-use Rattle.std.proofs.lemmas.Bool.Decides.{eqb_tells}
+use Rattle.std.proofs.Common.{◌≡◌, ◌∙◌, ◌⊎◌, inl, inr, ℕ, ℤ, Bool, true, false, List, [], ◌∷◌, ◌++◌, Some, None, refl}
+use Rattle.std.proofs.Common.{sym, ap, subst}
+use Rattle.std.specs.Prelude.{All}
 use Rattle.std.proofs.lemmas.List.Elements.{All-push}
 use Rattle.js_base.specs.declared.ids.FieldId.{FieldId}
 use Rattle.js_base.specs.declared.ids.HostId.{HostId}
-use Rattle.jif_tree.specs.SourceRun as plain
+use Rattle.js_base.specs.declared.ids.RequestId.{RequestId}
+use Rattle.host_decl.specs.Hosts as declared_hosts
 use Rattle.jif_tree.specs.SourceRun.{Configuration}
-use Rattle.jif_tree.specs.Store.{row_of, store_after_write}
-use Rattle.host_code.specs.Code.{CodeFieldShape}
+use Rattle.ics_stack.specs.declared.stack.StackEntry.{StackEntry}
+use Rattle.ics_stack.specs.Stack.{top_token}
 use Rattle.host_code.specs.declared.message.Message.{Message}
 use Rattle.host_code.specs.declared.message.Message.TheVariants as message
 use Rattle.host_code.specs.Thread.{ThreadShape, WaitingShape, Awaited}
-use Rattle.ics_stack.specs.declared.stack.StackEntry.{StackEntry}
-use Rattle.ics_stack.specs.Stack.{top_token}
 use Rattle.host_core.specs.Host.{HostShape, with_message, without_message, with_running, after_asking}
 use Rattle.host_core.specs.Turn.{label_of_turn}
+use Rattle.event_text.specs.declared.event.Event.{Event}
 use Rattle.net_world.specs.Fits.{ShapeFits}
 use Rattle.net_world.specs.Told.{SentMessage}
+use Rattle.net_world.specs.World.{WorldShape, IsTurnStep, state_at, misbehaves}
 use Rattle.net_world.proofs.Moved.{bad_moved, mover_state, moved_told, moved_posted, silent_sent}
-use Rattle.token_laws.proofs.EachFlight.{of_state}
-use Rattle.token_laws.proofs.WorldTokens.{Accounts, account}
-use Rattle.typed_steps.specs.Turns as turns
-use Rattle.typed_steps.specs.Turns.{IsActing, waiting_for}
-use Rattle.typed_steps.proofs.HolderTurns.{turned}
-use Rattle.js_base.specs.declared.ids.RequestId.{RequestId}
-use Rattle.host_decl.specs.Hosts as declared_hosts
-use Rattle.event_text.specs.declared.event.Event.{Event}
-use Rattle.event_text.specs.declared.event.Event.TheVariants.{Turn}
 use Rattle.token_laws.specs.Numbers.{CodeHasNumbers, RowsHaveNumbers, EventHasNumbers}
 use Rattle.token_laws.specs.Reached.{IsReached}
-use Rattle.token_laws.proofs.Walks.{fits_there, one_more}
-use Rattle.token_laws.proofs.WorldNumbers.{known_numbers}
-use Rattle.integrity.specs.Exposed.{bad_labels}
-use Rattle.integrity.proofs.HolderLaws.{numbers_of, of_there}
-use Rattle.integrity.proofs.TightLaws.{lawful}
-use Rattle.typed_steps.specs.Variables.{Sends}
-use Rattle.typed_steps.specs.Views.{entries_of}
+use Rattle.token_laws.proofs.EachFlight.{of_state}
+use Rattle.token_laws.proofs.WorldTokens.{Accounts}
+use Rattle.typed_steps.specs.Turns as turns
+use Rattle.typed_steps.specs.Turns.{waiting_for}
+use Rattle.typed_steps.specs.Variables.{Sends, Holds}
+use Rattle.typed_steps.specs.Views.{entries_of, Split, View}
+use Rattle.typed_steps.specs.Chains.{IsChain}
+use Rattle.typed_steps.specs.Requests.{IsRequest}
 use Rattle.typed_steps.proofs.HeldSteps.{holds_same}
-use Rattle.integrity.specs.Holding.{IsAmong, runs, stuck, halted, OwnsWaiting, OwnsMessage, StateIsOutside, IsStanding}
+use Rattle.integrity.specs.Exposed.{bad_labels}
+use Rattle.integrity.specs.Holding.{IsAmong, runs, stuck, halted, OwnsWaiting, OwnsMessage, StateIsOutside}
+use Rattle.integrity.specs.Holding.{IsStanding, IsTight}
 use Rattle.integrity.specs.Outside.{ThreadIsOpen, MessageIsOpen}
 use Rattle.integrity.specs.Standing.{threat_in, IsFor, StandsBy, SetsThere}
+use Rattle.integrity.proofs.Elsewhere.{holds_elsewhere}
+use Rattle.integrity.proofs.HolderLaws.{HolderTurn, turn_of}
 use Rattle.integrity.proofs.Among.{each_among, some_of, last_at}
 use Rattle.integrity.proofs.FliesOn.{FlyAs}
 use Rattle.integrity.proofs.HolderStays.{on_some}
@@ -53,62 +48,6 @@ use Rattle.integrity.proofs.StandsOn.{halted_before}
 use Rattle.integrity.proofs.TightKept.{IsLawful}
 use Rattle.integrity.proofs.TightMoves.{tight_moved, all_as}
 use Rattle.integrity.proofs.TurnMoves.{never_more}
-use Rattle.net_world.specs.World.{WorldShape, IsTurnStep, state_at, misbehaves}
-use Rattle.net_world.proofs.Fitting.{bad_differs}
-use Rattle.net_world.proofs.Present.{get_other}
-use Rattle.typed_steps.specs.Threads.{NoneKept}
-use Rattle.typed_steps.specs.Values.{AreRowsAlike}
-use Rattle.typed_steps.specs.Variables.{HaveFields, Holds}
-use Rattle.typed_steps.specs.Requests.{IsFieldOn, IsRequest}
-use Rattle.typed_steps.specs.Views.{Split, View}
-
-rows_on : (split : Split) (number : ℕ) (has row now : List ℤ) → AreRowsAlike split.exposure number has row →
-    now ≡ row → AreRowsAlike split.exposure number has now
-rows_on split number has row now (inl is) same = inl (is ∙ sym same)
-rows_on split number has row now (inr may) same = inr may
-
--- no obeying host has the field
-fields_elsewhere : (split : Split) (world : WorldShape) (store : List (List ℤ)) (field : FieldId) (to : HostId)
-    (index value : ℤ) → HaveFields split world store → IsFieldOn split.code field to → misbehaves world to ≡ true →
-    HaveFields split world (store_after_write store field.0 index value)
-fields_elsewhere split world store field to index value has on bad number one state there at =
-    elim (eqb_tells number field.0) [
-      | inl same ↦
-          let both : Some on.there ≡ Some one = sym on.is ∙ ap (slice_get split.code.fields) (sym same.1) ∙ there in
-          let is : on.there ≡ one = cc in
-          let host_is : to ≡ one.host = sym on.on_host ∙ ap (λ (f : CodeFieldShape). f.host) is in
-          absurd (bad_differs world to one.host state bad at host_is)
-      | inr apart ↦
-          rows_on split number (row_of state.rows number) (row_of store number)
-          (row_of (store_after_write store field.0 index value) number) (has number one state there at)
-          (ap (λ (o : Option (List ℤ)). unwrap_or o []) (get_other store field.0 number _ apart.1))
-    ]
-
--- what all hosts have of a configuration after a step that writes a field of a misbehaving host
-pub holds_elsewhere : (split : Split) (c now : Configuration) (view : View) (world : WorldShape) (field : FieldId)
-    (to : HostId) (index value : ℤ) → Holds split c view world → IsFieldOn split.code field to →
-    misbehaves world to ≡ true → now.store ≡ store_after_write c.store field.0 index value → now.calls ≡ c.calls →
-    NoneKept now → Holds split now view world
-holds_elsewhere split c now view world field to index value holds on bad store calls none = record {
-  fields = subst (HaveFields split world) (sym store)
-      (fields_elsewhere split world c.store field to index value holds.fields on bad);
-  known = subst (λ list. length list ≤ view.naming.count) (sym calls) holds.known;
-  apart = holds.apart;
-  named = λ call made.
-      let one = holds.named call (subst (λ list. call < length list) calls made) in
-      record {
-        made = one.made;
-        is = ap (λ list. slice_get list call) calls ∙ one.is;
-        caller = one.caller;
-        method = one.method;
-      };
-  fresh = holds.fresh;
-  valued = λ call x made.
-      holds.valued call x (subst (λ list. call < length list) calls made)
-      ∙ ap (λ list. plain.variable list call x) (sym calls);
-  agree = holds.agree;
-  result = λ call into kept behind there pending is. absurd (none call into kept behind pending);
-}
 
 -- ---- the turn
 
@@ -151,11 +90,11 @@ module _ (split : Split) (c : Configuration) (view : View) (host : HostId) (thre
       after t.step.obeys good t.labels is t.step.leaves in
       absurd (not_silent posted.sent)
 
-  sent_is : (new : HostShape) (other : HostId) (said : Message) → with_message new other said ≡ t.step.outcome →
+  pub sent_is : (new : HostShape) (other : HostId) (said : Message) → with_message new other said ≡ t.step.outcome →
       (other ≡ to) × (said ≡ m)
   sent_is new other said is = sent_if new other said is (misbehaves world other) refl
 
-  silent_never : (new : HostShape) → without_message new ≡ t.step.outcome → ⊥
+  pub silent_never : (new : HostShape) → without_message new ≡ t.step.outcome → ⊥
   silent_never new is =
       not_silent
       (silent_sent world host t.step.outcome new (label_of_turn split.code t.step.state) after is t.step.leaves)
@@ -171,13 +110,14 @@ module _ (split : Split) (c : Configuration) (view : View) (host : HostId) (thre
   standing_each e = each_among (IsStanding world) (entries_of view.chain) e t.stands.tight.standing
 
   -- the thread waits for the misbehaving host
-  waits_for : (next : ThreadShape) (awaited : Awaited) →
+  pub waits_for : (seen : View) (next : ThreadShape) (awaited : Awaited) →
       with_message (after_asking (with_running t.step.state None) thread.at next awaited to) to m ≡ t.step.outcome →
-      next.held ≡ top_token (entries_of view.chain) → (now : Configuration) →
-      ((later : WorldShape) → Holds split c view later → misbehaves later to ≡ true → Holds split now view later) →
-      IsFor split now view host (waiting_for t.step.state thread.at next awaited to) awaited →
-      StandsBy split now view (stuck host (waiting_for t.step.state thread.at next awaited to)) after
-  waits_for next awaited is top now holds ready =
+      entries_of view.chain ≡ entries_of seen.chain → IsChain split seen.naming seen.chain →
+      next.held ≡ top_token (entries_of view.chain) → Sends split seen t.step.state host → (now : Configuration) →
+      ((later : WorldShape) → Holds split c view later → misbehaves later to ≡ true → Holds split now seen later) →
+      IsFor split now seen host (waiting_for t.step.state thread.at next awaited to) awaited →
+      StandsBy split now seen (stuck host (waiting_for t.step.state thread.at next awaited to)) after
+  waits_for seen next awaited is same_chain is_chain top sends now holds ready =
       let old = t.step.state in
       let new : HostShape = after_asking (with_running old None) thread.at next awaited to in
       let w = waiting_for old thread.at next awaited to in
@@ -193,7 +133,8 @@ module _ (split : Split) (c : Configuration) (view : View) (host : HostId) (thre
       let Waits : WaitingShape → Type 0 =
       λ one. OwnsWaiting holder old.me one ⊎ ThreadIsOpen (threat_in split) old.me one.thread in
       record {
-        tight = tight_moved (threat_in split) (entries_of view.chain) (entries_of view.chain) (runs host thread) holder
+        tight = subst (λ chain. IsTight (threat_in split) chain holder after) same_chain
+            (tight_moved (threat_in split) (entries_of view.chain) (entries_of view.chain) (runs host thread) holder
             world after t.lawful t.fits t.account t.stands.tight (record {
               me = host;
               old = old;
@@ -227,11 +168,11 @@ module _ (split : Split) (c : Configuration) (view : View) (host : HostId) (thre
                   ⊎ MessageIsOpen (threat_in split) flight.message) (world.flying one other)
                   (λ flight either. inr (other_of either (λ never. never)))
                   (t.stands.tight.outside.flying one other));
-            });
+            }));
         holds = holds after (holds_same split c view world after host old new world.flying t.stands.holds t.step.obeys
             moved refl refl refl) bad;
-        sends = some_of (state_at after host) (λ s. Sends split view s host) new there t.sends;
-        does = (t.stands.does.0, ready);
+        sends = some_of (state_at after host) (λ s. Sends split seen s host) new there sends;
+        does = (is_chain, ready);
         halts = λ has.
             let never : runs host thread ≡ halted =
             t.stands.halts
@@ -242,7 +183,7 @@ module _ (split : Split) (c : Configuration) (view : View) (host : HostId) (thre
 module _ (split : Split) (c : Configuration) (view : View) (host : HostId) (thread : ThreadShape)
     (world after : WorldShape) (to : HostId) (m : Message) (t : Telling split c view host thread world after to m)
     (request : RequestId) (field : FieldId) (index value : ℤ) (is_set : m ≡ message.Set request field index value) where
-  sets_there : (next : ThreadShape) (awaited : Awaited) →
+  pub sets_there : (next : ThreadShape) (awaited : Awaited) →
       with_message (after_asking (with_running t.step.state None) thread.at next awaited to) to m ≡ t.step.outcome →
       IsRequest split c view host to (waiting_for t.step.state thread.at next awaited to)
       (message.Set request field index value) → SetsThere split c view host after
@@ -252,8 +193,8 @@ module _ (split : Split) (c : Configuration) (view : View) (host : HostId) (thre
         now = sets.now;
         does = sets.does;
         waiting = waiting_for t.step.state thread.at next awaited to;
-        stands = waits_for split c view host thread world after to m t next awaited is sets.at.held sets.now
-            (λ later holds bad.
+        stands = waits_for split c view host thread world after to m t view next awaited is refl t.stands.does.0
+            sets.at.held t.sends sets.now (λ later holds bad.
             holds_elsewhere split c sets.now view later field to index value holds asks.3 bad sets.store sets.calls
             sets.plainly)
             (subst (IsFor split sets.now view host (waiting_for t.step.state thread.at next awaited to)) (sym asks.0)
@@ -288,6 +229,25 @@ module _ (split : Split) (c : Configuration) (view : View) (host : HostId) (thre
 
 -- ---- the law
 
+-- it tells a misbehaving host
+abbrev pub telling : (split : Split) (c : Configuration) (view : View) (host : HostId) (thread : ThreadShape)
+    (world after : WorldShape) (to : HostId) (m : Message) (step : IsTurnStep split.code world host after) →
+    HolderTurn split c view host thread world after step → StandsBy split c view (runs host thread) world →
+    misbehaves world to ≡ true → after.sent ≡ world.sent ++ (host, to, m) ∷ [] →
+    Telling split c view host thread world after to m
+telling split c view host thread world after to m step turn stands misbehaving told = record {
+  stands = stands;
+  lawful = turn.lawful;
+  fits = turn.fits;
+  account = turn.account;
+  step = step;
+  sends = turn.sends;
+  label = turn.label;
+  labels = turn.labels;
+  bad = misbehaving;
+  told = told;
+}
+
 pub holder_told : (split : Split) (rows : List declared_hosts.HostShape) (bad : ℕ) (store : List (List ℤ))
     (events : List Event) (world after : WorldShape) (host : HostId) (thread : ThreadShape) (c : Configuration)
     (view : View) (to : HostId) (request : RequestId) (field : FieldId) (index value : ℤ) →
@@ -298,35 +258,10 @@ pub holder_told : (split : Split) (rows : List declared_hosts.HostShape) (bad : 
     StandsBy split c view (runs host thread) world → SetsThere split c view host after
 holder_told split rows bad store events world after host thread c view to request field index value same reach
     code_numbers store_numbers said step misbehaving told stands =
-    let code = split.code in
-    let is = lawful (threat_in split) rows bad store events world same reach in
-    let next = one_more code rows bad store events world after (Turn host) reach tt step in
-    let numbers = known_numbers code rows bad store events world reach code_numbers store_numbers said in
-    let running = of_there world host step.state (λ s. s.running ≡ Some thread) step.obeys stands.tight.there in
-    let sends = of_there world host step.state (λ s. Sends split view s host) step.obeys stands.sends in
-    let acts : IsActing split c view world host step.state thread = record {
-      there = step.obeys;
-      many = is.fits.count;
-      fits = state_fits (threat_in split) world host step.state is.fits step.obeys;
-      numbers = numbers_of split world host step.state numbers step.obeys;
-      running = running;
-      is_chain = stands.does.0;
-      at = stands.does.1;
-      sent = sends;
-      holds = stands.holds;
-    } in
-    let turn = turned split c view world host step.state thread acts step.outcome step.turns in
     let m = message.Set request field index value in
-    let t : Telling split c view host thread world after to m = record {
-      stands = stands;
-      lawful = is;
-      fits = fits_there code rows bad store (events ++ Turn host ∷ []) after next;
-      account = account code world after (Turn host) reach.sound is.fits tt step;
-      step = step;
-      sends = sends;
-      label = turn.0;
-      labels = turn.1;
-      bad = misbehaving;
-      told = told;
-    } in
-    told_by split c view host thread world after to m t request field index value refl turn.2
+    let turn =
+    turn_of split rows bad store events world after host thread c view same reach code_numbers store_numbers said step
+    stands in
+    told_by split c view host thread world after to m
+    (telling split c view host thread world after to m step turn stands misbehaving told) request field index value refl
+    turn.turned

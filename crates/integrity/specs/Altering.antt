@@ -1,15 +1,18 @@
 -- What hosts that run the code of a split program promise together, though some misbehave: what those may not affect
 -- follows a run of the program that is altered as they may alter it.
-use Rattle.std.specs.Prelude.{◌≡◌, ⊤, [], ◌∷◌, ℕ, ◌+◌, ◌≤◌, ℤ, List, length, take, IsSomeAnd, slice_get, slice_index}
+use Rattle.std.specs.Prelude.{◌≡◌, ◌⊎◌, true, ⊤, [], ◌∷◌, ℕ, ◌+◌, ◌≤◌, ℤ, List, length, take, IsSomeAnd, slice_get}
+use Rattle.std.specs.Prelude.{slice_index}
 use Rattle.std.specs.List.Sorted.{IsNonDecreasing}
 use Rattle.host_decl.specs.Hosts as declared_hosts
 use Rattle.jif_tree.specs.declared.program.Program.{Program}
 use Rattle.jif_tree.specs.Altered.{Exposure, IsAlteredRun}
 use Rattle.jif_tree.specs.SourceRun.{Configuration, IsAtEnd}
 use Rattle.host_code.specs.Code.{CodeShape}
+use Rattle.capability.specs.declared.token.Token.{Token}
 use Rattle.event_text.specs.declared.event.Event.{Event}
 use Rattle.event_text.specs.declared.event.Event.TheVariants.{Turn}
-use Rattle.net_world.specs.World.{WorldShape, IsStep, IsRun, world_at_start, has_halted}
+use Rattle.net_world.specs.World.{WorldShape, IsStep, IsRun, world_at_start, has_halted, misbehaves}
+use Rattle.token_laws.specs.Holders.{IsSent}
 use Rattle.integrity.specs.Exposed.{FieldsStand}
 
 -- The fields of a world that may not be affected are those of a configuration, which is at its end where an obeying
@@ -35,13 +38,14 @@ pub record FollowsAltered (program : Program) (exposure : Exposure) (code : Code
 
 -- ---- what misbehaving hosts are told
 
--- where an event is a turn, it sends them nothing
-abbrev pub TellsNothing : Event → WorldShape → WorldShape → Type 0
-TellsNothing (Turn host) world after = after.sent ≡ world.sent
-TellsNothing other world after = ⊤
+-- where an event is a turn, each token that it hands them is one of theirs, or they were sent it before
+abbrev pub HandsNoNewToken : Event → WorldShape → WorldShape → Type 0
+HandsNoNewToken (Turn host) world after =
+    (token : Token) → IsSent after token → IsSent world token ⊎ (misbehaves world token.host ≡ true)
+HandsNoNewToken other world after = ⊤
 
--- So it is with each of some events. What a host answers a misbehaving one that asks it is not asked about.
+-- So it is with each of some events. The token that a host answers a misbehaving one with is not asked about.
 abbrev pub RunsQuietly : CodeShape → WorldShape → List Event → Type 0
 RunsQuietly code world [] = ⊤
 RunsQuietly code world (event ∷ events) = (next : WorldShape) → IsStep code world event next →
-    TellsNothing event world next × RunsQuietly code next events
+    HandsNoNewToken event world next × RunsQuietly code next events

@@ -122,3 +122,12 @@ pub record SetsThere (split : Split) (c : Configuration) (view : View) (host : H
     pub does : MayStep split.program split.exposure c c.pending now
     pub waiting : WaitingShape
     pub stands : StandsBy split now view (stuck host waiting) after
+
+-- The thread waits for a misbehaving host, and the world stands for the same configuration, or for one that a step
+-- leads to.
+pub data Stalls (split : Split) (c : Configuration) (host : HostId) (after : WorldShape) : Type 0 where
+  waits : (view : View) (waiting : WaitingShape) → StandsBy split c view (stuck host waiting) after →
+      Stalls split c host after
+  waits_behind : (now : Configuration) (view : View) (waiting : WaitingShape) →
+      MayStep split.program split.exposure c c.pending now → StandsBy split now view (stuck host waiting) after →
+      Stalls split c host after

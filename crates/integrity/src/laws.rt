@@ -1,6 +1,6 @@
 //! What misbehaving hosts can't affect, whatever they do. The calls do nothing: their contracts are the laws.
 
-ghost use Rattle.std.specs.Prelude.{◌≡◌, ◌≢◌, ◌⊎◌, ◌++◌, true, IfSome, ℕ, ℤ, List, [], ◌∷◌, All, Some};
+ghost use Rattle.std.specs.Prelude.{◌≡◌, ◌≢◌, ◌⊎◌, ◌++◌, true, IfSome, ℕ, ℤ, List, [], ◌∷◌, All, Some, None};
 ghost use Rattle.std.specs.Int.{bit_at};
 ghost use Rattle.js_base.specs.declared.ids.FieldId.{FieldId};
 ghost use Rattle.js_base.specs.declared.ids.FrameId.{FrameId};
@@ -15,39 +15,43 @@ ghost use Rattle.need_labels.specs.Labelled.{Labelled};
 ghost use Rattle.need_labels.specs.Needs.{NeedsShape};
 ghost use Rattle.need_labels.specs.Plan.{PlanShape};
 ghost use Rattle.msg_cost.specs.Moves.{PlannedShape, planned_of};
+ghost use Rattle.host_code.specs.declared.message.Message.{Message};
 ghost use Rattle.host_code.specs.declared.message.Message.TheVariants as message;
 ghost use Rattle.host_code.specs.Code.{halt};
 ghost use Rattle.host_code.specs.Sound.{IsSoundCode};
 ghost use Rattle.host_code.specs.Thread.{ThreadShape, WaitingShape};
 ghost use Rattle.host_core.specs.Host.{HostShape};
+ghost use Rattle.capability.specs.declared.token.Token.{Token};
 ghost use Rattle.ics_stack.specs.declared.stack.StackEntry.{StackEntry};
 ghost use Rattle.event_text.specs.declared.event.Event.{Event};
 ghost use Rattle.event_text.specs.declared.event.Event.TheVariants.{Act, Take, Turn};
 ghost use Rattle.event_text.specs.declared.event.BadMessage.{BadMessage};
 ghost use Rattle.net_world.specs.Fits.{HasOwnToken};
-ghost use Rattle.net_world.specs.Told.{message_made};
+ghost use Rattle.net_world.specs.Told.{message_made, token_in};
 ghost use Rattle.net_world.specs.World.{WorldShape, IsStep, IsRun, has_halted, misbehaves, state_at, tokens_sent};
 ghost use Rattle.net_world.specs.World.{world_at_start};
 ghost use Rattle.split_rules.specs.Walk.{entry_id};
 ghost use Rattle.split_rules.specs.Allowed.{IsAllowed};
+ghost use Rattle.split_rules.specs.Held.{IsHeld};
 ghost use Rattle.split_rules.specs.OpenExamples.{untrusted, trusted_by_first};
 ghost use Rattle.split_rules.specs.Worked.{field_id, var_id, statement_id};
 ghost use Rattle.split_rules.specs.SplitCode.{split_code};
 ghost use Rattle.split_rules.specs.Splittable.{IsSplittable};
 ghost use Rattle.split_rules.specs.TypedCode.{Table, IsTypedCode};
+ghost use Rattle.token_laws.specs.Holders.{IsSent};
 ghost use Rattle.token_laws.specs.Numbers.{CodeHasNumbers, RowsHaveNumbers, EventHasNumbers, MessageHasNumbers};
 ghost use Rattle.token_laws.specs.Reached.{IsReached};
 ghost use Rattle.typed_steps.specs.Views.{Split, View};
 ghost use Rattle.simulation.specs.Obeying.{IsSet};
 ghost use Rattle.token_laws.specs.TokenExamples.{bad_start, first_token, given, handing, host_id, small, start};
-ghost use Rattle.integrity.specs.Altering.{StandsFor, FollowsAltered, RunsQuietly};
+ghost use Rattle.integrity.specs.Altering.{StandsFor, FollowsAltered, HandsNoNewToken, RunsQuietly};
 ghost use Rattle.integrity.specs.Exposed.{AreAsBefore, FieldsStand, bad_labels, exposure_of};
 ghost use Rattle.integrity.specs.Holding.{AreLinked, Holder, runs, lost, IsOwn, IsOutsideBut, IsStanding, IsTight};
 ghost use Rattle.integrity.specs.Holding.{stuck, StartsTight};
 ghost use Rattle.integrity.specs.IntegrityExamples.{sent_threat, sending, waiting, two_fields, exposed_to, store};
 ghost use Rattle.integrity.specs.IntegrityExamples.{before_set, sets_to_nine, after_set, after_refused, halted_world};
 ghost use Rattle.integrity.specs.IntegrityExamples.{at_end, not_at_end};
-ghost use Rattle.integrity.specs.Standing.{Goes, SetsThere, StandsBy, threat_in};
+ghost use Rattle.integrity.specs.Standing.{Goes, SetsThere, Stalls, StandsBy, threat_in};
 ghost use Rattle.integrity.specs.Outside.{EntryIsOpen, IsOutside, MessageIsOpen, StateIsOpen, Threat, threat_of};
 
 use split_rules::{opening_examples, opening_laws, split_laws, trust_laws};
@@ -174,6 +178,18 @@ pub fn standing_laws()
         IsStep split.code world (Turn host) after → misbehaves world to ≡ true →
         after.sent ≡ world.sent ++ (host, to, message.Set request field index value) ∷ [] →
         StandsBy split c view (runs host thread) world → SetsThere split c view host after }
+    // So the thread waits for a misbehaving host where its turn sends that anything but a token: a request for a field
+    // or to set one, a variable, or a result. The world stands for the same configuration, or for one that a step leads
+    // to.
+    ensures stalled { (split : Split) (labelled : Labelled) (needs : NeedsShape) (hosts : HostsShape)
+        (plan : PlanShape) (bad : ℕ) (store : List (List ℤ)) (events : List Event) (world after : WorldShape)
+        (host : HostId) (thread : ThreadShape) (c : Configuration) (view : View) (to : HostId) (sent : Message) →
+        threat_in split ≡ threat_of labelled needs hosts plan split.table bad → IsAllowed labelled needs hosts plan →
+        IsHeld labelled needs hosts plan → IsReached split.code hosts.hosts bad store events world →
+        CodeHasNumbers split.code → RowsHaveNumbers store → All EventHasNumbers events →
+        IsStep split.code world (Turn host) after → misbehaves world to ≡ true →
+        after.sent ≡ world.sent ++ (host, to, sent) ∷ [] → token_in sent ≡ None →
+        StandsBy split c view (runs host thread) world → Stalls split c host after }
     // Where the holder's thread waits for a misbehaving host and that answers it, the thread goes on. It waits on where
     // it waits for an answer of another kind.
     ensures acted { (split : Split) (rows : List HostRow) (bad : ℕ) (store : List (List ℤ)) (events : List Event)
@@ -189,10 +205,10 @@ pub fn standing_laws()
     opening_laws();
 }
 
-/// Where the root obeys and no turn tells a misbehaving host anything, the hosts follow an altered run of the program,
-/// whatever misbehaving hosts send and are answered: at every moment each field on an obeying host, which no
-/// misbehaving host may affect, has the value of one configuration of it, and once the root has halted that is at its
-/// end.
+/// Where the root obeys and no turn hands a misbehaving host a token of an obeying host that such hosts were not sent
+/// before, the hosts follow an altered run of the program, whatever else misbehaving hosts are told, and whatever they
+/// send and are answered: at every moment each field on an obeying host, which no misbehaving host may affect, has the
+/// value of one configuration of it, and once the root has halted that is at its end.
 pub fn quiet_laws()
     ensures follows { (program : Program) (labelled : Labelled) (needs : NeedsShape) (hosts : HostsShape)
         (plan : PlanShape) (bad : ℕ) (store : List (List ℤ)) (events : List Event) (world : WorldShape)
@@ -202,6 +218,16 @@ pub fn quiet_laws()
         IsSet program labelled needs hosts plan → CodeHasNumbers code → RowsHaveNumbers store →
         IsReached code hosts.hosts bad store events world → All EventHasNumbers events →
         state_at start code.root ≡ Some state → RunsQuietly code start events →
+        FollowsAltered program (exposure_of labelled needs hosts bad) code hosts.hosts bad store events }
+    // So they do where misbehaving hosts were sent no token but their own before the end of the events.
+    ensures unsent { (program : Program) (labelled : Labelled) (needs : NeedsShape) (hosts : HostsShape)
+        (plan : PlanShape) (bad : ℕ) (store : List (List ℤ)) (events : List Event) (world : WorldShape)
+        (state : HostShape) →
+        let code = split_code labelled needs hosts plan in
+        IsSet program labelled needs hosts plan → CodeHasNumbers code → RowsHaveNumbers store →
+        IsReached code hosts.hosts bad store events world → All EventHasNumbers events →
+        state_at (world_at_start code hosts.hosts bad store) code.root ≡ Some state →
+        ((token : Token) → IsSent world token → misbehaves world token.host ≡ true) →
         FollowsAltered program (exposure_of labelled needs hosts bad) code hosts.hosts bad store events }
 {
     split_laws();
@@ -272,9 +298,17 @@ pub fn chain_examples()
     ensures other_turn { (thread : ThreadShape) → ¬ IsOwn (runs (host_id 0) thread) start (Turn (host_id 1)) }
     // Each entry of a chain keeps the token of the next.
     ensures unlinked { (one next : StackEntry) → one.kept ≢ next.token → ¬ AreLinked (one ∷ next ∷ []) }
-    // A turn that pushes an entry tells misbehaving hosts nothing. One that hands a token over to such a host does.
+    // A turn that pushes an entry hands misbehaving hosts no token. One that hands control over to such a host hands it
+    // a new one.
     ensures quiet { RunsQuietly small start (Turn (host_id 0) ∷ []) }
     ensures told { ¬ RunsQuietly handing bad_start (Turn (host_id 0) ∷ []) }
+    // One that sends such a host a message without a token, or with one of theirs, does not.
+    ensures tokenless { (world after : WorldShape) (host to : HostId) (sent : Message) →
+        after.sent ≡ world.sent ++ (host, to, sent) ∷ [] → token_in sent ≡ None →
+        HandsNoNewToken (Turn host) world after }
+    ensures theirs { (world after : WorldShape) (host to : HostId) (sent : Message) (token : Token) →
+        after.sent ≡ world.sent ++ (host, to, sent) ∷ [] → token_in sent ≡ Some token →
+        misbehaves world token.host ≡ true → HandsNoNewToken (Turn host) world after }
     // Where the root has halted, no thread is the holder.
     ensures halted_denied { (split : Split) (c : Configuration) (view : View) (host : HostId) (thread : ThreadShape)
         (world : WorldShape) → has_halted split.code.root world → ¬ StandsBy split c view (runs host thread) world }

@@ -25,5 +25,11 @@ returns-clause-quiet c = example.quiet c.token_examples.ensures.pushes
 pub returns-clause-told : goal.returns-clause-told
 returns-clause-told c = example.told c.token_examples.ensures.hands_over c.token_examples.ensures.sent
 
+pub returns-clause-tokenless : goal.returns-clause-tokenless
+returns-clause-tokenless c = example.tokenless
+
+pub returns-clause-theirs : goal.returns-clause-theirs
+returns-clause-theirs c = example.theirs
+
 pub returns-clause-halted_denied : goal.returns-clause-halted_denied
 returns-clause-halted_denied c = example.halted_denied

@@ -4,6 +4,7 @@ use Rattle.token_laws.specs.Numbers.{MessageHasNumbers}
 use Rattle.integrity.proofs.ActMoves.{holder_acted}
 use Rattle.integrity.proofs.Among.{if_of}
 use Rattle.integrity.proofs.HolderLaws.{holder_turned}
+use Rattle.integrity.proofs.StallMoves.{holder_sends}
 use Rattle.integrity.proofs.StandsAtStart.{stands_at_start}
 use Rattle.integrity.proofs.StandsOn.{stands_kept}
 use Rattle.integrity.proofs.TakeLaws.{holder_taken}
@@ -36,3 +37,6 @@ returns-clause-acted c =
 
 pub returns-clause-told : goal.returns-clause-told
 returns-clause-told c = holder_told
+
+pub returns-clause-stalled : goal.returns-clause-stalled
+returns-clause-stalled c = holder_sends
