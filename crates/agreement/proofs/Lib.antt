@@ -19,3 +19,5 @@ pub mod Starts
 pub mod AnswersPass
 pub mod ValueLaws
 pub mod Coming
+pub mod SeenTurns
+pub mod SeenLeads

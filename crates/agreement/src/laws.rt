@@ -35,6 +35,7 @@ ghost use Rattle.agreement.specs.Changes.{StaysSeen};
 ghost use Rattle.agreement.specs.Alike.{AreStartsAlike};
 ghost use Rattle.agreement.specs.Comes.{Comes, HasCome};
 ghost use Rattle.agreement.specs.Leads.{Link, links_on, hidden_waiting, Leads, Agree};
+ghost use Rattle.agreement.specs.Turns.{RunsAlone, Carried, carried_in, SeenTurn};
 ghost use Rattle.agreement.specs.Values.{IsSeen, HoldAlike};
 ghost use Rattle.agreement.specs.Views.{View, HostView, ShowsHost, Shows, running_view, Owed, goes_on, gives};
 ghost use Rattle.agreement.specs.Views.{Completed, at, owed_at};
@@ -111,6 +112,19 @@ pub fn coming_laws()
         is_open eyes host thread.at ≡ false → is_open eyes other later.at ≡ false →
         is_deep eyes host thread.at ≡ true → is_deep eyes other later.at ≡ true →
         Comes eyes view host thread token first → Comes eyes view other later token second → first ≡ second }
+{}
+
+/// What is seen of a turn that may be seen, and that sets something on its host alone or branches.
+pub fn seen_laws()
+    // A quiet world that events lead to, and that leads to a view, leads after it to what is seen of it then.
+    ensures turn { (eyes : Eyes) (rows : List declared_hosts.HostShape) (bad : ℕ) (store : List (List ℤ))
+        (events : List Event) (world after : WorldShape) (host : HostId) (view : View)
+        (alone : RunsAlone eyes.code world host) →
+        AreEyes eyes → Watches eyes (world_at_start eyes.code rows bad store) →
+        IsReached eyes.code rows bad store events world → IsStep eyes.code world (Turn host) after →
+        IsQuiet eyes.code world → Leads eyes world view →
+        (seen : View) × SeenTurn eyes view host (carried_in eyes alone.state alone.thread alone.instruction.op) seen
+        × Leads eyes after seen }
 {}
 
 /// What will be seen of a world, once what goes on unseen comes to an end, where a secret event happens.

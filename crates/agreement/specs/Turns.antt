@@ -1,0 +1,112 @@
+-- What is seen of a turn that may be seen, and that changes its host alone.
+use Rattle.std.specs.Prelude.{◌≡◌, ℕ, ◌+◌, ℤ, pos, not, ◌==◌, if◌then◌else◌, [], ◌∷◌, Option, Some, None, ⊤}
+use Rattle.std.specs.Option.{IsSomeAnd}
+use Rattle.std.specs.Ordering.{int_eq}
+use Rattle.js_base.specs.declared.ids.HostId.{HostId}
+use Rattle.js_base.specs.declared.ids.FieldId.{FieldId}
+use Rattle.js_base.specs.declared.ids.FrameId.{FrameId}
+use Rattle.js_base.specs.declared.ids.VarId.{VarId}
+use Rattle.jif_tree.specs.Store.{with_element}
+use Rattle.capability.specs.declared.token.Token.{Token}
+use Rattle.host_code.specs.declared.instruction.Instr.{Instr}
+use Rattle.host_code.specs.declared.instruction.Op.{Op}
+use Rattle.host_code.specs.declared.instruction.Op.TheVariants as op
+use Rattle.host_code.specs.Code.{CodeShape, instruction_at, field_at}
+use Rattle.host_code.specs.Thread.{ThreadShape}
+use Rattle.host_stores.specs.Stores.{with_variable}
+use Rattle.host_core.specs.Host.{HostShape, after_clearing, value_in_thread}
+use Rattle.net_world.specs.World.{WorldShape, state_at}
+use Rattle.seen_world.specs.Eyes.{Eyes, is_deep}
+use Rattle.agreement.specs.Comes.{Comes}
+use Rattle.agreement.specs.Views.{View, HostView, masked, sees_field, sees_variable, with_host}
+
+-- ---- which turns
+
+-- An instruction of a host that sets a variable or an element of a field there, or branches.
+abbrev pub SetsAlone : CodeShape → HostId → Op → Type 0
+SetsAlone code me (op.Let x value) = ⊤
+SetsAlone code me (op.Arg x value) = ⊤
+SetsAlone code me (op.Put field index value) = IsSomeAnd (field_at code field) (λ there. there.host ≡ me)
+SetsAlone code me (op.Branch guard target) = ⊤
+SetsAlone code me other = ⊥
+
+-- the running thread of a host, at such an instruction
+pub record RunsAlone (code : CodeShape) (world : WorldShape) (host : HostId) : Type 0 where
+  pub state : HostShape
+  pub there : state_at world host ≡ Some state
+  pub thread : ThreadShape
+  pub running : state.running ≡ Some thread
+  pub instruction : Instr
+  pub is : instruction_at code host thread.at ≡ Some instruction
+  pub alone : SetsAlone code host instruction.op
+
+-- ---- what it carries
+
+-- an index and a value, each 0 where it may not be seen
+pub record Carried : Type 0 where
+  pub index : ℤ
+  pub value : ℤ
+
+abbrev pub carried_value : ℤ → Carried
+carried_value value = record { index = pos 0; value = value }
+
+-- What is set is seen where it is kept. A guard is seen where the block behind it is.
+abbrev pub carried_in : Eyes → HostShape → ThreadShape → Op → Carried
+carried_in eyes state thread (op.Let x value) =
+    carried_value (masked (sees_variable eyes x) (value_in_thread state thread value))
+carried_in eyes state thread (op.Arg x value) =
+    carried_value (masked (sees_variable eyes x) (value_in_thread state thread value))
+carried_in eyes state thread (op.Put field index value) = record {
+  index = masked (sees_field eyes field) (value_in_thread state thread index);
+  value = masked (sees_field eyes field) (value_in_thread state thread value);
+}
+carried_in eyes state thread (op.Branch guard target) =
+    carried_value (masked (not (is_deep eyes state.me (thread.at + 1))) (value_in_thread state thread guard))
+carried_in eyes state thread other = carried_value (pos 0)
+
+-- ---- what is seen then
+
+-- a host without the thread that runs
+abbrev pub host_idle : HostView → HostView
+host_idle view = record view { running = [] }
+
+abbrev pub variable_shown : HostView → FrameId → VarId → ℤ → HostView
+variable_shown view frame x value = record view { variables = with_variable view.variables frame x value }
+
+abbrev pub element_shown : HostView → FieldId → ℤ → ℤ → HostView
+element_shown view field index value = record view {
+  rows = λ number. if number == field.0 then with_element (view.rows number) index value else view.rows number;
+}
+
+-- where a branch leads
+abbrev pub branched : ThreadShape → ℕ → ℤ → ThreadShape
+branched thread target guard =
+    if int_eq guard (pos 0) then record (after_clearing thread) { at = target } else after_clearing thread
+
+-- the thread comes to its next place on a host of which this is seen
+abbrev pub ComesBehind : Eyes → View → HostId → HostView → ThreadShape → Token → View → Type 0
+ComesBehind eyes view host now later token after = Comes eyes (with_host view host now) host later token after
+
+abbrev pub SeenOperation : Eyes → View → HostId → ThreadShape → Token → Op → Carried → View → Type 0
+SeenOperation eyes view host thread token (op.Let x value) carried after =
+    ComesBehind eyes view host (variable_shown (host_idle (view.hosts host)) thread.frame x carried.value)
+    (after_clearing thread) token after
+SeenOperation eyes view host thread token (op.Arg x value) carried after =
+    ComesBehind eyes view host (variable_shown (host_idle (view.hosts host)) thread.new_frame x carried.value)
+    (after_clearing thread) token after
+SeenOperation eyes view host thread token (op.Put field index value) carried after =
+    ComesBehind eyes view host (element_shown (host_idle (view.hosts host)) field carried.index carried.value)
+    (after_clearing thread) token after
+SeenOperation eyes view host thread token (op.Branch guard target) carried after =
+    ComesBehind eyes view host (host_idle (view.hosts host)) (branched thread target carried.value) token after
+SeenOperation eyes view host thread token other carried after = ⊥
+
+-- The thread that is seen on a host runs its instruction, which carries this.
+pub record SeenTurn (eyes : Eyes) (view : View) (host : HostId) (carried : Carried) (after : View) : Type 0 where
+  pub thread : ThreadShape
+  pub running : (view.hosts host).running ≡ thread ∷ []
+  pub token : Token
+  pub held : thread.held ≡ Some token
+  pub instruction : Instr
+  pub is : instruction_at eyes.code host thread.at ≡ Some instruction
+  pub seen : SeenOperation eyes view host thread token instruction.op carried after
