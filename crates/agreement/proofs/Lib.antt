@@ -21,3 +21,5 @@ pub mod ValueLaws
 pub mod Coming
 pub mod SeenTurns
 pub mod SeenLeads
+pub mod CarriedSame
+pub mod SeenAgree

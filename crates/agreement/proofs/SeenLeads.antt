@@ -137,7 +137,7 @@ open_block eyes host place there are is seen =
     (eyes.shades.at host place).pc (are.shaded.instructions host place there is).is_shade.under_block seen
 
 -- the thread that runs in a calm world may be seen
-calm_open : (eyes : Eyes) (host : HostId) (running : Option ThreadShape) (thread : ThreadShape) →
+pub calm_open : (eyes : Eyes) (host : HostId) (running : Option ThreadShape) (thread : ThreadShape) →
     running ≡ Some thread → hidden_running eyes host running ≡ None → is_open eyes host thread.at ≡ true
 calm_open eyes host running thread is none = elim (cases_Bool (is_open eyes host thread.at)) [
   | inl seen ↦ seen

@@ -29,6 +29,7 @@ ghost use Rattle.net_world.specs.World.{WorldShape, state_at, world_at_start, Is
 ghost use Rattle.token_laws.specs.Reached.{IsReached};
 ghost use Rattle.token_laws.specs.Requests.{number_answered};
 ghost use Rattle.token_laws.specs.TokenExamples.{host_id, first_request, first_token, second_token};
+ghost use Rattle.split_shades.specs.ShadedCode.{ReleaseNothing};
 ghost use Rattle.seen_world.specs.Eyes.{Eyes, AreEyes, Watches, sees_at, is_open, is_deep, is_hidden};
 ghost use Rattle.seen_world.specs.Points.{HostsKeep, PointsHold};
 ghost use Rattle.agreement.specs.Changes.{StaysSeen};
@@ -125,6 +126,30 @@ pub fn seen_laws()
         IsQuiet eyes.code world → Leads eyes world view →
         (seen : View) × SeenTurn eyes view host (carried_in eyes alone.state alone.thread alone.instruction.op) seen
         × Leads eyes after seen }
+    // That is one view.
+    ensures once { (eyes : Eyes) (view : View) (host : HostId) (carried : Carried) (first second : View) →
+        SeenTurn eyes view host carried first → SeenTurn eyes view host carried second → first ≡ second }
+    // In two quiet worlds that agree the turn carries the same, where the code releases nothing.
+    ensures carried { (eyes : Eyes) (rows : List declared_hosts.HostShape) (bad : ℕ) (store start : List (List ℤ))
+        (events others : List Event) (one other : WorldShape) (host : HostId) (alone : RunsAlone eyes.code one host)
+        (twin : RunsAlone eyes.code other host) →
+        AreEyes eyes → ReleaseNothing eyes.code eyes.shades →
+        Watches eyes (world_at_start eyes.code rows bad store) →
+        Watches eyes (world_at_start eyes.code rows bad start) →
+        IsReached eyes.code rows bad store events one → IsReached eyes.code rows bad start others other →
+        IsQuiet eyes.code one → IsQuiet eyes.code other → Agree eyes one other →
+        carried_in eyes alone.state alone.thread alone.instruction.op
+        ≡ carried_in eyes twin.state twin.thread twin.instruction.op }
+    // So they agree after it.
+    ensures agrees { (eyes : Eyes) (rows : List declared_hosts.HostShape) (bad : ℕ) (store start : List (List ℤ))
+        (events others : List Event) (one other one_after other_after : WorldShape) (host : HostId) →
+        AreEyes eyes → ReleaseNothing eyes.code eyes.shades →
+        Watches eyes (world_at_start eyes.code rows bad store) →
+        Watches eyes (world_at_start eyes.code rows bad start) →
+        IsReached eyes.code rows bad store events one → IsReached eyes.code rows bad start others other →
+        RunsAlone eyes.code one host → IsStep eyes.code one (Turn host) one_after →
+        IsStep eyes.code other (Turn host) other_after → IsQuiet eyes.code one → IsQuiet eyes.code other →
+        Agree eyes one other → Agree eyes one_after other_after }
 {}
 
 /// What will be seen of a world, once what goes on unseen comes to an end, where a secret event happens.
