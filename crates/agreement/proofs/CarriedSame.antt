@@ -37,7 +37,7 @@ use Rattle.split_shades.proofs.BasisLabels.{flows_self, bottom_flows}
 use Rattle.split_shades.proofs.ShadedValues.{told_many}
 use Rattle.seen_world.specs.Eyes.{Eyes, AreEyes, sees_at, is_open, is_deep}
 use Rattle.seen_world.proofs.TurnsKept.{meets_next}
-use Rattle.agreement.specs.Turns.{SetsAlone, Carried, carried_value, carried_in}
+use Rattle.agreement.specs.Turns.{Carried, carried_value, carried_in}
 use Rattle.agreement.specs.Values.{IsSeen, HoldAlike}
 use Rattle.agreement.specs.Views.{masked, masked_all, sees_field, sees_variable}
 use Rattle.agreement.proofs.Places.{variable_unseen, field_unseen}
@@ -169,6 +169,7 @@ pub record Twins (eyes : Eyes) (me : HostId) (one other : HostShape) (thread twi
   pub me_other : other.me ≡ me
   pub place : twin.at ≡ thread.at
   pub frame : twin.frame ≡ thread.frame
+  pub held : twin.held ≡ thread.held
   pub temps : masked_all eyes (eyes.shades.at me thread.at).temps thread.temporaries
       ≡ masked_all eyes (eyes.shades.at me thread.at).temps twin.temporaries
   pub variables : (frame : FrameId) (x : VarId) → sees_variable eyes x ≡ true →
@@ -326,24 +327,25 @@ branch_same eyes me one other thread twin count guard target are same seen law f
 
 pub operation_same : (eyes : Eyes) (me : HostId) (one other : HostShape) (thread twin : ThreadShape) (count : ℕ)
     (it : Op) → AreEyes eyes → Twins eyes me one other thread twin → is_open eyes me thread.at ≡ true →
-    SetsAlone eyes.code me it → IsShadedOp eyes.scene eyes.shades me thread.at it →
+    IsShadedOp eyes.scene eyes.shades me thread.at it →
     OperationFits eyes.code me count it → (eyes.shades.at me thread.at).released ≡ [] →
     carried_in eyes one thread it ≡ carried_in eyes other twin it
-operation_same eyes me one other thread twin count (op.Let x value) are same seen alone law fits none =
+operation_same eyes me one other thread twin count (op.Let x value) are same seen law fits none =
     let_same eyes me one other thread twin count x value are same fits.1 none law.1.2
-operation_same eyes me one other thread twin count (op.Arg x value) are same seen alone law fits none =
+operation_same eyes me one other thread twin count (op.Arg x value) are same seen law fits none =
     let_same eyes me one other thread twin count x value are same fits.1 none law.1.2
-operation_same eyes me one other thread twin count (op.Put field index value) are same seen alone law fits none =
+operation_same eyes me one other thread twin count (op.Put field index value) are same seen law fits none =
     put_same eyes me one other thread twin count field index value are same law fits.1 fits.2 none
-operation_same eyes me one other thread twin count (op.Branch guard target) are same seen alone law fits none =
+operation_same eyes me one other thread twin count (op.Branch guard target) are same seen law fits none =
     branch_same eyes me one other thread twin count guard target are same seen law fits.0 none
-operation_same eyes me one other thread twin count (op.Read field index) are same seen alone law fits none = refl
-operation_same eyes me one other thread twin count (op.Send x to) are same seen alone law fits none = refl
-operation_same eyes me one other thread twin count (op.Frame site) are same seen alone law fits none = refl
-operation_same eyes me one other thread twin count (op.Pass x to) are same seen alone law fits none = refl
-operation_same eyes me one other thread twin count (op.Push entry) are same seen alone law fits none = refl
-operation_same eyes me one other thread twin count (op.Ask entry on) are same seen alone law fits none = refl
-operation_same eyes me one other thread twin count (op.Go entry on) are same seen alone law fits none = refl
-operation_same eyes me one other thread twin count (op.Call entry on) are same seen alone law fits none = refl
-operation_same eyes me one other thread twin count (op.Ret x value) are same seen alone law fits none = refl
-operation_same eyes me one other thread twin count op.Back are same seen alone law fits none = refl
+operation_same eyes me one other thread twin count (op.Read field index) are same seen law fits none = refl
+operation_same eyes me one other thread twin count (op.Send x to) are same seen law fits none = refl
+operation_same eyes me one other thread twin count (op.Frame site) are same seen law fits none = refl
+operation_same eyes me one other thread twin count (op.Pass x to) are same seen law fits none = refl
+operation_same eyes me one other thread twin count (op.Push entry) are same seen law fits none = refl
+operation_same eyes me one other thread twin count (op.Ask entry on) are same seen law fits none = refl
+operation_same eyes me one other thread twin count (op.Go entry on) are same seen law fits none = refl
+operation_same eyes me one other thread twin count (op.Call entry on) are same seen law fits none = refl
+operation_same eyes me one other thread twin count (op.Ret x value) are same seen law fits none =
+    let_same eyes me one other thread twin count x value are same fits.1 none law.1.2
+operation_same eyes me one other thread twin count op.Back are same seen law fits none = refl

@@ -4,10 +4,11 @@ use Rattle.std.specs.Prelude.{ℤ, Bool, if◌then◌else◌, IfSome}
 use Rattle.js_base.specs.declared.ids.HostId.{HostId}
 use Rattle.capability.specs.declared.token.Token.{Token}
 use Rattle.host_decl.specs.Hosts as declared_hosts
+use Rattle.host_code.specs.declared.code.Entry.{Entry}
 use Rattle.host_code.specs.declared.instruction.Instr.{Instr}
 use Rattle.host_code.specs.declared.instruction.Op.{Op}
 use Rattle.host_code.specs.declared.instruction.Op.TheVariants as op
-use Rattle.host_code.specs.Code.{instruction_at}
+use Rattle.host_code.specs.Code.{instruction_at, entry_at}
 use Rattle.host_code.specs.Sound.{IsSoundCode, IsHost}
 use Rattle.host_code.specs.Thread.{ThreadShape}
 use Rattle.host_core.specs.Host.{HostShape}
@@ -22,7 +23,8 @@ use Rattle.split_shades.specs.ShadedCode.{ReleaseNothing}
 use Rattle.seen_world.specs.Eyes.{Eyes, AreEyes, Watches}
 use Rattle.seen_world.proofs.PointsKept.{points_kept}
 use Rattle.agreement.specs.Leads.{Leads, Agree}
-use Rattle.agreement.specs.Turns.{RunsAlone, Carried, carried_in, SeenOperation, SeenTurn}
+use Rattle.agreement.specs.Turns.{ChangesAlone, RunsAlone, Carried, carried_in, ComesInto, SeenOperation}
+use Rattle.agreement.specs.Turns.{SeenTurn}
 use Rattle.agreement.specs.Views.{View, running_view, thread_view, masked_all}
 use Rattle.agreement.proofs.CarriedSame.{Twins, operation_same}
 use Rattle.agreement.proofs.Coming.{comes_once}
@@ -30,6 +32,13 @@ use Rattle.agreement.proofs.HiddenTurns.{some_of}
 use Rattle.agreement.proofs.SeenLeads.{Calm, quiet_calm, calm_open, reached_leads}
 
 -- ---- one view
+
+into_once : (eyes : Eyes) (now : View) (host : HostId) (thread : ThreadShape) (token : Token) (found : Option Entry)
+    (first second : View) → ComesInto eyes now host thread token found first →
+    ComesInto eyes now host thread token found second → first ≡ second
+into_once eyes now host thread token None first second one two = absurd one
+into_once eyes now host thread token (Some there) first second one two =
+    comes_once eyes _ host _ token first second one two
 
 operation_once : (eyes : Eyes) (now : View) (host : HostId) (thread : ThreadShape) (token : Token) (it : Op)
     (carried : Carried) (first second : View) → SeenOperation eyes now host thread token it carried first →
@@ -44,13 +53,17 @@ operation_once eyes now host thread token (op.Branch guard target) carried first
     comes_once eyes _ host _ token first second one two
 operation_once eyes now host thread token (op.Read field index) carried first second one two = absurd one
 operation_once eyes now host thread token (op.Send x to) carried first second one two = absurd one
-operation_once eyes now host thread token (op.Frame site) carried first second one two = absurd one
+operation_once eyes now host thread token (op.Frame site) carried first second one two =
+    comes_once eyes _ host _ _ first second one two
 operation_once eyes now host thread token (op.Pass x to) carried first second one two = absurd one
-operation_once eyes now host thread token (op.Push entry) carried first second one two = absurd one
+operation_once eyes now host thread token (op.Push entry) carried first second one two =
+    comes_once eyes _ host _ _ first second one two
 operation_once eyes now host thread token (op.Ask entry on) carried first second one two = absurd one
 operation_once eyes now host thread token (op.Go entry on) carried first second one two = absurd one
-operation_once eyes now host thread token (op.Call entry on) carried first second one two = absurd one
-operation_once eyes now host thread token (op.Ret x value) carried first second one two = absurd one
+operation_once eyes now host thread token (op.Call entry on) carried first second one two =
+    into_once eyes now host thread token (entry_at eyes.code entry) first second one two
+operation_once eyes now host thread token (op.Ret x value) carried first second one two =
+    comes_once eyes _ host _ _ first second one two
 operation_once eyes now host thread token op.Back carried first second one two = absurd one
 
 same_first : {X : Type 0} (x y : X) → x ∷ [] ≡ y ∷ [] → x ≡ y
@@ -105,6 +118,7 @@ twins_of eyes one other now host state mirror thread twin fits fits_other calm c
       me_other = (state_me eyes other host mirror fits_other there_other).me;
       place = sym place;
       frame = sym (ap (λ (t : ThreadShape). t.frame) same);
+      held = sym (ap (λ (t : ThreadShape). t.held) same);
       temps = ap (λ (t : ThreadShape). t.temporaries) same
           ∙ ap (λ n. masked_all eyes (eyes.shades.at host n).temps twin.temporaries) (sym place);
       variables = λ frame x seen. (calm.shows.hosts host state there).variables frame x seen
@@ -126,7 +140,7 @@ alone_too eyes one other after now host fits fits_other calm calm_other alone st
       running = thread.1;
       instruction = alone.instruction;
       is = ap (instruction_at eyes.code host) twins.place ∙ alone.is;
-      alone = alone.alone;
+      alone = subst (λ held. ChangesAlone eyes.code host held alone.instruction.op) (sym twins.held) alone.alone;
     }
 
 calm_carried : (eyes : Eyes) (one other : WorldShape) (now : View) (host : HostId)
@@ -145,7 +159,7 @@ calm_carried eyes one other now host alone twin are sound silent fits fits_other
     let is_host : IsHost eyes.code host = subst (IsHost eyes.code) own.me own.fits.me in
     operation_same eyes host alone.state twin.state alone.thread twin.thread _ alone.instruction.op are twins
     (calm_open eyes host alone.state.running alone.thread alone.running
-    (calm.running host alone.state alone.there)) alone.alone
+    (calm.running host alone.state alone.there))
     (are.shaded.instructions host alone.thread.at alone.instruction alone.is).law
     ((sound.parts host is_host).instructions alone.thread.at alone.instruction alone.is).operation
     (silent host alone.thread.at alone.instruction alone.is)

@@ -33,7 +33,7 @@ use Rattle.seen_world.proofs.SeenPlaces.{some_is, under_seen}
 use Rattle.seen_world.proofs.SeenWorlds.{label_read}
 use Rattle.agreement.specs.Comes.{HasCome}
 use Rattle.agreement.specs.Leads.{hidden_running, hidden_waiting, hidden_flights, Leads}
-use Rattle.agreement.specs.Turns.{SetsAlone, RunsAlone, Carried, carried_in, SeenTurn}
+use Rattle.agreement.specs.Turns.{ChangesAlone, RunsAlone, Carried, carried_in, SeenTurn}
 use Rattle.agreement.specs.Views.{View, ShowsHost, Shows, running_view, thread_view, flies_open, flights_view, is_shown}
 use Rattle.agreement.specs.Views.{with_host}
 use Rattle.agreement.proofs.Branches.{own_view, other_view}
@@ -169,6 +169,8 @@ visible_of eyes world old thread there now are calm fits keep obeys is here =
       are = are;
       is = here;
       seen = seen;
+      well = well;
+      fits = fits;
       held = token.1;
       shown = may.1 (open_block eyes old.me thread.at there are here seen);
       shows = calm.shows.hosts old.me old obeys;
@@ -186,7 +188,7 @@ seen_thread eyes old thread there token now run is =
 turned_leads : (eyes : Eyes) (world after : WorldShape) (old : HostShape) (outcome : Outcome) (thread : ThreadShape)
     (there : Instr) (now : View) → AreEyes eyes → IsSoundCode eyes.code → Calm eyes world now →
     StateFits eyes.code old → HostKeeps eyes old.me old → state_at world old.me ≡ Some old →
-    old.running ≡ Some thread → IsHere eyes old thread there → SetsAlone eyes.code old.me there.op →
+    old.running ≡ Some thread → IsHere eyes old thread there → ChangesAlone eyes.code old.me thread.held there.op →
     IsTurn eyes.code old outcome → after_step world old.me outcome (label_of_turn eyes.code old) ≡ after →
     StateFits eyes.code outcome.state → HostKeeps eyes old.me outcome.state →
     (seen : View) × SeenTurn eyes now old.me (carried_in eyes old thread there.op) seen × Leads eyes after seen
@@ -239,7 +241,7 @@ alone_leads eyes world after host now alone are sound watch fits fits_after keep
     own.fit.fits
     own.keeps (ap (state_at world) me ∙ alone.there) alone.running
     (subst (λ (h : HostId). instruction_at eyes.code h alone.thread.at ≡ Some alone.instruction) (sym me) alone.is)
-    (subst (λ (h : HostId). SetsAlone eyes.code h alone.instruction.op) (sym me) alone.alone) turns
+    (subst (λ (h : HostId). ChangesAlone eyes.code h alone.thread.held alone.instruction.op) (sym me) alone.alone) turns
     (ap (λ (h : HostId). after_step world h outcome (label_of_turn eyes.code old)) me ∙ leaves) fit
     (subst (λ (h : HostId). HostKeeps eyes h outcome.state) (sym me) (keep_after host outcome.state after_me)) in
     (result.0, subst (λ (h : HostId). SeenTurn eyes now h (carried_in eyes old alone.thread alone.instruction.op)

@@ -1,50 +1,60 @@
 -- A turn that may be seen, and that changes its host alone, leads to what is seen then.
-use Rattle.std.proofs.Common.{◌≡◌, ◌≢◌, ◌∙◌, ℕ, suc, ◌+◌, ◌<◌, Bool, true, false, List, [], ◌∷◌, length, arith, Option}
+use Rattle.std.proofs.Common.{◌≡◌, ◌≢◌, ◌∙◌, ℕ, zero, suc, ◌+◌, ◌<◌, Bool, true, false, List, [], ◌∷◌, length, arith, Option}
 use Rattle.std.proofs.Common.{Some, None, inl, inr, refl, ap, sym, subst, int_eq}
-use Rattle.std.specs.Prelude.{◌==◌, ◌&&◌, ◌⊎◌, if◌then◌else◌, not, ℤ, pos, IfSome, filter}
+use Rattle.std.specs.Prelude.{◌==◌, ◌&&◌, ◌⊎◌, if◌then◌else◌, not, ℤ, pos, IfSome, filter, slice_get, slice_set, slice_index}
 use Rattle.std.specs.Option.{IsSomeAnd}
 use Rattle.std.proofs.lemmas.Bool.{cases_Bool, false≢true}
 use Rattle.std.proofs.lemmas.Bool.Decides.{eqb_tells}
+use Rattle.std.proofs.lemmas.List.{get_or-set_same}
+use Rattle.std.proofs.lemmas.Option.{slice_get_cases, slice_get_within, slice_get_past}
 use Rattle.js_base.specs.declared.ids.HostId.{HostId}
 use Rattle.js_base.specs.declared.ids.FieldId.{FieldId}
 use Rattle.js_base.specs.declared.ids.FrameId.{FrameId}
 use Rattle.js_base.specs.declared.ids.VarId.{VarId}
+use Rattle.js_base.specs.declared.ids.EntryId.{EntryId}
+use Rattle.js_base.specs.declared.ids.SiteId.{SiteId}
 use Rattle.label_lattice.specs.declared.label.Label.{Label}
 use Rattle.jif_tree.specs.Store.{row_of, with_element, store_after_write}
 use Rattle.capability.specs.declared.token.Token.{Token}
 use Rattle.ics_stack.specs.declared.stack.StackEntry.{StackEntry}
+use Rattle.capability.specs.Tag.{tag_of}
+use Rattle.host_code.specs.declared.code.Entry.{Entry}
 use Rattle.host_code.specs.declared.code_expr.Node.{Node}
 use Rattle.host_code.specs.declared.instruction.Instr.{Instr}
 use Rattle.host_code.specs.declared.instruction.Op.{Op}
 use Rattle.host_code.specs.declared.instruction.Op.TheVariants as op
-use Rattle.host_code.specs.Code.{CodeFieldShape, part_of, field_at}
-use Rattle.host_code.specs.Sound.{OperationFits}
+use Rattle.host_code.specs.Code.{CodeFieldShape, part_of, field_at, entry_at, site_at}
+use Rattle.host_code.specs.Code.{host_of_site}
+use Rattle.host_code.specs.Sound.{OperationFits, IsEntryOn}
 use Rattle.host_code.specs.Thread.{ThreadShape}
 use Rattle.host_core.specs.Fits.{StateFits}
 use Rattle.host_core.specs.Host.{HostShape, Outcome, with_running, with_row_written, after_clearing}
-use Rattle.host_core.specs.Host.{value_in_thread}
-use Rattle.host_core.specs.Turn.{after_operation, after_let, after_put, after_branch, with_thread}
+use Rattle.host_core.specs.Host.{after_step, with_token, new_token, value_in_thread}
+use Rattle.host_core.specs.Turn.{after_operation, after_let, after_put, after_branch, after_return}
+use Rattle.host_core.specs.Turn.{after_own_call, after_call, after_frame, after_own_push, with_thread}
 use Rattle.host_stores.specs.Stores.{is_same_variable, with_variable}
 use Rattle.net_world.proofs.Rows.{row_written, row_kept}
 use Rattle.split_shades.specs.ShadedCode.{IsShadedOp}
-use Rattle.split_shades.specs.Shades.{Ahead, Meets}
-use Rattle.split_shades.specs.Shading.{Divides}
+use Rattle.split_shades.specs.Shades.{Shade, Ahead, Meets}
+use Rattle.split_shades.specs.Shading.{Divides, IsPlain, Names, Pushes, PushesAt}
 use Rattle.token_laws.proofs.OneToken.{only_one, token_itself}
 use Rattle.token_laws.proofs.Tests.{itself, number_same, parts_same}
 use Rattle.token_laws.proofs.Counting.{one_if}
 use Rattle.token_laws.proofs.Worth.{is_token, one_of}
-use Rattle.seen_world.specs.Eyes.{Eyes, AreEyes, is_open, is_deep}
-use Rattle.seen_world.specs.Points.{IsHiddenToken}
+use Rattle.seen_world.specs.Eyes.{Eyes, AreEyes, is_open, is_deep, is_hidden}
+use Rattle.seen_world.specs.Points.{IsHiddenToken, RunsWell}
 use Rattle.seen_world.proofs.SeenPlaces.{block_seen}
 use Rattle.seen_world.proofs.TurnsKept.{meets_next}
 use Rattle.agreement.specs.Comes.{ComesTo, Comes}
-use Rattle.agreement.specs.Turns.{SetsAlone, carried_in, host_idle, variable_shown, element_shown, branched}
+use Rattle.agreement.specs.Turns.{ChangesAlone, carried_in, host_idle, variable_shown, element_shown, branched}
+use Rattle.agreement.specs.Turns.{frame_shown, framed, token_shown, entry_shown, ComesInto}
 use Rattle.agreement.specs.Turns.{ComesBehind, SeenOperation}
 use Rattle.agreement.specs.Views.{View, HostView, ShowsHost, Owed, nothing, goes_on, gives, at, owed_at, Completed}
 use Rattle.agreement.specs.Views.{GivenBack, masked, sees_field, sees_variable, thread_view, with_host, host_popped}
 use Rattle.agreement.specs.Views.{is_shown, host_with_thread}
 use Rattle.agreement.specs.Views as view
 use Rattle.agreement.proofs.Coming.{deep_comes}
+use Rattle.agreement.proofs.Lists.{index_apart, kept_first}
 use Rattle.agreement.proofs.Places.{deep_hidden, deep_as, block_hidden}
 use Rattle.agreement.proofs.Turns.{IsHere, next_there}
 
@@ -101,6 +111,8 @@ pub record Visible (eyes : Eyes) (old : HostShape) (thread : ThreadShape) (there
   pub are : AreEyes eyes
   pub is : IsHere eyes old thread there
   pub seen : is_open eyes old.me thread.at ≡ true
+  pub well : RunsWell eyes old.me thread
+  pub fits : StateFits eyes.code old
   pub held : thread.held ≡ Some token
   pub shown : ¬ IsHiddenToken eyes token
   pub shows : ShowsHost eyes old.me old (now.hosts old.me)
@@ -286,6 +298,267 @@ put_turned eyes old thread there token now field index value run (Some on) own =
     (some.0, some.1, either_true (λ (o : Outcome). Arrives eyes old now o some.0) (on.host.0 == old.me.0) made _ here
     done)
 
+-- ---- a result for the host
+
+return_turned : (eyes : Eyes) (old : HostShape) (thread : ThreadShape) (there : Instr) (token : Token) (now : View)
+    (x : VarId) (value : List Node) (passes : Bool) → Visible eyes old thread there token now →
+    IsSomeAnd thread.held (λ held. held.host ≡ old.me) →
+    (after : View)
+    × ComesBehind eyes now old.me (variable_shown (host_idle (now.hosts old.me)) token.frame x
+    (masked (sees_variable eyes x) (value_in_thread old thread value))) (after_clearing thread) token after
+    × Arrives eyes old now (after_return (with_running old None) thread x value thread.held passes) after
+return_turned eyes old thread there token now x value passes run own =
+    let bare = with_running old None in
+    let turned = let_turned eyes old thread there token now token.frame x value run in
+    let host : token.host ≡ old.me = subst (λ held. IsSomeAnd held (λ one. one.host ≡ old.me)) run.held own in
+    let here : (token.host.0 == old.me.0) ≡ true = ap (λ (h : HostId). h.0 == old.me.0) host ∙ itself old.me.0 in
+    (turned.0, turned.1,
+    subst (λ held. Arrives eyes old now (after_return bare thread x value held passes) turned.0) (sym run.held)
+    (either_true (λ (o : Outcome). Arrives eyes old now o turned.0) (token.host.0 == old.me.0)
+    (after_let bare thread token.frame x value) _ here turned.2))
+
+-- ---- nothing was read
+
+no_temps : (temps : List ℤ) (labels : List Label) → length temps ≡ length labels → labels ≡ [] → temps ≡ []
+no_temps [] labels many none = refl
+no_temps (x ∷ temps) labels many none =
+    let never = ap length none in
+    absurd (omega (arith, many, never))
+
+plain_temps : (eyes : Eyes) (old : HostShape) (thread : ThreadShape) (there : Instr) (token : Token) (now : View) →
+    Visible eyes old thread there token now → IsPlain (eyes.shades.at old.me thread.at) → thread.temporaries ≡ []
+plain_temps eyes old thread there token now run plain =
+    no_temps thread.temporaries (eyes.shades.at old.me thread.at).temps run.well.temps plain.0
+
+-- ---- a method is entered
+
+enter_turned : (eyes : Eyes) (old : HostShape) (thread : ThreadShape) (there : Instr) (token : Token) (now : View) →
+    Visible eyes old thread there token now → IsPlain (eyes.shades.at old.me thread.at) → (found : Option Entry) →
+    IsSomeAnd found (λ into. into.host ≡ old.me) →
+    (after : View)
+    × ComesInto eyes now old.me thread token found after
+    × Arrives eyes old now (after_own_call (with_running old None) thread found) after
+enter_turned eyes old thread there token now run plain None own = absurd own
+enter_turned eyes old thread there token now run plain (Some into) own =
+    let idle = host_idle (now.hosts old.me) in
+    let later : ThreadShape = record (after_clearing thread) { at = into.at; frame = thread.new_frame } in
+    let is : record thread { at = into.at; frame = thread.new_frame } ≡ later =
+    ap (λ ts. record thread { at = into.at; frame = thread.new_frame; temporaries = ts })
+    (plain_temps eyes old thread there token now run plain) in
+    let some = comes_some eyes (with_host now old.me idle) old.me later token in (
+      some.0,
+      some.1,
+      record {
+        shown = idle;
+        later = later;
+        token = token;
+        silent = refl;
+        running = ap Some is;
+        me = refl;
+        held = run.held;
+        plain = run.shown;
+        waiting = refl;
+        entries = run.entries;
+        own = idle_shows eyes old.me old (now.hosts old.me) run.shows;
+        comes = some.1;
+      },
+    )
+
+call_turned : (eyes : Eyes) (old : HostShape) (thread : ThreadShape) (there : Instr) (token : Token) (now : View)
+    (entry : EntryId) (on : HostId) → Visible eyes old thread there token now →
+    IsPlain (eyes.shades.at old.me thread.at) → on ≡ old.me → IsEntryOn eyes.code on entry →
+    (after : View)
+    × ComesInto eyes now old.me thread token (entry_at eyes.code entry) after
+    × Arrives eyes old now (after_call eyes.code (with_running old None) thread entry on) after
+call_turned eyes old thread there token now entry on run plain own fits =
+    let bare = with_running old None in
+    let turned = enter_turned eyes old thread there token now run plain (entry_at eyes.code entry)
+    (subst (λ (h : HostId). IsSomeAnd (entry_at eyes.code entry) (λ into. into.host ≡ h)) own fits.1) in
+    let here : (on.0 == old.me.0) ≡ true = ap (λ (h : HostId). h.0 == old.me.0) own ∙ itself old.me.0 in
+    (turned.0, turned.1,
+    either_true (λ (o : Outcome). Arrives eyes old now o turned.0) (on.0 == old.me.0)
+    (after_own_call bare thread (entry_at eyes.code entry)) _ here turned.2)
+
+-- ---- one count goes up
+
+count_alike : (counts : List ℕ) (others : ℕ → ℕ) (place number : ℕ) → place < length counts →
+    slice_index counts number ≡ others number →
+    slice_index (slice_set counts place (slice_index counts place + 1)) number
+    ≡ (if number == place then others number + 1 else others number)
+count_alike counts others place number within same = elim (eqb_tells number place) [
+  | inl is ↦
+      ap (slice_index (slice_set counts place (slice_index counts place + 1))) is.1
+      ∙ get_or-set_same counts place (slice_index counts place + 1) 0 within
+      ∙ ap (λ n. slice_index counts n + 1) (sym is.1) ∙ ap (λ n. n + 1) same
+      ∙ sym (ap (λ (b : Bool). if b then others number + 1 else others number) is.0)
+  | inr apart ↦
+      index_apart counts place number (slice_index counts place + 1) apart.1 ∙ same
+      ∙ sym (ap (λ (b : Bool). if b then others number + 1 else others number) apart.0)
+]
+
+-- ---- a frame is made
+
+site_within : (sites : List HostId) (site : ℕ) (host : HostId) → host_of_site sites site ≡ Some host →
+    site < length sites + 1
+site_within sites zero host is = absurd (cc)
+site_within sites (suc place) host is =
+    let within = slice_get_within sites place host is in
+    omega (arith, within)
+
+frame_turned : (eyes : Eyes) (old : HostShape) (thread : ThreadShape) (there : Instr) (token : Token) (now : View)
+    (site : SiteId) → Visible eyes old thread there token now →
+    IsShadedOp eyes.scene eyes.shades old.me thread.at (op.Frame site) → site_at eyes.code site ≡ Some old.me →
+    (after : View)
+    × ComesBehind eyes now old.me (frame_shown (host_idle (now.hosts old.me)) site)
+    (framed (now.hosts old.me) thread site) token after
+    × Arrives eyes old now (after_frame (with_running old None) thread site) after
+frame_turned eyes old thread there token now site run law fits =
+    let idle = idle_shows eyes old.me old (now.hosts old.me) run.shows in
+    let shown = frame_shown (host_idle (now.hosts old.me)) site in
+    let later = framed (now.hosts old.me) thread site in
+    let count : slice_index old.frames site.0 ≡ (now.hosts old.me).frames site.0 =
+    run.shows.frames site.0 (eyes.shades.at old.me thread.at).pc law.1.3 run.seen in
+    let sites = site_within eyes.code.sites site.0 old.me fits in
+    let many = run.fits.frames in
+    let within : site.0 < length old.frames = omega (arith, sites, many) in
+    let is : record (after_step thread) { new_frame = record { site = site; count = slice_index old.frames site.0 } }
+    ≡ later =
+    ap (λ ts. record (after_step thread) {
+      new_frame = record { site = site; count = slice_index old.frames site.0 };
+      temporaries = ts;
+    }) (plain_temps eyes old thread there token now run law.1.2)
+    ∙ ap (λ n. record (after_clearing thread) { new_frame = record { site = site; count = n } }) count in
+    let some = comes_some eyes (with_host now old.me shown) old.me later token in (
+      some.0,
+      some.1,
+      record {
+        shown = shown;
+        later = later;
+        token = token;
+        silent = refl;
+        running = ap Some is;
+        me = refl;
+        held = run.held;
+        plain = run.shown;
+        waiting = refl;
+        entries = run.entries;
+        own = record {
+          key = idle.key;
+          rows = idle.rows;
+          variables = idle.variables;
+          running = refl;
+          waiting = idle.waiting;
+          entries = idle.entries;
+          serials = idle.serials;
+          frames = λ number label there_is seen.
+              count_alike old.frames (now.hosts old.me).frames site.0 number within
+              (idle.frames number label there_is seen);
+          requests = idle.requests;
+        };
+        comes = some.1;
+      },
+    )
+
+-- ---- an entry is pushed
+
+-- an entry that is pushed where it may be seen is not hidden
+names_shown : (eyes : Eyes) (here : Shade) (entry : EntryId) → eyes.sees here.pc ≡ true →
+    Names eyes.shades.entries here entry.0 → is_hidden eyes entry.0 ≡ false
+names_shown eyes here entry seen names =
+    let found : is_hidden eyes entry.0 ≡ not (eyes.sees here.pc) = rw (names.is, names.pushed) refl in
+    found ∙ ap not seen
+
+pushes_shown : (eyes : Eyes) (me : HostId) (here : Shade) (entry : EntryId) (next : Ahead) →
+    eyes.sees here.pc ≡ true → (calls : Bool) → Pushes eyes.scene eyes.shades.entries me calls here entry.0 next →
+    is_hidden eyes entry.0 ≡ false
+pushes_shown eyes me here entry next seen true pushes = names_shown eyes here entry seen pushes.names
+pushes_shown eyes me here entry next seen false pushes = by here.guard pushes
+  where
+    by : (guard : Option ℕ) → PushesAt guard eyes.shades.entries here entry.0 next → is_hidden eyes entry.0 ≡ false
+    by None named = names_shown eyes here entry seen named.0
+    by (Some loop) named = names_shown eyes here entry seen named.0
+
+push_turned : (eyes : Eyes) (old : HostShape) (thread : ThreadShape) (there : Instr) (token : Token) (now : View)
+    (entry : EntryId) → Visible eyes old thread there token now →
+    IsShadedOp eyes.scene eyes.shades old.me thread.at (op.Push entry) → entry.0 < length eyes.code.entries →
+    (after : View)
+    × ComesBehind eyes now old.me (entry_shown old.me (host_idle (now.hosts old.me)) entry thread.frame token)
+    (with_token (Some (token_shown old.me (now.hosts old.me) entry thread.frame)) (after_clearing thread))
+    (token_shown old.me (now.hosts old.me) entry thread.frame) after
+    × Arrives eyes old now (after_own_push (with_running old None) thread entry thread.held) after
+push_turned eyes old thread there token now entry run law below =
+    let bare = with_running old None in
+    let here = eyes.shades.at old.me thread.at in
+    let view_here = now.hosts old.me in
+    let idle = idle_shows eyes old.me old view_here run.shows in
+    let plain : is_hidden eyes entry.0 ≡ false =
+    pushes_shown eyes old.me here entry law.0 run.seen here.calls law.1.1 in
+    let made = token_shown old.me view_here entry thread.frame in
+    let shown = entry_shown old.me (host_idle view_here) entry thread.frame token in
+    let later = with_token (Some made) (after_clearing thread) in
+    let serial : slice_index old.serials entry.0 ≡ view_here.serials entry.0 = run.shows.serials entry.0 plain in
+    let token_is : new_token bare entry thread.frame ≡ made =
+    ap (λ n. record {
+      host = old.me;
+      frame = thread.frame;
+      entry = entry;
+      serial = n;
+      tag = tag_of old.key old.me thread.frame entry n;
+    }) serial
+    ∙ ap (λ key. record {
+      host = old.me;
+      frame = thread.frame;
+      entry = entry;
+      serial = view_here.serials entry.0;
+      tag = tag_of key old.me thread.frame entry (view_here.serials entry.0);
+    }) run.shows.key in
+    let is : with_token (Some (new_token bare entry thread.frame)) (after_step thread) ≡ later =
+    ap (λ ts. with_token (Some (new_token bare entry thread.frame)) (record (after_step thread) { temporaries = ts }))
+    (plain_temps eyes old thread there token now run law.1.0)
+    ∙ ap (λ t. with_token (Some t) (after_clearing thread)) token_is in
+    let many = run.fits.serials in
+    let within : entry.0 < length old.serials = omega (arith, below, many) in
+    let top_of : Token → StackEntry = λ t. record { token = t; entry = entry; frame = thread.frame; kept = token } in
+    let top = top_of (new_token bare entry thread.frame) in
+    let kept : filter (is_shown eyes) (top ∷ old.entries) ≡ top ∷ filter (is_shown eyes) old.entries =
+    kept_first (is_shown eyes) top old.entries (ap not plain) in
+    let some = comes_some eyes (with_host now old.me shown) old.me later made in
+    let done : Arrives eyes old now (after_own_push bare thread entry (Some token)) some.0 = record {
+      shown = shown;
+      later = later;
+      token = made;
+      silent = refl;
+      running = ap Some is;
+      me = refl;
+      held = refl;
+      plain = λ hidden. false≢true (sym plain ∙ hidden.1);
+      waiting = refl;
+      entries = ap (λ all. top ∷ all) run.entries ∙ sym kept;
+      own = record {
+        key = idle.key;
+        rows = idle.rows;
+        variables = idle.variables;
+        running = refl;
+        waiting = idle.waiting;
+        entries = kept ∙ ap (λ t. top_of t ∷ filter (is_shown eyes) old.entries) token_is
+            ∙ ap (λ all. top_of made ∷ all) run.shows.entries;
+        serials = λ number shown_is.
+            count_alike old.serials view_here.serials entry.0 number within (idle.serials number shown_is);
+        frames = idle.frames;
+        requests = idle.requests;
+      };
+      comes = some.1;
+    } in
+    (some.0, some.1,
+    subst (λ held. Arrives eyes old now (after_own_push bare thread entry held) some.0) (sym run.held) done)
+
+some_below : {X : Type 0} (P : X → Type 0) (xs : List X) (number : ℕ) → IsSomeAnd (slice_get xs number) P →
+    number < length xs
+some_below P xs number some = elim (slice_get_cases xs number).1 [
+  | inl there ↦ slice_get_within xs number there.0 there.2
+  | inr past ↦ absurd (subst (λ found. IsSomeAnd found P) (slice_get_past xs number past.0) some)
+]
+
 -- ---- a branch
 
 -- where it leads
@@ -412,7 +685,7 @@ branch_turned eyes old thread there token now guard target run law within fits =
 
 pub operation_turned : (eyes : Eyes) (old : HostShape) (thread : ThreadShape) (there : Instr) (token : Token)
     (now : View) (count : ℕ) (it : Op) (passes : Bool) → Visible eyes old thread there token now →
-    SetsAlone eyes.code old.me it → IsShadedOp eyes.scene eyes.shades old.me thread.at it →
+    ChangesAlone eyes.code old.me thread.held it → IsShadedOp eyes.scene eyes.shades old.me thread.at it →
     OperationFits eyes.code old.me count it →
     StateFits eyes.code (after_operation eyes.code (with_running old None) thread it passes).state →
     Turned eyes old thread token now it (after_operation eyes.code (with_running old None) thread it passes)
@@ -424,14 +697,19 @@ operation_turned eyes old thread there token now count (op.Put field index value
     put_turned eyes old thread there token now field index value run (field_at eyes.code field) alone
 operation_turned eyes old thread there token now count (op.Branch guard target) passes run alone law fit fits =
     branch_turned eyes old thread there token now guard target run law fit.1 fits
+operation_turned eyes old thread there token now count (op.Frame site) passes run alone law fit fits =
+    frame_turned eyes old thread there token now site run law fit
+operation_turned eyes old thread there token now count (op.Push entry) passes run alone law fit fits =
+    push_turned eyes old thread there token now entry run law
+    (some_below (λ (there : Entry). there.host ≡ old.me) eyes.code.entries entry.0 fit.1)
+operation_turned eyes old thread there token now count (op.Call entry on) passes run alone law fit fits =
+    call_turned eyes old thread there token now entry on run law.0 alone fit.0
+operation_turned eyes old thread there token now count (op.Ret x value) passes run alone law fit fits =
+    return_turned eyes old thread there token now x value passes run alone
 operation_turned eyes old thread there token now count (op.Read field index) passes run alone law fit fits =
     absurd alone
 operation_turned eyes old thread there token now count (op.Send x to) passes run alone law fit fits = absurd alone
-operation_turned eyes old thread there token now count (op.Frame site) passes run alone law fit fits = absurd alone
 operation_turned eyes old thread there token now count (op.Pass x to) passes run alone law fit fits = absurd alone
-operation_turned eyes old thread there token now count (op.Push entry) passes run alone law fit fits = absurd alone
 operation_turned eyes old thread there token now count (op.Ask entry on) passes run alone law fit fits = absurd alone
 operation_turned eyes old thread there token now count (op.Go entry on) passes run alone law fit fits = absurd alone
-operation_turned eyes old thread there token now count (op.Call entry on) passes run alone law fit fits = absurd alone
-operation_turned eyes old thread there token now count (op.Ret x value) passes run alone law fit fits = absurd alone
 operation_turned eyes old thread there token now count op.Back passes run alone law fit fits = absurd alone

@@ -6,15 +6,19 @@ use Rattle.js_base.specs.declared.ids.HostId.{HostId}
 use Rattle.js_base.specs.declared.ids.FieldId.{FieldId}
 use Rattle.js_base.specs.declared.ids.FrameId.{FrameId}
 use Rattle.js_base.specs.declared.ids.VarId.{VarId}
+use Rattle.js_base.specs.declared.ids.EntryId.{EntryId}
+use Rattle.js_base.specs.declared.ids.SiteId.{SiteId}
 use Rattle.jif_tree.specs.Store.{with_element}
 use Rattle.capability.specs.declared.token.Token.{Token}
+use Rattle.capability.specs.Tag.{tag_of}
+use Rattle.host_code.specs.declared.code.Entry.{Entry}
 use Rattle.host_code.specs.declared.instruction.Instr.{Instr}
 use Rattle.host_code.specs.declared.instruction.Op.{Op}
 use Rattle.host_code.specs.declared.instruction.Op.TheVariants as op
-use Rattle.host_code.specs.Code.{CodeShape, instruction_at, field_at}
+use Rattle.host_code.specs.Code.{CodeShape, instruction_at, field_at, entry_at}
 use Rattle.host_code.specs.Thread.{ThreadShape}
 use Rattle.host_stores.specs.Stores.{with_variable}
-use Rattle.host_core.specs.Host.{HostShape, after_clearing, value_in_thread}
+use Rattle.host_core.specs.Host.{HostShape, after_clearing, with_token, value_in_thread}
 use Rattle.net_world.specs.World.{WorldShape, state_at}
 use Rattle.seen_world.specs.Eyes.{Eyes, is_deep}
 use Rattle.agreement.specs.Comes.{Comes}
@@ -22,13 +26,18 @@ use Rattle.agreement.specs.Views.{View, HostView, masked, sees_field, sees_varia
 
 -- ---- which turns
 
--- An instruction of a host that sets a variable or an element of a field there, or branches.
-abbrev pub SetsAlone : CodeShape → HostId → Op → Type 0
-SetsAlone code me (op.Let x value) = ⊤
-SetsAlone code me (op.Arg x value) = ⊤
-SetsAlone code me (op.Put field index value) = IsSomeAnd (field_at code field) (λ there. there.host ≡ me)
-SetsAlone code me (op.Branch guard target) = ⊤
-SetsAlone code me other = ⊥
+-- An instruction of a host, run with this token, that changes the host alone and behind which it goes on there. A call
+-- enters a method on the host, and a result is one for the host.
+abbrev pub ChangesAlone : CodeShape → HostId → Option Token → Op → Type 0
+ChangesAlone code me held (op.Let x value) = ⊤
+ChangesAlone code me held (op.Arg x value) = ⊤
+ChangesAlone code me held (op.Put field index value) = IsSomeAnd (field_at code field) (λ there. there.host ≡ me)
+ChangesAlone code me held (op.Frame site) = ⊤
+ChangesAlone code me held (op.Push entry) = ⊤
+ChangesAlone code me held (op.Call entry on) = on ≡ me
+ChangesAlone code me held (op.Ret x value) = IsSomeAnd held (λ token. token.host ≡ me)
+ChangesAlone code me held (op.Branch guard target) = ⊤
+ChangesAlone code me held other = ⊥
 
 -- the running thread of a host, at such an instruction
 pub record RunsAlone (code : CodeShape) (world : WorldShape) (host : HostId) : Type 0 where
@@ -38,7 +47,7 @@ pub record RunsAlone (code : CodeShape) (world : WorldShape) (host : HostId) : T
   pub running : state.running ≡ Some thread
   pub instruction : Instr
   pub is : instruction_at code host thread.at ≡ Some instruction
-  pub alone : SetsAlone code host instruction.op
+  pub alone : ChangesAlone code host thread.held instruction.op
 
 -- ---- what it carries
 
@@ -60,6 +69,8 @@ carried_in eyes state thread (op.Put field index value) = record {
   index = masked (sees_field eyes field) (value_in_thread state thread index);
   value = masked (sees_field eyes field) (value_in_thread state thread value);
 }
+carried_in eyes state thread (op.Ret x value) =
+    carried_value (masked (sees_variable eyes x) (value_in_thread state thread value))
 carried_in eyes state thread (op.Branch guard target) =
     carried_value (masked (not (is_deep eyes state.me (thread.at + 1))) (value_in_thread state thread guard))
 carried_in eyes state thread other = carried_value (pos 0)
@@ -78,6 +89,35 @@ element_shown view field index value = record view {
   rows = λ number. if number == field.0 then with_element (view.rows number) index value else view.rows number;
 }
 
+-- one more frame was made at a site
+abbrev pub frame_shown : HostView → SiteId → HostView
+frame_shown view site = record view {
+  frames = λ number. if number == site.0 then view.frames number + 1 else view.frames number;
+}
+
+-- the thread goes on behind it, and has made that frame
+abbrev pub framed : HostView → ThreadShape → SiteId → ThreadShape
+framed view thread site =
+    record (after_clearing thread) { new_frame = record { site = site; count = view.frames site.0 } }
+
+-- the token of the next push of an entry in a frame
+abbrev pub token_shown : HostId → HostView → EntryId → FrameId → Token
+token_shown host view entry frame = record {
+  host = host;
+  frame = frame;
+  entry = entry;
+  serial = view.serials entry.0;
+  tag = tag_of view.key host frame entry (view.serials entry.0);
+}
+
+-- an entry was pushed, with the token that is kept for its thread
+abbrev pub entry_shown : HostId → HostView → EntryId → FrameId → Token → HostView
+entry_shown host view entry frame kept = record view {
+  entries = record { token = token_shown host view entry frame; entry = entry; frame = frame; kept = kept }
+      ∷ view.entries;
+  serials = λ number. if number == entry.0 then view.serials number + 1 else view.serials number;
+}
+
 -- where a branch leads
 abbrev pub branched : ThreadShape → ℕ → ℤ → ThreadShape
 branched thread target guard =
@@ -86,6 +126,13 @@ branched thread target guard =
 -- the thread comes to its next place on a host of which this is seen
 abbrev pub ComesBehind : Eyes → View → HostId → HostView → ThreadShape → Token → View → Type 0
 ComesBehind eyes view host now later token after = Comes eyes (with_host view host now) host later token after
+
+-- It comes to an entry of the host, in its new frame.
+abbrev pub ComesInto : Eyes → View → HostId → ThreadShape → Token → Option Entry → View → Type 0
+ComesInto eyes view host thread token None after = ⊥
+ComesInto eyes view host thread token (Some there) after =
+    ComesBehind eyes view host (host_idle (view.hosts host))
+    (record (after_clearing thread) { at = there.at; frame = thread.new_frame }) token after
 
 abbrev pub SeenOperation : Eyes → View → HostId → ThreadShape → Token → Op → Carried → View → Type 0
 SeenOperation eyes view host thread token (op.Let x value) carried after =
@@ -96,6 +143,18 @@ SeenOperation eyes view host thread token (op.Arg x value) carried after =
     (after_clearing thread) token after
 SeenOperation eyes view host thread token (op.Put field index value) carried after =
     ComesBehind eyes view host (element_shown (host_idle (view.hosts host)) field carried.index carried.value)
+    (after_clearing thread) token after
+SeenOperation eyes view host thread token (op.Frame site) carried after =
+    ComesBehind eyes view host (frame_shown (host_idle (view.hosts host)) site) (framed (view.hosts host) thread site)
+    token after
+SeenOperation eyes view host thread token (op.Push entry) carried after =
+    let made = token_shown host (view.hosts host) entry thread.frame in
+    ComesBehind eyes view host (entry_shown host (host_idle (view.hosts host)) entry thread.frame token)
+    (with_token (Some made) (after_clearing thread)) made after
+SeenOperation eyes view host thread token (op.Call entry on) carried after =
+    ComesInto eyes view host thread token (entry_at eyes.code entry) after
+SeenOperation eyes view host thread token (op.Ret x value) carried after =
+    ComesBehind eyes view host (variable_shown (host_idle (view.hosts host)) token.frame x carried.value)
     (after_clearing thread) token after
 SeenOperation eyes view host thread token (op.Branch guard target) carried after =
     ComesBehind eyes view host (host_idle (view.hosts host)) (branched thread target carried.value) token after
