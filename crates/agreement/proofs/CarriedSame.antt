@@ -1,7 +1,7 @@
 -- What a turn carries is the same in two worlds that show the same, where it releases nothing.
-use Rattle.std.proofs.Common.{◌≡◌, ◌≢◌, ◌∙◌, ℕ, zero, suc, ◌+◌, ◌<◌, Bool, true, false, List, [], ◌∷◌, ◌++◌, length, arith}
+use Rattle.std.proofs.Common.{◌≡◌, ◌≢◌, ◌∙◌, ℕ, zero, suc, ◌+◌, Bool, true, false, List, [], ◌∷◌, ◌++◌, length, arith}
 use Rattle.std.proofs.Common.{Option, Some, None, inl, inr, refl, ap, sym, subst, append_assoc, append-nil}
-use Rattle.std.specs.Prelude.{ℤ, pos, not, if◌then◌else◌, IfSome, All, slice_get, map}
+use Rattle.std.specs.Prelude.{ℤ, pos, not, slice_get, map}
 use Rattle.std.proofs.lemmas.Bool.{cases_Bool, false≢true}
 use Rattle.std.proofs.lemmas.List.{map-append, length-append}
 use Rattle.std.proofs.lemmas.Option.{slice_get_cases}
@@ -18,11 +18,11 @@ use Rattle.host_code.specs.declared.code_expr.Node.{Node}
 use Rattle.host_code.specs.declared.code_expr.Node.TheVariants as node
 use Rattle.host_code.specs.declared.instruction.Op.{Op}
 use Rattle.host_code.specs.declared.instruction.Op.TheVariants as op
-use Rattle.host_code.specs.Code.{CodeVariableShape, variable_at}
+use Rattle.host_code.specs.Code.{variable_at}
 use Rattle.host_code.specs.Sound.{NodeFits, ExpressionFits, IsVariable, OperationFits}
 use Rattle.host_code.specs.Thread.{ThreadShape}
 use Rattle.host_core.specs.Host.{HostShape, value_in_thread}
-use Rattle.host_core.specs.Values.{temporary_at, value_of_nodes}
+use Rattle.host_core.specs.Values.{temporary_at}
 use Rattle.msg_cost.proofs.Bounds.{all_left, all_right}
 use Rattle.need_labels.specs.Needs.{label_of}
 use Rattle.split_rules.specs.Expressions.{reads_in, nodes_of}
@@ -31,13 +31,13 @@ use Rattle.split_rules.proofs.SeenLabels.{flows_both}
 use Rattle.split_rules.proofs.WalkedMoves.{at_last}
 use Rattle.split_shades.specs.Basis.{value_label, read_label}
 use Rattle.split_shades.specs.ShadedCode.{IsShadedOp}
-use Rattle.split_shades.specs.Shades.{Shade, Ahead, released_by}
+use Rattle.split_shades.specs.Shades.{released_by}
 use Rattle.split_shades.specs.Shading.{reads_tell, Keeps, Divides}
 use Rattle.split_shades.proofs.BasisLabels.{flows_self, bottom_flows}
 use Rattle.split_shades.proofs.ShadedValues.{told_many}
 use Rattle.seen_world.specs.Eyes.{Eyes, AreEyes, sees_at, is_open, is_deep}
 use Rattle.seen_world.proofs.TurnsKept.{meets_next}
-use Rattle.agreement.specs.Turns.{Carried, carried_value, carried_in}
+use Rattle.agreement.specs.Turns.{carried_value, carried_in}
 use Rattle.agreement.specs.Values.{IsSeen, HoldAlike}
 use Rattle.agreement.specs.Views.{masked, masked_all, sees_field, sees_variable}
 use Rattle.agreement.proofs.Places.{variable_unseen, field_unseen}

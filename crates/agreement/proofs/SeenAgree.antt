@@ -1,5 +1,5 @@
 -- Two quiet worlds that lead to one view still do after the same turn that may be seen.
-use Rattle.std.proofs.Common.{◌≡◌, ◌∙◌, ℕ, List, [], ◌∷◌, Option, Some, None, refl, ap, sym, subst}
+use Rattle.std.proofs.Common.{◌≡◌, ◌∙◌, ℕ, List, [], ◌∷◌, Option, Some, None, ap, sym, subst}
 use Rattle.std.specs.Prelude.{ℤ, Bool, if◌then◌else◌, IfSome}
 use Rattle.js_base.specs.declared.ids.HostId.{HostId}
 use Rattle.capability.specs.declared.token.Token.{Token}
@@ -171,9 +171,11 @@ reached_calm : (eyes : Eyes) (rows : List declared_hosts.HostShape) (bad : ℕ) 
     Watches eyes (world_at_start eyes.code rows bad store) → IsReached eyes.code rows bad store events world →
     IsQuiet eyes.code world → Leads eyes world now → ShapeFits eyes.code world × Calm eyes world now
 reached_calm eyes rows bad store events world now are watch reach quiet leads =
-    let fits = fits_there eyes.code rows bad store events world reach in
-    (fits, quiet_calm eyes world now are (points_kept eyes rows bad store events world are watch reach).0 fits quiet
-    leads)
+    let fits = fits_there eyes.code rows bad store events world reach in (
+      fits,
+      quiet_calm eyes world now are (points_kept eyes rows bad store events world are watch reach).0 fits quiet
+          leads,
+    )
 
 pub carried_same : (eyes : Eyes) (rows : List declared_hosts.HostShape) (bad : ℕ) (store start : List (List ℤ))
     (events others : List Event) (one other : WorldShape) (host : HostId) (alone : RunsAlone eyes.code one host)

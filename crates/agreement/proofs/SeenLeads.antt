@@ -1,9 +1,9 @@
 -- What a quiet world leads to, where a turn happens that may be seen and changes its host alone.
-use Rattle.std.proofs.Common.{◌≡◌, ◌≢◌, ◌∙◌, ℕ, Bool, true, false, List, [], ◌∷◌, ◌++◌, Option, Some, None, inl, inr, refl}
+use Rattle.std.proofs.Common.{◌≡◌, ◌∙◌, ℕ, Bool, true, List, [], ◌∷◌, ◌++◌, Option, Some, None, inl, inr, refl}
 use Rattle.std.proofs.Common.{ap, sym, subst}
 use Rattle.std.specs.Prelude.{ℤ, if◌then◌else◌, IfSome, not, filter}
 use Rattle.std.specs.Option.{IsSomeAnd}
-use Rattle.std.proofs.lemmas.Bool.{cases_Bool, false≢true}
+use Rattle.std.proofs.lemmas.Bool.{cases_Bool}
 use Rattle.js_base.specs.declared.ids.HostId.{HostId}
 use Rattle.capability.specs.declared.token.Token.{Token}
 use Rattle.host_decl.specs.Hosts as declared_hosts
@@ -25,20 +25,18 @@ use Rattle.net_world.proofs.Shapes.{shape_step}
 use Rattle.net_world.proofs.StepLaws.{turn_puts}
 use Rattle.token_laws.specs.Reached.{IsReached}
 use Rattle.token_laws.proofs.Walks.{fits_there, one_more}
-use Rattle.seen_world.specs.Eyes.{Eyes, AreEyes, Watches, sees_at, is_open}
-use Rattle.seen_world.specs.Points.{IsHiddenToken, MayHold, RunsWell, HostKeeps, HostsKeep}
+use Rattle.seen_world.specs.Eyes.{Eyes, AreEyes, Watches, is_open}
+use Rattle.seen_world.specs.Points.{MayHold, RunsWell, HostKeeps, HostsKeep}
 use Rattle.seen_world.proofs.PointsAtStart.{own_state}
 use Rattle.seen_world.proofs.PointsKept.{points_kept}
 use Rattle.seen_world.proofs.SeenPlaces.{some_is, under_seen}
 use Rattle.seen_world.proofs.SeenWorlds.{label_read}
-use Rattle.agreement.specs.Comes.{HasCome}
 use Rattle.agreement.specs.Leads.{hidden_running, hidden_waiting, hidden_flights, Leads}
-use Rattle.agreement.specs.Turns.{ChangesAlone, RunsAlone, Carried, carried_in, SeenTurn}
+use Rattle.agreement.specs.Turns.{ChangesAlone, RunsAlone, carried_in, SeenTurn}
 use Rattle.agreement.specs.Views.{View, ShowsHost, Shows, running_view, thread_view, flies_open, flights_view, is_shown}
 use Rattle.agreement.specs.Views.{with_host}
 use Rattle.agreement.proofs.Branches.{own_view, other_view}
 use Rattle.agreement.proofs.Coming.{comes_leads}
-use Rattle.agreement.proofs.HiddenTurns.{some_of}
 use Rattle.agreement.proofs.Places.{instruction_within}
 use Rattle.agreement.proofs.Quiet.{none_left, runs_seen, quiet_shows}
 use Rattle.agreement.proofs.SeenTurns.{Visible, Arrives, Turned, operation_turned}
@@ -164,18 +162,20 @@ visible_of eyes world old thread there now are calm fits keep obeys is here =
     let well : RunsWell eyes old.me thread =
     subst (λ running. IfSome running (RunsWell eyes old.me)) is keep.running in
     let may : MayHold eyes (eyes.shades.at old.me thread.at) token.0 =
-    subst (λ held. IfSome held (MayHold eyes (eyes.shades.at old.me thread.at))) token.1 well.holds in
-    (token.0, record {
-      are = are;
-      is = here;
-      seen = seen;
-      well = well;
-      fits = fits;
-      held = token.1;
-      shown = may.1 (open_block eyes old.me thread.at there are here seen);
-      shows = calm.shows.hosts old.me old obeys;
-      entries = calm.entries old.me old obeys;
-    })
+    subst (λ held. IfSome held (MayHold eyes (eyes.shades.at old.me thread.at))) token.1 well.holds in (
+      token.0,
+      record {
+        are = are;
+        is = here;
+        seen = seen;
+        well = well;
+        fits = fits;
+        held = token.1;
+        shown = may.1 (open_block eyes old.me thread.at there are here seen);
+        shows = calm.shows.hosts old.me old obeys;
+        entries = calm.entries old.me old obeys;
+      },
+    )
 
 -- what is seen of the host has the thread alone
 seen_thread : (eyes : Eyes) (old : HostShape) (thread : ThreadShape) (there : Instr) (token : Token) (now : View) →
@@ -203,17 +203,20 @@ turned_leads eyes world after old outcome thread there now are sound calm fits k
     subst (λ (o : Outcome). StateFits eyes.code o.state → Turned eyes old thread visible.0 now there.op o) runs_it.2
     (operation_turned eyes old thread there visible.0 now _ there.op runs_it.0 run alone
     (are.shaded.instructions old.me thread.at there here).law
-    ((sound.parts old.me fits.me).instructions thread.at there here).operation) fits_then in
-    (turned.0, record {
-      thread = thread_view eyes old.me thread.at thread;
-      running = seen_thread eyes old thread there visible.0 now run is;
-      token = visible.0;
-      held = run.held;
-      instruction = there;
-      is = here;
-      seen = turned.1;
-    }, arrived_leads eyes world after old outcome now turned.0 (label_of_turn eyes.code old) are calm obeys leaves
-    fits_then keep_then turned.2)
+    ((sound.parts old.me fits.me).instructions thread.at there here).operation) fits_then in (
+      turned.0,
+      record {
+        thread = thread_view eyes old.me thread.at thread;
+        running = seen_thread eyes old thread there visible.0 now run is;
+        token = visible.0;
+        held = run.held;
+        instruction = there;
+        is = here;
+        seen = turned.1;
+      },
+      arrived_leads eyes world after old outcome now turned.0 (label_of_turn eyes.code old) are calm obeys leaves
+          fits_then keep_then turned.2,
+    )
 
 pub alone_leads : (eyes : Eyes) (world after : WorldShape) (host : HostId) (now : View)
     (alone : RunsAlone eyes.code world host) → AreEyes eyes → IsSoundCode eyes.code → Watches eyes world →
@@ -243,9 +246,12 @@ alone_leads eyes world after host now alone are sound watch fits fits_after keep
     (subst (λ (h : HostId). instruction_at eyes.code h alone.thread.at ≡ Some alone.instruction) (sym me) alone.is)
     (subst (λ (h : HostId). ChangesAlone eyes.code h alone.thread.held alone.instruction.op) (sym me) alone.alone) turns
     (ap (λ (h : HostId). after_step world h outcome (label_of_turn eyes.code old)) me ∙ leaves) fit
-    (subst (λ (h : HostId). HostKeeps eyes h outcome.state) (sym me) (keep_after host outcome.state after_me)) in
-    (result.0, subst (λ (h : HostId). SeenTurn eyes now h (carried_in eyes old alone.thread alone.instruction.op)
-    result.0) me result.1, result.2)
+    (subst (λ (h : HostId). HostKeeps eyes h outcome.state) (sym me) (keep_after host outcome.state after_me)) in (
+      result.0,
+      subst (λ (h : HostId). SeenTurn eyes now h (carried_in eyes old alone.thread alone.instruction.op)
+          result.0) me result.1,
+      result.2,
+    )
 
 pub reached_leads : (eyes : Eyes) (rows : List declared_hosts.HostShape) (bad : ℕ) (store : List (List ℤ))
     (events : List Event) (world after : WorldShape) (host : HostId) (now : View)

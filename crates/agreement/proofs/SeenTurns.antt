@@ -1,7 +1,7 @@
 -- A turn that may be seen, and that changes its host alone, leads to what is seen then.
 use Rattle.std.proofs.Common.{◌≡◌, ◌≢◌, ◌∙◌, ℕ, zero, suc, ◌+◌, ◌<◌, Bool, true, false, List, [], ◌∷◌, length, arith, Option}
 use Rattle.std.proofs.Common.{Some, None, inl, inr, refl, ap, sym, subst, int_eq}
-use Rattle.std.specs.Prelude.{◌==◌, ◌&&◌, ◌⊎◌, if◌then◌else◌, not, ℤ, pos, IfSome, filter, slice_get, slice_set, slice_index}
+use Rattle.std.specs.Prelude.{◌==◌, ◌&&◌, ◌⊎◌, if◌then◌else◌, not, ℤ, pos, filter, slice_get, slice_set, slice_index}
 use Rattle.std.specs.Option.{IsSomeAnd}
 use Rattle.std.proofs.lemmas.Bool.{cases_Bool, false≢true}
 use Rattle.std.proofs.lemmas.Bool.Decides.{eqb_tells}
@@ -35,18 +35,18 @@ use Rattle.host_core.specs.Turn.{after_own_call, after_call, after_frame, after_
 use Rattle.host_stores.specs.Stores.{is_same_variable, with_variable}
 use Rattle.net_world.proofs.Rows.{row_written, row_kept}
 use Rattle.split_shades.specs.ShadedCode.{IsShadedOp}
-use Rattle.split_shades.specs.Shades.{Shade, Ahead, Meets}
+use Rattle.split_shades.specs.Shades.{Shade, Ahead}
 use Rattle.split_shades.specs.Shading.{Divides, IsPlain, Names, Pushes, PushesAt}
 use Rattle.token_laws.proofs.OneToken.{only_one, token_itself}
 use Rattle.token_laws.proofs.Tests.{itself, number_same, parts_same}
 use Rattle.token_laws.proofs.Counting.{one_if}
-use Rattle.token_laws.proofs.Worth.{is_token, one_of}
+use Rattle.token_laws.proofs.Worth.{is_token}
 use Rattle.seen_world.specs.Eyes.{Eyes, AreEyes, is_open, is_deep, is_hidden}
 use Rattle.seen_world.specs.Points.{IsHiddenToken, RunsWell}
 use Rattle.seen_world.proofs.SeenPlaces.{block_seen}
 use Rattle.seen_world.proofs.TurnsKept.{meets_next}
 use Rattle.agreement.specs.Comes.{ComesTo, Comes}
-use Rattle.agreement.specs.Turns.{ChangesAlone, carried_in, host_idle, variable_shown, element_shown, branched}
+use Rattle.agreement.specs.Turns.{ChangesAlone, carried_in, host_idle, variable_shown, element_shown}
 use Rattle.agreement.specs.Turns.{frame_shown, framed, token_shown, entry_shown, ComesInto}
 use Rattle.agreement.specs.Turns.{ComesBehind, SeenOperation}
 use Rattle.agreement.specs.Views.{View, HostView, ShowsHost, Owed, nothing, goes_on, gives, at, owed_at, Completed}
@@ -294,9 +294,12 @@ put_turned eyes old thread there token now field index value run (Some on) own =
         requests = idle.requests;
       };
       comes = some.1;
-    } in
-    (some.0, some.1, either_true (λ (o : Outcome). Arrives eyes old now o some.0) (on.host.0 == old.me.0) made _ here
-    done)
+    } in (
+      some.0,
+      some.1,
+      either_true (λ (o : Outcome). Arrives eyes old now o some.0) (on.host.0 == old.me.0) made _ here
+          done,
+    )
 
 -- ---- a result for the host
 
@@ -311,11 +314,13 @@ return_turned eyes old thread there token now x value passes run own =
     let bare = with_running old None in
     let turned = let_turned eyes old thread there token now token.frame x value run in
     let host : token.host ≡ old.me = subst (λ held. IsSomeAnd held (λ one. one.host ≡ old.me)) run.held own in
-    let here : (token.host.0 == old.me.0) ≡ true = ap (λ (h : HostId). h.0 == old.me.0) host ∙ itself old.me.0 in
-    (turned.0, turned.1,
-    subst (λ held. Arrives eyes old now (after_return bare thread x value held passes) turned.0) (sym run.held)
-    (either_true (λ (o : Outcome). Arrives eyes old now o turned.0) (token.host.0 == old.me.0)
-    (after_let bare thread token.frame x value) _ here turned.2))
+    let here : (token.host.0 == old.me.0) ≡ true = ap (λ (h : HostId). h.0 == old.me.0) host ∙ itself old.me.0 in (
+      turned.0,
+      turned.1,
+      subst (λ held. Arrives eyes old now (after_return bare thread x value held passes) turned.0) (sym run.held)
+          (either_true (λ (o : Outcome). Arrives eyes old now o turned.0) (token.host.0 == old.me.0)
+          (after_let bare thread token.frame x value) _ here turned.2),
+    )
 
 -- ---- nothing was read
 
@@ -374,10 +379,12 @@ call_turned eyes old thread there token now entry on run plain own fits =
     let bare = with_running old None in
     let turned = enter_turned eyes old thread there token now run plain (entry_at eyes.code entry)
     (subst (λ (h : HostId). IsSomeAnd (entry_at eyes.code entry) (λ into. into.host ≡ h)) own fits.1) in
-    let here : (on.0 == old.me.0) ≡ true = ap (λ (h : HostId). h.0 == old.me.0) own ∙ itself old.me.0 in
-    (turned.0, turned.1,
-    either_true (λ (o : Outcome). Arrives eyes old now o turned.0) (on.0 == old.me.0)
-    (after_own_call bare thread (entry_at eyes.code entry)) _ here turned.2)
+    let here : (on.0 == old.me.0) ≡ true = ap (λ (h : HostId). h.0 == old.me.0) own ∙ itself old.me.0 in (
+      turned.0,
+      turned.1,
+      either_true (λ (o : Outcome). Arrives eyes old now o turned.0) (on.0 == old.me.0)
+          (after_own_call bare thread (entry_at eyes.code entry)) _ here turned.2,
+    )
 
 -- ---- one count goes up
 
@@ -548,9 +555,11 @@ push_turned eyes old thread there token now entry run law below =
         requests = idle.requests;
       };
       comes = some.1;
-    } in
-    (some.0, some.1,
-    subst (λ held. Arrives eyes old now (after_own_push bare thread entry held) some.0) (sym run.held) done)
+    } in (
+      some.0,
+      some.1,
+      subst (λ held. Arrives eyes old now (after_own_push bare thread entry held) some.0) (sym run.held) done,
+    )
 
 some_below : {X : Type 0} (P : X → Type 0) (xs : List X) (number : ℕ) → IsSomeAnd (slice_get xs number) P →
     number < length xs
@@ -657,17 +666,17 @@ branch_turned eyes old thread there token now guard target run law within fits =
           let some = comes_some eyes seen_now old.me (way thread target true) token in (
             some.0,
             subst (λ (b : Bool). ComesBehind eyes now old.me idle (way thread target (int_eq (masked (not b) number)
-            (pos 0))) token some.0) (sym deep) some.1,
+                (pos 0))) token some.0) (sym deep) some.1,
             went_arrives eyes old thread there token now some.0 target run (int_eq number (pos 0))
-            (deep_went eyes old thread there token now some.0 target run deep
-            (deep_target eyes old thread there token now guard target run law deep) within (int_eq number (pos 0)) fits
-            some.1),
+                (deep_went eyes old thread there token now some.0 target run deep
+                (deep_target eyes old thread there token now guard target run law deep) within (int_eq number (pos 0)) fits
+                some.1),
           )
       | inr shallow ↦
           let some = comes_some eyes seen_now old.me (way thread target (int_eq number (pos 0))) token in (
             some.0,
             subst (λ (b : Bool). ComesBehind eyes now old.me idle (way thread target (int_eq (masked (not b) number)
-            (pos 0))) token some.0) (sym shallow) some.1,
+                (pos 0))) token some.0) (sym shallow) some.1,
             went_arrives eyes old thread there token now some.0 target run (int_eq number (pos 0)) some.1,
           )
     ]

@@ -11,6 +11,7 @@ ghost use Rattle.capability.specs.declared.token.Token.{Token};
 ghost use Rattle.ics_stack.specs.declared.stack.StackEntry.{StackEntry};
 ghost use Rattle.host_decl.specs.Hosts as declared_hosts;
 ghost use Rattle.host_code.specs.declared.instruction.Instr.{Instr};
+ghost use Rattle.host_code.specs.declared.instruction.Op.TheVariants as op;
 ghost use Rattle.host_code.specs.declared.message.Message.TheVariants as message;
 ghost use Rattle.host_code.specs.Code.{instruction_at};
 ghost use Rattle.host_code.specs.Sound.{IsSoundCode};
@@ -36,12 +37,12 @@ ghost use Rattle.agreement.specs.Changes.{StaysSeen};
 ghost use Rattle.agreement.specs.Alike.{AreStartsAlike};
 ghost use Rattle.agreement.specs.Comes.{Comes, HasCome};
 ghost use Rattle.agreement.specs.Leads.{Link, links_on, hidden_waiting, Leads, Agree};
-ghost use Rattle.agreement.specs.Turns.{RunsAlone, Carried, carried_in, SeenTurn};
+ghost use Rattle.agreement.specs.Turns.{RunsAlone, Carried, carried_value, carried_in, SeenOperation, SeenTurn};
 ghost use Rattle.agreement.specs.Values.{IsSeen, HoldAlike};
 ghost use Rattle.agreement.specs.Views.{View, HostView, ShowsHost, Shows, running_view, Owed, goes_on, gives};
 ghost use Rattle.agreement.specs.Views.{Completed, at, owed_at};
 ghost use Rattle.agreement.specs.Views.{flies_open, flights_view, message_view, is_shown, exit_of};
-ghost use Rattle.agreement.specs.Worked.{small_eyes, one_entry, popped_at, a_variable};
+ghost use Rattle.agreement.specs.Worked.{small_eyes, one_entry, popped_at, a_variable, idle, runs_at, set_at, came_to, seven};
 
 /// What may be seen of a world, where something goes on unseen.
 pub fn view_laws()
@@ -234,4 +235,21 @@ pub fn worked_laws()
     ensures masked_value { message_view small_eyes (host_id 0) (host_id 1) (message.Forward first_request main_frame
         a_variable (pos 7))
         ≡ message.Forward first_request main_frame a_variable (pos 0) }
+    // A turn that sets a variable makes it this value and no other, and its thread goes on behind it.
+    ensures sets { SeenOperation small_eyes idle (host_id 0) (runs_at 3) second_token (op.Let a_variable seven)
+        (carried_value (pos 7)) (set_at 4 (pos 7)) }
+    ensures sets_more { ¬ (SeenOperation small_eyes idle (host_id 0) (runs_at 3) second_token
+        (op.Let a_variable seven) (carried_value (pos 7)) (set_at 4 (pos 8))) }
+    // A branch leads to its target where its guard is 0, and nowhere else.
+    ensures branches { SeenOperation small_eyes idle (host_id 0) (runs_at 3) second_token (op.Branch seven 6)
+        (carried_value (pos 0)) (came_to 6) }
+    ensures branches_more { ¬ (SeenOperation small_eyes idle (host_id 0) (runs_at 3) second_token
+        (op.Branch seven 6) (carried_value (pos 1)) (came_to 6)) }
+    // A value is not carried of what may not be seen, nor a guard into a block that may not be seen. Other guards are.
+    ensures unseen_value { (state : host_state.HostShape) (thread : ThreadShape) →
+        carried_in small_eyes state thread (op.Let a_variable seven) ≡ carried_value (pos 0) }
+    ensures seen_guard { (state : host_state.HostShape) (thread : ThreadShape) → thread.at ≡ 2 →
+        carried_in small_eyes state thread (op.Branch seven 6) ≡ carried_value (pos 7) }
+    ensures unseen_guard { (state : host_state.HostShape) (thread : ThreadShape) → thread.at ≡ 1 →
+        carried_in small_eyes state thread (op.Branch seven 6) ≡ carried_value (pos 0) }
 {}
