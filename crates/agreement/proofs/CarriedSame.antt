@@ -12,14 +12,15 @@ use Rattle.js_base.specs.declared.ids.VarId.{VarId}
 use Rattle.js_base.proofs.Lists.{none_in_two}
 use Rattle.label_lattice.specs.declared.label.Label.{Label}
 use Rattle.jif_tree.specs.LabelRules.{field_label}
+use Rattle.jif_tree.specs.Store.{row_of, element_at}
 use Rattle.jif_tree.specs.Trees.{ExprTree, number, local, scalar, element, inverted, negated, binary, declassified}
 use Rattle.jif_tree.specs.Trees.{endorsed}
 use Rattle.host_code.specs.declared.code_expr.Node.{Node}
 use Rattle.host_code.specs.declared.code_expr.Node.TheVariants as node
 use Rattle.host_code.specs.declared.instruction.Op.{Op}
 use Rattle.host_code.specs.declared.instruction.Op.TheVariants as op
-use Rattle.host_code.specs.Code.{variable_at}
-use Rattle.host_code.specs.Sound.{NodeFits, ExpressionFits, IsVariable, OperationFits}
+use Rattle.host_code.specs.Code.{variable_at, field_at}
+use Rattle.host_code.specs.Sound.{NodeFits, ExpressionFits, IsVariable, IsField, OperationFits}
 use Rattle.host_code.specs.Thread.{ThreadShape}
 use Rattle.host_core.specs.Host.{HostShape, value_in_thread}
 use Rattle.host_core.specs.Values.{temporary_at}
@@ -27,11 +28,11 @@ use Rattle.msg_cost.proofs.Bounds.{all_left, all_right}
 use Rattle.need_labels.specs.Needs.{label_of}
 use Rattle.split_rules.specs.Expressions.{reads_in, nodes_of}
 use Rattle.split_rules.specs.Positions.{FieldRead, field_reads}
-use Rattle.split_rules.proofs.SeenLabels.{flows_both}
+use Rattle.split_rules.proofs.SeenLabels.{flows_both, flows_first, flows_second}
 use Rattle.split_rules.proofs.WalkedMoves.{at_last}
 use Rattle.split_shades.specs.Basis.{value_label, read_label}
 use Rattle.split_shades.specs.ShadedCode.{IsShadedOp}
-use Rattle.split_shades.specs.Shades.{released_by}
+use Rattle.split_shades.specs.Shades.{Ahead, released_by}
 use Rattle.split_shades.specs.Shading.{reads_tell, Keeps, Divides}
 use Rattle.split_shades.proofs.BasisLabels.{flows_self, bottom_flows}
 use Rattle.split_shades.proofs.ShadedValues.{told_many}
@@ -39,8 +40,9 @@ use Rattle.seen_world.specs.Eyes.{Eyes, AreEyes, sees_at, is_open, is_deep}
 use Rattle.seen_world.proofs.TurnsKept.{meets_next}
 use Rattle.agreement.specs.Turns.{carried_value, carried_in}
 use Rattle.agreement.specs.Values.{IsSeen, HoldAlike}
-use Rattle.agreement.specs.Views.{masked, masked_all, sees_field, sees_variable}
+use Rattle.agreement.specs.Views.{masked, masked_all, last_seen, sees_field, sees_variable}
 use Rattle.agreement.proofs.Places.{variable_unseen, field_unseen}
+use Rattle.agreement.proofs.SeenOperations.{last_label}
 use Rattle.agreement.proofs.ValueLaws.{value_same}
 
 -- ---- lists
@@ -76,6 +78,19 @@ variable_seen eyes are x within seen = elim (slice_get_cases eyes.code.variables
       let same : sees_variable eyes x ≡ sees_at eyes there.0.label = rw is refl in
       let label : sees_at eyes there.0.label ≡ eyes.sees (label_of eyes.scene.basis.labelled x) =
       rw (are.known.variables x there.0 is) refl in
+      same ∙ label ∙ seen
+  | inr past ↦ absurd (omega (arith, past.0))
+]
+
+-- and a field
+field_seen : (eyes : Eyes) → AreEyes eyes → (field : FieldId) → IsField eyes.code field →
+    eyes.sees (field_label eyes.scene.basis.labelled.program field) ≡ true → sees_field eyes field ≡ true
+field_seen eyes are field within seen = elim (slice_get_cases eyes.code.fields field.0).1 [
+  | inl there ↦
+      let is : field_at eyes.code field ≡ Some there.0 = there.2 in
+      let same : sees_field eyes field ≡ sees_at eyes there.0.label = rw is refl in
+      let label : sees_at eyes there.0.label ≡ eyes.sees (field_label eyes.scene.basis.labelled.program field) =
+      rw (are.known.fields field there.0 is).0 refl in
       same ∙ label ∙ seen
   | inr past ↦ absurd (omega (arith, past.0))
 ]
@@ -172,6 +187,7 @@ pub record Twins (eyes : Eyes) (me : HostId) (one other : HostShape) (thread twi
   pub held : twin.held ≡ thread.held
   pub temps : masked_all eyes (eyes.shades.at me thread.at).temps thread.temporaries
       ≡ masked_all eyes (eyes.shades.at me thread.at).temps twin.temporaries
+  pub rows : (field : FieldId) → sees_field eyes field ≡ true → row_of one.rows field.0 ≡ row_of other.rows field.0
   pub variables : (frame : FrameId) (x : VarId) → sees_variable eyes x ≡ true →
       one.variables frame x ≡ other.variables frame x
 
@@ -325,6 +341,40 @@ branch_same eyes me one other thread twin count guard target are same seen law f
         kept_same eyes me one other thread twin count guard (eyes.shades.at me thread.at).pc are same fits none parts.0
         seen
 
+read_same : (eyes : Eyes) (me : HostId) (one other : HostShape) (thread twin : ThreadShape) (count : ℕ)
+    (field : FieldId) (index : List Node) → AreEyes eyes → Twins eyes me one other thread twin →
+    IsShadedOp eyes.scene eyes.shades me thread.at (op.Read field index) → IsField eyes.code field →
+    ExpressionFits eyes.code count index → (eyes.shades.at me thread.at).released ≡ [] →
+    carried_in eyes one thread (op.Read field index) ≡ carried_in eyes other twin (op.Read field index)
+read_same eyes me one other thread twin count field index are same law within fits none =
+    let here = eyes.shades.at me thread.at in
+    let reads = law.1 in
+    let own : Label = field_label eyes.scene.basis.labelled.program field in
+    let asked : Label = value_label eyes.scene.basis here.pc reads.index in
+    let label : Label = read_label eyes.scene.basis here.pc (record { field = field; index = reads.index }) in
+    let tell : List Label = reads_tell eyes.scene here.pc reads.index in
+    let next : (eyes.shades.at me (thread.at + 1)).temps ≡ here.temps ++ label ∷ [] =
+    (meets_next eyes me thread.at law.0 law.2).temps ∙ ap (λ (it : Ahead). it.temps) reads.goes in
+    let sees : Bool = last_seen eyes (eyes.shades.at me (thread.at + 1)).temps in
+    let sees_is : sees ≡ eyes.sees label = ap (last_seen eyes) next ∙ last_label eyes here.temps label in
+    let first : last_seen eyes (eyes.shades.at one.me (thread.at + 1)).temps ≡ sees =
+    ap (λ (h : HostId). last_seen eyes (eyes.shades.at h (thread.at + 1)).temps) same.me_one in
+    let second : last_seen eyes (eyes.shades.at other.me (twin.at + 1)).temps ≡ sees =
+    ap (λ (h : HostId). last_seen eyes (eyes.shades.at h (twin.at + 1)).temps) same.me_other
+    ∙ ap (λ n. last_seen eyes (eyes.shades.at me (n + 1)).temps) same.place in
+    let value = element_at (row_of one.rows field.0) (value_in_thread one thread index) in
+    let mirror = element_at (row_of other.rows field.0) (value_in_thread other twin index) in
+    ap (λ (b : Bool). carried_value (masked b value)) first
+    ∙ ap carried_value (masks_same sees value mirror (λ seen.
+    let label_seen : eyes.sees label ≡ true = sym sees_is ∙ seen in
+    ap (λ row. element_at row (value_in_thread one thread index))
+    (same.rows field (field_seen eyes are field within (are.below own label (flows_first own asked) label_seen)))
+    ∙ ap (element_at (row_of other.rows field.0))
+    (part_same eyes me one other thread twin count reads.index index reads.before [] (length reads.before) are same
+    reads.nodes_are (reads.temps ∙ ap (λ all. reads.before ++ all) (sym (append-nil tell))) refl fits
+    (sym reads.releases ∙ none) (are.below asked label (flows_second own asked) label_seen))))
+    ∙ sym (ap (λ (b : Bool). carried_value (masked b mirror)) second)
+
 pub operation_same : (eyes : Eyes) (me : HostId) (one other : HostShape) (thread twin : ThreadShape) (count : ℕ)
     (it : Op) → AreEyes eyes → Twins eyes me one other thread twin → is_open eyes me thread.at ≡ true →
     IsShadedOp eyes.scene eyes.shades me thread.at it →
@@ -338,7 +388,8 @@ operation_same eyes me one other thread twin count (op.Put field index value) ar
     put_same eyes me one other thread twin count field index value are same law fits.1 fits.2 none
 operation_same eyes me one other thread twin count (op.Branch guard target) are same seen law fits none =
     branch_same eyes me one other thread twin count guard target are same seen law fits.0 none
-operation_same eyes me one other thread twin count (op.Read field index) are same seen law fits none = refl
+operation_same eyes me one other thread twin count (op.Read field index) are same seen law fits none =
+    read_same eyes me one other thread twin count field index are same law fits.0 fits.1 none
 operation_same eyes me one other thread twin count (op.Send x to) are same seen law fits none = refl
 operation_same eyes me one other thread twin count (op.Frame site) are same seen law fits none = refl
 operation_same eyes me one other thread twin count (op.Pass x to) are same seen law fits none = refl

@@ -20,6 +20,7 @@ pub mod AnswersPass
 pub mod ValueLaws
 pub mod Coming
 pub mod SeenTurns
+pub mod SeenOperations
 pub mod SeenLeads
 pub mod CarriedSame
 pub mod SeenAgree

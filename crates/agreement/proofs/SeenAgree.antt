@@ -51,7 +51,8 @@ operation_once eyes now host thread token (op.Put field index value) carried fir
     comes_once eyes _ host _ token first second one two
 operation_once eyes now host thread token (op.Branch guard target) carried first second one two =
     comes_once eyes _ host _ token first second one two
-operation_once eyes now host thread token (op.Read field index) carried first second one two = absurd one
+operation_once eyes now host thread token (op.Read field index) carried first second one two =
+    comes_once eyes _ host _ token first second one two
 operation_once eyes now host thread token (op.Send x to) carried first second one two = absurd one
 operation_once eyes now host thread token (op.Frame site) carried first second one two =
     comes_once eyes _ host _ _ first second one two
@@ -121,6 +122,8 @@ twins_of eyes one other now host state mirror thread twin fits fits_other calm c
       held = sym (ap (λ (t : ThreadShape). t.held) same);
       temps = ap (λ (t : ThreadShape). t.temporaries) same
           ∙ ap (λ n. masked_all eyes (eyes.shades.at host n).temps twin.temporaries) (sym place);
+      rows = λ field seen. (calm.shows.hosts host state there).rows field seen
+          ∙ sym ((calm_other.shows.hosts host mirror there_other).rows field seen);
       variables = λ frame x seen. (calm.shows.hosts host state there).variables frame x seen
           ∙ sym ((calm_other.shows.hosts host mirror there_other).variables frame x seen);
     }

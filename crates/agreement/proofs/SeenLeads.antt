@@ -39,7 +39,8 @@ use Rattle.agreement.proofs.Branches.{own_view, other_view}
 use Rattle.agreement.proofs.Coming.{comes_leads}
 use Rattle.agreement.proofs.Places.{instruction_within}
 use Rattle.agreement.proofs.Quiet.{none_left, runs_seen, quiet_shows}
-use Rattle.agreement.proofs.SeenTurns.{Visible, Arrives, Turned, operation_turned}
+use Rattle.agreement.proofs.SeenOperations.{operation_turned}
+use Rattle.agreement.proofs.SeenTurns.{Visible, Arrives, Turned}
 use Rattle.agreement.proofs.Turns.{IsHere, next_there}
 
 -- ---- nothing goes on unseen

@@ -141,7 +141,7 @@ Turned eyes old thread token now it outcome =
     (carried_in eyes old thread it) after
     × Arrives eyes old now outcome after
 
-idle_shows : (eyes : Eyes) (host : HostId) (old : HostShape) (shown : HostView) → ShowsHost eyes host old shown →
+pub idle_shows : (eyes : Eyes) (host : HostId) (old : HostShape) (shown : HostView) → ShowsHost eyes host old shown →
     ShowsHost eyes host (with_running old None) (host_idle shown)
 idle_shows eyes host old shown shows = record {
   key = shows.key;
@@ -155,7 +155,7 @@ idle_shows eyes host old shown shows = record {
   requests = shows.requests;
 }
 
-mask_off : (seen : Bool) (value : ℤ) → seen ≡ true → value ≡ masked seen value
+pub mask_off : (seen : Bool) (value : ℤ) → seen ≡ true → value ≡ masked seen value
 mask_off seen value is = sym (ap (λ (b : Bool). masked b value) is)
 
 -- ---- a variable is set
@@ -178,7 +178,7 @@ variable_alike eyes variables others frame x value other y seen same = by (is_sa
         mask_off (sees_variable eyes x) value (ap (sees_variable eyes) one ∙ seen)
     by false is = same seen
 
-let_turned : (eyes : Eyes) (old : HostShape) (thread : ThreadShape) (there : Instr) (token : Token) (now : View)
+pub let_turned : (eyes : Eyes) (old : HostShape) (thread : ThreadShape) (there : Instr) (token : Token) (now : View)
     (frame : FrameId) (x : VarId) (value : List Node) → Visible eyes old thread there token now →
     (after : View)
     × ComesBehind eyes now old.me (variable_shown (host_idle (now.hosts old.me)) frame x
@@ -247,11 +247,11 @@ row_alike eyes rows others field other index value seen same = elim (eqb_tells o
       else others other.0) apart.0)
 ]
 
-either_true : (P : Outcome → Type 0) (b : Bool) (one other : Outcome) → b ≡ true → P one →
+pub either_true : (P : Outcome → Type 0) (b : Bool) (one other : Outcome) → b ≡ true → P one →
     P (if b then one else other)
 either_true P b one other is first = subst (λ (c : Bool). P (if c then one else other)) (sym is) first
 
-put_turned : (eyes : Eyes) (old : HostShape) (thread : ThreadShape) (there : Instr) (token : Token) (now : View)
+pub put_turned : (eyes : Eyes) (old : HostShape) (thread : ThreadShape) (there : Instr) (token : Token) (now : View)
     (field : FieldId) (index value : List Node) → Visible eyes old thread there token now →
     (found : Option CodeFieldShape) → IsSomeAnd found (λ on. on.host ≡ old.me) →
     (after : View)
@@ -303,7 +303,7 @@ put_turned eyes old thread there token now field index value run (Some on) own =
 
 -- ---- a result for the host
 
-return_turned : (eyes : Eyes) (old : HostShape) (thread : ThreadShape) (there : Instr) (token : Token) (now : View)
+pub return_turned : (eyes : Eyes) (old : HostShape) (thread : ThreadShape) (there : Instr) (token : Token) (now : View)
     (x : VarId) (value : List Node) (passes : Bool) → Visible eyes old thread there token now →
     IsSomeAnd thread.held (λ held. held.host ≡ old.me) →
     (after : View)
@@ -369,7 +369,7 @@ enter_turned eyes old thread there token now run plain (Some into) own =
       },
     )
 
-call_turned : (eyes : Eyes) (old : HostShape) (thread : ThreadShape) (there : Instr) (token : Token) (now : View)
+pub call_turned : (eyes : Eyes) (old : HostShape) (thread : ThreadShape) (there : Instr) (token : Token) (now : View)
     (entry : EntryId) (on : HostId) → Visible eyes old thread there token now →
     IsPlain (eyes.shades.at old.me thread.at) → on ≡ old.me → IsEntryOn eyes.code on entry →
     (after : View)
@@ -412,7 +412,7 @@ site_within sites (suc place) host is =
     let within = slice_get_within sites place host is in
     omega (arith, within)
 
-frame_turned : (eyes : Eyes) (old : HostShape) (thread : ThreadShape) (there : Instr) (token : Token) (now : View)
+pub frame_turned : (eyes : Eyes) (old : HostShape) (thread : ThreadShape) (there : Instr) (token : Token) (now : View)
     (site : SiteId) → Visible eyes old thread there token now →
     IsShadedOp eyes.scene eyes.shades old.me thread.at (op.Frame site) → site_at eyes.code site ≡ Some old.me →
     (after : View)
@@ -485,7 +485,7 @@ pushes_shown eyes me here entry next seen false pushes = by here.guard pushes
     by None named = names_shown eyes here entry seen named.0
     by (Some loop) named = names_shown eyes here entry seen named.0
 
-push_turned : (eyes : Eyes) (old : HostShape) (thread : ThreadShape) (there : Instr) (token : Token) (now : View)
+pub push_turned : (eyes : Eyes) (old : HostShape) (thread : ThreadShape) (there : Instr) (token : Token) (now : View)
     (entry : EntryId) → Visible eyes old thread there token now →
     IsShadedOp eyes.scene eyes.shades old.me thread.at (op.Push entry) → entry.0 < length eyes.code.entries →
     (after : View)
@@ -561,7 +561,7 @@ push_turned eyes old thread there token now entry run law below =
       subst (λ held. Arrives eyes old now (after_own_push bare thread entry held) some.0) (sym run.held) done,
     )
 
-some_below : {X : Type 0} (P : X → Type 0) (xs : List X) (number : ℕ) → IsSomeAnd (slice_get xs number) P →
+pub some_below : {X : Type 0} (P : X → Type 0) (xs : List X) (number : ℕ) → IsSomeAnd (slice_get xs number) P →
     number < length xs
 some_below P xs number some = elim (slice_get_cases xs number).1 [
   | inl there ↦ slice_get_within xs number there.0 there.2
@@ -650,7 +650,7 @@ deep_went eyes old thread there token now after target run deep deep_away within
     (next_there eyes old.me (went old thread target false).state (way thread target false) refl refl fits) deep)
     deep_away deep comes
 
-branch_turned : (eyes : Eyes) (old : HostShape) (thread : ThreadShape) (there : Instr) (token : Token) (now : View)
+pub branch_turned : (eyes : Eyes) (old : HostShape) (thread : ThreadShape) (there : Instr) (token : Token) (now : View)
     (guard : List Node) (target : ℕ) → Visible eyes old thread there token now →
     IsShadedOp eyes.scene eyes.shades old.me thread.at (op.Branch guard target) →
     target < length (part_of eyes.code old.me) →
@@ -689,36 +689,3 @@ branch_turned eyes old thread there token now guard target run law within fits =
 
     number : ℤ
     number = value_in_thread old thread guard
-
--- ---- each instruction
-
-pub operation_turned : (eyes : Eyes) (old : HostShape) (thread : ThreadShape) (there : Instr) (token : Token)
-    (now : View) (count : ℕ) (it : Op) (passes : Bool) → Visible eyes old thread there token now →
-    ChangesAlone eyes.code old.me thread.held it → IsShadedOp eyes.scene eyes.shades old.me thread.at it →
-    OperationFits eyes.code old.me count it →
-    StateFits eyes.code (after_operation eyes.code (with_running old None) thread it passes).state →
-    Turned eyes old thread token now it (after_operation eyes.code (with_running old None) thread it passes)
-operation_turned eyes old thread there token now count (op.Let x value) passes run alone law fit fits =
-    let_turned eyes old thread there token now thread.frame x value run
-operation_turned eyes old thread there token now count (op.Arg x value) passes run alone law fit fits =
-    let_turned eyes old thread there token now thread.new_frame x value run
-operation_turned eyes old thread there token now count (op.Put field index value) passes run alone law fit fits =
-    put_turned eyes old thread there token now field index value run (field_at eyes.code field) alone
-operation_turned eyes old thread there token now count (op.Branch guard target) passes run alone law fit fits =
-    branch_turned eyes old thread there token now guard target run law fit.1 fits
-operation_turned eyes old thread there token now count (op.Frame site) passes run alone law fit fits =
-    frame_turned eyes old thread there token now site run law fit
-operation_turned eyes old thread there token now count (op.Push entry) passes run alone law fit fits =
-    push_turned eyes old thread there token now entry run law
-    (some_below (λ (there : Entry). there.host ≡ old.me) eyes.code.entries entry.0 fit.1)
-operation_turned eyes old thread there token now count (op.Call entry on) passes run alone law fit fits =
-    call_turned eyes old thread there token now entry on run law.0 alone fit.0
-operation_turned eyes old thread there token now count (op.Ret x value) passes run alone law fit fits =
-    return_turned eyes old thread there token now x value passes run alone
-operation_turned eyes old thread there token now count (op.Read field index) passes run alone law fit fits =
-    absurd alone
-operation_turned eyes old thread there token now count (op.Send x to) passes run alone law fit fits = absurd alone
-operation_turned eyes old thread there token now count (op.Pass x to) passes run alone law fit fits = absurd alone
-operation_turned eyes old thread there token now count (op.Ask entry on) passes run alone law fit fits = absurd alone
-operation_turned eyes old thread there token now count (op.Go entry on) passes run alone law fit fits = absurd alone
-operation_turned eyes old thread there token now count op.Back passes run alone law fit fits = absurd alone

@@ -8,7 +8,7 @@ use Rattle.js_base.specs.declared.ids.FrameId.{FrameId}
 use Rattle.js_base.specs.declared.ids.VarId.{VarId}
 use Rattle.js_base.specs.declared.ids.EntryId.{EntryId}
 use Rattle.js_base.specs.declared.ids.SiteId.{SiteId}
-use Rattle.jif_tree.specs.Store.{with_element}
+use Rattle.jif_tree.specs.Store.{row_of, element_at, with_element}
 use Rattle.capability.specs.declared.token.Token.{Token}
 use Rattle.capability.specs.Tag.{tag_of}
 use Rattle.host_code.specs.declared.code.Entry.{Entry}
@@ -18,17 +18,19 @@ use Rattle.host_code.specs.declared.instruction.Op.TheVariants as op
 use Rattle.host_code.specs.Code.{CodeShape, instruction_at, field_at, entry_at}
 use Rattle.host_code.specs.Thread.{ThreadShape}
 use Rattle.host_stores.specs.Stores.{with_variable}
-use Rattle.host_core.specs.Host.{HostShape, after_clearing, with_token, value_in_thread}
+use Rattle.host_core.specs.Host.{HostShape, after_step, after_clearing, with_temporary, with_token}
+use Rattle.host_core.specs.Host.{value_in_thread, next_request}
 use Rattle.net_world.specs.World.{WorldShape, state_at}
 use Rattle.seen_world.specs.Eyes.{Eyes, is_deep}
 use Rattle.agreement.specs.Comes.{Comes}
-use Rattle.agreement.specs.Views.{View, HostView, masked, sees_field, sees_variable, with_host}
+use Rattle.agreement.specs.Views.{View, HostView, masked, sees_field, sees_variable, sees_read, with_host}
 
 -- ---- which turns
 
 -- An instruction of a host, run with this token, that changes the host alone and behind which it goes on there. A call
 -- enters a method on the host, and a result is one for the host.
 abbrev pub ChangesAlone : CodeShape → HostId → Option Token → Op → Type 0
+ChangesAlone code me held (op.Read field index) = IsSomeAnd (field_at code field) (λ there. there.host ≡ me)
 ChangesAlone code me held (op.Let x value) = ⊤
 ChangesAlone code me held (op.Arg x value) = ⊤
 ChangesAlone code me held (op.Put field index value) = IsSomeAnd (field_at code field) (λ there. there.host ≡ me)
@@ -59,8 +61,12 @@ pub record Carried : Type 0 where
 abbrev pub carried_value : ℤ → Carried
 carried_value value = record { index = pos 0; value = value }
 
--- What is set is seen where it is kept. A guard is seen where the block behind it is.
+-- What is set is seen where it is kept, and what is read where it is a temporary. A guard is seen where the block behind
+-- it is.
 abbrev pub carried_in : Eyes → HostShape → ThreadShape → Op → Carried
+carried_in eyes state thread (op.Read field index) =
+    carried_value (masked (sees_read eyes state.me (next_request state thread.at))
+    (element_at (row_of state.rows field.0) (value_in_thread state thread index)))
 carried_in eyes state thread (op.Let x value) =
     carried_value (masked (sees_variable eyes x) (value_in_thread state thread value))
 carried_in eyes state thread (op.Arg x value) =
@@ -135,6 +141,9 @@ ComesInto eyes view host thread token (Some there) after =
     (record (after_clearing thread) { at = there.at; frame = thread.new_frame }) token after
 
 abbrev pub SeenOperation : Eyes → View → HostId → ThreadShape → Token → Op → Carried → View → Type 0
+SeenOperation eyes view host thread token (op.Read field index) carried after =
+    ComesBehind eyes view host (host_idle (view.hosts host)) (with_temporary carried.value (after_step thread)) token
+    after
 SeenOperation eyes view host thread token (op.Let x value) carried after =
     ComesBehind eyes view host (variable_shown (host_idle (view.hosts host)) thread.frame x carried.value)
     (after_clearing thread) token after

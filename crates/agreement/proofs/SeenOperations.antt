@@ -1,0 +1,165 @@
+-- Turns that may be seen and change their host alone, by their instructions. A read leaves one more temporary.
+use Rattle.std.proofs.Common.{◌≡◌, ◌∙◌, ℕ, suc, ◌+◌, Bool, true, false, List, [], ◌∷◌, ◌++◌, length, arith, Option}
+use Rattle.std.proofs.Common.{Some, None, refl, ap, sym, subst}
+use Rattle.std.specs.Prelude.{◌==◌, ℤ}
+use Rattle.std.specs.Option.{IsSomeAnd}
+use Rattle.js_base.specs.declared.ids.HostId.{HostId}
+use Rattle.js_base.specs.declared.ids.FieldId.{FieldId}
+use Rattle.label_lattice.specs.declared.label.Label.{Label}
+use Rattle.jif_tree.specs.Store.{row_of, element_at}
+use Rattle.capability.specs.declared.token.Token.{Token}
+use Rattle.host_code.specs.declared.code.Entry.{Entry}
+use Rattle.host_code.specs.declared.code_expr.Node.{Node}
+use Rattle.host_code.specs.declared.instruction.Instr.{Instr}
+use Rattle.host_code.specs.declared.instruction.Op.{Op}
+use Rattle.host_code.specs.declared.instruction.Op.TheVariants as op
+use Rattle.host_code.specs.Code.{CodeFieldShape, field_at}
+use Rattle.host_code.specs.Sound.{OperationFits}
+use Rattle.host_code.specs.Thread.{ThreadShape}
+use Rattle.host_core.specs.Fits.{StateFits}
+use Rattle.host_core.specs.Host.{HostShape, Outcome, with_running, after_step, with_temporary, value_in_thread}
+use Rattle.host_core.specs.Host.{next_request}
+use Rattle.host_core.specs.Turn.{after_operation, after_read, with_thread}
+use Rattle.split_shades.specs.ShadedCode.{IsShadedOp}
+use Rattle.split_shades.specs.Shades.{Ahead}
+use Rattle.split_shades.specs.Basis.{read_label}
+use Rattle.token_laws.proofs.Tests.{itself}
+use Rattle.seen_world.specs.Eyes.{Eyes, is_open}
+use Rattle.seen_world.proofs.TurnsKept.{meets_next}
+use Rattle.agreement.specs.Comes.{ComesTo, Comes}
+use Rattle.agreement.specs.Turns.{ChangesAlone, host_idle, ComesBehind}
+use Rattle.agreement.specs.Views.{View, masked, masked_all, last_seen, sees_read, thread_view, with_host, host_with_thread}
+use Rattle.agreement.proofs.SeenTurns.{Visible, Arrives, Turned, comes_some, idle_shows, either_true, let_turned}
+use Rattle.agreement.proofs.SeenTurns.{put_turned, return_turned, call_turned, frame_turned, push_turned, some_below}
+use Rattle.agreement.proofs.SeenTurns.{branch_turned}
+
+-- ---- one more temporary
+
+masked_twice : (seen : Bool) (value : ℤ) → masked seen value ≡ masked seen (masked seen value)
+masked_twice true value = refl
+masked_twice false value = refl
+
+-- it is masked by the last label
+masked_more : (eyes : Eyes) (labels : List Label) (label : Label) (temps : List ℤ) (value : ℤ) →
+    length temps ≡ length labels →
+    masked_all eyes (labels ++ label ∷ []) (temps ++ value ∷ [])
+    ≡ masked_all eyes (labels ++ label ∷ []) (masked_all eyes labels temps ++ masked (eyes.sees label) value ∷ [])
+masked_more eyes [] label [] value many = ap (λ v. v ∷ []) (masked_twice (eyes.sees label) value)
+masked_more eyes [] label (x ∷ temps) value many = absurd (omega (arith, many))
+masked_more eyes (first ∷ labels) label [] value many = absurd (omega (arith, many))
+masked_more eyes (first ∷ labels) label (x ∷ temps) value many =
+    let less : length temps ≡ length labels = omega (arith, many) in
+    ap (λ v. v ∷ masked_all eyes (labels ++ label ∷ []) (temps ++ value ∷ [])) (masked_twice (eyes.sees first) x)
+    ∙ ap (λ vs. masked (eyes.sees first) (masked (eyes.sees first) x) ∷ vs)
+    (masked_more eyes labels label temps value less)
+
+pub last_label : (eyes : Eyes) (labels : List Label) (label : Label) →
+    last_seen eyes (labels ++ label ∷ []) ≡ eyes.sees label
+last_label eyes [] label = refl
+last_label eyes (first ∷ []) label = refl
+last_label eyes (first ∷ second ∷ labels) label = last_label eyes (second ∷ labels) label
+
+-- a thread with other temporaries of which the same may be seen comes to the same
+comes_masked : (eyes : Eyes) (now : View) (host : HostId) (thread : ThreadShape) (temps : List ℤ) (token : Token)
+    (after : View) →
+    masked_all eyes (eyes.shades.at host thread.at).temps thread.temporaries
+    ≡ masked_all eyes (eyes.shades.at host thread.at).temps temps →
+    Comes eyes now host (record thread { temporaries = temps }) token after → Comes eyes now host thread token after
+comes_masked eyes now host thread temps token after same comes = by (is_open eyes host thread.at) comes
+  where
+    by : (seen : Bool) → ComesTo eyes now host (record thread { temporaries = temps }) token seen after →
+        ComesTo eyes now host thread token seen after
+    by true is =
+        is ∙ ap (λ ts. with_host now host (host_with_thread (now.hosts host) (record thread { temporaries = ts })))
+        (sym same)
+    by false is = is
+
+-- ---- a read
+
+read_turned : (eyes : Eyes) (old : HostShape) (thread : ThreadShape) (there : Instr) (token : Token) (now : View)
+    (field : FieldId) (index : List Node) → Visible eyes old thread there token now →
+    IsShadedOp eyes.scene eyes.shades old.me thread.at (op.Read field index) → (found : Option CodeFieldShape) →
+    IsSomeAnd found (λ on. on.host ≡ old.me) →
+    (after : View)
+    × ComesBehind eyes now old.me (host_idle (now.hosts old.me))
+    (with_temporary (masked (sees_read eyes old.me (next_request old thread.at))
+    (element_at (row_of old.rows field.0) (value_in_thread old thread index)))
+    (after_step (thread_view eyes old.me thread.at thread))) token after
+    × Arrives eyes old now (after_read (with_running old None) thread field index found) after
+read_turned eyes old thread there token now field index run law None own = absurd own
+read_turned eyes old thread there token now field index run law (Some on) own =
+    let here = eyes.shades.at old.me thread.at in
+    let label : Label =
+    read_label eyes.scene.basis here.pc (record { field = field; index = law.1.index }) in
+    let value = element_at (row_of old.rows field.0) (value_in_thread old thread index) in
+    let next : (eyes.shades.at old.me (thread.at + 1)).temps ≡ here.temps ++ label ∷ [] =
+    (meets_next eyes old.me thread.at law.0 law.2).temps ∙ ap (λ (it : Ahead). it.temps) law.1.goes in
+    let sees : sees_read eyes old.me (next_request old thread.at) ≡ eyes.sees label =
+    ap (last_seen eyes) next ∙ last_label eyes here.temps label in
+    let shown = masked (sees_read eyes old.me (next_request old thread.at)) value in
+    let before = masked_all eyes here.temps thread.temporaries in
+    let same : masked_all eyes (eyes.shades.at old.me (thread.at + 1)).temps (thread.temporaries ++ value ∷ [])
+    ≡ masked_all eyes (eyes.shades.at old.me (thread.at + 1)).temps (before ++ shown ∷ []) =
+    ap (λ labels. masked_all eyes labels (thread.temporaries ++ value ∷ [])) next
+    ∙ masked_more eyes here.temps label thread.temporaries value run.well.temps
+    ∙ ap (λ (b : Bool). masked_all eyes (here.temps ++ label ∷ []) (before ++ masked b value ∷ [])) (sym sees)
+    ∙ sym (ap (λ labels. masked_all eyes labels (before ++ shown ∷ [])) next) in
+    let later = with_temporary value (after_step thread) in
+    let idle = host_idle (now.hosts old.me) in
+    let seen_later = with_temporary shown (after_step (thread_view eyes old.me thread.at thread)) in
+    let some = comes_some eyes (with_host now old.me idle) old.me seen_later token in
+    let here_is : (on.host.0 == old.me.0) ≡ true = ap (λ (h : HostId). h.0 == old.me.0) own ∙ itself old.me.0 in
+    let made : Outcome = with_thread (with_running old None) later in
+    let done : Arrives eyes old now made some.0 = record {
+      shown = idle;
+      later = later;
+      token = token;
+      silent = refl;
+      running = refl;
+      me = refl;
+      held = run.held;
+      plain = run.shown;
+      waiting = refl;
+      entries = run.entries;
+      own = idle_shows eyes old.me old (now.hosts old.me) run.shows;
+      comes = comes_masked eyes (with_host now old.me idle) old.me later (before ++ shown ∷ []) token some.0 same
+          some.1;
+    } in (
+      some.0,
+      some.1,
+      either_true (λ (o : Outcome). Arrives eyes old now o some.0) (on.host.0 == old.me.0) made _
+          here_is done,
+    )
+
+-- ---- each instruction
+
+pub operation_turned : (eyes : Eyes) (old : HostShape) (thread : ThreadShape) (there : Instr) (token : Token)
+    (now : View) (count : ℕ) (it : Op) (passes : Bool) → Visible eyes old thread there token now →
+    ChangesAlone eyes.code old.me thread.held it → IsShadedOp eyes.scene eyes.shades old.me thread.at it →
+    OperationFits eyes.code old.me count it →
+    StateFits eyes.code (after_operation eyes.code (with_running old None) thread it passes).state →
+    Turned eyes old thread token now it (after_operation eyes.code (with_running old None) thread it passes)
+operation_turned eyes old thread there token now count (op.Let x value) passes run alone law fit fits =
+    let_turned eyes old thread there token now thread.frame x value run
+operation_turned eyes old thread there token now count (op.Arg x value) passes run alone law fit fits =
+    let_turned eyes old thread there token now thread.new_frame x value run
+operation_turned eyes old thread there token now count (op.Put field index value) passes run alone law fit fits =
+    put_turned eyes old thread there token now field index value run (field_at eyes.code field) alone
+operation_turned eyes old thread there token now count (op.Branch guard target) passes run alone law fit fits =
+    branch_turned eyes old thread there token now guard target run law fit.1 fits
+operation_turned eyes old thread there token now count (op.Frame site) passes run alone law fit fits =
+    frame_turned eyes old thread there token now site run law fit
+operation_turned eyes old thread there token now count (op.Push entry) passes run alone law fit fits =
+    push_turned eyes old thread there token now entry run law
+    (some_below (λ (there : Entry). there.host ≡ old.me) eyes.code.entries entry.0 fit.1)
+operation_turned eyes old thread there token now count (op.Call entry on) passes run alone law fit fits =
+    call_turned eyes old thread there token now entry on run law.0 alone fit.0
+operation_turned eyes old thread there token now count (op.Ret x value) passes run alone law fit fits =
+    return_turned eyes old thread there token now x value passes run alone
+operation_turned eyes old thread there token now count (op.Read field index) passes run alone law fit fits =
+    read_turned eyes old thread there token now field index run law (field_at eyes.code field) alone
+operation_turned eyes old thread there token now count (op.Send x to) passes run alone law fit fits = absurd alone
+operation_turned eyes old thread there token now count (op.Pass x to) passes run alone law fit fits = absurd alone
+operation_turned eyes old thread there token now count (op.Ask entry on) passes run alone law fit fits = absurd alone
+operation_turned eyes old thread there token now count (op.Go entry on) passes run alone law fit fits = absurd alone
+operation_turned eyes old thread there token now count op.Back passes run alone law fit fits = absurd alone
