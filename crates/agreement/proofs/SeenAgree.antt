@@ -24,11 +24,12 @@ use Rattle.seen_world.specs.Eyes.{Eyes, AreEyes, Watches}
 use Rattle.seen_world.proofs.PointsKept.{points_kept}
 use Rattle.agreement.specs.Leads.{Leads, Agree}
 use Rattle.agreement.specs.Turns.{ChangesAlone, RunsAlone, Carried, carried_in, ComesInto, SeenOperation}
-use Rattle.agreement.specs.Turns.{SeenTurn}
-use Rattle.agreement.specs.Views.{View, running_view, thread_view, masked_all}
+use Rattle.agreement.specs.Turns.{SeenTurn, host_idle}
+use Rattle.agreement.specs.Views.{gives, with_host, View, running_view, thread_view, masked_all}
 use Rattle.agreement.proofs.CarriedSame.{Twins, operation_same}
 use Rattle.agreement.proofs.Coming.{comes_once}
 use Rattle.agreement.proofs.HiddenTurns.{some_of}
+use Rattle.agreement.proofs.ViewLaws.{completed_once}
 use Rattle.agreement.proofs.SeenLeads.{Calm, quiet_calm, calm_open, reached_leads}
 
 -- ---- one view
@@ -65,7 +66,8 @@ operation_once eyes now host thread token (op.Call entry on) carried first secon
     into_once eyes now host thread token (entry_at eyes.code entry) first second one two
 operation_once eyes now host thread token (op.Ret x value) carried first second one two =
     comes_once eyes _ host _ _ first second one two
-operation_once eyes now host thread token op.Back carried first second one two = absurd one
+operation_once eyes now host thread token op.Back carried first second one two =
+    completed_once eyes (gives token) (with_host now host (host_idle (now.hosts host))) first second one two
 
 same_first : {X : Type 0} (x y : X) → x ∷ [] ≡ y ∷ [] → x ≡ y
 same_first x y is = cc

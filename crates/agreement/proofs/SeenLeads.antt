@@ -1,5 +1,5 @@
 -- What a quiet world leads to, where a turn happens that may be seen and changes its host alone.
-use Rattle.std.proofs.Common.{◌≡◌, ◌∙◌, ℕ, Bool, true, List, [], ◌∷◌, ◌++◌, Option, Some, None, inl, inr, refl}
+use Rattle.std.proofs.Common.{◌≡◌, ◌∙◌, ℕ, Bool, true, false, List, [], ◌∷◌, ◌++◌, Option, Some, None, inl, inr, refl}
 use Rattle.std.proofs.Common.{ap, sym, subst}
 use Rattle.std.specs.Prelude.{ℤ, if◌then◌else◌, IfSome, not, filter}
 use Rattle.std.specs.Option.{IsSomeAnd}
@@ -31,16 +31,17 @@ use Rattle.seen_world.proofs.PointsAtStart.{own_state}
 use Rattle.seen_world.proofs.PointsKept.{points_kept}
 use Rattle.seen_world.proofs.SeenPlaces.{some_is, under_seen}
 use Rattle.seen_world.proofs.SeenWorlds.{label_read}
-use Rattle.agreement.specs.Leads.{hidden_running, hidden_waiting, hidden_flights, Leads}
+use Rattle.agreement.specs.Leads.{hidden_running, hidden_waiting, hidden_flights, nobody, Keeps, Leads}
 use Rattle.agreement.specs.Turns.{ChangesAlone, RunsAlone, carried_in, SeenTurn}
 use Rattle.agreement.specs.Views.{View, ShowsHost, Shows, running_view, thread_view, flies_open, flights_view, is_shown}
-use Rattle.agreement.specs.Views.{with_host}
+use Rattle.agreement.specs.Views.{with_host, nowhere, nothing}
 use Rattle.agreement.proofs.Branches.{own_view, other_view}
 use Rattle.agreement.proofs.Coming.{comes_leads}
 use Rattle.agreement.proofs.Places.{instruction_within}
 use Rattle.agreement.proofs.Quiet.{none_left, runs_seen, quiet_shows}
-use Rattle.agreement.proofs.SeenOperations.{operation_turned}
-use Rattle.agreement.proofs.SeenTurns.{Visible, Arrives, Turned}
+use Rattle.agreement.proofs.SeenOperations.{Rests, Turned, operation_turned}
+use Rattle.agreement.proofs.SeenTurns.{Visible, Arrives}
+use Rattle.agreement.proofs.Steps.{moved_leads}
 use Rattle.agreement.proofs.Turns.{IsHere, next_there}
 
 -- ---- nothing goes on unseen
@@ -126,6 +127,38 @@ arrived_leads eyes world after old outcome now seen label are calm obeys leaves 
       sent = silent_sent world old.me outcome outcome.state label after out leaves ∙ calm.shows.sent;
     }) arrives.comes
 
+-- ---- no thread does
+
+abbrev calm_keeps : (eyes : Eyes) (world : WorldShape) (now : View) → Calm eyes world now → Keeps eyes world nothing
+calm_keeps eyes world now calm = record {
+  holder = nobody;
+  links = [];
+  present = tt;
+  hides = λ host state there. record {
+    running = calm.running host state there;
+    waiting = calm.waiting host state there;
+    entries = calm.entries host state there;
+  };
+  flying = calm.flying;
+  spot = nowhere;
+  held = refl;
+  owes = refl;
+  well = tt;
+}
+
+rested_leads : (eyes : Eyes) (world after : WorldShape) (old : HostShape) (outcome : Outcome) (now seen : View)
+    (label : Option ℕ) → Calm eyes world now → state_at world old.me ≡ Some old →
+    after_step world old.me outcome label ≡ after → Rests eyes old now outcome seen → Leads eyes after seen
+rested_leads eyes world after old outcome now seen label calm obeys leaves rests =
+    let out : without_message outcome.state ≡ outcome =
+    ap (λ s. record { state = outcome.state; sent = s }) (sym rests.silent) in
+    let moved = moved_silent world old.me outcome outcome.state label after out leaves in
+    let own : Moved world old.me outcome.state after.flying after = record { hosts = moved.hosts; flying = refl } in
+    moved_leads eyes world after old.me old outcome.state nothing (calm_keeps eyes world now calm) now seen rests.later
+    calm.shows obeys own (silent_sent world old.me outcome outcome.state label after out leaves)
+    (λ i j. ap (λ (f : Flying). hidden_flights eyes (f i j)) moved.flying ∙ calm.flying i j ∙ sym (rests.flies i j))
+    (λ i j. ap (λ (f : Flying). flights_view eyes i j (f i j)) moved.flying) rests.leaves
+
 -- ---- a turn
 
 open_block : (eyes : Eyes) (host : HostId) (place : ℕ) (there : Instr) → AreEyes eyes →
@@ -152,10 +185,10 @@ held_of eyes None fits = absurd fits
 held_of eyes (Some token) fits = (token, refl)
 
 pub visible_of : (eyes : Eyes) (world : WorldShape) (old : HostShape) (thread : ThreadShape) (there : Instr)
-    (now : View) → AreEyes eyes → Calm eyes world now → StateFits eyes.code old → HostKeeps eyes old.me old →
-    state_at world old.me ≡ Some old → old.running ≡ Some thread → IsHere eyes old thread there →
-    (token : Token) × Visible eyes old thread there token now
-visible_of eyes world old thread there now are calm fits keep obeys is here =
+    (now : View) → AreEyes eyes → Calm eyes world now → StateFits eyes.code old → eyes.bad old.me ≡ false →
+    HostKeeps eyes old.me old → state_at world old.me ≡ Some old → old.running ≡ Some thread →
+    IsHere eyes old thread there → (token : Token) × Visible eyes old thread there token now
+visible_of eyes world old thread there now are calm fits good keep obeys is here =
     let seen = calm_open eyes old.me old.running thread is (calm.running old.me old obeys) in
     let runs : RunningFits eyes.code old.me thread =
     subst (λ one. IfSome one (RunningFits eyes.code old.me)) is fits.running in
@@ -167,6 +200,9 @@ visible_of eyes world old thread there now are calm fits keep obeys is here =
       token.0,
       record {
         are = are;
+        obeys = good;
+        keeps = keep;
+        waits = calm.waiting old.me old obeys;
         is = here;
         seen = seen;
         well = well;
@@ -188,14 +224,14 @@ seen_thread eyes old thread there token now run is =
 
 turned_leads : (eyes : Eyes) (world after : WorldShape) (old : HostShape) (outcome : Outcome) (thread : ThreadShape)
     (there : Instr) (now : View) → AreEyes eyes → IsSoundCode eyes.code → Calm eyes world now →
-    StateFits eyes.code old → HostKeeps eyes old.me old → state_at world old.me ≡ Some old →
+    StateFits eyes.code old → eyes.bad old.me ≡ false → HostKeeps eyes old.me old → state_at world old.me ≡ Some old →
     old.running ≡ Some thread → IsHere eyes old thread there → ChangesAlone eyes.code old.me thread.held there.op →
     IsTurn eyes.code old outcome → after_step world old.me outcome (label_of_turn eyes.code old) ≡ after →
     StateFits eyes.code outcome.state → HostKeeps eyes old.me outcome.state →
     (seen : View) × SeenTurn eyes now old.me (carried_in eyes old thread there.op) seen × Leads eyes after seen
-turned_leads eyes world after old outcome thread there now are sound calm fits keep obeys is here alone turns leaves
+turned_leads eyes world after old outcome thread there now are sound calm fits good keep obeys is here alone turns leaves
     fits_then keep_then =
-    let visible = visible_of eyes world old thread there now are calm fits keep obeys is here in
+    let visible = visible_of eyes world old thread there now are calm fits good keep obeys is here in
     let run = visible.1 in
     let runs_it : IsRunning eyes.code (with_running old None) thread (Some there) outcome =
     subst (λ found. IsRunning eyes.code (with_running old None) thread found outcome) here
@@ -204,7 +240,7 @@ turned_leads eyes world after old outcome thread there now are sound calm fits k
     subst (λ (o : Outcome). StateFits eyes.code o.state → Turned eyes old thread visible.0 now there.op o) runs_it.2
     (operation_turned eyes old thread there visible.0 now _ there.op runs_it.0 run alone
     (are.shaded.instructions old.me thread.at there here).law
-    ((sound.parts old.me fits.me).instructions thread.at there here).operation) fits_then in (
+    ((sound.parts old.me fits.me).instructions thread.at there here).operation runs_it.1) fits_then in (
       turned.0,
       record {
         thread = thread_view eyes old.me thread.at thread;
@@ -215,8 +251,14 @@ turned_leads eyes world after old outcome thread there now are sound calm fits k
         is = here;
         seen = turned.1;
       },
-      arrived_leads eyes world after old outcome now turned.0 (label_of_turn eyes.code old) are calm obeys leaves
-          fits_then keep_then turned.2,
+      elim turned.2 [
+        | inl arrives ↦
+            arrived_leads eyes world after old outcome now turned.0 (label_of_turn eyes.code old) are calm obeys leaves
+            fits_then keep_then arrives
+        | inr rests ↦
+            rested_leads eyes world after old outcome now turned.0 (label_of_turn eyes.code old) calm obeys leaves
+            rests
+      ],
     )
 
 pub alone_leads : (eyes : Eyes) (world after : WorldShape) (host : HostId) (now : View)
@@ -242,7 +284,7 @@ alone_leads eyes world after host now alone are sound watch fits fits_after keep
     let fit : StateFits eyes.code outcome.state =
     (subst (λ one. IfSome one (IsStateOf eyes.code host)) after_me (fits_after.states host)).fits in
     let result = turned_leads eyes world after old outcome alone.thread alone.instruction now are sound calm
-    own.fit.fits
+    own.fit.fits own.obeys
     own.keeps (ap (state_at world) me ∙ alone.there) alone.running
     (subst (λ (h : HostId). instruction_at eyes.code h alone.thread.at ≡ Some alone.instruction) (sym me) alone.is)
     (subst (λ (h : HostId). ChangesAlone eyes.code h alone.thread.held alone.instruction.op) (sym me) alone.alone) turns

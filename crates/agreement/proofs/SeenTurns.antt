@@ -42,10 +42,11 @@ use Rattle.token_laws.proofs.Tests.{itself, number_same, parts_same}
 use Rattle.token_laws.proofs.Counting.{one_if}
 use Rattle.token_laws.proofs.Worth.{is_token}
 use Rattle.seen_world.specs.Eyes.{Eyes, AreEyes, is_open, is_deep, is_hidden}
-use Rattle.seen_world.specs.Points.{IsHiddenToken, RunsWell}
+use Rattle.seen_world.specs.Points.{IsHiddenToken, RunsWell, HostKeeps}
 use Rattle.seen_world.proofs.SeenPlaces.{block_seen}
 use Rattle.seen_world.proofs.TurnsKept.{meets_next}
 use Rattle.agreement.specs.Comes.{ComesTo, Comes}
+use Rattle.agreement.specs.Leads.{hidden_waiting}
 use Rattle.agreement.specs.Turns.{ChangesAlone, carried_in, host_idle, variable_shown, element_shown}
 use Rattle.agreement.specs.Turns.{frame_shown, framed, token_shown, entry_shown, ComesInto}
 use Rattle.agreement.specs.Turns.{ComesBehind, SeenOperation}
@@ -76,7 +77,7 @@ given_some eyes now token (top ∷ below) = elim (token_or_not top.token token) 
   | inr apart ↦ (now, inr (apart, refl))
 ]
 
-completed_some : (eyes : Eyes) (owed : Owed) (now : View) → (after : View) × Completed eyes owed now after
+pub completed_some : (eyes : Eyes) (owed : Owed) (now : View) → (after : View) × Completed eyes owed now after
 completed_some eyes nothing now = (now, refl)
 completed_some eyes (goes_on host place frame token) now = (view.with_thread now host place frame token, refl)
 completed_some eyes (gives token) now = given_some eyes now token (now.hosts token.host).entries
@@ -109,6 +110,9 @@ deep_comes_too eyes now host thread later token after hidden hidden_later deep d
 pub record Visible (eyes : Eyes) (old : HostShape) (thread : ThreadShape) (there : Instr) (token : Token)
     (now : View) : Type 0 where
   pub are : AreEyes eyes
+  pub obeys : eyes.bad old.me ≡ false
+  pub keeps : HostKeeps eyes old.me old
+  pub waits : hidden_waiting eyes old.me old.waiting ≡ []
   pub is : IsHere eyes old thread there
   pub seen : is_open eyes old.me thread.at ≡ true
   pub well : RunsWell eyes old.me thread
@@ -132,14 +136,6 @@ pub record Arrives (eyes : Eyes) (old : HostShape) (now : View) (outcome : Outco
   pub entries : outcome.state.entries ≡ filter (is_shown eyes) outcome.state.entries
   pub own : ShowsHost eyes old.me (with_running outcome.state None) shown
   pub comes : Comes eyes (with_host now old.me shown) old.me later token after
-
--- what is seen then of such an instruction
-abbrev pub Turned : Eyes → HostShape → ThreadShape → Token → View → Op → Outcome → Type 0
-Turned eyes old thread token now it outcome =
-    (after : View)
-    × SeenOperation eyes now old.me (thread_view eyes old.me thread.at thread) token it
-    (carried_in eyes old thread it) after
-    × Arrives eyes old now outcome after
 
 pub idle_shows : (eyes : Eyes) (host : HostId) (old : HostShape) (shown : HostView) → ShowsHost eyes host old shown →
     ShowsHost eyes host (with_running old None) (host_idle shown)

@@ -23,12 +23,12 @@ use Rattle.host_core.specs.Host.{value_in_thread, next_request}
 use Rattle.net_world.specs.World.{WorldShape, state_at}
 use Rattle.seen_world.specs.Eyes.{Eyes, is_deep}
 use Rattle.agreement.specs.Comes.{Comes}
-use Rattle.agreement.specs.Views.{View, HostView, masked, sees_field, sees_variable, sees_read, with_host}
+use Rattle.agreement.specs.Views.{View, HostView, gives, Completed, masked, sees_field, sees_variable, sees_read, with_host}
 
 -- ---- which turns
 
--- An instruction of a host, run with this token, that changes the host alone and behind which it goes on there. A call
--- enters a method on the host, and a result is one for the host.
+-- An instruction of a host, run with this token, that changes the host alone and sends nothing. A call enters a method
+-- on the host, and a result or a token is given to the host itself.
 abbrev pub ChangesAlone : CodeShape → HostId → Option Token → Op → Type 0
 ChangesAlone code me held (op.Read field index) = IsSomeAnd (field_at code field) (λ there. there.host ≡ me)
 ChangesAlone code me held (op.Let x value) = ⊤
@@ -38,6 +38,7 @@ ChangesAlone code me held (op.Frame site) = ⊤
 ChangesAlone code me held (op.Push entry) = ⊤
 ChangesAlone code me held (op.Call entry on) = on ≡ me
 ChangesAlone code me held (op.Ret x value) = IsSomeAnd held (λ token. token.host ≡ me)
+ChangesAlone code me held op.Back = IsSomeAnd held (λ token. token.host ≡ me)
 ChangesAlone code me held (op.Branch guard target) = ⊤
 ChangesAlone code me held other = ⊥
 
@@ -165,6 +166,8 @@ SeenOperation eyes view host thread token (op.Call entry on) carried after =
 SeenOperation eyes view host thread token (op.Ret x value) carried after =
     ComesBehind eyes view host (variable_shown (host_idle (view.hosts host)) token.frame x carried.value)
     (after_clearing thread) token after
+SeenOperation eyes view host thread token op.Back carried after =
+    Completed eyes (gives token) (with_host view host (host_idle (view.hosts host))) after
 SeenOperation eyes view host thread token (op.Branch guard target) carried after =
     ComesBehind eyes view host (host_idle (view.hosts host)) (branched thread target carried.value) token after
 SeenOperation eyes view host thread token other carried after = ⊥
