@@ -1,5 +1,5 @@
 -- Turns that may be seen and change their host alone, by their instructions. A read leaves one more temporary.
-use Rattle.std.proofs.Common.{◌≡◌, ◌∙◌, ℕ, suc, ◌+◌, Bool, true, false, List, [], ◌∷◌, ◌++◌, length, arith, Option}
+use Rattle.std.proofs.Common.{◌≡◌, ◌∙◌, ℕ, ◌+◌, Bool, true, false, List, [], ◌∷◌, ◌++◌, length, arith, Option}
 use Rattle.std.proofs.Common.{Some, None, inl, inr, refl, ap, sym, subst}
 use Rattle.std.specs.Prelude.{◌==◌, ◌↔◌, ◌⊎◌, ℤ, IsTrue, if◌then◌else◌}
 use Rattle.std.proofs.lemmas.Bool.{cases_Bool}
@@ -195,31 +195,34 @@ back_turned eyes old thread there token now passes run own checks =
     else with_message (with_running bare None) token.host (message.Lgoto token)) here in
     let ends : Ends eyes old.me nobody [] idle_now some.0 0 (without_message popped) =
     given_ends eyes bare nobody [] token (gives token) idle_now some.0 0 passes given (λ yes. checked.0 yes number)
-    (λ top. checked.1 (λ n. top)) in
-    (some.0, some.1, subst (λ (o : Outcome). Rests eyes old now o some.0) (sym is) (record {
-      silent = refl;
-      later = ends.later;
-      flies = ends.sends;
-      leaves = record {
-        own = ends.leaves.own;
-        chain = ends.leaves.chain;
-        hides = ends.leaves.hides;
-        runs_apart = ends.leaves.runs_apart;
-        waits_apart = ends.leaves.waits_apart;
-        links_apart = ends.leaves.links_apart;
-        spot = ends.leaves.spot;
-        held = ends.leaves.held;
-        owed = ends.leaves.owed;
-        owes = ends.leaves.owes;
-        well = ends.leaves.well;
-        view = ends.leaves.view;
-        shows = ends.leaves.shows;
-        others = λ other apart. ends.leaves.others other apart ∙ other_view now old.me other idle apart;
-        flying = ends.leaves.flying;
-        sent = ends.leaves.sent;
-        completed = ends.leaves.completed;
-      };
-    }))
+    (λ top. checked.1 (λ n. top)) in (
+      some.0,
+      some.1,
+      subst (λ (o : Outcome). Rests eyes old now o some.0) (sym is) (record {
+        silent = refl;
+        later = ends.later;
+        flies = ends.sends;
+        leaves = record {
+          own = ends.leaves.own;
+          chain = ends.leaves.chain;
+          hides = ends.leaves.hides;
+          runs_apart = ends.leaves.runs_apart;
+          waits_apart = ends.leaves.waits_apart;
+          links_apart = ends.leaves.links_apart;
+          spot = ends.leaves.spot;
+          held = ends.leaves.held;
+          owed = ends.leaves.owed;
+          owes = ends.leaves.owes;
+          well = ends.leaves.well;
+          view = ends.leaves.view;
+          shows = ends.leaves.shows;
+          others = λ other apart. ends.leaves.others other apart ∙ other_view now old.me other idle apart;
+          flying = ends.leaves.flying;
+          sent = ends.leaves.sent;
+          completed = ends.leaves.completed;
+        };
+      }),
+    )
 
 -- ---- how a turn ends
 

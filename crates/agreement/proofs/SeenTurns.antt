@@ -21,16 +21,15 @@ use Rattle.capability.specs.Tag.{tag_of}
 use Rattle.host_code.specs.declared.code.Entry.{Entry}
 use Rattle.host_code.specs.declared.code_expr.Node.{Node}
 use Rattle.host_code.specs.declared.instruction.Instr.{Instr}
-use Rattle.host_code.specs.declared.instruction.Op.{Op}
 use Rattle.host_code.specs.declared.instruction.Op.TheVariants as op
-use Rattle.host_code.specs.Code.{CodeFieldShape, part_of, field_at, entry_at, site_at}
+use Rattle.host_code.specs.Code.{CodeFieldShape, part_of, entry_at, site_at}
 use Rattle.host_code.specs.Code.{host_of_site}
-use Rattle.host_code.specs.Sound.{OperationFits, IsEntryOn}
+use Rattle.host_code.specs.Sound.{IsEntryOn}
 use Rattle.host_code.specs.Thread.{ThreadShape}
 use Rattle.host_core.specs.Fits.{StateFits}
 use Rattle.host_core.specs.Host.{HostShape, Outcome, with_running, with_row_written, after_clearing}
 use Rattle.host_core.specs.Host.{after_step, with_token, new_token, value_in_thread}
-use Rattle.host_core.specs.Turn.{after_operation, after_let, after_put, after_branch, after_return}
+use Rattle.host_core.specs.Turn.{after_let, after_put, after_branch, after_return}
 use Rattle.host_core.specs.Turn.{after_own_call, after_call, after_frame, after_own_push, with_thread}
 use Rattle.host_stores.specs.Stores.{is_same_variable, with_variable}
 use Rattle.net_world.proofs.Rows.{row_written, row_kept}
@@ -47,9 +46,9 @@ use Rattle.seen_world.proofs.SeenPlaces.{block_seen}
 use Rattle.seen_world.proofs.TurnsKept.{meets_next}
 use Rattle.agreement.specs.Comes.{ComesTo, Comes}
 use Rattle.agreement.specs.Leads.{hidden_waiting}
-use Rattle.agreement.specs.Turns.{ChangesAlone, carried_in, host_idle, variable_shown, element_shown}
+use Rattle.agreement.specs.Turns.{host_idle, variable_shown, element_shown}
 use Rattle.agreement.specs.Turns.{frame_shown, framed, token_shown, entry_shown, ComesInto}
-use Rattle.agreement.specs.Turns.{ComesBehind, SeenOperation}
+use Rattle.agreement.specs.Turns.{ComesBehind}
 use Rattle.agreement.specs.Views.{View, HostView, ShowsHost, Owed, nothing, goes_on, gives, at, owed_at, Completed}
 use Rattle.agreement.specs.Views.{GivenBack, masked, sees_field, sees_variable, thread_view, with_host, host_popped}
 use Rattle.agreement.specs.Views.{is_shown, host_with_thread}

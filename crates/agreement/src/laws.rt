@@ -42,7 +42,8 @@ ghost use Rattle.agreement.specs.Values.{IsSeen, HoldAlike};
 ghost use Rattle.agreement.specs.Views.{View, HostView, ShowsHost, Shows, running_view, Owed, goes_on, gives};
 ghost use Rattle.agreement.specs.Views.{Completed, at, owed_at};
 ghost use Rattle.agreement.specs.Views.{flies_open, flights_view, message_view, is_shown, exit_of};
-ghost use Rattle.agreement.specs.Worked.{small_eyes, one_entry, popped_at, a_variable, idle, runs_at, set_at, came_to, seven};
+ghost use Rattle.agreement.specs.Worked.{small_eyes, one_entry, popped_at, a_variable, idle, runs_at, set_at};
+ghost use Rattle.agreement.specs.Worked.{came_to, seven};
 
 /// What may be seen of a world, where something goes on unseen.
 pub fn view_laws()
@@ -116,7 +117,7 @@ pub fn coming_laws()
         Comes eyes view host thread token first → Comes eyes view other later token second → first ≡ second }
 {}
 
-/// What is seen of a turn that may be seen, and that sets something on its host alone or branches.
+/// What is seen of a turn that may be seen, and that changes its host alone.
 pub fn seen_laws()
     // A quiet world that events lead to, and that leads to a view, leads after it to what is seen of it then.
     ensures turn { (eyes : Eyes) (rows : List declared_hosts.HostShape) (bad : ℕ) (store : List (List ℤ))
