@@ -1,7 +1,8 @@
 -- Two quiet worlds that lead to one view still do after the same turn that may be seen.
 use Rattle.std.proofs.Common.{◌≡◌, ◌∙◌, ℕ, List, [], ◌∷◌, Option, Some, None, ap, sym, subst}
-use Rattle.std.specs.Prelude.{ℤ, Bool, if◌then◌else◌, IfSome}
+use Rattle.std.specs.Prelude.{◌==◌, true, false, ℤ, Bool, if◌then◌else◌, IfSome}
 use Rattle.js_base.specs.declared.ids.HostId.{HostId}
+use Rattle.js_base.specs.declared.ids.VarId.{VarId}
 use Rattle.capability.specs.declared.token.Token.{Token}
 use Rattle.host_decl.specs.Hosts as declared_hosts
 use Rattle.host_code.specs.declared.code.Entry.{Entry}
@@ -23,7 +24,8 @@ use Rattle.split_shades.specs.ShadedCode.{ReleaseNothing}
 use Rattle.seen_world.specs.Eyes.{Eyes, AreEyes, Watches}
 use Rattle.seen_world.proofs.PointsKept.{points_kept}
 use Rattle.agreement.specs.Leads.{Leads, Agree}
-use Rattle.agreement.specs.Turns.{ChangesAlone, RunsAlone, Carried, carried_in, ComesInto, SeenOperation}
+use Rattle.agreement.specs.Turns.{ChangesAlone, RunsAlone, Carried, carried_in, ComesInto, ComesWithResult}
+use Rattle.agreement.specs.Turns.{SeenOperation}
 use Rattle.agreement.specs.Turns.{SeenTurn, host_idle}
 use Rattle.agreement.specs.Views.{gives, with_host, View, running_view, thread_view, masked_all}
 use Rattle.agreement.proofs.CarriedSame.{Twins, operation_same}
@@ -39,6 +41,14 @@ into_once : (eyes : Eyes) (now : View) (host : HostId) (thread : ThreadShape) (t
     ComesInto eyes now host thread token found second → first ≡ second
 into_once eyes now host thread token None first second one two = absurd one
 into_once eyes now host thread token (Some there) first second one two =
+    comes_once eyes _ host _ token first second one two
+
+result_once : (eyes : Eyes) (now : View) (host : HostId) (thread : ThreadShape) (token : Token) (x : VarId) (value : ℤ)
+    (own : Bool) (first second : View) → ComesWithResult eyes now host thread token x value own first →
+    ComesWithResult eyes now host thread token x value own second → first ≡ second
+result_once eyes now host thread token x value true first second one two =
+    comes_once eyes _ host _ token first second one two
+result_once eyes now host thread token x value false first second one two =
     comes_once eyes _ host _ token first second one two
 
 operation_once : (eyes : Eyes) (now : View) (host : HostId) (thread : ThreadShape) (token : Token) (it : Op)
@@ -65,7 +75,7 @@ operation_once eyes now host thread token (op.Go entry on) carried first second 
 operation_once eyes now host thread token (op.Call entry on) carried first second one two =
     into_once eyes now host thread token (entry_at eyes.code entry) first second one two
 operation_once eyes now host thread token (op.Ret x value) carried first second one two =
-    comes_once eyes _ host _ _ first second one two
+    result_once eyes now host thread token x carried.value (token.host.0 == host.0) first second one two
 operation_once eyes now host thread token op.Back carried first second one two =
     completed_once eyes (gives token) (with_host now host (host_idle (now.hosts host))) first second one two
 

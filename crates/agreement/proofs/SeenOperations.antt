@@ -2,10 +2,11 @@
 use Rattle.std.proofs.Common.{◌≡◌, ◌∙◌, ℕ, ◌+◌, Bool, true, false, List, [], ◌∷◌, ◌++◌, length, arith, Option}
 use Rattle.std.proofs.Common.{Some, None, inl, inr, refl, ap, sym, subst}
 use Rattle.std.specs.Prelude.{◌==◌, ◌↔◌, ◌⊎◌, ℤ, IsTrue, if◌then◌else◌}
-use Rattle.std.proofs.lemmas.Bool.{cases_Bool}
+use Rattle.std.proofs.lemmas.Bool.{cases_Bool, false≢true}
 use Rattle.std.specs.Option.{IsSomeAnd}
 use Rattle.js_base.specs.declared.ids.HostId.{HostId}
 use Rattle.js_base.specs.declared.ids.FieldId.{FieldId}
+use Rattle.js_base.specs.declared.ids.VarId.{VarId}
 use Rattle.label_lattice.specs.declared.label.Label.{Label}
 use Rattle.jif_tree.specs.Store.{row_of, element_at}
 use Rattle.capability.specs.declared.token.Token.{Token}
@@ -15,13 +16,13 @@ use Rattle.host_code.specs.declared.instruction.Instr.{Instr}
 use Rattle.host_code.specs.declared.instruction.Op.{Op}
 use Rattle.host_code.specs.declared.instruction.Op.TheVariants as op
 use Rattle.host_code.specs.declared.message.Message.TheVariants as message
-use Rattle.host_code.specs.Code.{CodeFieldShape, field_at}
+use Rattle.host_code.specs.Code.{CodeFieldShape, field_at, variable_at}
 use Rattle.host_code.specs.Sound.{OperationFits}
 use Rattle.host_code.specs.Thread.{ThreadShape}
 use Rattle.host_core.specs.Fits.{StateFits}
 use Rattle.host_core.specs.Host.{HostShape, Outcome, with_running, after_step, with_temporary, value_in_thread}
-use Rattle.host_core.specs.Host.{next_request, after_pop, with_one_ignored, without_message, with_message}
-use Rattle.host_core.specs.Turn.{after_operation, after_read, after_back, with_thread, PassesWith}
+use Rattle.host_core.specs.Host.{after_clearing, next_request, after_pop, with_one_ignored, without_message, with_message}
+use Rattle.host_core.specs.Turn.{after_operation, after_read, after_let, after_forward, after_return, after_back, MayReturn, with_thread, PassesWith}
 use Rattle.split_shades.specs.ShadedCode.{IsShadedOp}
 use Rattle.split_shades.specs.Shades.{Ahead}
 use Rattle.split_shades.specs.Basis.{read_label}
@@ -31,15 +32,15 @@ use Rattle.seen_world.specs.Points.{IsHiddenToken}
 use Rattle.seen_world.proofs.TurnsKept.{meets_next}
 use Rattle.agreement.specs.Comes.{ComesTo, Comes}
 use Rattle.agreement.specs.Leads.{Holder, nobody, flies_on}
-use Rattle.agreement.specs.Turns.{ChangesAlone, carried_in, host_idle, ComesBehind, SeenOperation}
-use Rattle.agreement.specs.Views.{ShowsHost, gives, Completed}
+use Rattle.agreement.specs.Turns.{ChangesAlone, carried_in, host_idle, ComesBehind, ComesWithResult, SeenOperation}
+use Rattle.agreement.specs.Views.{sees_variable, ShowsHost, gives, Completed}
 use Rattle.agreement.specs.Views.{View, masked, masked_all, last_seen, sees_read, thread_view, with_host, host_with_thread}
 use Rattle.agreement.proofs.Branches.{own_view, other_view}
 use Rattle.agreement.proofs.Ends.{Ends}
 use Rattle.agreement.proofs.GivesBack.{Given, given_ends}
 use Rattle.agreement.proofs.Steps.{Leaves}
 use Rattle.agreement.proofs.SeenTurns.{Visible, Arrives, completed_some, comes_some, idle_shows, either_true, let_turned}
-use Rattle.agreement.proofs.SeenTurns.{put_turned, return_turned, call_turned, frame_turned, push_turned, some_below}
+use Rattle.agreement.proofs.SeenTurns.{put_turned, went_arrives, call_turned, frame_turned, push_turned, some_below}
 use Rattle.agreement.proofs.SeenTurns.{branch_turned}
 
 -- ---- one more temporary
@@ -139,6 +140,62 @@ read_turned eyes old thread there token now field index run law (Some on) own =
       either_true (λ (o : Outcome). Arrives eyes old now o some.0) (on.host.0 == old.me.0) made _
           here_is done,
     )
+
+-- ---- a result
+
+return_turned : (eyes : Eyes) (old : HostShape) (thread : ThreadShape) (there : Instr) (token : Token) (now : View)
+    (x : VarId) (value : List Node) (passes : Bool) → Visible eyes old thread there token now →
+    IsSomeAnd thread.held (λ held. (held.host ≡ old.me) ⊎ (¬ MayReturn eyes.code (variable_at eyes.code x) held.host))
+    → (IsTrue passes ↔ PassesWith eyes.code (with_running old None) (op.Ret x value) thread.held) →
+    (after : View)
+    × ComesWithResult eyes now old.me thread token x
+    (masked (sees_variable eyes x) (value_in_thread old thread value)) (token.host.0 == old.me.0) after
+    × Arrives eyes old now (after_return (with_running old None) thread x value thread.held passes) after
+return_turned eyes old thread there token now x value passes run own checks =
+    let turned = by (token.host.0 == old.me.0) refl passes checked.0 in (
+      turned.0,
+      turned.1,
+      subst (λ held. Arrives eyes old now (after_return bare thread x value held passes) turned.0) (sym run.held)
+          turned.2,
+    )
+  where
+    bare : HostShape
+    bare = with_running old None
+
+    shown : ℤ
+    shown = masked (sees_variable eyes x) (value_in_thread old thread value)
+
+    alone : (token.host ≡ old.me) ⊎ (¬ MayReturn eyes.code (variable_at eyes.code x) token.host)
+    alone =
+        let P : Token → Type 0 =
+        λ one. (one.host ≡ old.me) ⊎ (¬ MayReturn eyes.code (variable_at eyes.code x) one.host) in
+        subst (λ held. IsSomeAnd held P) run.held own
+
+    checked : IsTrue passes ↔ PassesWith eyes.code bare (op.Ret x value) (Some token)
+    checked = subst (λ held. IsTrue passes ↔ PassesWith eyes.code bare (op.Ret x value) held) run.held checks
+
+    by : (b : Bool) → (token.host.0 == old.me.0) ≡ b → (pass : Bool) →
+        (IsTrue pass → PassesWith eyes.code bare (op.Ret x value) (Some token)) →
+        (after : View)
+        × ComesWithResult eyes now old.me thread token x shown b after
+        × Arrives eyes old now (if b
+        then after_let bare thread token.frame x value
+        else (if pass
+        then after_forward bare thread.at (after_clearing thread) token.frame x (value_in_thread bare thread value)
+        token.host
+        else with_thread bare (after_clearing thread))) after
+    by true here pass passes_it = let_turned eyes old thread there token now token.frame x value run
+    by false apart true passes_it = elim alone [
+      | inl same ↦
+          absurd (false≢true (sym apart ∙ ap (λ (h : HostId). h.0 == old.me.0) same ∙ itself old.me.0))
+      | inr not_ ↦
+          absurd (not_ (passes_it refl
+          (λ same. false≢true (sym apart ∙ ap (λ n. n == old.me.0) same ∙ itself old.me.0))))
+    ]
+    by false apart false passes_it =
+        let some = comes_some eyes (with_host now old.me (host_idle (now.hosts old.me))) old.me (after_clearing thread)
+        token in
+        (some.0, some.1, went_arrives eyes old thread there token now some.0 0 run false some.1)
 
 -- ---- a token is given back to the host
 
@@ -256,24 +313,33 @@ pub operation_turned : (eyes : Eyes) (old : HostShape) (thread : ThreadShape) (t
     StateFits eyes.code (after_operation eyes.code (with_running old None) thread it passes).state →
     Turned eyes old thread token now it (after_operation eyes.code (with_running old None) thread it passes)
 operation_turned eyes old thread there token now count (op.Let x value) passes run alone law fit checks fits =
-    arrived eyes old thread token now (op.Let x value) _ (let_turned eyes old thread there token now thread.frame x value run)
+    arrived eyes old thread token now (op.Let x value) _
+    (let_turned eyes old thread there token now thread.frame x value run)
 operation_turned eyes old thread there token now count (op.Arg x value) passes run alone law fit checks fits =
-    arrived eyes old thread token now (op.Arg x value) _ (let_turned eyes old thread there token now thread.new_frame x value run)
+    arrived eyes old thread token now (op.Arg x value) _
+    (let_turned eyes old thread there token now thread.new_frame x value run)
 operation_turned eyes old thread there token now count (op.Put field index value) passes run alone law fit checks fits =
-    arrived eyes old thread token now (op.Put field index value) _ (put_turned eyes old thread there token now field index value run (field_at eyes.code field) alone)
+    arrived eyes old thread token now (op.Put field index value) _
+    (put_turned eyes old thread there token now field index value run (field_at eyes.code field) alone)
 operation_turned eyes old thread there token now count (op.Branch guard target) passes run alone law fit checks fits =
-    arrived eyes old thread token now (op.Branch guard target) _ (branch_turned eyes old thread there token now guard target run law fit.1 fits)
+    arrived eyes old thread token now (op.Branch guard target) _
+    (branch_turned eyes old thread there token now guard target run law fit.1 fits)
 operation_turned eyes old thread there token now count (op.Frame site) passes run alone law fit checks fits =
-    arrived eyes old thread token now (op.Frame site) _ (frame_turned eyes old thread there token now site run law fit)
+    arrived eyes old thread token now (op.Frame site) _
+    (frame_turned eyes old thread there token now site run law fit)
 operation_turned eyes old thread there token now count (op.Push entry) passes run alone law fit checks fits =
-    arrived eyes old thread token now (op.Push entry) _ (push_turned eyes old thread there token now entry run law
+    arrived eyes old thread token now (op.Push entry) _
+    (push_turned eyes old thread there token now entry run law
     (some_below (λ (there : Entry). there.host ≡ old.me) eyes.code.entries entry.0 fit.1))
 operation_turned eyes old thread there token now count (op.Call entry on) passes run alone law fit checks fits =
-    arrived eyes old thread token now (op.Call entry on) _ (call_turned eyes old thread there token now entry on run law.0 alone fit.0)
+    arrived eyes old thread token now (op.Call entry on) _
+    (call_turned eyes old thread there token now entry on run law.0 alone fit.0)
 operation_turned eyes old thread there token now count (op.Ret x value) passes run alone law fit checks fits =
-    arrived eyes old thread token now (op.Ret x value) _ (return_turned eyes old thread there token now x value passes run alone)
+    arrived eyes old thread token now (op.Ret x value) _
+    (return_turned eyes old thread there token now x value passes run alone checks)
 operation_turned eyes old thread there token now count (op.Read field index) passes run alone law fit checks fits =
-    arrived eyes old thread token now (op.Read field index) _ (read_turned eyes old thread there token now field index run law (field_at eyes.code field) alone)
+    arrived eyes old thread token now (op.Read field index) _
+    (read_turned eyes old thread there token now field index run law (field_at eyes.code field) alone)
 operation_turned eyes old thread there token now count (op.Send x to) passes run alone law fit checks fits = absurd alone
 operation_turned eyes old thread there token now count (op.Pass x to) passes run alone law fit checks fits = absurd alone
 operation_turned eyes old thread there token now count (op.Ask entry on) passes run alone law fit checks fits = absurd alone

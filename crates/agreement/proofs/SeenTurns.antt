@@ -29,7 +29,7 @@ use Rattle.host_code.specs.Thread.{ThreadShape}
 use Rattle.host_core.specs.Fits.{StateFits}
 use Rattle.host_core.specs.Host.{HostShape, Outcome, with_running, with_row_written, after_clearing}
 use Rattle.host_core.specs.Host.{after_step, with_token, new_token, value_in_thread}
-use Rattle.host_core.specs.Turn.{after_let, after_put, after_branch, after_return}
+use Rattle.host_core.specs.Turn.{after_let, after_put, after_branch}
 use Rattle.host_core.specs.Turn.{after_own_call, after_call, after_frame, after_own_push, with_thread}
 use Rattle.host_stores.specs.Stores.{is_same_variable, with_variable}
 use Rattle.net_world.proofs.Rows.{row_written, row_kept}
@@ -296,27 +296,6 @@ put_turned eyes old thread there token now field index value run (Some on) own =
           done,
     )
 
--- ---- a result for the host
-
-pub return_turned : (eyes : Eyes) (old : HostShape) (thread : ThreadShape) (there : Instr) (token : Token) (now : View)
-    (x : VarId) (value : List Node) (passes : Bool) → Visible eyes old thread there token now →
-    IsSomeAnd thread.held (λ held. held.host ≡ old.me) →
-    (after : View)
-    × ComesBehind eyes now old.me (variable_shown (host_idle (now.hosts old.me)) token.frame x
-    (masked (sees_variable eyes x) (value_in_thread old thread value))) (after_clearing thread) token after
-    × Arrives eyes old now (after_return (with_running old None) thread x value thread.held passes) after
-return_turned eyes old thread there token now x value passes run own =
-    let bare = with_running old None in
-    let turned = let_turned eyes old thread there token now token.frame x value run in
-    let host : token.host ≡ old.me = subst (λ held. IsSomeAnd held (λ one. one.host ≡ old.me)) run.held own in
-    let here : (token.host.0 == old.me.0) ≡ true = ap (λ (h : HostId). h.0 == old.me.0) host ∙ itself old.me.0 in (
-      turned.0,
-      turned.1,
-      subst (λ held. Arrives eyes old now (after_return bare thread x value held passes) turned.0) (sym run.held)
-          (either_true (λ (o : Outcome). Arrives eyes old now o turned.0) (token.host.0 == old.me.0)
-          (after_let bare thread token.frame x value) _ here turned.2),
-    )
-
 -- ---- nothing was read
 
 no_temps : (temps : List ℤ) (labels : List Label) → length temps ≡ length labels → labels ≡ [] → temps ≡ []
@@ -566,17 +545,17 @@ some_below P xs number some = elim (slice_get_cases xs number).1 [
 -- ---- a branch
 
 -- where it leads
-abbrev way : ThreadShape → ℕ → Bool → ThreadShape
+abbrev pub way : ThreadShape → ℕ → Bool → ThreadShape
 way thread target zero_is =
     if zero_is then record (after_clearing thread) { at = target } else after_clearing thread
 
-abbrev went : HostShape → ThreadShape → ℕ → Bool → Outcome
+abbrev pub went : HostShape → ThreadShape → ℕ → Bool → Outcome
 went old thread target zero_is =
     if zero_is
     then with_thread (with_running old None) (record (after_clearing thread) { at = target })
     else with_thread (with_running old None) (after_clearing thread)
 
-went_arrives : (eyes : Eyes) (old : HostShape) (thread : ThreadShape) (there : Instr) (token : Token)
+pub went_arrives : (eyes : Eyes) (old : HostShape) (thread : ThreadShape) (there : Instr) (token : Token)
     (now after : View) (target : ℕ) → Visible eyes old thread there token now → (zero_is : Bool) →
     ComesBehind eyes now old.me (host_idle (now.hosts old.me)) (way thread target zero_is) token after →
     Arrives eyes old now (went old thread target zero_is) after

@@ -1,5 +1,6 @@
 -- What is seen of a turn that may be seen, and that changes its host alone.
-use Rattle.std.specs.Prelude.{◌≡◌, ℕ, ◌+◌, ℤ, pos, not, ◌==◌, if◌then◌else◌, [], ◌∷◌, Option, Some, None, ⊤}
+use Rattle.std.specs.Prelude.{◌≡◌, ◌⊎◌, ℕ, ◌+◌, ℤ, pos, Bool, true, false, not, ◌==◌, if◌then◌else◌, [], ◌∷◌}
+use Rattle.std.specs.Prelude.{Option, Some, None, ⊤}
 use Rattle.std.specs.Option.{IsSomeAnd}
 use Rattle.std.specs.Ordering.{int_eq}
 use Rattle.js_base.specs.declared.ids.HostId.{HostId}
@@ -15,11 +16,12 @@ use Rattle.host_code.specs.declared.code.Entry.{Entry}
 use Rattle.host_code.specs.declared.instruction.Instr.{Instr}
 use Rattle.host_code.specs.declared.instruction.Op.{Op}
 use Rattle.host_code.specs.declared.instruction.Op.TheVariants as op
-use Rattle.host_code.specs.Code.{CodeShape, instruction_at, field_at, entry_at}
+use Rattle.host_code.specs.Code.{CodeShape, instruction_at, field_at, variable_at, entry_at}
 use Rattle.host_code.specs.Thread.{ThreadShape}
 use Rattle.host_stores.specs.Stores.{with_variable}
 use Rattle.host_core.specs.Host.{HostShape, after_step, after_clearing, with_temporary, with_token}
 use Rattle.host_core.specs.Host.{value_in_thread, next_request}
+use Rattle.host_core.specs.Turn.{MayReturn}
 use Rattle.net_world.specs.World.{WorldShape, state_at}
 use Rattle.seen_world.specs.Eyes.{Eyes, is_deep}
 use Rattle.agreement.specs.Comes.{Comes}
@@ -28,7 +30,7 @@ use Rattle.agreement.specs.Views.{View, HostView, gives, Completed, masked, sees
 -- ---- which turns
 
 -- An instruction of a host, run with this token, that changes the host alone and sends nothing. A call enters a method
--- on the host, and a result or a token is given to the host itself.
+-- on the host, and a token is given to the host itself, as a result is, or that is dropped.
 abbrev pub ChangesAlone : CodeShape → HostId → Option Token → Op → Type 0
 ChangesAlone code me held (op.Read field index) = IsSomeAnd (field_at code field) (λ there. there.host ≡ me)
 ChangesAlone code me held (op.Let x value) = ⊤
@@ -37,7 +39,8 @@ ChangesAlone code me held (op.Put field index value) = IsSomeAnd (field_at code 
 ChangesAlone code me held (op.Frame site) = ⊤
 ChangesAlone code me held (op.Push entry) = ⊤
 ChangesAlone code me held (op.Call entry on) = on ≡ me
-ChangesAlone code me held (op.Ret x value) = IsSomeAnd held (λ token. token.host ≡ me)
+ChangesAlone code me held (op.Ret x value) =
+    IsSomeAnd held (λ token. (token.host ≡ me) ⊎ (¬ MayReturn code (variable_at code x) token.host))
 ChangesAlone code me held op.Back = IsSomeAnd held (λ token. token.host ≡ me)
 ChangesAlone code me held (op.Branch guard target) = ⊤
 ChangesAlone code me held other = ⊥
@@ -141,6 +144,14 @@ ComesInto eyes view host thread token (Some there) after =
     ComesBehind eyes view host (host_idle (view.hosts host))
     (record (after_clearing thread) { at = there.at; frame = thread.new_frame }) token after
 
+-- A result for the host itself is kept, and another that sends nothing is dropped.
+abbrev pub ComesWithResult : Eyes → View → HostId → ThreadShape → Token → VarId → ℤ → Bool → View → Type 0
+ComesWithResult eyes view host thread token x value true after =
+    ComesBehind eyes view host (variable_shown (host_idle (view.hosts host)) token.frame x value)
+    (after_clearing thread) token after
+ComesWithResult eyes view host thread token x value false after =
+    ComesBehind eyes view host (host_idle (view.hosts host)) (after_clearing thread) token after
+
 abbrev pub SeenOperation : Eyes → View → HostId → ThreadShape → Token → Op → Carried → View → Type 0
 SeenOperation eyes view host thread token (op.Read field index) carried after =
     ComesBehind eyes view host (host_idle (view.hosts host)) (with_temporary carried.value (after_step thread)) token
@@ -164,8 +175,7 @@ SeenOperation eyes view host thread token (op.Push entry) carried after =
 SeenOperation eyes view host thread token (op.Call entry on) carried after =
     ComesInto eyes view host thread token (entry_at eyes.code entry) after
 SeenOperation eyes view host thread token (op.Ret x value) carried after =
-    ComesBehind eyes view host (variable_shown (host_idle (view.hosts host)) token.frame x carried.value)
-    (after_clearing thread) token after
+    ComesWithResult eyes view host thread token x carried.value (token.host.0 == host.0) after
 SeenOperation eyes view host thread token op.Back carried after =
     Completed eyes (gives token) (with_host view host (host_idle (view.hosts host))) after
 SeenOperation eyes view host thread token (op.Branch guard target) carried after =
