@@ -25,12 +25,13 @@ use Rattle.host_core.specs.Turn.{MayReturn}
 use Rattle.net_world.specs.World.{WorldShape, state_at}
 use Rattle.seen_world.specs.Eyes.{Eyes, is_deep}
 use Rattle.agreement.specs.Comes.{Comes}
-use Rattle.agreement.specs.Views.{View, HostView, gives, Completed, masked, sees_field, sees_variable, sees_read, with_host}
+use Rattle.agreement.specs.Views.{View, HostView, gives, Completed, masked, sees_field, sees_variable, sees_read}
+use Rattle.agreement.specs.Views.{with_host}
 
 -- ---- which turns
 
 -- An instruction of a host, run with this token, that changes the host alone and sends nothing. A call enters a method
--- on the host, and a token is given to the host itself, as a result is, or that is dropped.
+-- on the host. A token is given back to the host itself. So is a result, or it may not go to the host of the token.
 abbrev pub ChangesAlone : CodeShape → HostId → Option Token → Op → Type 0
 ChangesAlone code me held (op.Read field index) = IsSomeAnd (field_at code field) (λ there. there.host ≡ me)
 ChangesAlone code me held (op.Let x value) = ⊤
@@ -65,8 +66,8 @@ pub record Carried : Type 0 where
 abbrev pub carried_value : ℤ → Carried
 carried_value value = record { index = pos 0; value = value }
 
--- What is set is seen where it is kept, and what is read where it is a temporary. A guard is seen where the block behind
--- it is.
+-- What is set is seen where it is kept, and what is read where it is a temporary. A guard is seen where the block is
+-- that it leads to.
 abbrev pub carried_in : Eyes → HostShape → ThreadShape → Op → Carried
 carried_in eyes state thread (op.Read field index) =
     carried_value (masked (sees_read eyes state.me (next_request state thread.at))

@@ -1,7 +1,7 @@
 //! Laws of worlds of which the same may be seen. The calls do nothing: their contracts are the laws.
 
-ghost use Rattle.std.specs.Prelude.{◌≡◌, ℕ, ℤ, pos, true, false, List, [], ◌∷◌, ◌++◌, Some, IsSome, filter, remove};
-ghost use Rattle.std.specs.Prelude.{slice_get};
+ghost use Rattle.std.specs.Prelude.{◌≡◌, ℕ, ℤ, pos, true, false, List, [], ◌∷◌, ◌++◌, Some, None, IsSome, filter};
+ghost use Rattle.std.specs.Prelude.{remove, slice_get};
 ghost use Rattle.js_base.specs.declared.ids.HostId.{HostId};
 ghost use Rattle.js_base.specs.declared.ids.FrameId.{FrameId};
 ghost use Rattle.js_base.specs.declared.ids.VarId.{VarId};
@@ -29,7 +29,7 @@ ghost use Rattle.net_world.specs.Secret.{IsSecret, IsQuiet, IsSeenRun};
 ghost use Rattle.net_world.specs.World.{WorldShape, state_at, world_at_start, IsStep};
 ghost use Rattle.token_laws.specs.Reached.{IsReached};
 ghost use Rattle.token_laws.specs.Requests.{number_answered};
-ghost use Rattle.token_laws.specs.TokenExamples.{host_id, first_request, first_token, second_token};
+ghost use Rattle.token_laws.specs.TokenExamples.{small, host_id, entry_id, first_request, first_token, second_token};
 ghost use Rattle.split_shades.specs.ShadedCode.{ReleaseNothing};
 ghost use Rattle.seen_world.specs.Eyes.{Eyes, AreEyes, Watches, sees_at, is_open, is_deep, is_hidden};
 ghost use Rattle.seen_world.specs.Points.{HostsKeep, PointsHold};
@@ -37,7 +37,8 @@ ghost use Rattle.agreement.specs.Changes.{StaysSeen};
 ghost use Rattle.agreement.specs.Alike.{AreStartsAlike};
 ghost use Rattle.agreement.specs.Comes.{Comes, HasCome};
 ghost use Rattle.agreement.specs.Leads.{Link, links_on, hidden_waiting, Leads, Agree};
-ghost use Rattle.agreement.specs.Turns.{RunsAlone, Carried, carried_value, carried_in, SeenOperation, SeenTurn};
+ghost use Rattle.agreement.specs.Turns.{ChangesAlone, RunsAlone, Carried, carried_value, carried_in};
+ghost use Rattle.agreement.specs.Turns.{SeenOperation, SeenTurn};
 ghost use Rattle.agreement.specs.Values.{IsSeen, HoldAlike};
 ghost use Rattle.agreement.specs.Views.{View, HostView, ShowsHost, Shows, running_view, Owed, goes_on, gives};
 ghost use Rattle.agreement.specs.Views.{Completed, at, owed_at};
@@ -246,6 +247,12 @@ pub fn worked_laws()
         (carried_value (pos 0)) (came_to 6) }
     ensures branches_more { ¬ (SeenOperation small_eyes idle (host_id 0) (runs_at 3) second_token
         (op.Branch seven 6) (carried_value (pos 1)) (came_to 6)) }
+    // After a push its entry is seen.
+    ensures pushes_more { ¬ (SeenOperation small_eyes idle (host_id 0) (runs_at 3) second_token
+        (op.Push (entry_id 1)) (carried_value (pos 0)) (came_to 4)) }
+    // A call changes its host alone where it enters a method there.
+    ensures own_call { ChangesAlone small (host_id 0) None (op.Call (entry_id 1) (host_id 0)) }
+    ensures other_call { ¬ (ChangesAlone small (host_id 0) None (op.Call (entry_id 1) (host_id 1))) }
     // A value is not carried of what may not be seen, nor a guard into a block that may not be seen. Other guards are.
     ensures unseen_value { (state : host_state.HostShape) (thread : ThreadShape) →
         carried_in small_eyes state thread (op.Let a_variable seven) ≡ carried_value (pos 0) }
