@@ -22,5 +22,6 @@ pub mod Coming
 pub mod SeenTurns
 pub mod SeenOperations
 pub mod SeenLeads
+pub mod SeenHandings
 pub mod CarriedSame
 pub mod SeenAgree

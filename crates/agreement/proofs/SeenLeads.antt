@@ -215,7 +215,7 @@ visible_of eyes world old thread there now are calm fits good keep obeys is here
     )
 
 -- what is seen of the host has the thread alone
-seen_thread : (eyes : Eyes) (old : HostShape) (thread : ThreadShape) (there : Instr) (token : Token) (now : View) →
+pub seen_thread : (eyes : Eyes) (old : HostShape) (thread : ThreadShape) (there : Instr) (token : Token) (now : View) →
     Visible eyes old thread there token now → old.running ≡ Some thread →
     (now.hosts old.me).running ≡ thread_view eyes old.me thread.at thread ∷ []
 seen_thread eyes old thread there token now run is =

@@ -5,4 +5,5 @@ pub mod Values
 pub mod Comes
 pub mod Alike
 pub mod Turns
+pub mod Handing
 pub mod Worked

@@ -36,6 +36,7 @@ ghost use Rattle.seen_world.specs.Points.{HostsKeep, PointsHold};
 ghost use Rattle.agreement.specs.Changes.{StaysSeen};
 ghost use Rattle.agreement.specs.Alike.{AreStartsAlike};
 ghost use Rattle.agreement.specs.Comes.{Comes, HasCome};
+ghost use Rattle.agreement.specs.Handing.{RunsHanding, SeenHanding};
 ghost use Rattle.agreement.specs.Leads.{Link, links_on, hidden_waiting, Leads, Agree};
 ghost use Rattle.agreement.specs.Turns.{ChangesAlone, RunsAlone, Carried, carried_value, carried_in};
 ghost use Rattle.agreement.specs.Turns.{SeenOperation, SeenTurn};
@@ -118,7 +119,7 @@ pub fn coming_laws()
         Comes eyes view host thread token first → Comes eyes view other later token second → first ≡ second }
 {}
 
-/// What is seen of a turn that may be seen, and that changes its host alone.
+/// What is seen of a turn that may be seen, and that changes its host alone or hands control over.
 pub fn seen_laws()
     // A quiet world that events lead to, and that leads to a view, leads after it to what is seen of it then.
     ensures turn { (eyes : Eyes) (rows : List declared_hosts.HostShape) (bad : ℕ) (store : List (List ℤ))
@@ -153,6 +154,25 @@ pub fn seen_laws()
         RunsAlone eyes.code one host → IsStep eyes.code one (Turn host) one_after →
         IsStep eyes.code other (Turn host) other_after → IsQuiet eyes.code one → IsQuiet eyes.code other →
         Agree eyes one other → Agree eyes one_after other_after }
+    // A quiet world in which a thread hands control over leads to what is seen then, which is one view.
+    ensures hands { (eyes : Eyes) (rows : List declared_hosts.HostShape) (bad : ℕ) (store : List (List ℤ))
+        (events : List Event) (world after : WorldShape) (host : HostId) (view : View) →
+        RunsHanding eyes.code world host → AreEyes eyes → Watches eyes (world_at_start eyes.code rows bad store) →
+        IsReached eyes.code rows bad store events world → IsStep eyes.code world (Turn host) after →
+        IsQuiet eyes.code world → Leads eyes world view →
+        (seen : View) × SeenHanding eyes view host seen × Leads eyes after seen }
+    ensures hands_once { (eyes : Eyes) (view : View) (host : HostId) (first second : View) →
+        SeenHanding eyes view host first → SeenHanding eyes view host second → first ≡ second }
+    // So two quiet worlds that agree do after it.
+    ensures hands_agree { (eyes : Eyes) (rows : List declared_hosts.HostShape) (bad : ℕ)
+        (store start : List (List ℤ)) (events others : List Event) (one other one_after other_after : WorldShape)
+        (host : HostId) →
+        AreEyes eyes → Watches eyes (world_at_start eyes.code rows bad store) →
+        Watches eyes (world_at_start eyes.code rows bad start) →
+        IsReached eyes.code rows bad store events one → IsReached eyes.code rows bad start others other →
+        RunsHanding eyes.code one host → RunsHanding eyes.code other host →
+        IsStep eyes.code one (Turn host) one_after → IsStep eyes.code other (Turn host) other_after →
+        IsQuiet eyes.code one → IsQuiet eyes.code other → Agree eyes one other → Agree eyes one_after other_after }
 {}
 
 /// What will be seen of a world, once what goes on unseen comes to an end, where a secret event happens.
