@@ -22,6 +22,7 @@ use Rattle.token_laws.specs.Reached.{IsReached}
 use Rattle.token_laws.proofs.Walks.{fits_there}
 use Rattle.split_shades.specs.ShadedCode.{ReleaseNothing}
 use Rattle.seen_world.specs.Eyes.{Eyes, AreEyes, Watches}
+use Rattle.seen_world.proofs.SeenPlaces.{some_is}
 use Rattle.seen_world.proofs.PointsKept.{points_kept}
 use Rattle.agreement.specs.Leads.{Leads, Agree}
 use Rattle.agreement.specs.Turns.{ChangesAlone, RunsAlone, Carried, carried_in, ComesInto, ComesWithResult}
@@ -32,6 +33,7 @@ use Rattle.agreement.proofs.CarriedSame.{Twins, operation_same}
 use Rattle.agreement.proofs.Coming.{comes_once}
 use Rattle.agreement.proofs.HiddenTurns.{some_of}
 use Rattle.agreement.proofs.ViewLaws.{completed_once}
+use Rattle.agreement.proofs.SeenHandings.{same_first}
 use Rattle.agreement.proofs.SeenLeads.{Calm, quiet_calm, calm_open, reached_leads}
 
 -- ---- one view
@@ -79,20 +81,14 @@ operation_once eyes now host thread token (op.Ret x value) carried first second 
 operation_once eyes now host thread token op.Back carried first second one two =
     completed_once eyes (gives token) (with_host now host (host_idle (now.hosts host))) first second one two
 
-same_first : {X : Type 0} (x y : X) → x ∷ [] ≡ y ∷ [] → x ≡ y
-same_first x y is = cc
-
-same_some : {X : Type 0} (x y : X) → Some x ≡ Some y → x ≡ y
-same_some x y is = cc
-
 pub seen_once : (eyes : Eyes) (now : View) (host : HostId) (carried : Carried) (first second : View) →
     SeenTurn eyes now host carried first → SeenTurn eyes now host carried second → first ≡ second
 seen_once eyes now host carried first second one two =
     let thread : two.thread ≡ one.thread = same_first two.thread one.thread (sym two.running ∙ one.running) in
     let token : two.token ≡ one.token =
-    same_some two.token one.token (sym two.held ∙ ap (λ (t : ThreadShape). t.held) thread ∙ one.held) in
+    some_is (sym two.held ∙ ap (λ (t : ThreadShape). t.held) thread ∙ one.held) in
     let there : two.instruction ≡ one.instruction =
-    same_some two.instruction one.instruction
+    some_is
     (sym two.is ∙ ap (λ (t : ThreadShape). instruction_at eyes.code host t.at) thread ∙ one.is) in
     operation_once eyes now host one.thread one.token one.instruction.op carried first second one.seen
     (subst (λ (t : ThreadShape). SeenOperation eyes now host t one.token one.instruction.op carried second) thread
@@ -168,7 +164,7 @@ calm_carried eyes one other now host alone twin are sound silent fits fits_other
     let twins = twins_of eyes one other now host alone.state twin.state alone.thread twin.thread fits fits_other calm
     calm_other alone.there twin.there alone.running twin.running in
     let there : twin.instruction ≡ alone.instruction =
-    same_some twin.instruction alone.instruction
+    some_is
     (sym twin.is ∙ ap (instruction_at eyes.code host) twins.place ∙ alone.is) in
     let own = state_me eyes one host alone.state fits alone.there in
     let is_host : IsHost eyes.code host = subst (IsHost eyes.code) own.me own.fits.me in

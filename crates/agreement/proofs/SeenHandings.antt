@@ -307,7 +307,7 @@ reached_hands eyes rows bad store events world after host now run are watch reac
           (ap (λ (h : HostId). after_step world h outcome (label_of_turn eyes.code old)) me ∙ leaves),
     )
 
-same_first : {X : Type 0} (x y : X) → x ∷ [] ≡ y ∷ [] → x ≡ y
+pub same_first : {X : Type 0} (x y : X) → x ∷ [] ≡ y ∷ [] → x ≡ y
 same_first x y is = cc
 
 pub handing_once : (eyes : Eyes) (now : View) (host : HostId) (first second : View) →

@@ -36,7 +36,7 @@ ghost use Rattle.seen_world.specs.Points.{HostsKeep, PointsHold};
 ghost use Rattle.agreement.specs.Changes.{StaysSeen};
 ghost use Rattle.agreement.specs.Alike.{AreStartsAlike};
 ghost use Rattle.agreement.specs.Comes.{Comes, HasCome};
-ghost use Rattle.agreement.specs.Handing.{RunsHanding, SeenHanding};
+ghost use Rattle.agreement.specs.Handing.{handed, RunsHanding, SeenHanding};
 ghost use Rattle.agreement.specs.Leads.{Link, links_on, hidden_waiting, Leads, Agree};
 ghost use Rattle.agreement.specs.Turns.{ChangesAlone, RunsAlone, Carried, carried_value, carried_in};
 ghost use Rattle.agreement.specs.Turns.{SeenOperation, SeenTurn};
@@ -273,6 +273,10 @@ pub fn worked_laws()
     // A call changes its host alone where it enters a method there.
     ensures own_call { ChangesAlone small (host_id 0) None (op.Call (entry_id 1) (host_id 0)) }
     ensures other_call { ¬ (ChangesAlone small (host_id 0) None (op.Call (entry_id 1) (host_id 1))) }
+    // Control is handed over to another host alone.
+    ensures goes { handed (host_id 0) (runs_at 3) second_token (op.Go (entry_id 1) (host_id 1))
+        ≡ Some (host_id 1, message.Rgoto main_frame (entry_id 1) second_token) }
+    ensures stays_here { handed (host_id 0) (runs_at 3) second_token (op.Call (entry_id 1) (host_id 0)) ≡ None }
     // A value is not carried of what may not be seen, nor a guard into a block that may not be seen. Other guards are.
     ensures unseen_value { (state : host_state.HostShape) (thread : ThreadShape) →
         carried_in small_eyes state thread (op.Let a_variable seven) ≡ carried_value (pos 0) }
