@@ -19,3 +19,9 @@ pub mod Starts
 pub mod AnswersPass
 pub mod ValueLaws
 pub mod Coming
+pub mod SeenTurns
+pub mod SeenOperations
+pub mod SeenLeads
+pub mod SeenHandings
+pub mod CarriedSame
+pub mod SeenAgree

@@ -23,7 +23,7 @@ use Rattle.agreement.proofs.HiddenTurns.{some_of}
 use Rattle.agreement.proofs.Lists.{left_first}
 use Rattle.agreement.proofs.Places.{instruction_within}
 
-none_left : {X : Type 0} (p : X → Bool) (xs : List X) → All (λ x. p x ≡ false) xs → filter p xs ≡ []
+pub none_left : {X : Type 0} (p : X → Bool) (xs : List X) → All (λ x. p x ≡ false) xs → filter p xs ≡ []
 none_left p [] all = refl
 none_left p (x ∷ xs) all =
     left_first p x xs (all 0 x (omega arith)) ∙ none_left p xs (λ k d lt. all (suc k) d (omega arith))
@@ -58,7 +58,7 @@ turn_label : (eyes : Eyes) (state : HostShape) (thread : ThreadShape) (there : I
 turn_label eyes state thread there is at_place = rw (is, at_place) refl
 
 -- a thread that runs may be seen
-runs_seen : (eyes : Eyes) (world : WorldShape) (host : HostId) (state : HostShape) → AreEyes eyes →
+pub runs_seen : (eyes : Eyes) (world : WorldShape) (host : HostId) (state : HostShape) → AreEyes eyes →
     Watches eyes world → IsStateOf eyes.code host state → RunsOpenly eyes.code world state →
     (running : Option ThreadShape) → state.running ≡ running → hidden_running eyes host running ≡ None
 runs_seen eyes world host state are watch fit openly None is = refl

@@ -1,10 +1,15 @@
 -- What is owed in small cases, and what is seen then.
-use Rattle.std.proofs.Common.{◌≡◌, ◌≢◌, ℕ, List, [], ◌∷◌, inl, inr, refl, ap, sym, ◌∙◌, arith}
+use Rattle.std.proofs.Common.{◌≡◌, ◌≢◌, ℕ, List, [], ◌∷◌, length, None, inl, inr, refl, ap, sym, ◌∙◌, arith}
+use Rattle.std.specs.Prelude.{pos}
+use Rattle.js_base.specs.declared.ids.HostId.{HostId}
 use Rattle.capability.specs.declared.token.Token.{Token}
+use Rattle.host_code.specs.declared.instruction.Op.TheVariants as op
 use Rattle.host_code.specs.Thread.{ThreadShape}
-use Rattle.token_laws.specs.TokenExamples.{host_id, first_token, second_token}
+use Rattle.host_core.specs.Start.{main_frame}
+use Rattle.token_laws.specs.TokenExamples.{small, host_id, entry_id, first_token, second_token}
+use Rattle.agreement.specs.Turns.{ChangesAlone, carried_value, SeenOperation}
 use Rattle.agreement.specs.Views.{View, gives, Completed}
-use Rattle.agreement.specs.Worked.{small_eyes, one_entry, popped_at}
+use Rattle.agreement.specs.Worked.{small_eyes, one_entry, popped_at, a_variable, idle, runs_at, set_at, came_to, seven}
 
 -- a thread more or less is not the same view
 more_runs : (one other : View) (thread : ThreadShape) → (one.hosts (host_id 0)).running ≡ [] →
@@ -39,3 +44,41 @@ pops_behind (inr apart) = apart.0 refl
 
 pub other_stays : Completed small_eyes (gives second_token) one_entry one_entry
 other_stays = inr (tokens_apart, refl)
+
+-- ---- turns
+
+-- a turn that sets a variable carries its value
+pub sets : SeenOperation small_eyes idle (host_id 0) (runs_at 3) second_token (op.Let a_variable seven)
+    (carried_value (pos 7)) (set_at 4 (pos 7))
+sets = refl
+
+pub sets_more : ¬ (SeenOperation small_eyes idle (host_id 0) (runs_at 3) second_token (op.Let a_variable seven)
+    (carried_value (pos 7)) (set_at 4 (pos 8)))
+sets_more same =
+    let values : pos 8 ≡ pos 7 =
+    ap (λ (v : View). (v.hosts (host_id 0)).variables main_frame a_variable) same in
+    absurd (cc)
+
+-- a branch leads to its target where its guard is 0
+pub branches : SeenOperation small_eyes idle (host_id 0) (runs_at 3) second_token (op.Branch seven 6)
+    (carried_value (pos 0)) (came_to 6)
+branches = refl
+
+pub branches_more : ¬ (SeenOperation small_eyes idle (host_id 0) (runs_at 3) second_token (op.Branch seven 6)
+    (carried_value (pos 1)) (came_to 6))
+branches_more same =
+    let number : 6 ≡ 4 = ap first_place (ap (λ (v : View). (v.hosts (host_id 0)).running) same) in
+    absurd (omega (arith, number))
+
+-- an entry that is pushed is seen
+pub pushes_more : ¬ (SeenOperation small_eyes idle (host_id 0) (runs_at 3) second_token (op.Push (entry_id 1))
+    (carried_value (pos 0)) (came_to 4))
+pushes_more same =
+    let never = ap (λ (v : View). length (v.hosts (host_id 0)).entries) same in
+    absurd (omega (arith, never))
+
+-- a call of another host changes more than its host
+pub other_call : ¬ (ChangesAlone small (host_id 0) None (op.Call (entry_id 1) (host_id 1)))
+other_call same =
+    let number : 1 ≡ 0 = ap (λ (h : HostId). h.0) same in
+    absurd (omega (arith, number))

@@ -4,4 +4,6 @@ pub mod Leads
 pub mod Values
 pub mod Comes
 pub mod Alike
+pub mod Turns
+pub mod Handing
 pub mod Worked

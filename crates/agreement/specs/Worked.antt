@@ -1,14 +1,18 @@
 -- A small code of which a loop may not be seen, and views of it.
-use Rattle.std.specs.Prelude.{ℕ, ◌==◌, if◌then◌else◌, nat_lt, false, pos, List, [], ◌∷◌, Option, Some, None}
+use Rattle.std.specs.Prelude.{ℕ, ◌==◌, if◌then◌else◌, nat_lt, false, ℤ, pos, List, [], ◌∷◌, Option, Some, None}
 use Rattle.js_base.specs.declared.ids.VarId.{VarId}
 use Rattle.label_lattice.specs.declared.label.Label.{Label}
 use Rattle.ics_stack.specs.declared.stack.StackEntry.{StackEntry}
+use Rattle.host_code.specs.declared.code_expr.Node.{Node}
+use Rattle.host_code.specs.declared.code_expr.Node.TheVariants as node
+use Rattle.host_code.specs.Thread.{ThreadShape}
 use Rattle.host_core.specs.Start.{main_frame}
 use Rattle.split_rules.specs.Positions.{body}
 use Rattle.split_shades.specs.Shades.{Shade}
 use Rattle.split_shades.specs.Worked.{outer, guarding, looping, scene_on}
 use Rattle.token_laws.specs.TokenExamples.{small, host_id, entry_id, first_token, second_token}
 use Rattle.seen_world.specs.Eyes.{Eyes}
+use Rattle.agreement.specs.Turns.{variable_shown}
 use Rattle.agreement.specs.Views.{View, HostView, with_host, host_with_thread, thread_out}
 
 -- an instruction under these labels of itself and of its block
@@ -67,3 +71,26 @@ popped_at place =
 
 abbrev pub a_variable : VarId
 a_variable = record { 0 = 0 }
+
+-- ---- turns
+
+-- a thread that runs on a host on which nothing else is seen
+abbrev pub idle : View
+idle = record { hosts = λ host. host_with []; flying = λ from to. []; sent = [] }
+
+abbrev pub runs_at : ℕ → ThreadShape
+runs_at place = thread_out place main_frame second_token
+
+-- the variable has a value, and the thread is at a place
+abbrev pub set_at : ℕ → ℤ → View
+set_at place value =
+    let shown = variable_shown (host_with []) main_frame a_variable value in
+    with_host (with_host idle (host_id 0) shown) (host_id 0) (host_with_thread shown (runs_at place))
+
+-- the thread is at a place
+abbrev pub came_to : ℕ → View
+came_to place =
+    with_host (with_host idle (host_id 0) (host_with [])) (host_id 0) (host_with_thread (host_with []) (runs_at place))
+
+abbrev pub seven : List Node
+seven = node.Number (pos 7) ∷ []

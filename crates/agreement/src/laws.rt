@@ -1,7 +1,7 @@
 //! Laws of worlds of which the same may be seen. The calls do nothing: their contracts are the laws.
 
-ghost use Rattle.std.specs.Prelude.{◌≡◌, ℕ, ℤ, pos, true, false, List, [], ◌∷◌, ◌++◌, Some, IsSome, filter, remove};
-ghost use Rattle.std.specs.Prelude.{slice_get};
+ghost use Rattle.std.specs.Prelude.{◌≡◌, ℕ, ℤ, pos, true, false, List, [], ◌∷◌, ◌++◌, Some, None, IsSome, filter};
+ghost use Rattle.std.specs.Prelude.{remove, slice_get};
 ghost use Rattle.js_base.specs.declared.ids.HostId.{HostId};
 ghost use Rattle.js_base.specs.declared.ids.FrameId.{FrameId};
 ghost use Rattle.js_base.specs.declared.ids.VarId.{VarId};
@@ -11,6 +11,7 @@ ghost use Rattle.capability.specs.declared.token.Token.{Token};
 ghost use Rattle.ics_stack.specs.declared.stack.StackEntry.{StackEntry};
 ghost use Rattle.host_decl.specs.Hosts as declared_hosts;
 ghost use Rattle.host_code.specs.declared.instruction.Instr.{Instr};
+ghost use Rattle.host_code.specs.declared.instruction.Op.TheVariants as op;
 ghost use Rattle.host_code.specs.declared.message.Message.TheVariants as message;
 ghost use Rattle.host_code.specs.Code.{instruction_at};
 ghost use Rattle.host_code.specs.Sound.{IsSoundCode};
@@ -28,18 +29,23 @@ ghost use Rattle.net_world.specs.Secret.{IsSecret, IsQuiet, IsSeenRun};
 ghost use Rattle.net_world.specs.World.{WorldShape, state_at, world_at_start, IsStep};
 ghost use Rattle.token_laws.specs.Reached.{IsReached};
 ghost use Rattle.token_laws.specs.Requests.{number_answered};
-ghost use Rattle.token_laws.specs.TokenExamples.{host_id, first_request, first_token, second_token};
+ghost use Rattle.token_laws.specs.TokenExamples.{small, host_id, entry_id, first_request, first_token, second_token};
+ghost use Rattle.split_shades.specs.ShadedCode.{ReleaseNothing};
 ghost use Rattle.seen_world.specs.Eyes.{Eyes, AreEyes, Watches, sees_at, is_open, is_deep, is_hidden};
 ghost use Rattle.seen_world.specs.Points.{HostsKeep, PointsHold};
 ghost use Rattle.agreement.specs.Changes.{StaysSeen};
 ghost use Rattle.agreement.specs.Alike.{AreStartsAlike};
 ghost use Rattle.agreement.specs.Comes.{Comes, HasCome};
+ghost use Rattle.agreement.specs.Handing.{handed, RunsHanding, SeenHanding};
 ghost use Rattle.agreement.specs.Leads.{Link, links_on, hidden_waiting, Leads, Agree};
+ghost use Rattle.agreement.specs.Turns.{ChangesAlone, RunsAlone, Carried, carried_value, carried_in};
+ghost use Rattle.agreement.specs.Turns.{SeenOperation, SeenTurn};
 ghost use Rattle.agreement.specs.Values.{IsSeen, HoldAlike};
 ghost use Rattle.agreement.specs.Views.{View, HostView, ShowsHost, Shows, running_view, Owed, goes_on, gives};
 ghost use Rattle.agreement.specs.Views.{Completed, at, owed_at};
 ghost use Rattle.agreement.specs.Views.{flies_open, flights_view, message_view, is_shown, exit_of};
-ghost use Rattle.agreement.specs.Worked.{small_eyes, one_entry, popped_at, a_variable};
+ghost use Rattle.agreement.specs.Worked.{small_eyes, one_entry, popped_at, a_variable, idle, runs_at, set_at};
+ghost use Rattle.agreement.specs.Worked.{came_to, seven};
 
 /// What may be seen of a world, where something goes on unseen.
 pub fn view_laws()
@@ -111,6 +117,62 @@ pub fn coming_laws()
         is_open eyes host thread.at ≡ false → is_open eyes other later.at ≡ false →
         is_deep eyes host thread.at ≡ true → is_deep eyes other later.at ≡ true →
         Comes eyes view host thread token first → Comes eyes view other later token second → first ≡ second }
+{}
+
+/// What is seen of a turn that may be seen, and that changes its host alone or hands control over.
+pub fn seen_laws()
+    // A quiet world that events lead to, and that leads to a view, leads after it to what is seen of it then.
+    ensures turn { (eyes : Eyes) (rows : List declared_hosts.HostShape) (bad : ℕ) (store : List (List ℤ))
+        (events : List Event) (world after : WorldShape) (host : HostId) (view : View)
+        (alone : RunsAlone eyes.code world host) →
+        AreEyes eyes → Watches eyes (world_at_start eyes.code rows bad store) →
+        IsReached eyes.code rows bad store events world → IsStep eyes.code world (Turn host) after →
+        IsQuiet eyes.code world → Leads eyes world view →
+        (seen : View) × SeenTurn eyes view host (carried_in eyes alone.state alone.thread alone.instruction.op) seen
+        × Leads eyes after seen }
+    // That is one view.
+    ensures once { (eyes : Eyes) (view : View) (host : HostId) (carried : Carried) (first second : View) →
+        SeenTurn eyes view host carried first → SeenTurn eyes view host carried second → first ≡ second }
+    // In two quiet worlds that agree the turn carries the same, where the code releases nothing.
+    ensures carried { (eyes : Eyes) (rows : List declared_hosts.HostShape) (bad : ℕ) (store start : List (List ℤ))
+        (events others : List Event) (one other : WorldShape) (host : HostId) (alone : RunsAlone eyes.code one host)
+        (twin : RunsAlone eyes.code other host) →
+        AreEyes eyes → ReleaseNothing eyes.code eyes.shades →
+        Watches eyes (world_at_start eyes.code rows bad store) →
+        Watches eyes (world_at_start eyes.code rows bad start) →
+        IsReached eyes.code rows bad store events one → IsReached eyes.code rows bad start others other →
+        IsQuiet eyes.code one → IsQuiet eyes.code other → Agree eyes one other →
+        carried_in eyes alone.state alone.thread alone.instruction.op
+        ≡ carried_in eyes twin.state twin.thread twin.instruction.op }
+    // So they agree after it.
+    ensures agrees { (eyes : Eyes) (rows : List declared_hosts.HostShape) (bad : ℕ) (store start : List (List ℤ))
+        (events others : List Event) (one other one_after other_after : WorldShape) (host : HostId) →
+        AreEyes eyes → ReleaseNothing eyes.code eyes.shades →
+        Watches eyes (world_at_start eyes.code rows bad store) →
+        Watches eyes (world_at_start eyes.code rows bad start) →
+        IsReached eyes.code rows bad store events one → IsReached eyes.code rows bad start others other →
+        RunsAlone eyes.code one host → IsStep eyes.code one (Turn host) one_after →
+        IsStep eyes.code other (Turn host) other_after → IsQuiet eyes.code one → IsQuiet eyes.code other →
+        Agree eyes one other → Agree eyes one_after other_after }
+    // A quiet world in which a thread hands control over leads to what is seen then, which is one view.
+    ensures hands { (eyes : Eyes) (rows : List declared_hosts.HostShape) (bad : ℕ) (store : List (List ℤ))
+        (events : List Event) (world after : WorldShape) (host : HostId) (view : View) →
+        RunsHanding eyes.code world host → AreEyes eyes → Watches eyes (world_at_start eyes.code rows bad store) →
+        IsReached eyes.code rows bad store events world → IsStep eyes.code world (Turn host) after →
+        IsQuiet eyes.code world → Leads eyes world view →
+        (seen : View) × SeenHanding eyes view host seen × Leads eyes after seen }
+    ensures hands_once { (eyes : Eyes) (view : View) (host : HostId) (first second : View) →
+        SeenHanding eyes view host first → SeenHanding eyes view host second → first ≡ second }
+    // So two quiet worlds that agree do after it.
+    ensures hands_agree { (eyes : Eyes) (rows : List declared_hosts.HostShape) (bad : ℕ)
+        (store start : List (List ℤ)) (events others : List Event) (one other one_after other_after : WorldShape)
+        (host : HostId) →
+        AreEyes eyes → Watches eyes (world_at_start eyes.code rows bad store) →
+        Watches eyes (world_at_start eyes.code rows bad start) →
+        IsReached eyes.code rows bad store events one → IsReached eyes.code rows bad start others other →
+        RunsHanding eyes.code one host → RunsHanding eyes.code other host →
+        IsStep eyes.code one (Turn host) one_after → IsStep eyes.code other (Turn host) other_after →
+        IsQuiet eyes.code one → IsQuiet eyes.code other → Agree eyes one other → Agree eyes one_after other_after }
 {}
 
 /// What will be seen of a world, once what goes on unseen comes to an end, where a secret event happens.
@@ -195,4 +257,31 @@ pub fn worked_laws()
     ensures masked_value { message_view small_eyes (host_id 0) (host_id 1) (message.Forward first_request main_frame
         a_variable (pos 7))
         ≡ message.Forward first_request main_frame a_variable (pos 0) }
+    // A turn that sets a variable makes it this value and no other, and its thread goes on behind it.
+    ensures sets { SeenOperation small_eyes idle (host_id 0) (runs_at 3) second_token (op.Let a_variable seven)
+        (carried_value (pos 7)) (set_at 4 (pos 7)) }
+    ensures sets_more { ¬ (SeenOperation small_eyes idle (host_id 0) (runs_at 3) second_token
+        (op.Let a_variable seven) (carried_value (pos 7)) (set_at 4 (pos 8))) }
+    // A branch leads to its target where its guard is 0, and nowhere else.
+    ensures branches { SeenOperation small_eyes idle (host_id 0) (runs_at 3) second_token (op.Branch seven 6)
+        (carried_value (pos 0)) (came_to 6) }
+    ensures branches_more { ¬ (SeenOperation small_eyes idle (host_id 0) (runs_at 3) second_token
+        (op.Branch seven 6) (carried_value (pos 1)) (came_to 6)) }
+    // After a push its entry is seen.
+    ensures pushes_more { ¬ (SeenOperation small_eyes idle (host_id 0) (runs_at 3) second_token
+        (op.Push (entry_id 1)) (carried_value (pos 0)) (came_to 4)) }
+    // A call changes its host alone where it enters a method there.
+    ensures own_call { ChangesAlone small (host_id 0) None (op.Call (entry_id 1) (host_id 0)) }
+    ensures other_call { ¬ (ChangesAlone small (host_id 0) None (op.Call (entry_id 1) (host_id 1))) }
+    // Control is handed over to another host alone.
+    ensures goes { handed (host_id 0) (runs_at 3) second_token (op.Go (entry_id 1) (host_id 1))
+        ≡ Some (host_id 1, message.Rgoto main_frame (entry_id 1) second_token) }
+    ensures stays_here { handed (host_id 0) (runs_at 3) second_token (op.Call (entry_id 1) (host_id 0)) ≡ None }
+    // A value is not carried of what may not be seen, nor a guard into a block that may not be seen. Other guards are.
+    ensures unseen_value { (state : host_state.HostShape) (thread : ThreadShape) →
+        carried_in small_eyes state thread (op.Let a_variable seven) ≡ carried_value (pos 0) }
+    ensures seen_guard { (state : host_state.HostShape) (thread : ThreadShape) → thread.at ≡ 2 →
+        carried_in small_eyes state thread (op.Branch seven 6) ≡ carried_value (pos 7) }
+    ensures unseen_guard { (state : host_state.HostShape) (thread : ThreadShape) → thread.at ≡ 1 →
+        carried_in small_eyes state thread (op.Branch seven 6) ≡ carried_value (pos 0) }
 {}

@@ -3,4 +3,4 @@
 
 mod laws;
 
-pub use laws::{coming_laws, hidden_laws, value_laws, view_laws, worked_laws};
+pub use laws::{coming_laws, hidden_laws, seen_laws, value_laws, view_laws, worked_laws};

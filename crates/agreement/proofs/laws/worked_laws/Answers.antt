@@ -12,4 +12,16 @@ returns c = record {
   pops_behind = worked.pops_behind;
   other = worked.other_stays;
   masked_value = refl;
+  sets = worked.sets;
+  sets_more = worked.sets_more;
+  branches = worked.branches;
+  branches_more = worked.branches_more;
+  pushes_more = worked.pushes_more;
+  goes = refl;
+  stays_here = refl;
+  own_call = refl;
+  other_call = worked.other_call;
+  unseen_value = λ state thread. refl;
+  seen_guard = λ state thread is. rw is refl;
+  unseen_guard = λ state thread is. rw is refl;
 }
