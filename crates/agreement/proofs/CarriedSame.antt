@@ -184,6 +184,7 @@ pub record Twins (eyes : Eyes) (me : HostId) (one other : HostShape) (thread twi
   pub me_other : other.me ≡ me
   pub place : twin.at ≡ thread.at
   pub frame : twin.frame ≡ thread.frame
+  pub new_frame : twin.new_frame ≡ thread.new_frame
   pub held : twin.held ≡ thread.held
   pub temps : masked_all eyes (eyes.shades.at me thread.at).temps thread.temporaries
       ≡ masked_all eyes (eyes.shades.at me thread.at).temps twin.temporaries

@@ -1,6 +1,7 @@
 -- Two quiet worlds that lead to one view still do after the same turn that may be seen.
-use Rattle.std.proofs.Common.{◌≡◌, ◌∙◌, ℕ, List, [], ◌∷◌, Option, Some, None, ap, sym, subst}
+use Rattle.std.proofs.Common.{◌≡◌, ◌∙◌, ℕ, List, [], ◌∷◌, Option, Some, None, ap, sym, subst, refl}
 use Rattle.std.specs.Prelude.{◌==◌, true, false, ℤ, Bool, if◌then◌else◌, IfSome}
+use Rattle.js_base.specs.declared.ids.FrameId.{FrameId}
 use Rattle.js_base.specs.declared.ids.HostId.{HostId}
 use Rattle.js_base.specs.declared.ids.VarId.{VarId}
 use Rattle.capability.specs.declared.token.Token.{Token}
@@ -9,6 +10,7 @@ use Rattle.host_code.specs.declared.code.Entry.{Entry}
 use Rattle.host_code.specs.declared.instruction.Instr.{Instr}
 use Rattle.host_code.specs.declared.instruction.Op.{Op}
 use Rattle.host_code.specs.declared.instruction.Op.TheVariants as op
+use Rattle.host_code.specs.declared.message.Message.TheVariants as message
 use Rattle.host_code.specs.Code.{instruction_at, entry_at}
 use Rattle.host_code.specs.Sound.{IsSoundCode, IsHost}
 use Rattle.host_code.specs.Thread.{ThreadShape}
@@ -24,6 +26,7 @@ use Rattle.split_shades.specs.ShadedCode.{ReleaseNothing}
 use Rattle.seen_world.specs.Eyes.{Eyes, AreEyes, Watches}
 use Rattle.seen_world.proofs.SeenPlaces.{some_is}
 use Rattle.seen_world.proofs.PointsKept.{points_kept}
+use Rattle.agreement.specs.Handing.{handed, RunsHanding}
 use Rattle.agreement.specs.Leads.{Leads, Agree}
 use Rattle.agreement.specs.Turns.{ChangesAlone, RunsAlone, Carried, carried_in, ComesInto, ComesWithResult}
 use Rattle.agreement.specs.Turns.{SeenOperation}
@@ -33,7 +36,7 @@ use Rattle.agreement.proofs.CarriedSame.{Twins, operation_same}
 use Rattle.agreement.proofs.Coming.{comes_once}
 use Rattle.agreement.proofs.HiddenTurns.{some_of}
 use Rattle.agreement.proofs.ViewLaws.{completed_once}
-use Rattle.agreement.proofs.SeenHandings.{same_first}
+use Rattle.agreement.proofs.SeenHandings.{letter, same_first, reached_hands, handing_once}
 use Rattle.agreement.proofs.SeenLeads.{Calm, quiet_calm, calm_open, reached_leads}
 
 -- ---- one view
@@ -127,6 +130,7 @@ twins_of eyes one other now host state mirror thread twin fits fits_other calm c
       me_other = (state_me eyes other host mirror fits_other there_other).me;
       place = sym place;
       frame = sym (ap (λ (t : ThreadShape). t.frame) same);
+      new_frame = sym (ap (λ (t : ThreadShape). t.new_frame) same);
       held = sym (ap (λ (t : ThreadShape). t.held) same);
       temps = ap (λ (t : ThreadShape). t.temporaries) same
           ∙ ap (λ n. masked_all eyes (eyes.shades.at host n).temps twin.temporaries) (sym place);
@@ -231,4 +235,73 @@ turn_agrees eyes rows bad store start events others one other one_after other_af
       shown = first.0;
       first = first.2;
       second = subst (Leads eyes other_after) same second.2;
+    }
+
+-- ---- control that is handed over
+
+-- what is handed over is told by the frames of the thread
+handed_same : (me : HostId) (thread twin : ThreadShape) (token : Token) (it : Op) → twin.frame ≡ thread.frame →
+    twin.new_frame ≡ thread.new_frame → handed me twin token it ≡ handed me thread token it
+handed_same me thread twin token (op.Go entry on) frame new_frame =
+    ap (λ (f : FrameId). letter on (message.Rgoto f entry token)) frame
+handed_same me thread twin token (op.Call entry on) frame new_frame =
+    ap (λ (f : FrameId). if on.0 == me.0 then None else letter on (message.Rgoto f entry token)) new_frame
+handed_same me thread twin token (op.Read field index) frame new_frame = refl
+handed_same me thread twin token (op.Let x value) frame new_frame = refl
+handed_same me thread twin token (op.Arg x value) frame new_frame = refl
+handed_same me thread twin token (op.Put field index value) frame new_frame = refl
+handed_same me thread twin token (op.Send x to) frame new_frame = refl
+handed_same me thread twin token (op.Frame site) frame new_frame = refl
+handed_same me thread twin token (op.Pass x to) frame new_frame = refl
+handed_same me thread twin token (op.Push entry) frame new_frame = refl
+handed_same me thread twin token (op.Ask entry on) frame new_frame = refl
+handed_same me thread twin token (op.Ret x value) frame new_frame = refl
+handed_same me thread twin token op.Back frame new_frame = refl
+handed_same me thread twin token (op.Branch guard target) frame new_frame = refl
+
+-- the other hands control over alike
+handing_too : (eyes : Eyes) (one other after : WorldShape) (now : View) (host : HostId) → ShapeFits eyes.code one →
+    ShapeFits eyes.code other → Calm eyes one now → Calm eyes other now → RunsHanding eyes.code one host →
+    IsStep eyes.code other (Turn host) after → RunsHanding eyes.code other host
+handing_too eyes one other after now host fits fits_other calm calm_other run step =
+    let thread = some_of step.state.running step.runs in
+    let twins = twins_of eyes one other now host run.state step.state run.thread thread.0 fits fits_other calm
+    calm_other run.there step.obeys run.running thread.1 in
+    record {
+      state = step.state;
+      there = step.obeys;
+      thread = thread.0;
+      running = thread.1;
+      token = run.token;
+      held = twins.held ∙ run.held;
+      instruction = run.instruction;
+      is = ap (instruction_at eyes.code host) twins.place ∙ run.is;
+      to = run.to;
+      said = run.said;
+      hands = handed_same host run.thread thread.0 run.token run.instruction.op twins.frame twins.new_frame ∙ run.hands;
+    }
+
+pub hands_agree : (eyes : Eyes) (rows : List declared_hosts.HostShape) (bad : ℕ) (store start : List (List ℤ))
+    (events others : List Event) (one other one_after other_after : WorldShape) (host : HostId) → AreEyes eyes →
+    Watches eyes (world_at_start eyes.code rows bad store) → Watches eyes (world_at_start eyes.code rows bad start) →
+    IsReached eyes.code rows bad store events one → IsReached eyes.code rows bad start others other →
+    RunsHanding eyes.code one host → IsStep eyes.code one (Turn host) one_after →
+    IsStep eyes.code other (Turn host) other_after → IsQuiet eyes.code one → IsQuiet eyes.code other →
+    Agree eyes one other → Agree eyes one_after other_after
+hands_agree eyes rows bad store start events others one other one_after other_after host are watch watch_other reach
+    reach_other run step step_other quiet quiet_other agree =
+    let now = agree.shown in
+    let calm = reached_calm eyes rows bad store events one now are watch reach quiet agree.first in
+    let calm_other =
+    reached_calm eyes rows bad start others other now are watch_other reach_other quiet_other agree.second in
+    let twin = handing_too eyes one other other_after now host calm.0 calm_other.0 calm.1 calm_other.1 run step_other in
+    let first = reached_hands eyes rows bad store events one one_after host now run are watch reach step quiet
+    agree.first in
+    let second = reached_hands eyes rows bad start others other other_after host now twin are watch_other
+    reach_other step_other quiet_other agree.second in
+    record {
+      shown = first.0;
+      first = first.2;
+      second = subst (Leads eyes other_after)
+          (handing_once eyes now host second.0 first.0 second.1 first.1) second.2;
     }

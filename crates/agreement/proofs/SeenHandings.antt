@@ -31,7 +31,7 @@ use Rattle.seen_world.proofs.PointsAtStart.{own_state}
 use Rattle.seen_world.proofs.PointsKept.{points_kept}
 use Rattle.seen_world.proofs.SeenPlaces.{some_is}
 use Rattle.agreement.specs.Handing.{handed, RunsHanding, sent_view, SeenHanding}
-use Rattle.agreement.specs.Leads.{nobody, Leads, Agree, Hides, hidden_flights}
+use Rattle.agreement.specs.Leads.{nobody, Leads, Hides, hidden_flights}
 use Rattle.agreement.specs.Turns.{host_idle}
 use Rattle.agreement.specs.Views.{View, HostView, ShowsHost, nowhere, nothing, with_host, flies_open, flight_view, flights_view}
 use Rattle.agreement.specs.Views.{message_view, thread_view}
@@ -43,7 +43,7 @@ use Rattle.agreement.proofs.SeenTurns.{idle_shows}
 
 -- ---- what is sent
 
-abbrev letter : HostId → Message → Option (HostId × Message)
+abbrev pub letter : HostId → Message → Option (HostId × Message)
 letter to said = Some (to, said)
 
 of_letter : {X : Type 0} → (HostId → Message → X) → X → Option (HostId × Message) → X
@@ -331,23 +331,3 @@ handing_once eyes now host first second one two =
     (eyes.bad one.to)) both.1
     ∙ ap (λ (i : Instr). sent_view idle_now host one.to (record { message = one.said; label = i.label })
     (eyes.bad one.to)) there)
-
-pub hands_agree : (eyes : Eyes) (rows : List declared_hosts.HostShape) (bad : ℕ) (store start : List (List ℤ))
-    (events others : List Event) (one other one_after other_after : WorldShape) (host : HostId) → AreEyes eyes →
-    Watches eyes (world_at_start eyes.code rows bad store) → Watches eyes (world_at_start eyes.code rows bad start) →
-    IsReached eyes.code rows bad store events one → IsReached eyes.code rows bad start others other →
-    RunsHanding eyes.code one host → RunsHanding eyes.code other host → IsStep eyes.code one (Turn host) one_after →
-    IsStep eyes.code other (Turn host) other_after → IsQuiet eyes.code one → IsQuiet eyes.code other →
-    Agree eyes one other → Agree eyes one_after other_after
-hands_agree eyes rows bad store start events others one other one_after other_after host are watch watch_other reach
-    reach_other run twin step step_other quiet quiet_other agree =
-    let first = reached_hands eyes rows bad store events one one_after host agree.shown run are watch reach step quiet
-    agree.first in
-    let second = reached_hands eyes rows bad start others other other_after host agree.shown twin are watch_other
-    reach_other step_other quiet_other agree.second in
-    record {
-      shown = first.0;
-      first = first.2;
-      second = subst (Leads eyes other_after)
-          (handing_once eyes agree.shown host second.0 first.0 second.1 first.1) second.2;
-    }

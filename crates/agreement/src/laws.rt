@@ -36,7 +36,7 @@ ghost use Rattle.seen_world.specs.Points.{HostsKeep, PointsHold};
 ghost use Rattle.agreement.specs.Changes.{StaysSeen};
 ghost use Rattle.agreement.specs.Alike.{AreStartsAlike};
 ghost use Rattle.agreement.specs.Comes.{Comes, HasCome};
-ghost use Rattle.agreement.specs.Handing.{handed, RunsHanding, SeenHanding};
+ghost use Rattle.agreement.specs.Handing.{handed, RunsHanding, SeenHanding, sent_view};
 ghost use Rattle.agreement.specs.Leads.{Link, links_on, hidden_waiting, Leads, Agree};
 ghost use Rattle.agreement.specs.Turns.{ChangesAlone, RunsAlone, Carried, carried_value, carried_in};
 ghost use Rattle.agreement.specs.Turns.{SeenOperation, SeenTurn};
@@ -170,8 +170,8 @@ pub fn seen_laws()
         AreEyes eyes → Watches eyes (world_at_start eyes.code rows bad store) →
         Watches eyes (world_at_start eyes.code rows bad start) →
         IsReached eyes.code rows bad store events one → IsReached eyes.code rows bad start others other →
-        RunsHanding eyes.code one host → RunsHanding eyes.code other host →
-        IsStep eyes.code one (Turn host) one_after → IsStep eyes.code other (Turn host) other_after →
+        RunsHanding eyes.code one host → IsStep eyes.code one (Turn host) one_after →
+        IsStep eyes.code other (Turn host) other_after →
         IsQuiet eyes.code one → IsQuiet eyes.code other → Agree eyes one other → Agree eyes one_after other_after }
 {}
 
@@ -277,6 +277,12 @@ pub fn worked_laws()
     ensures goes { handed (host_id 0) (runs_at 3) second_token (op.Go (entry_id 1) (host_id 1))
         ≡ Some (host_id 1, message.Rgoto main_frame (entry_id 1) second_token) }
     ensures stays_here { handed (host_id 0) (runs_at 3) second_token (op.Call (entry_id 1) (host_id 0)) ≡ None }
+    // What is handed over is told to a misbehaving host, and in flight to another.
+    ensures told { (flight : Flight) → (sent_view idle (host_id 0) (host_id 1) flight true).sent
+        ≡ (host_id 0, host_id 1, flight.message) ∷ [] }
+    ensures flies { (flight : Flight) →
+        (sent_view idle (host_id 0) (host_id 1) flight false).flying (host_id 0) (host_id 1) ≡ flight ∷ [] }
+    ensures flies_untold { (flight : Flight) → (sent_view idle (host_id 0) (host_id 1) flight false).sent ≡ [] }
     // A value is not carried of what may not be seen, nor a guard into a block that may not be seen. Other guards are.
     ensures unseen_value { (state : host_state.HostShape) (thread : ThreadShape) →
         carried_in small_eyes state thread (op.Let a_variable seven) ≡ carried_value (pos 0) }

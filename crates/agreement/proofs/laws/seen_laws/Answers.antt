@@ -1,5 +1,5 @@
-use Rattle.agreement.proofs.SeenHandings.{reached_hands, handing_once, hands_agree}
-use Rattle.agreement.proofs.SeenAgree.{seen_once, carried_same, turn_agrees}
+use Rattle.agreement.proofs.SeenHandings.{reached_hands, handing_once}
+use Rattle.agreement.proofs.SeenAgree.{seen_once, carried_same, turn_agrees, hands_agree}
 use Rattle.agreement.proofs.SeenLeads.{reached_leads}
 use Rattle.agreement.proofs.laws.seen_laws.Goals as goal
 
