@@ -1,28 +1,25 @@
 -- Chains and their holders in small worlds, as they are computed.
-use Rattle.std.proofs.Common.{◌≡◌, ◌≢◌, ◌∙◌, inl, inr, ℕ, zero, suc, true, false, Option, List, [], ◌∷◌, ◌++◌, Some}
-use Rattle.std.proofs.Common.{None, refl, sym, ap, subst, arith, append-nil}
-use Rattle.std.specs.Prelude.{Contains}
-use Rattle.std.proofs.lemmas.List.Elements.{Contains-append_cases}
+use Rattle.std.proofs.Common.{◌≡◌, ◌≢◌, ◌∙◌, inl, inr, ℕ, zero, suc, true, false, List, [], ◌∷◌, Some}
+use Rattle.std.proofs.Common.{None, refl, sym, ap, subst, arith}
 use Rattle.js_base.specs.declared.ids.HostId.{HostId}
 use Rattle.jif_tree.specs.Altered.{Exposure}
 use Rattle.jif_tree.specs.SourceRun.{Configuration}
 use Rattle.capability.specs.declared.token.Token.{Token}
 use Rattle.ics_stack.specs.declared.stack.StackEntry.{StackEntry}
-use Rattle.host_code.specs.Code.{halt}
+use Rattle.host_code.specs.declared.instruction.Instr.{Instr}
+use Rattle.host_code.specs.Code.{halt, instruction_at}
 use Rattle.host_code.specs.Thread.{ThreadShape}
-use Rattle.host_code.specs.declared.message.Message.{Message}
 use Rattle.host_core.specs.Start.{main_frame}
 use Rattle.event_text.specs.declared.event.Event.TheVariants.{Turn}
 use Rattle.msg_cost.specs.Moves.{PlannedShape}
 use Rattle.split_rules.specs.TypedCode.{Table}
-use Rattle.net_world.specs.World.{WorldShape, IsRun, has_halted, misbehaves, tokens_sent}
-use Rattle.net_world.specs.Told.{token_in, token_list, tokens_in}
+use Rattle.net_world.specs.World.{WorldShape, IsRun, has_halted, misbehaves}
 use Rattle.net_world.proofs.StepLaws.{one_step}
-use Rattle.net_world.proofs.ToldTokens.{tokens_more}
 use Rattle.token_laws.specs.Holders.{HoldsAt, running_on, IsSent}
 use Rattle.token_laws.specs.TokenExamples.{host_id, small, start, first_token, pushed, handing, bad_start, given}
 use Rattle.typed_steps.specs.Views.{Split, View}
-use Rattle.integrity.specs.Altering.{HandsNoNewToken, RunsQuietly}
+use Rattle.integrity.specs.Altering.{entered_host, EntersObeying, RunsQuietly}
+use Rattle.integrity.specs.IntegrityExamples.{reading}
 use Rattle.integrity.specs.Holding.{runs, lost, halted, IsOwn, AreLinked, IsOutsideBut, IsStanding, IsTight}
 use Rattle.integrity.specs.Outside.{Threat}
 use Rattle.integrity.specs.Standing.{StandsBy}
@@ -74,34 +71,31 @@ told ran sent quietly =
           absurd (let never : true ≡ false = sym theirs ∙ obeys in cc)
     ]
 
-sent_now : (world after : WorldShape) (host to : HostId) (sent : Message) (more : Option Token) →
-    after.sent ≡ world.sent ++ (host, to, sent) ∷ [] → token_in sent ≡ more →
-    tokens_sent after ≡ tokens_sent world ++ token_list more
-sent_now world after host to sent more told is =
-    ap tokens_in told ∙ tokens_more world.sent host to sent ∙ ap (λ o. tokens_sent world ++ token_list o) is
-
-pub tokenless : (world after : WorldShape) (host to : HostId) (sent : Message) →
-    after.sent ≡ world.sent ++ (host, to, sent) ∷ [] → token_in sent ≡ None → HandsNoNewToken (Turn host) world after
-tokenless world after host to sent told none token is_sent =
-    inl (subst (λ list. Contains list token)
-    (sent_now world after host to sent None told none ∙ append-nil (tokens_sent world)) is_sent)
-
-only_one : (token other : Token) → Contains (token ∷ []) other → token ≡ other
-only_one token other (zero, within, is) = is
-only_one token other (suc place, within, is) = absurd (omega arith)
-
-pub theirs : (world after : WorldShape) (host to : HostId) (sent : Message) (token : Token) →
-    after.sent ≡ world.sent ++ (host, to, sent) ∷ [] → token_in sent ≡ Some token →
-    misbehaves world token.host ≡ true → HandsNoNewToken (Turn host) world after
-theirs world after host to sent token told is bad other is_sent =
-    elim (Contains-append_cases (tokens_sent world) (token ∷ []) other
-    (subst (λ list. Contains list other) (sent_now world after host to sent (Some token) told is) is_sent)) [
-      | inl before ↦ inl before
-      | inr now ↦
-          inr (subst (λ (t : Token). misbehaves world t.host ≡ true) (only_one token other now) bad)
-    ]
-
 pub halted_denied : (split : Split) (c : Configuration) (view : View) (host : HostId) (thread : ThreadShape)
     (world : WorldShape) → has_halted split.code.root world → ¬ StandsBy split c view (runs host thread) world
 halted_denied split c view host thread world has stands =
     let never : runs host thread ≡ halted = stands.halts has in absurd (cc)
+
+pub enters : ¬ EntersObeying handing bad_start
+enters obeying =
+    let good : misbehaves bad_start (host_id 1) ≡ false = obeying (host_id 0) (host_id 1) 2 _ refl refl in
+    let bad : misbehaves bad_start (host_id 1) ≡ true = refl in
+    absurd (let never : true ≡ false = sym bad ∙ good in cc)
+
+-- an instruction that enters no host
+enters_none : (on : HostId) (one other : Instr) → Some one ≡ Some other → entered_host one.op ≡ None →
+    entered_host other.op ≡ Some on → ⊥
+enters_none on one other is none some =
+    let same : one ≡ other = cc in
+    let never : None ≡ Some on =
+    sym none ∙ subst (λ (i : Instr). entered_host i.op ≡ Some on) (sym same) some in cc
+
+pub reads : EntersObeying reading bad_start
+reads host on at instruction there some = absurd (by host.0 at there)
+  where
+    by : (number at : ℕ) → instruction_at reading (record { 0 = number }) at ≡ Some instruction → ⊥
+    by zero zero is = enters_none on _ instruction is refl some
+    by zero (suc zero) is = enters_none on _ instruction is refl some
+    by zero (suc (suc at)) is = cc
+    by (suc zero) at is = cc
+    by (suc (suc number)) at is = cc

@@ -34,3 +34,5 @@ pub mod QuietRuns
 pub mod SetPrograms
 pub mod IntegrityExamples
 pub mod ChainExamples
+pub mod NewTokens
+pub mod Entering

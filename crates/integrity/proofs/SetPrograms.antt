@@ -16,8 +16,9 @@ use Rattle.token_laws.specs.Numbers.{CodeHasNumbers, RowsHaveNumbers, EventHasNu
 use Rattle.token_laws.specs.Reached.{IsReached}
 use Rattle.simulation.specs.Obeying.{IsSet}
 use Rattle.simulation.proofs.Obeyed.{typed_split}
-use Rattle.integrity.specs.Altering.{FollowsAltered, RunsQuietly}
+use Rattle.integrity.specs.Altering.{EntersObeying, FollowsAltered, RunsQuietly}
 use Rattle.integrity.specs.Exposed.{exposure_of}
+use Rattle.integrity.proofs.Entering.{unentered_quiet}
 use Rattle.integrity.proofs.QuietRuns.{follows, unsent_quiet}
 use Rattle.integrity.proofs.RootLaws.{AreSplitLaws}
 
@@ -60,3 +61,21 @@ follows_unsent laws program labelled needs hosts plan bad store events world sta
     let code = split_code labelled needs hosts plan in
     follows_set laws program labelled needs hosts plan bad store events world state set code_numbers store_numbers reach
     said obeys (unsent_quiet code events (world_at_start code hosts.hosts bad store) world reach.ran theirs)
+
+pub follows_unentered : AreSplitLaws → (program : Program) (labelled : Labelled) (needs : NeedsShape)
+    (hosts : HostsShape) (plan : PlanShape) (bad : ℕ) (store : List (List ℤ)) (events : List Event)
+    (world : WorldShape) (state : HostShape) →
+    IsSet program labelled needs hosts plan → CodeHasNumbers (split_code labelled needs hosts plan) →
+    RowsHaveNumbers store → IsReached (split_code labelled needs hosts plan) hosts.hosts bad store events world →
+    All EventHasNumbers events →
+    state_at (world_at_start (split_code labelled needs hosts plan) hosts.hosts bad store)
+    (split_code labelled needs hosts plan).root ≡ Some state →
+    EntersObeying (split_code labelled needs hosts plan)
+    (world_at_start (split_code labelled needs hosts plan) hosts.hosts bad store) →
+    FollowsAltered program (exposure_of labelled needs hosts bad) (split_code labelled needs hosts plan) hosts.hosts bad
+    store events
+follows_unentered laws program labelled needs hosts plan bad store events world state set code_numbers store_numbers
+    reach said obeys obeying =
+    let code = split_code labelled needs hosts plan in
+    follows_set laws program labelled needs hosts plan bad store events world state set code_numbers store_numbers reach
+    said obeys (unentered_quiet code events (world_at_start code hosts.hosts bad store) obeying)

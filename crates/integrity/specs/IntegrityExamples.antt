@@ -4,6 +4,8 @@ use Rattle.host_decl.specs.Hosts as declared_hosts
 use Rattle.jif_tree.specs.Altered.{Exposure}
 use Rattle.jif_tree.specs.SourceRun.{Configuration, keep}
 use Rattle.host_code.specs.declared.code.Entry.{Entry}
+use Rattle.host_code.specs.declared.instruction.Instr.{Instr}
+use Rattle.host_code.specs.declared.instruction.Op.{Op}
 use Rattle.host_code.specs.declared.instruction.Op.TheVariants as op
 use Rattle.host_code.specs.declared.message.Message.TheVariants as message
 use Rattle.host_code.specs.Thread.{ThreadShape}
@@ -18,7 +20,8 @@ use Rattle.host_core.specs.Turn.{after_operation}
 use Rattle.net_world.specs.World.{WorldShape, world_at_start, after_telling, with_state}
 use Rattle.split_rules.specs.OpenExamples.{untrusted, trusted_by_first, sent_table}
 use Rattle.split_rules.specs.Worked.{host_id, field_id, var_id, a_host, labelled_with, sent_local}
-use Rattle.token_laws.specs.TokenExamples.{first_request, start, start_state}
+use Rattle.host_code.specs.declared.code_expr.Node.TheVariants as node
+use Rattle.token_laws.specs.TokenExamples.{first_request, small, a_field, start, start_state}
 use Rattle.integrity.specs.Exposed.{bad_labels}
 use Rattle.integrity.specs.Outside.{Threat, threat_of}
 
@@ -112,3 +115,14 @@ not_at_end = record { store = (pos 7 ∷ []) ∷ []; calls = []; pending = keep 
 
 abbrev pub at_end : Configuration
 at_end = record not_at_end { pending = [] }
+
+-- ---- code that enters no misbehaving host
+
+abbrev step : Op → Instr
+step operation = record { label = 0; statement = record { 0 = 0 }; op = operation }
+
+-- the first of two hosts reads the field of the second, where nothing runs
+abbrev pub reading : CodeShape
+reading = record small {
+  parts = (step (op.Read a_field (node.Number (pos 0) ∷ [])) ∷ step op.Back ∷ []) ∷ [] ∷ [];
+}

@@ -44,13 +44,13 @@ ghost use Rattle.token_laws.specs.Reached.{IsReached};
 ghost use Rattle.typed_steps.specs.Views.{Split, View};
 ghost use Rattle.simulation.specs.Obeying.{IsSet};
 ghost use Rattle.token_laws.specs.TokenExamples.{bad_start, first_token, given, handing, host_id, small, start};
-ghost use Rattle.integrity.specs.Altering.{StandsFor, FollowsAltered, HandsNoNewToken, RunsQuietly};
+ghost use Rattle.integrity.specs.Altering.{EntersObeying, FollowsAltered, HandsNoNewToken, RunsQuietly, StandsFor};
 ghost use Rattle.integrity.specs.Exposed.{AreAsBefore, FieldsStand, bad_labels, exposure_of};
 ghost use Rattle.integrity.specs.Holding.{AreLinked, Holder, runs, lost, IsOwn, IsOutsideBut, IsStanding, IsTight};
 ghost use Rattle.integrity.specs.Holding.{stuck, StartsTight};
 ghost use Rattle.integrity.specs.IntegrityExamples.{sent_threat, sending, waiting, two_fields, exposed_to, store};
 ghost use Rattle.integrity.specs.IntegrityExamples.{before_set, sets_to_nine, after_set, after_refused, halted_world};
-ghost use Rattle.integrity.specs.IntegrityExamples.{at_end, not_at_end};
+ghost use Rattle.integrity.specs.IntegrityExamples.{at_end, not_at_end, reading};
 ghost use Rattle.integrity.specs.Standing.{Goes, SetsThere, Stalls, StandsBy, threat_in};
 ghost use Rattle.integrity.specs.Outside.{EntryIsOpen, IsOutside, MessageIsOpen, StateIsOpen, Threat, threat_of};
 
@@ -229,6 +229,15 @@ pub fn quiet_laws()
         state_at (world_at_start code hosts.hosts bad store) code.root ≡ Some state →
         ((token : Token) → IsSent world token → misbehaves world token.host ≡ true) →
         FollowsAltered program (exposure_of labelled needs hosts bad) code hosts.hosts bad store events }
+    // So they do where no instruction enters a misbehaving host: such hosts hold fields and variables alone.
+    ensures unentered { (program : Program) (labelled : Labelled) (needs : NeedsShape) (hosts : HostsShape)
+        (plan : PlanShape) (bad : ℕ) (store : List (List ℤ)) (events : List Event) (world : WorldShape)
+        (state : HostShape) →
+        let code = split_code labelled needs hosts plan in let start = world_at_start code hosts.hosts bad store in
+        IsSet program labelled needs hosts plan → CodeHasNumbers code → RowsHaveNumbers store →
+        IsReached code hosts.hosts bad store events world → All EventHasNumbers events →
+        state_at start code.root ≡ Some state → EntersObeying code start →
+        FollowsAltered program (exposure_of labelled needs hosts bad) code hosts.hosts bad store events }
 {
     split_laws();
     trust_laws();
@@ -309,6 +318,9 @@ pub fn chain_examples()
     ensures theirs { (world after : WorldShape) (host to : HostId) (sent : Message) (token : Token) →
         after.sent ≡ world.sent ++ (host, to, sent) ∷ [] → token_in sent ≡ Some token →
         misbehaves world token.host ≡ true → HandsNoNewToken (Turn host) world after }
+    // Code that hands control over to a misbehaving host enters one. Code that reads a field there does not.
+    ensures enters { ¬ EntersObeying handing bad_start }
+    ensures reads { EntersObeying reading bad_start }
     // Where the root has halted, no thread is the holder.
     ensures halted_denied { (split : Split) (c : Configuration) (view : View) (host : HostId) (thread : ThreadShape)
         (world : WorldShape) → has_halted split.code.root world → ¬ StandsBy split c view (runs host thread) world }

@@ -1,4 +1,5 @@
 use Rattle.integrity.proofs.ChainExamples as example
+use Rattle.integrity.proofs.NewTokens as tokens
 use Rattle.integrity.proofs.laws.chain_examples.Goals as goal
 
 pub returns-clause-not_lost : goal.returns-clause-not_lost
@@ -26,10 +27,16 @@ pub returns-clause-told : goal.returns-clause-told
 returns-clause-told c = example.told c.token_examples.ensures.hands_over c.token_examples.ensures.sent
 
 pub returns-clause-tokenless : goal.returns-clause-tokenless
-returns-clause-tokenless c = example.tokenless
+returns-clause-tokenless c = tokens.tokenless
 
 pub returns-clause-theirs : goal.returns-clause-theirs
-returns-clause-theirs c = example.theirs
+returns-clause-theirs c = tokens.theirs
+
+pub returns-clause-enters : goal.returns-clause-enters
+returns-clause-enters c = example.enters
+
+pub returns-clause-reads : goal.returns-clause-reads
+returns-clause-reads c = example.reads
 
 pub returns-clause-halted_denied : goal.returns-clause-halted_denied
 returns-clause-halted_denied c = example.halted_denied

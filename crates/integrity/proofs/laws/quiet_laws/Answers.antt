@@ -1,5 +1,5 @@
 use Rattle.integrity.proofs.RootLaws.{AreSplitLaws}
-use Rattle.integrity.proofs.SetPrograms.{follows_set, follows_unsent}
+use Rattle.integrity.proofs.SetPrograms.{follows_set, follows_unsent, follows_unentered}
 use Rattle.integrity.proofs.laws.quiet_laws.Goals as goal
 
 pub returns : goal.returns
@@ -10,4 +10,8 @@ returns c =
       typable = c.trust_laws.ensures.typable;
       typed = c.split_laws.ensures.typed;
     } in
-    record { follows = follows_set laws; unsent = follows_unsent laws }
+    record {
+      follows = follows_set laws;
+      unsent = follows_unsent laws;
+      unentered = follows_unentered laws;
+    }

@@ -1,0 +1,196 @@
+-- Where no instruction enters a misbehaving host, no turn hands such a host a new token.
+use Rattle.std.proofs.Common.{◌≡◌, ◌∙◌, ◌⊎◌, inl, inr, ℕ, Bool, true, false, List, [], ◌∷◌, Option, Some, None, refl}
+use Rattle.std.proofs.Common.{sym, ap, subst}
+use Rattle.std.specs.Prelude.{◌==◌, if◌then◌else◌, pos}
+use Rattle.std.specs.Ordering.{int_eq}
+use Rattle.js_base.specs.declared.ids.HostId.{HostId}
+use Rattle.js_base.specs.declared.ids.EntryId.{EntryId}
+use Rattle.js_base.specs.declared.ids.FieldId.{FieldId}
+use Rattle.js_base.specs.declared.ids.FrameId.{FrameId}
+use Rattle.js_base.specs.declared.ids.VarId.{VarId}
+use Rattle.capability.specs.declared.token.Token.{Token}
+use Rattle.host_code.specs.declared.code.Entry.{Entry}
+use Rattle.host_code.specs.declared.code_expr.Node.{Node}
+use Rattle.host_code.specs.declared.instruction.Instr.{Instr}
+use Rattle.host_code.specs.declared.instruction.Op.{Op}
+use Rattle.host_code.specs.declared.instruction.Op.TheVariants as op
+use Rattle.host_code.specs.declared.message.Message.{Message}
+use Rattle.host_code.specs.declared.message.Message.TheVariants as message
+use Rattle.host_code.specs.Code.{CodeShape, CodeFieldShape, instruction_at, field_at, entry_at}
+use Rattle.host_code.specs.Thread.{ThreadShape}
+use Rattle.host_core.specs.Host.{HostShape, Outcome, with_message, without_message, with_running}
+use Rattle.host_core.specs.Host.{value_in_thread}
+use Rattle.host_core.specs.Turn.{after_operation, after_read, after_put, after_own_push, after_ask, after_go}
+use Rattle.host_core.specs.Turn.{after_own_call, after_return, after_back, label_of_turn}
+use Rattle.host_core.specs.Turn.{IsTurnOf, IsRunning}
+use Rattle.event_text.specs.declared.event.Event.{Event}
+use Rattle.event_text.specs.declared.event.Event.TheVariants.{Act, Take, Turn}
+use Rattle.net_world.specs.World.{WorldShape, IsStep, IsTurnStep, misbehaves}
+use Rattle.net_world.specs.Told.{token_in}
+use Rattle.net_world.proofs.Moved.{moved_told, moved_posted, silent_sent}
+use Rattle.net_world.proofs.StepLaws.{same_misbehave}
+use Rattle.integrity.specs.Altering.{entered_host, EntersObeying, HandsNoNewToken, RunsQuietly}
+use Rattle.integrity.proofs.NewTokens.{nothing_sent, tokenless, theirs}
+
+-- ---- what an instruction sends
+
+-- A token goes to the host that the instruction enters, or back to its own host.
+data Sends (it : Op) (outcome : Outcome) : Type 0 where
+  silent : (new : HostShape) → without_message new ≡ outcome → Sends it outcome
+  sends : (new : HostShape) (to : HostId) (m : Message) → with_message new to m ≡ outcome →
+      ((token : Token) → token_in m ≡ Some token → (entered_host it ≡ Some to) ⊎ (token.host ≡ to)) →
+      Sends it outcome
+
+either_sends : (it : Op) (b : Bool) (one two : Outcome) → Sends it one → Sends it two →
+    Sends it (if b then one else two)
+either_sends it true one two first second = first
+either_sends it false one two first second = second
+
+plain : (it : Op) (new : HostShape) (to : HostId) (m : Message) → token_in m ≡ None → Sends it (with_message new to m)
+plain it new to m none = sends new to m refl (λ token is. absurd (let never : None ≡ Some token = sym none ∙ is in cc))
+
+read_sends : (it : Op) (host : HostShape) (thread : ThreadShape) (field : FieldId) (index : List Node)
+    (there : Option CodeFieldShape) → Sends it (after_read host thread field index there)
+read_sends it host thread field index None = silent _ refl
+read_sends it host thread field index (Some there) =
+    either_sends it (there.host.0 == host.me.0) _ _ (silent _ refl) (plain it _ _ _ refl)
+
+put_sends : (it : Op) (host : HostShape) (thread : ThreadShape) (field : FieldId) (index value : List Node)
+    (there : Option CodeFieldShape) → Sends it (after_put host thread field index value there)
+put_sends it host thread field index value None = silent _ refl
+put_sends it host thread field index value (Some there) =
+    either_sends it (there.host.0 == host.me.0) _ _ (silent _ refl) (plain it _ _ _ refl)
+
+push_sends : (it : Op) (host : HostShape) (thread : ThreadShape) (entry : EntryId) (held : Option Token) →
+    Sends it (after_own_push host thread entry held)
+push_sends it host thread entry None = silent _ refl
+push_sends it host thread entry (Some held) = silent _ refl
+
+ask_sends : (host : HostShape) (thread : ThreadShape) (entry : EntryId) (on : HostId) (held : Option Token) →
+    Sends (op.Ask entry on) (after_ask host thread entry on held)
+ask_sends host thread entry on None = silent _ refl
+ask_sends host thread entry on (Some held) = sends _ on _ refl (λ token is. inl refl)
+
+go_sends : (it : Op) (host : HostShape) (thread : ThreadShape) (frame : FrameId) (entry : EntryId) (on : HostId)
+    (held : Option Token) → entered_host it ≡ Some on → Sends it (after_go host thread frame entry on held)
+go_sends it host thread frame entry on None enters = silent _ refl
+go_sends it host thread frame entry on (Some held) enters = sends _ on _ refl (λ token is. inl enters)
+
+own_call_sends : (it : Op) (host : HostShape) (thread : ThreadShape) (found : Option Entry) →
+    Sends it (after_own_call host thread found)
+own_call_sends it host thread None = silent _ refl
+own_call_sends it host thread (Some there) = silent _ refl
+
+return_sends : (it : Op) (host : HostShape) (thread : ThreadShape) (x : VarId) (value : List Node)
+    (held : Option Token) (passes : Bool) → Sends it (after_return host thread x value held passes)
+return_sends it host thread x value None passes = silent _ refl
+return_sends it host thread x value (Some held) passes =
+    either_sends it (held.host.0 == host.me.0) _ _ (silent _ refl)
+    (either_sends it passes _ _ (plain it _ _ _ refl) (silent _ refl))
+
+back_sends : (it : Op) (code : CodeShape) (host : HostShape) (thread : ThreadShape) (held : Option Token)
+    (passes : Bool) → Sends it (after_back code host thread held passes)
+back_sends it code host thread None passes = silent _ refl
+back_sends it code host thread (Some held) passes =
+    either_sends it (held.host.0 == host.me.0) _ _ (silent _ refl)
+    (sends _ held.host (message.Lgoto held) refl
+    (λ token is. let same : held ≡ token = cc in inr (ap (λ (t : Token). t.host) (sym same))))
+
+operation_sends : (code : CodeShape) (bare : HostShape) (thread : ThreadShape) (it : Op) (passes : Bool) →
+    Sends it (after_operation code bare thread it passes)
+operation_sends code bare thread (op.Read field index) passes =
+    read_sends (op.Read field index) bare thread field index (field_at code field)
+operation_sends code bare thread (op.Let x value) passes = silent _ refl
+operation_sends code bare thread (op.Put field index value) passes =
+    put_sends (op.Put field index value) bare thread field index value (field_at code field)
+operation_sends code bare thread (op.Send x to) passes = plain (op.Send x to) _ _ _ refl
+operation_sends code bare thread (op.Frame site) passes = silent _ refl
+operation_sends code bare thread (op.Arg x value) passes = silent _ refl
+operation_sends code bare thread (op.Pass x to) passes = plain (op.Pass x to) _ _ _ refl
+operation_sends code bare thread (op.Push entry) passes = push_sends (op.Push entry) bare thread entry thread.held
+operation_sends code bare thread (op.Ask entry on) passes = ask_sends bare thread entry on thread.held
+operation_sends code bare thread (op.Go entry on) passes =
+    go_sends (op.Go entry on) bare thread thread.frame entry on thread.held refl
+operation_sends code bare thread (op.Call entry on) passes =
+    either_sends (op.Call entry on) (on.0 == bare.me.0) _ _
+    (own_call_sends (op.Call entry on) bare thread (entry_at code entry))
+    (go_sends (op.Call entry on) bare thread thread.new_frame entry on thread.held refl)
+operation_sends code bare thread (op.Ret x value) passes =
+    return_sends (op.Ret x value) bare thread x value thread.held passes
+operation_sends code bare thread op.Back passes = back_sends op.Back code bare thread thread.held passes
+operation_sends code bare thread (op.Branch guard target) passes =
+    either_sends (op.Branch guard target) (int_eq (value_in_thread bare thread guard) (pos 0)) _ _ (silent _ refl)
+    (silent _ refl)
+
+-- ---- a turn
+
+module _ (code : CodeShape) (world after : WorldShape) (host : HostId) (step : IsTurnStep code world host after)
+    (obeying : EntersObeying code world) where
+  told_one : (there : Instr) (at : ℕ) → instruction_at code step.state.me at ≡ Some there →
+      label_of_turn code step.state ≡ Some there.label → Sends there.op step.outcome →
+      HandsNoNewToken (Turn host) world after
+  told_one there at found labels (silent new is) =
+      nothing_sent world after host
+      (silent_sent world host step.outcome new (label_of_turn code step.state) after is step.leaves)
+  told_one there at found labels (sends new to m is goes) = by (misbehaves world to) refl
+    where
+      by_token : misbehaves world to ≡ true → (more : Option Token) → token_in m ≡ more →
+          HandsNoNewToken (Turn host) world after
+      by_token bad None none =
+          tokenless world after host to m
+          (moved_told world host step.outcome step.state new to m (label_of_turn code step.state) there.label after
+          step.obeys bad labels is step.leaves).sent none
+      by_token bad (Some token) some =
+          theirs world after host to m token
+          (moved_told world host step.outcome step.state new to m (label_of_turn code step.state) there.label after
+          step.obeys bad labels is step.leaves).sent some
+          (elim (goes token some) [
+            | inl enters ↦
+                absurd (let good = obeying step.state.me to at there found enters in
+                let never : true ≡ false = sym bad ∙ good in cc)
+            | inr same ↦ ap (misbehaves world) same ∙ bad
+          ])
+
+      by : (bad : Bool) → misbehaves world to ≡ bad → HandsNoNewToken (Turn host) world after
+      by true bad = by_token bad (token_in m) refl
+      by false good =
+          nothing_sent world after host
+          (moved_posted world host step.outcome step.state new to m (label_of_turn code step.state) there.label after
+          step.obeys good labels is step.leaves).sent
+
+  by_instruction : (thread : ThreadShape) → step.state.running ≡ Some thread → (found : Option Instr) →
+      instruction_at code step.state.me thread.at ≡ found →
+      IsRunning code (with_running step.state None) thread found step.outcome → HandsNoNewToken (Turn host) world after
+  by_instruction thread running None missing is =
+      nothing_sent world after host
+      (silent_sent world host step.outcome _ (label_of_turn code step.state) after is step.leaves)
+  by_instruction thread running (Some there) found is =
+      told_one there thread.at found (rw (running, found) refl)
+      (subst (Sends there.op) is.2
+      (operation_sends code (with_running step.state None) thread there.op is.0))
+
+  by_running : (running : Option ThreadShape) → step.state.running ≡ running →
+      IsTurnOf code step.state running step.outcome → HandsNoNewToken (Turn host) world after
+  by_running None rests is =
+      nothing_sent world after host
+      (silent_sent world host step.outcome _ (label_of_turn code step.state) after is step.leaves)
+  by_running (Some thread) running is =
+      by_instruction thread running (instruction_at code step.state.me thread.at) refl is
+
+  turn_hands : HandsNoNewToken (Turn host) world after
+  turn_hands = by_running step.state.running refl step.turns
+
+event_hands : (code : CodeShape) (event : Event) (world after : WorldShape) → IsStep code world event after →
+    EntersObeying code world → HandsNoNewToken event world after
+event_hands code (Turn host) world after step obeying = turn_hands code world after host step obeying
+event_hands code (Take from to place) world after step obeying = tt
+event_hands code (Act from to made) world after step obeying = tt
+
+pub unentered_quiet : (code : CodeShape) (events : List Event) (world : WorldShape) → EntersObeying code world →
+    RunsQuietly code world events
+unentered_quiet code [] world obeying = tt
+unentered_quiet code (event ∷ events) world obeying = λ next step. (
+  event_hands code event world next step obeying,
+  unentered_quiet code events next (λ host on at there found enters.
+      same_misbehave code world next event on step ∙ obeying host on at there found enters),
+)
