@@ -78,7 +78,7 @@ halted_denied split c view host thread world has stands =
 
 pub enters : ¬ EntersObeying handing bad_start
 enters obeying =
-    let good : misbehaves bad_start (host_id 1) ≡ false = obeying (host_id 0) (host_id 1) 2 _ refl refl in
+    let good : misbehaves bad_start (host_id 1) ≡ false = obeying (host_id 0) (host_id 1) 2 _ refl refl refl in
     let bad : misbehaves bad_start (host_id 1) ≡ true = refl in
     absurd (let never : true ≡ false = sym bad ∙ good in cc)
 
@@ -91,11 +91,12 @@ enters_none on one other is none some =
     sym none ∙ subst (λ (i : Instr). entered_host i.op ≡ Some on) (sym same) some in cc
 
 pub reads : EntersObeying reading bad_start
-reads host on at instruction there some = absurd (by host.0 at there)
+reads host on at instruction obeys there some = absurd (by host.0 at obeys there)
   where
-    by : (number at : ℕ) → instruction_at reading (record { 0 = number }) at ≡ Some instruction → ⊥
-    by zero zero is = enters_none on _ instruction is refl some
-    by zero (suc zero) is = enters_none on _ instruction is refl some
-    by zero (suc (suc at)) is = cc
-    by (suc zero) at is = cc
-    by (suc (suc number)) at is = cc
+    by : (number at : ℕ) → misbehaves bad_start (record { 0 = number }) ≡ false →
+        instruction_at reading (record { 0 = number }) at ≡ Some instruction → ⊥
+    by zero zero good is = enters_none on _ instruction is refl some
+    by zero (suc zero) good is = enters_none on _ instruction is refl some
+    by zero (suc (suc at)) good is = cc
+    by (suc zero) at good is = let bad : misbehaves bad_start (host_id 1) ≡ true = refl in cc
+    by (suc (suc number)) at good is = cc

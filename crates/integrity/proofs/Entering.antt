@@ -1,7 +1,7 @@
 -- Where no instruction enters a misbehaving host, no turn hands such a host a new token.
 use Rattle.std.proofs.Common.{◌≡◌, ◌∙◌, ◌⊎◌, inl, inr, ℕ, Bool, true, false, List, [], ◌∷◌, Option, Some, None, refl}
-use Rattle.std.proofs.Common.{sym, ap, subst}
-use Rattle.std.specs.Prelude.{◌==◌, if◌then◌else◌, pos}
+use Rattle.std.proofs.Common.{sym, ap, subst, suc, get_or, arith}
+use Rattle.std.specs.Prelude.{◌==◌, if◌then◌else◌, pos, All, IfSome}
 use Rattle.std.specs.Ordering.{int_eq}
 use Rattle.js_base.specs.declared.ids.HostId.{HostId}
 use Rattle.js_base.specs.declared.ids.EntryId.{EntryId}
@@ -25,7 +25,11 @@ use Rattle.host_core.specs.Turn.{after_own_call, after_return, after_back, label
 use Rattle.host_core.specs.Turn.{IsTurnOf, IsRunning}
 use Rattle.event_text.specs.declared.event.Event.{Event}
 use Rattle.event_text.specs.declared.event.Event.TheVariants.{Act, Take, Turn}
+use Rattle.host_code.specs.Sound.{IsSoundCode}
+use Rattle.net_world.specs.Fits.{HasOwnToken, IsStateOf, ShapeFits}
 use Rattle.net_world.specs.World.{WorldShape, IsStep, IsTurnStep, misbehaves}
+use Rattle.net_world.proofs.Fitting.{bad_differs}
+use Rattle.net_world.proofs.Shapes.{own_kept, shape_step}
 use Rattle.net_world.specs.Told.{token_in}
 use Rattle.net_world.proofs.Moved.{moved_told, moved_posted, silent_sent}
 use Rattle.net_world.proofs.StepLaws.{same_misbehave}
@@ -125,7 +129,17 @@ operation_sends code bare thread (op.Branch guard target) passes =
 -- ---- a turn
 
 module _ (code : CodeShape) (world after : WorldShape) (host : HostId) (step : IsTurnStep code world host after)
-    (obeying : EntersObeying code world) where
+    (fits : ShapeFits code world) (obeying : EntersObeying code world) where
+  mover_obeys : misbehaves world step.state.me ≡ false
+  mover_obeys = ap (misbehaves world) me ∙ by (misbehaves world host) refl
+    where
+      me : step.state.me ≡ host
+      me = (subst (λ one. IfSome one (IsStateOf code host)) step.obeys (fits.states host)).me
+
+      by : (bad : Bool) → misbehaves world host ≡ bad → misbehaves world host ≡ false
+      by true bad = absurd (bad_differs world host host step.state bad step.obeys refl)
+      by false good = good
+
   told_one : (there : Instr) (at : ℕ) → instruction_at code step.state.me at ≡ Some there →
       label_of_turn code step.state ≡ Some there.label → Sends there.op step.outcome →
       HandsNoNewToken (Turn host) world after
@@ -146,7 +160,7 @@ module _ (code : CodeShape) (world after : WorldShape) (host : HostId) (step : I
           step.obeys bad labels is step.leaves).sent some
           (elim (goes token some) [
             | inl enters ↦
-                absurd (let good = obeying step.state.me to at there found enters in
+                absurd (let good = obeying step.state.me to at there mover_obeys found enters in
                 let never : true ≡ false = sym bad ∙ good in cc)
             | inr same ↦ ap (misbehaves world) same ∙ bad
           ])
@@ -181,16 +195,21 @@ module _ (code : CodeShape) (world after : WorldShape) (host : HostId) (step : I
   turn_hands = by_running step.state.running refl step.turns
 
 event_hands : (code : CodeShape) (event : Event) (world after : WorldShape) → IsStep code world event after →
-    EntersObeying code world → HandsNoNewToken event world after
-event_hands code (Turn host) world after step obeying = turn_hands code world after host step obeying
-event_hands code (Take from to place) world after step obeying = tt
-event_hands code (Act from to made) world after step obeying = tt
+    ShapeFits code world → EntersObeying code world → HandsNoNewToken event world after
+event_hands code (Turn host) world after step fits obeying = turn_hands code world after host step fits obeying
+event_hands code (Take from to place) world after step fits obeying = tt
+event_hands code (Act from to made) world after step fits obeying = tt
 
-pub unentered_quiet : (code : CodeShape) (events : List Event) (world : WorldShape) → EntersObeying code world →
-    RunsQuietly code world events
-unentered_quiet code [] world obeying = tt
-unentered_quiet code (event ∷ events) world obeying = λ next step. (
-  event_hands code event world next step obeying,
-  unentered_quiet code events next (λ host on at there found enters.
-      same_misbehave code world next event on step ∙ obeying host on at there found enters),
-)
+pub unentered_quiet : (code : CodeShape) → IsSoundCode code → (events : List Event) (world : WorldShape) →
+    ShapeFits code world → All (HasOwnToken world) events → EntersObeying code world → RunsQuietly code world events
+unentered_quiet code sound [] world fits own obeying = tt
+unentered_quiet code sound (event ∷ events) world fits own obeying = λ next step.
+    let first = own 0 event (omega arith) in (
+      event_hands code event world next step fits obeying,
+      unentered_quiet code sound events next (shape_step code world next event sound fits first step)
+          (λ k d lt. own_kept world next (get_or events k d) (λ host. same_misbehave code world next event host step)
+          (own (suc k) d (omega arith)))
+          (λ host on at there good found enters.
+          same_misbehave code world next event on step
+          ∙ obeying host on at there (sym (same_misbehave code world next event host step) ∙ good) found enters),
+    )

@@ -11,6 +11,7 @@ use Rattle.need_labels.specs.Needs.{NeedsShape}
 use Rattle.need_labels.specs.Plan.{PlanShape}
 use Rattle.split_rules.specs.SplitCode.{split_code}
 use Rattle.net_world.specs.World.{WorldShape, state_at, misbehaves, world_at_start}
+use Rattle.net_world.proofs.Shapes.{shape_at_start}
 use Rattle.token_laws.specs.Holders.{IsSent}
 use Rattle.token_laws.specs.Numbers.{CodeHasNumbers, RowsHaveNumbers, EventHasNumbers}
 use Rattle.token_laws.specs.Reached.{IsReached}
@@ -78,4 +79,6 @@ follows_unentered laws program labelled needs hosts plan bad store events world 
     reach said obeys obeying =
     let code = split_code labelled needs hosts plan in
     follows_set laws program labelled needs hosts plan bad store events world state set code_numbers store_numbers reach
-    said obeys (unentered_quiet code events (world_at_start code hosts.hosts bad store) obeying)
+    said obeys
+    (unentered_quiet code reach.sound events (world_at_start code hosts.hosts bad store)
+    (shape_at_start code hosts.hosts bad store reach.sound reach.hosts) reach.own obeying)

@@ -63,8 +63,8 @@ entered_host (op.Go entry on) = Some on
 entered_host (op.Call entry on) = Some on
 entered_host other = None
 
--- Each host that an instruction of the code enters obeys.
+-- Each host that an instruction of an obeying host enters obeys.
 abbrev pub EntersObeying : CodeShape → WorldShape → Type 0
 EntersObeying code world = (host on : HostId) (at : ℕ) (instruction : Instr) →
-    instruction_at code host at ≡ Some instruction → entered_host instruction.op ≡ Some on →
-    misbehaves world on ≡ false
+    misbehaves world host ≡ false → instruction_at code host at ≡ Some instruction →
+    entered_host instruction.op ≡ Some on → misbehaves world on ≡ false

@@ -121,8 +121,9 @@ at_end = record not_at_end { pending = [] }
 abbrev step : Op → Instr
 step operation = record { label = 0; statement = record { 0 = 0 }; op = operation }
 
--- the first of two hosts reads the field of the second, where nothing runs
+-- The first of two hosts reads the field of the second. That enters itself.
 abbrev pub reading : CodeShape
 reading = record small {
-  parts = (step (op.Read a_field (node.Number (pos 0) ∷ [])) ∷ step op.Back ∷ []) ∷ [] ∷ [];
+  parts = (step (op.Read a_field (node.Number (pos 0) ∷ [])) ∷ step op.Back ∷ [])
+      ∷ (step (op.Go (record { 0 = 3 }) (host_id 1)) ∷ []) ∷ [];
 }

@@ -229,7 +229,8 @@ pub fn quiet_laws()
         state_at (world_at_start code hosts.hosts bad store) code.root ≡ Some state →
         ((token : Token) → IsSent world token → misbehaves world token.host ≡ true) →
         FollowsAltered program (exposure_of labelled needs hosts bad) code hosts.hosts bad store events }
-    // So they do where no instruction enters a misbehaving host: such hosts hold fields and variables alone.
+    // So they do where no instruction of an obeying host enters a misbehaving one, as where such hosts hold fields and
+    // variables alone.
     ensures unentered { (program : Program) (labelled : Labelled) (needs : NeedsShape) (hosts : HostsShape)
         (plan : PlanShape) (bad : ℕ) (store : List (List ℤ)) (events : List Event) (world : WorldShape)
         (state : HostShape) →
@@ -318,7 +319,8 @@ pub fn chain_examples()
     ensures theirs { (world after : WorldShape) (host to : HostId) (sent : Message) (token : Token) →
         after.sent ≡ world.sent ++ (host, to, sent) ∷ [] → token_in sent ≡ Some token →
         misbehaves world token.host ≡ true → HandsNoNewToken (Turn host) world after }
-    // Code that hands control over to a misbehaving host enters one. Code that reads a field there does not.
+    // Code that hands control over to a misbehaving host enters one. Code that reads a field there does not, and what
+    // the misbehaving host's own code enters is not asked about.
     ensures enters { ¬ EntersObeying handing bad_start }
     ensures reads { EntersObeying reading bad_start }
     // Where the root has halted, no thread is the holder.
