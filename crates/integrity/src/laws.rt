@@ -229,8 +229,7 @@ pub fn quiet_laws()
         state_at (world_at_start code hosts.hosts bad store) code.root ≡ Some state →
         ((token : Token) → IsSent world token → misbehaves world token.host ≡ true) →
         FollowsAltered program (exposure_of labelled needs hosts bad) code hosts.hosts bad store events }
-    // So they do where no instruction of an obeying host enters a misbehaving one, as where such hosts hold fields and
-    // variables alone.
+    // So they do where no instruction of an obeying host enters a misbehaving one.
     ensures unentered { (program : Program) (labelled : Labelled) (needs : NeedsShape) (hosts : HostsShape)
         (plan : PlanShape) (bad : ℕ) (store : List (List ℤ)) (events : List Event) (world : WorldShape)
         (state : HostShape) →
