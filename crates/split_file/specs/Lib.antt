@@ -1,5 +1,6 @@
 pub mod Examples
 pub mod File
+pub mod Put
 pub mod Reader
 pub mod Reading
 pub mod Shapes

@@ -1,9 +1,12 @@
 //! Numbers, texts and labels at the end of some bytes.
 #![tactic(auto, using(crate::proofs::Appends::appends), unfolding(crate::specs::Spelling::number_bytes, crate::specs::Spelling::word_bytes))]
 
-ghost use Rattle.std.specs.Prelude.{◌≡◌, ◌++◌, ◌∷◌, [], ◌≤◌, length, OnOk};
+ghost use Rattle.std.specs.Prelude.{◌≡◌, ◌++◌, ◌∷◌, [], ◌≤◌, ◌<◌, ◌^◌, length, OnOk};
 ghost use Rattle.std.specs.List.{flat_map};
+ghost use Rattle.js_base.specs.declared.bits.TheConstants.{WORD_BITS};
+ghost use Rattle.label_lattice.specs.Label.{IsLabel};
 ghost use Rattle.host_code.specs.declared.code.TheConstants.{MOST_ITEMS};
+ghost use Rattle.split_file.specs.Put.{ArePut};
 ghost use Rattle.split_file.specs.Spelling.{number_bytes, word_bytes, integer_bytes, text_bytes, flag_bytes};
 ghost use Rattle.split_file.specs.Spelling.{host_id_bytes, label_bytes};
 
@@ -28,7 +31,8 @@ pub fn put_number(out: &mut Vec<u8>, number: u32) -> Result<(), OutOfMemory>
 
 /// Adds a number of eight bytes.
 pub fn put_word(out: &mut Vec<u8>, word: u64) -> Result<(), OutOfMemory>
-    ensures { OnOk result (out.new.items ≡ out.old.items ++ word_bytes word) }
+    ensures bytes { OnOk result (out.new.items ≡ out.old.items ++ word_bytes word) }
+    ensures fits { word < 2 ^ WORD_BITS }
 {
     out.extend_from_slice(&word.to_be_bytes())?;
     Ok(())
@@ -79,7 +83,7 @@ pub fn put_text(out: &mut Vec<u8>, text: &[u8]) -> Result<(), OutOfMemory>
 /// Adds words.
 #[tactic(auto, using(crate::proofs::Appends::appends))]
 fn put_words(out: &mut Vec<u8>, words: &[u64]) -> Result<(), OutOfMemory>
-    ensures { OnOk result (out.new.items ≡ out.old.items ++ flat_map word_bytes words.now) }
+    ensures { OnOk result (ArePut word_bytes (λ word. word < 2 ^ WORD_BITS) out.old.items words.now out.new.items) }
 {
     for word in words {
         put_word(out, *word)?;
@@ -90,7 +94,8 @@ fn put_words(out: &mut Vec<u8>, words: &[u64]) -> Result<(), OutOfMemory>
 /// Adds a label.
 #[tactic(auto, using(crate::proofs::Appends::appends))]
 pub fn put_label(out: &mut Vec<u8>, label: &Label) -> Result<(), OutOfMemory>
-    ensures { OnOk result (out.new.items ≡ out.old.items ++ label_bytes label.now) }
+    ensures bytes { OnOk result (out.new.items ≡ out.old.items ++ label_bytes label.now) }
+    ensures real { OnOk result (IsLabel label.now) }
 {
     put_words(out, label.rows())?;
     put_word(out, label.trust())

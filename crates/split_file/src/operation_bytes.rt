@@ -1,8 +1,9 @@
 //! Instructions at the end of some bytes.
 #![tactic(auto, using(crate::proofs::Appends::appends))]
 
-ghost use Rattle.std.specs.Prelude.{◌≡◌, ◌++◌, ◌∷◌, [], ◌≤◌, length, OnOk};
+ghost use Rattle.std.specs.Prelude.{◌≡◌, ◌++◌, ◌∷◌, [], ◌≤◌, length, All, OnOk};
 ghost use Rattle.host_code.specs.declared.code.TheConstants.{MOST_ITEMS};
+ghost use Rattle.split_file.specs.File.{HasWord, IsWordExpression, HasExpressions, IsRealInstruction};
 ghost use Rattle.split_file.specs.Spelling.{number_bytes, host_id_bytes, operator_byte, node_bytes};
 ghost use Rattle.split_file.specs.Spelling.{expression_bytes, operation_bytes, instruction_bytes, part_bytes};
 
@@ -33,7 +34,8 @@ fn operator_byte(operator: BinOp) -> u8
 
 /// Adds a node.
 fn put_node(out: &mut Vec<u8>, node: &Node) -> Result<(), OutOfMemory>
-    ensures { OnOk result (out.new.items ≡ out.old.items ++ node_bytes node.now) }
+    ensures bytes { OnOk result (out.new.items ≡ out.old.items ++ node_bytes node.now) }
+    ensures real { OnOk result (HasWord node.now) }
 {
     match *node {
         Node::Number(number) => {
@@ -56,7 +58,8 @@ fn put_node(out: &mut Vec<u8>, node: &Node) -> Result<(), OutOfMemory>
 
 /// Adds an expression.
 fn put_expression(out: &mut Vec<u8>, expression: &CodeExpr) -> Result<(), OutOfMemory>
-    ensures { OnOk result (out.new.items ≡ out.old.items ++ expression_bytes expression.now) }
+    ensures bytes { OnOk result (out.new.items ≡ out.old.items ++ expression_bytes expression.now) }
+    ensures real { OnOk result (IsWordExpression expression.now) }
 {
     let nodes = expression.nodes();
     put_count(out, nodes.len())?;
@@ -73,8 +76,9 @@ fn put_valued(
     variable: VarId,
     value: &CodeExpr,
 ) -> Result<(), OutOfMemory>
-    ensures { OnOk result (out.new.items
+    ensures bytes { OnOk result (out.new.items
         ≡ out.old.items ++ byte ∷ (number_bytes variable.0 ++ expression_bytes value.now)) }
+    ensures real { OnOk result (IsWordExpression value.now) }
 {
     put_byte(out, byte)?;
     put_number(out, variable.0)?;
@@ -101,7 +105,8 @@ fn put_numbered(out: &mut Vec<u8>, byte: u8, number: u32) -> Result<(), OutOfMem
 
 /// Adds an operation.
 fn put_operation(out: &mut Vec<u8>, op: &Op) -> Result<(), OutOfMemory>
-    ensures { OnOk result (out.new.items ≡ out.old.items ++ operation_bytes op.now) }
+    ensures bytes { OnOk result (out.new.items ≡ out.old.items ++ operation_bytes op.now) }
+    ensures real { OnOk result (HasExpressions op.now) }
 {
     match op {
         Op::Read(field, index) => {
@@ -134,7 +139,8 @@ fn put_operation(out: &mut Vec<u8>, op: &Op) -> Result<(), OutOfMemory>
 
 /// Adds an instruction.
 fn put_instruction(out: &mut Vec<u8>, instruction: &Instr) -> Result<(), OutOfMemory>
-    ensures { OnOk result (out.new.items ≡ out.old.items ++ instruction_bytes instruction.now) }
+    ensures bytes { OnOk result (out.new.items ≡ out.old.items ++ instruction_bytes instruction.now) }
+    ensures real { OnOk result (IsRealInstruction instruction.now) }
 {
     put_number(out, instruction.label)?;
     put_number(out, instruction.statement.0)?;
@@ -144,7 +150,8 @@ fn put_instruction(out: &mut Vec<u8>, instruction: &Instr) -> Result<(), OutOfMe
 /// Adds the instructions of a host.
 pub fn put_part(out: &mut Vec<u8>, part: &[Instr]) -> Result<(), OutOfMemory>
     requires { length part.now ≤ MOST_ITEMS }
-    ensures { OnOk result (out.new.items ≡ out.old.items ++ part_bytes part.now) }
+    ensures bytes { OnOk result (out.new.items ≡ out.old.items ++ part_bytes part.now) }
+    ensures real { OnOk result (All IsRealInstruction part.now) }
 {
     put_count(out, part.len())?;
     for instruction in part {

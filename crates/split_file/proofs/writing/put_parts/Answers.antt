@@ -1,6 +1,10 @@
-use Rattle.std.proofs.Common.{◌≡◌, ◌<◌, ◌++◌, length, ap, sym, ◌∙◌, append_assoc, arith, take}
+use Rattle.std.proofs.Common.{◌≡◌, ◌<◌, [], ◌++◌, length, ap, sym, subst, ◌∙◌, append_assoc, arith, take}
+use Rattle.std.specs.Prelude.{All, unwrap_or}
 use Rattle.std.specs.List.{flat_map}
+use Rattle.std.proofs.lemmas.List.Elements.{All-more}
+use Rattle.std.proofs.lemmas.Option.{slice_get-get_or}
 use Rattle.host_code.specs.Code.{part_of}
+use Rattle.split_file.specs.File.{IsRealInstruction}
 use Rattle.split_file.specs.Spelling.{part_bytes}
 use Rattle.split_file.proofs.Appends.{lists_more}
 use Rattle.split_file.proofs.writing.put_parts.Goals as goal
@@ -18,8 +22,17 @@ loop-host-preserved c =
     let each = c.hosts.ensures.sound.a_part_each in
     let within : c.loop-host.host < length code.parts = omega (arith, c.loop-host-test.true, long, each) in
     let before = flat_map part_bytes (take c.loop-host.host code.parts) in
-    c.in_ok-put_part.ensures
-    ∙ ap (λ part. c.loop-host.out.items ++ part_bytes part) c.part.ensures
-    ∙ ap (λ out. out ++ part_bytes (part_of code (record { 0 = c.loop-host.host }))) c.loop-host.invariant
-    ∙ append_assoc c.args.out.now.items before (part_bytes (part_of code (record { 0 = c.loop-host.host })))
-    ∙ ap (λ more. c.args.out.now.items ++ more) (sym (lists_more part_bytes code.parts c.loop-host.host within))
+    let put = c.in_ok-put_part.ensures in
+    let there = c.part.ensures
+    ∙ ap (λ found. unwrap_or found []) (slice_get-get_or code.parts c.loop-host.host [] within) in
+    record {
+      bytes =
+          put.bytes
+          ∙ ap (λ part. c.loop-host.out.items ++ part_bytes part) c.part.ensures
+          ∙ ap (λ out. out ++ part_bytes (part_of code (record { 0 = c.loop-host.host }))) c.loop-host.invariant.bytes
+          ∙ append_assoc c.args.out.now.items before (part_bytes (part_of code (record { 0 = c.loop-host.host })))
+          ∙ ap (λ more. c.args.out.now.items ++ more)
+          (sym (lists_more part_bytes code.parts c.loop-host.host within));
+      real = All-more (All IsRealInstruction) code.parts c.loop-host.host [] within c.loop-host.invariant.real
+          (subst (All IsRealInstruction) there put.real);
+    }
