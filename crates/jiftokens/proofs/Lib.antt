@@ -1,0 +1,4 @@
+pub mod Columns
+pub mod TokenOrder
+pub mod Refusals
+pub mod LoadedFiles

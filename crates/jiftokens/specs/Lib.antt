@@ -1,0 +1,4 @@
+pub mod Places
+pub mod Listing
+pub mod Answers
+pub mod Shapes
