@@ -1,6 +1,8 @@
 # Where the proved programs are built, and whether they are newer than all sources. `top` is the folder of the repository.
 program=$top/crates/jifsplit/out/jifsplit
 node=$top/crates/jifhost/out/jifhost
+tokens=$top/crates/jiftokens/out/jiftokens
+picture=$top/crates/jifpicture/out/jifpicture
 
 is_built() {
   [ -x "$1" ] && [ -z "$(find "$top/crates" "$top/crates.txt" -name out -prune -o -type f \
