@@ -6,7 +6,8 @@ ghost use Rattle.js_base.specs.Counts.{Rose};
 ghost use Rattle.js_base.specs.declared.limits.TheConstants.{PROGRAM_BYTES};
 ghost use Rattle.js_base.specs.declared.status.Status.{Status};
 ghost use Rattle.jiftokens.specs.Answers as answers;
-ghost use Rattle.jiftokens.specs.Answers.{IsDue, IsDueFor, IsDueForFile, Answers, IsOutFault, IsPut, IsPutInPart, refused_at};
+ghost use Rattle.jiftokens.specs.Answers.{Answers, IsDue, IsDueFor, IsDueForFile, IsOutFault, IsPut, IsPutInPart};
+ghost use Rattle.jiftokens.specs.Answers.{refused_at};
 ghost use Rattle.jiftokens.specs.Shapes.{answer_shape};
 
 use crate::listing::listing;
@@ -25,8 +26,8 @@ pub enum Answer {
 
 /// Runs `jiftokens` on the words after its name.
 ///
-/// It answers `Done` where the listing of the program was put on `out`. Any other answer is a refusal or a fault, with a
-/// line on `err`:
+/// It answers `Done` where the listing of the program was put on `out`. Any other answer is a refusal or a fault, with
+/// a line on `err`:
 /// - `Usage`: the words are not one file.
 /// - `SourceRefused`: the text has no tokens, for the first byte or number that is none, or is too long.
 /// - `InputRefused`: there is no such file.

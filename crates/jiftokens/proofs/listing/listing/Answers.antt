@@ -8,7 +8,8 @@ loop-number-init c =
 
 pub moved-place-requires-clause-within : goal.moved-place-requires-clause-within
 moved-place-requires-clause-within c =
-    within_text c.index-tokens-number.result.at (length c.args.text.now) (drop (c.loop-number.number + 1) c.args.tokens.now)
+    within_text c.index-tokens-number.result.at (length c.args.text.now)
+    (drop (c.loop-number.number + 1) c.args.tokens.now)
     (order_next c.loop-number.place.at (length c.args.text.now) c.args.tokens.now c.loop-number.number
     c.index-tokens-number.result c.loop-number-test.true c.index-tokens-number.is c.loop-number.invariant.3).1
 
