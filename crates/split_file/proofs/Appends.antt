@@ -1,7 +1,7 @@
 -- Bytes put behind others in turn.
 use Rattle.std.proofs.Common.{◌≡◌, ℕ, ◌+◌, ◌<◌, List, [], ◌∷◌, ◌++◌, length, take, get_or}
 use Rattle.std.proofs.Common.{ap, ◌∙◌, sym, subst, append_assoc}
-use Rattle.std.specs.Prelude.{All, slice_get, unwrap_or}
+use Rattle.std.specs.Prelude.{slice_get, unwrap_or}
 use Rattle.std.specs.List.{flat_map}
 use Rattle.split_file.specs.Put.{ArePut}
 use Rattle.std.proofs.lemmas.List.{append-nil, take_more}

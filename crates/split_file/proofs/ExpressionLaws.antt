@@ -1,6 +1,6 @@
 -- Laws of the readers of expressions.
-use Rattle.std.proofs.Common.{◌≡◌, ℕ, ◌^◌, ◌<◌, ◌≤◌, Bool, true, false, List, [], ◌∷◌, ◌++◌, length, Option, Some, None, refl, sym, ap, subst, ◌∙◌, arith}
-use Rattle.std.specs.Prelude.{ℤ, FitsSigned, All, ⊤, ◌==◌, nat_le}
+use Rattle.std.proofs.Common.{◌≡◌, ℕ, ◌^◌, ◌<◌, ◌≤◌, true, false, List, [], ◌∷◌, ◌++◌, length, Option, Some, None, refl, sym, ap, subst, ◌∙◌, arith}
+use Rattle.std.specs.Prelude.{FitsSigned, All, ⊤, ◌==◌, nat_le}
 use Rattle.std.specs.List.{flat_map}
 use Rattle.std.specs.Option.{option_map_or}
 use Rattle.std.specs.Int.{w64}
@@ -14,10 +14,10 @@ use Rattle.host_code.specs.declared.code_expr.Node.TheVariants as node
 use Rattle.host_code.specs.declared.code_expr.TheConstants.{MOST_NODES}
 use Rattle.host_code.specs.CodeExpr.{depth_after}
 use Rattle.split_file.specs.declared.fault.Fault.TheVariants as fault
-use Rattle.split_file.specs.Spelling.{number_bytes, integer_bytes, operator_byte, node_bytes, expression_bytes}
-use Rattle.split_file.specs.Reader.{Reader, sequel, given, refused, place, require, in_range, number_at, byte_at, items_at}
-use Rattle.split_file.specs.Reading.{index_at, operator_of, number_node_at, variable_id_at, variable_node_at, temporary_node_at, operator_node_at, node_of, node_at, leave_one, expression_at}
-use Rattle.split_file.proofs.Sequels.{Reads, Again, reads_then, reads_given, reads_last, reads_place, reads_require, reads_refused, reads_if, reads_in_range, reads_weaker, again_then, again_given, again_last, again_place, again_require, again_in_range}
+use Rattle.split_file.specs.Spelling.{number_bytes, operator_byte, node_bytes, expression_bytes}
+use Rattle.split_file.specs.Reader.{Reader, sequel, given, require, byte_at, items_at}
+use Rattle.split_file.specs.Reading.{operator_of, number_node_at, variable_id_at, variable_node_at, temporary_node_at, operator_node_at, node_of, node_at, leave_one, expression_at}
+use Rattle.split_file.proofs.Sequels.{Reads, Again, reads_then, reads_given, reads_last, reads_place, reads_require, reads_refused, reads_if, reads_in_range, again_then, again_given, again_last, again_place, again_require, again_in_range}
 use Rattle.split_file.proofs.NumberLaws.{byte_reads, byte_again, number_reads, number_again, integer_reads, integer_again, index_reads, index_again}
 use Rattle.split_file.proofs.ItemLaws.{all_of, in_all, all_weaker, all_read, items_again}
 

@@ -1,13 +1,13 @@
 -- Laws of split files: what is read is spelled so, and what is spelled so is read.
-use Rattle.std.proofs.Common.{◌≡◌, ◌≢◌, ◌⊎◌, inl, inr, ℕ, ◌+◌, ◌*◌, ◌<◌, Bool, List, [], ◌∷◌, ◌++◌, length, Result, Ok, Err, refl, sym, ap, subst, ◌∙◌, append_assoc, arith}
+use Rattle.std.proofs.Common.{◌≡◌, ◌≢◌, ◌⊎◌, inl, inr, ℕ, ◌+◌, ◌*◌, List, [], ◌∷◌, ◌++◌, length, Result, Ok, Err, refl, sym, ap, subst, ◌∙◌, append_assoc, arith}
 use Rattle.std.specs.Prelude.{⊤}
-use Rattle.std.specs.List.{concat, flat_map, AllByRecursion}
+use Rattle.std.specs.List.{concat, flat_map}
 use Rattle.std.specs.Int.{w16, to_be_bytes}
 use Rattle.std.proofs.lemmas.Bool.{ltb-true, lt-ltb}
 use Rattle.std.proofs.lemmas.List.{append-nil}
 use Rattle.host_code.specs.declared.code.Entry.{Entry}
 use Rattle.host_code.specs.declared.instruction.Instr.{Instr}
-use Rattle.host_code.specs.Code.{CodeShape, part_of}
+use Rattle.host_code.specs.Code.{CodeShape}
 use Rattle.split_file.specs.declared.fault.Fault.{Fault}
 use Rattle.split_file.specs.declared.fault.Fault.TheVariants as fault
 use Rattle.split_file.specs.declared.fault.ReadError.{ReadError}
@@ -15,13 +15,12 @@ use Rattle.split_file.specs.declared.fault.ReadError.TheVariants as error
 use Rattle.split_file.specs.declared.error.SplitError.{SplitError}
 use Rattle.split_file.specs.declared.error.SplitError.TheVariants as refusal
 use Rattle.split_file.specs.Spelling.{magic, version_of, table_bytes, start_bytes, part_bytes, split_file}
-use Rattle.split_file.specs.Reader.{Reader, Fails, handed_on, sequel, given, require, items_at}
+use Rattle.split_file.specs.Reader.{Reader, Fails, handed_on, sequel, given, items_at}
 use Rattle.split_file.specs.Reading.{next_part_at, front_at, with_parts, ended, PLACE_BYTES, ENTRY_BYTES, entries_stand, code_at}
 use Rattle.split_file.specs.File.{IsRealCode, IsRefusal, refusal_of, outcome, file_code}
-use Rattle.split_file.proofs.Sequels.{AreBytes, Taken, Reads, Again, read_as, ok_is, handed, reads_then, reads_given, reads_require, reads_weaker, again_given, again_require}
-use Rattle.split_file.proofs.ItemLaws.{AllIn}
-use Rattle.split_file.proofs.PartLaws.{PartBehind, parts_reads, parts_again}
-use Rattle.split_file.proofs.FrontLaws.{FrontIs, front_bytes, IsFront, front_reads, front_again}
+use Rattle.split_file.proofs.Sequels.{AreBytes, Reads, Again, read_as, ok_is, handed, reads_given, reads_require, reads_weaker, again_given, again_require}
+use Rattle.split_file.proofs.PartLaws.{parts_reads, parts_again}
+use Rattle.split_file.proofs.FrontLaws.{front_bytes, front_reads, front_again}
 use Rattle.split_file.proofs.SoundCodes.{Stand, sound_code, front_is, few_items, parts_are, entries_there}
 
 -- ---- entries

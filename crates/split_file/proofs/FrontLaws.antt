@@ -1,7 +1,7 @@
 -- Laws of what stands before the instructions of a split file.
-use Rattle.std.proofs.Common.{◌≡◌, ℕ, ◌^◌, ◌<◌, Bool, true, List, [], ◌∷◌, ◌++◌, length, refl, sym, ap, subst, ◌∙◌, append_assoc, arith}
-use Rattle.std.specs.Prelude.{⊤, ◌==◌, codes}
-use Rattle.std.specs.List.{concat, flat_map}
+use Rattle.std.proofs.Common.{◌≡◌, ℕ, true, List, [], ◌∷◌, ◌++◌, length, refl, ap, ◌∙◌, arith}
+use Rattle.std.specs.Prelude.{⊤, ◌==◌}
+use Rattle.std.specs.List.{concat}
 use Rattle.std.specs.Str.{bytes_eq}
 use Rattle.std.specs.Int.{w16, to_be_bytes}
 use Rattle.std.proofs.lemmas.Bool.{eqb-true}
@@ -10,8 +10,8 @@ use Rattle.std.proofs.lemmas.Slice.Eq.{bytes_eq-Decides}
 use Rattle.host_code.specs.Code.{CodeShape}
 use Rattle.split_file.specs.declared.fault.Fault.TheVariants as fault
 use Rattle.split_file.specs.Spelling.{magic, version_of, table_bytes, start_bytes}
-use Rattle.split_file.specs.Reader.{Reader, sequel, given, require, number_at, bytes_at}
-use Rattle.split_file.specs.Reading.{magic_at, version_at, TablesShape, tables_at, StartsShape, starts_at, code_with, front_at, with_parts}
+use Rattle.split_file.specs.Reader.{require}
+use Rattle.split_file.specs.Reading.{magic_at, version_at, TablesShape, StartsShape, code_with, front_at, with_parts}
 use Rattle.split_file.proofs.Sequels.{Reads, Again, AgainSome, reads_then, reads_given, reads_weaker, require_reads, require_again, again_then, again_given, some_then, some_some, some_same}
 use Rattle.split_file.proofs.NumberLaws.{bytes_reads, bytes_again, short_reads, short_again}
 use Rattle.split_file.proofs.TableLaws.{TablesAre, tables_read, tables_again}

@@ -1,15 +1,13 @@
 -- Laws of items one after another.
-use Rattle.std.proofs.Common.{◌≡◌, ℕ, zero, suc, ◌^◌, ◌<◌, List, [], ◌∷◌, ◌++◌, length, take, Some, refl, sym, ap, ◌∙◌, append_assoc, subst, arith}
+use Rattle.std.proofs.Common.{◌≡◌, ℕ, zero, suc, ◌^◌, ◌<◌, List, [], ◌∷◌, ◌++◌, length, take, Some, refl, sym, ap, ◌∙◌, append_assoc, subst}
 use Rattle.std.specs.Prelude.{⊤, slice_get, All}
 use Rattle.std.specs.List.{flat_map, AllByRecursion}
 use Rattle.std.proofs.lemmas.List.{append-nil}
-use Rattle.std.proofs.lemmas.List.Concat.{flat_map-cons}
 use Rattle.std.proofs.lemmas.List.Elements.{All-from_recursion, recursion_from_All}
 use Rattle.split_file.specs.Spelling.{number_bytes, list_bytes}
-use Rattle.split_file.specs.Reader.{Reader, sequel, items_at, list_at}
+use Rattle.split_file.specs.Reader.{Reader, items_at, list_at}
 use Rattle.split_file.proofs.Sequels.{Reads, Again, reads_then, reads_given, reads_weaker, again_then, again_given}
 use Rattle.split_file.proofs.NumberLaws.{number_reads, number_again}
-use Rattle.split_file.proofs.Temporaries.{last_at}
 
 -- a fact for each item of a list behind some others, which may speak of what stands before it
 abbrev pub AllIn : {A : Type 0} → (List A → A → Type 0) → List A → List A → Type 0

@@ -1,28 +1,19 @@
 -- Laws of the readers of what operations name.
-use Rattle.std.proofs.Common.{◌≡◌, ◌≢◌, ℕ, zero, suc, ◌^◌, ◌<◌, ◌≤◌, Bool, true, false, not, ◌&&◌, List, [], ◌∷◌, ◌++◌, length, Option, Some, None, refl, sym, ap, subst, ◌∙◌, append_assoc, arith}
-use Rattle.std.specs.Prelude.{⊤, IsSomeAnd, slice_get, nat_lt, ◌==◌}
+use Rattle.std.proofs.Common.{◌≡◌, ◌≢◌, ℕ, zero, suc, ◌^◌, ◌<◌, ◌≤◌, Bool, true, false, not, ◌&&◌, List, [], ◌∷◌, length, Option, Some, None, refl, ap, arith}
+use Rattle.std.specs.Prelude.{IsSomeAnd, slice_get, nat_lt, ◌==◌}
 use Rattle.std.specs.Option.{option_map_or}
-use Rattle.std.specs.Int.{w32}
 use Rattle.std.proofs.lemmas.Bool.{eqb-true, eq-eqb, ne_eqb, ltb-true, lt-ltb, and_parts}
-use Rattle.std.proofs.lemmas.List.{append-nil}
 use Rattle.js_base.specs.declared.ids.HostId.{HostId}
 use Rattle.js_base.specs.declared.ids.FieldId.{FieldId}
-use Rattle.js_base.specs.declared.ids.VarId.{VarId}
 use Rattle.js_base.specs.declared.ids.EntryId.{EntryId}
 use Rattle.js_base.specs.declared.ids.SiteId.{SiteId}
 use Rattle.host_code.specs.declared.code.Entry.{Entry}
-use Rattle.host_code.specs.declared.instruction.Op.{Op}
-use Rattle.host_code.specs.declared.instruction.Op.TheVariants as op
-use Rattle.host_code.specs.declared.code_expr.Node.{Node}
 use Rattle.host_code.specs.Code.{CodeShape, halt, entry_at, site_at, host_of_site}
 use Rattle.host_code.specs.Sound.{IsHost, IsOther, IsEntryOn}
-use Rattle.split_file.specs.declared.fault.Fault.TheVariants as fault
-use Rattle.split_file.specs.Spelling.{number_bytes, host_id_bytes, expression_bytes, operation_bytes}
-use Rattle.split_file.specs.Reader.{Reader, sequel, given, refused, place, in_range, number_at, byte_at}
-use Rattle.split_file.specs.Reading.{index_at, is_entry_on, variable_id_at, expression_at, field_id_at, other_host_at, own_site_at, own_entry_at, some_entry_at, host_of_entry_at, other_host_of_entry_at, valued_at, sent_at, entered_at, read_at, let_at, put_at, send_at, frame_at, arg_at, pass_at, push_at, ask_at, go_at, call_at, ret_at, branch_at, operation_of, operation_at}
-use Rattle.split_file.proofs.Sequels.{Reads, Again, reads_then, reads_given, reads_last, reads_place, reads_refused, reads_if, reads_in_range, reads_weaker, again_then, again_given, again_last, again_place, again_in_range}
+use Rattle.split_file.specs.Spelling.{number_bytes, host_id_bytes}
+use Rattle.split_file.specs.Reading.{is_entry_on, field_id_at, other_host_at, own_site_at, own_entry_at, some_entry_at, host_of_entry_at, other_host_of_entry_at}
+use Rattle.split_file.proofs.Sequels.{Reads, Again, reads_last, reads_in_range, again_last, again_in_range}
 use Rattle.split_file.proofs.NumberLaws.{byte_reads, byte_again, number_reads, number_again, index_reads, index_again}
-use Rattle.split_file.proofs.ExpressionLaws.{ExpressionIs, reads_tag, variable_id_reads, variable_id_again, expression_reads, expression_again}
 
 -- ---- tests
 

@@ -1,19 +1,18 @@
 -- Laws of the readers of operations.
-use Rattle.std.proofs.Common.{◌≡◌, ◌≢◌, ℕ, ◌^◌, ◌<◌, List, [], ◌∷◌, ◌++◌, length, Some, refl, sym, ap, subst, append_assoc}
+use Rattle.std.proofs.Common.{◌≡◌, ℕ, ◌^◌, ◌<◌, List, ◌∷◌, ◌++◌, length, Some, refl}
 use Rattle.std.specs.Prelude.{⊤, ◌==◌}
-use Rattle.std.proofs.lemmas.List.{append-nil}
 use Rattle.js_base.specs.declared.ids.HostId.{HostId}
 use Rattle.js_base.specs.declared.ids.VarId.{VarId}
 use Rattle.js_base.specs.declared.ids.EntryId.{EntryId}
 use Rattle.host_code.specs.declared.instruction.Op.{Op}
 use Rattle.host_code.specs.declared.instruction.Op.TheVariants as op
 use Rattle.host_code.specs.declared.code_expr.Node.{Node}
-use Rattle.host_code.specs.Code.{CodeShape, halt, site_at}
+use Rattle.host_code.specs.Code.{CodeShape, site_at}
 use Rattle.host_code.specs.Sound.{IsHost, IsField, IsVariable, IsOther, IsEntryOn}
 use Rattle.split_file.specs.declared.fault.Fault.TheVariants as fault
 use Rattle.split_file.specs.Spelling.{number_bytes, host_id_bytes, expression_bytes, operation_bytes}
-use Rattle.split_file.specs.Reader.{Reader, sequel, given, refused, place, byte_at}
-use Rattle.split_file.specs.Reading.{index_at, expression_at, valued_at, sent_at, entered_at, read_at, let_at, put_at, send_at, frame_at, arg_at, pass_at, push_at, ask_at, go_at, call_at, ret_at, branch_at, operation_of, operation_at}
+use Rattle.split_file.specs.Reader.{Reader, sequel, byte_at}
+use Rattle.split_file.specs.Reading.{valued_at, sent_at, entered_at, read_at, let_at, put_at, send_at, frame_at, arg_at, pass_at, push_at, ask_at, go_at, call_at, ret_at, branch_at, operation_of, operation_at}
 use Rattle.split_file.proofs.Sequels.{Reads, Again, reads_then, reads_given, reads_last, reads_place, reads_refused, reads_if, again_then, again_given, again_last, again_place}
 use Rattle.split_file.proofs.NumberLaws.{byte_reads, byte_again, index_reads, index_again}
 use Rattle.split_file.proofs.ExpressionLaws.{ExpressionIs, reads_tag, variable_id_reads, variable_id_again, expression_reads, expression_again}

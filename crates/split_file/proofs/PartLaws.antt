@@ -1,22 +1,19 @@
 -- Laws of the readers of instructions and parts.
-use Rattle.std.proofs.Common.{◌≡◌, ℕ, zero, suc, ◌+◌, ◌^◌, ◌<◌, ◌≤◌, Bool, true, false, ◌||◌, List, [], ◌∷◌, ◌++◌, length, refl, sym, ap, subst, ◌∙◌, append_assoc, arith}
-use Rattle.std.specs.Prelude.{nat_lt, if◌then◌else◌}
-use Rattle.std.specs.List.{flat_map, concat}
-use Rattle.std.specs.Int.{w32}
-use Rattle.std.proofs.lemmas.List.{append-nil, length-append}
+use Rattle.std.proofs.Common.{◌≡◌, ℕ, suc, ◌^◌, ◌<◌, true, ◌||◌, List, [], ◌∷◌, ◌++◌, length, refl, sym, ap, subst, ◌∙◌, append_assoc, arith}
+use Rattle.std.specs.Prelude.{nat_lt}
+use Rattle.std.specs.List.{flat_map}
+use Rattle.std.proofs.lemmas.List.{length-append}
 use Rattle.js_base.specs.declared.ids.HostId.{HostId}
-use Rattle.host_code.specs.declared.code.Entry.{Entry}
 use Rattle.host_code.specs.declared.instruction.Instr.{Instr}
-use Rattle.host_code.specs.declared.instruction.Op.{Op}
 use Rattle.host_code.specs.Code.{CodeShape}
-use Rattle.host_code.specs.Sound.{is_entrance, temporaries_at, temporaries_past}
+use Rattle.host_code.specs.Sound.{temporaries_at}
 use Rattle.split_file.specs.declared.fault.Fault.TheVariants as fault
-use Rattle.split_file.specs.Spelling.{number_bytes, operation_bytes, instruction_bytes, part_bytes}
-use Rattle.split_file.specs.Reader.{Reader, sequel, given, place, require, number_at, items_at}
-use Rattle.split_file.specs.Reading.{index_at, operation_at, is_leaving, instruction_at, next_instruction_at, part_at, next_part_at}
+use Rattle.split_file.specs.Spelling.{number_bytes, instruction_bytes, part_bytes}
+use Rattle.split_file.specs.Reader.{items_at}
+use Rattle.split_file.specs.Reading.{is_leaving, instruction_at, next_instruction_at, part_at, next_part_at}
 use Rattle.split_file.proofs.Sequels.{Reads, Again, reads_then, reads_given, reads_place, reads_require, reads_weaker, again_then, again_given, again_place, again_require}
 use Rattle.split_file.proofs.NumberLaws.{number_reads, number_again, index_reads, index_again}
-use Rattle.split_file.proofs.ItemLaws.{AllIn, all_weaker, by_place, all_read, items_again}
+use Rattle.split_file.proofs.ItemLaws.{AllIn, all_weaker, all_read, items_again}
 use Rattle.split_file.proofs.OperandLaws.{IsFew}
 use Rattle.split_file.proofs.OperationLaws.{OperationIs, operation_reads, operation_again}
 use Rattle.split_file.proofs.Temporaries.{few_at}

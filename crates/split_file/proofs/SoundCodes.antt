@@ -1,26 +1,24 @@
 -- Codes as they are read, and as they are sound.
 use Rattle.std.proofs.Common.{◌≡◌, ℕ, zero, suc, ◌+◌, ◌-◌, ◌^◌, ◌<◌, ◌≤◌, ◌⊎◌, inl, inr, Bool, true, false, ◌||◌, List, [], ◌∷◌, ◌++◌, length, get_or, take, drop, Option, Some, None, refl, sym, ap, subst, ◌∙◌, append_assoc, arith}
-use Rattle.std.specs.Prelude.{⊤, All, IsSomeAnd, slice_get, nat_lt, sum_by, FitsSigned, unwrap_or}
+use Rattle.std.specs.Prelude.{All, IsSomeAnd, slice_get, nat_lt, FitsSigned, unwrap_or}
 use Rattle.std.specs.List.{AllByRecursion}
 use Rattle.std.specs.Int.{w64}
 use Rattle.std.proofs.lemmas.Bool.{cases_lt, lt-ltb, le-ltb}
 use Rattle.std.proofs.lemmas.Option.{slice_get-get_or}
 use Rattle.std.proofs.lemmas.List.{take-append-drop, length-take-le, append-nil}
-use Rattle.std.proofs.lemmas.List.Elements.{All-weaker, All-from_recursion, recursion_from_All}
+use Rattle.std.proofs.lemmas.List.Elements.{All-from_recursion, recursion_from_All}
 use Rattle.std.proofs.lemmas.List.Sums.{sum_by_push, sum_by-append}
 use Rattle.js_base.specs.declared.ids.HostId.{HostId}
 use Rattle.js_base.specs.declared.limits.TheConstants.{ELEMENTS}
-use Rattle.label_lattice.specs.Label.{IsLabel}
 use Rattle.host_code.specs.declared.code.Entry.{Entry}
-use Rattle.host_code.specs.declared.code.TheConstants.{MOST_ITEMS}
 use Rattle.host_code.specs.declared.instruction.Instr.{Instr}
-use Rattle.host_code.specs.Code.{CodeShape, CodeHostShape, CodeFieldShape, CodeVariableShape, halt, part_of, entry_at}
-use Rattle.host_code.specs.Sound.{IsHost, IsOnRoot, IsLeaving, OperationFits, InstructionFits, PartFits, FieldFits, VariableFits, EntryFits, IsSoundCode, temporaries_at}
-use Rattle.split_file.specs.Reading.{is_leaving, elements_of, is_empty, is_entry_on, with_parts}
-use Rattle.split_file.specs.File.{IsRealInstruction, IsReal, IsRealCode}
+use Rattle.host_code.specs.Code.{CodeShape, CodeFieldShape, part_of}
+use Rattle.host_code.specs.Sound.{IsHost, IsLeaving, OperationFits, PartFits, FieldFits, EntryFits, temporaries_at}
+use Rattle.split_file.specs.Reading.{is_leaving, elements_of, is_empty, with_parts}
+use Rattle.split_file.specs.File.{IsRealInstruction, IsRealCode}
 use Rattle.split_file.proofs.ItemLaws.{AllIn, all_of, in_all, all_weaker, at_place, by_place}
-use Rattle.split_file.proofs.TableLaws.{HostIs, HostsAre, ShapeIs, FieldIs, VariableIs, TablesAre}
-use Rattle.split_file.proofs.StartLaws.{EntryIs, StartsAre}
+use Rattle.split_file.proofs.TableLaws.{FieldIs}
+use Rattle.split_file.proofs.StartLaws.{EntryIs}
 use Rattle.split_file.proofs.OperandLaws.{IsFew, entry_there, entry_there_again, some_within}
 use Rattle.split_file.proofs.PartLaws.{InstructionIs, InstructionBehind, PartIs, PartBehind}
 use Rattle.split_file.proofs.FrontLaws.{FrontIs}

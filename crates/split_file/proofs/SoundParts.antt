@@ -1,27 +1,18 @@
 -- Operations and instructions as they are read, and as they are sound in the whole code.
-use Rattle.std.proofs.Common.{◌≡◌, ℕ, zero, suc, ◌+◌, ◌-◌, ◌^◌, ◌<◌, ◌≤◌, ◌⊎◌, inl, inr, Bool, true, false, ◌||◌, List, [], ◌∷◌, ◌++◌, length, take, drop, Option, Some, None, refl, sym, ap, subst, ◌∙◌, arith}
-use Rattle.std.specs.Prelude.{⊤, All, IsSomeAnd, slice_get, nat_lt, FitsSigned}
-use Rattle.std.specs.Int.{w64}
-use Rattle.std.proofs.lemmas.Bool.{lt-ltb, le-ltb, ltb-true}
-use Rattle.std.proofs.lemmas.List.{take-append-drop, length-take-le}
+use Rattle.std.proofs.Common.{◌≡◌, ℕ, ◌<◌, true, List, [], length, refl, subst}
 use Rattle.std.proofs.lemmas.List.Elements.{All-weaker}
 use Rattle.js_base.specs.declared.ids.HostId.{HostId}
-use Rattle.host_code.specs.declared.code.Entry.{Entry}
 use Rattle.host_code.specs.declared.instruction.Instr.{Instr}
 use Rattle.host_code.specs.declared.instruction.Op.{Op}
 use Rattle.host_code.specs.declared.instruction.Op.TheVariants as op
 use Rattle.host_code.specs.declared.code_expr.Node.{Node}
 use Rattle.host_code.specs.declared.code_expr.Node.TheVariants as node
-use Rattle.host_code.specs.declared.code.TheConstants.{MOST_ITEMS}
 use Rattle.host_code.specs.Code.{CodeShape, part_of}
-use Rattle.host_code.specs.Sound.{NodeFits, ExpressionFits, OperationFits, InstructionFits, PartFits, IsLeaving, temporaries_at}
+use Rattle.host_code.specs.Sound.{NodeFits, ExpressionFits, OperationFits, IsLeaving}
 use Rattle.split_file.specs.Reading.{is_leaving, with_parts}
-use Rattle.split_file.specs.File.{HasWord, IsWordExpression, HasExpressions, IsRealInstruction}
-use Rattle.split_file.proofs.ExpressionLaws.{NodeIs, ExpressionIs}
+use Rattle.split_file.specs.File.{HasWord, IsWordExpression, HasExpressions}
+use Rattle.split_file.proofs.ExpressionLaws.{NodeIs}
 use Rattle.split_file.proofs.OperationLaws.{OperationIs, ExpressionFor}
-use Rattle.split_file.proofs.ItemLaws.{AllIn, at_place, by_place}
-use Rattle.split_file.proofs.PartLaws.{InstructionIs, InstructionBehind, PartIs}
-use Rattle.split_file.proofs.Temporaries.{temporaries_front, last_at}
 
 -- ---- expressions
 

@@ -1,15 +1,13 @@
 -- Laws of the readers of entries, sites, the root host and the entry of main.
-use Rattle.std.proofs.Common.{◌≡◌, ℕ, ◌^◌, ◌<◌, Bool, true, false, not, ◌||◌, List, [], ◌∷◌, ◌++◌, length, refl, sym, ap, subst, ◌∙◌, arith}
+use Rattle.std.proofs.Common.{◌≡◌, ℕ, ◌^◌, ◌<◌, Bool, true, false, not, ◌||◌, List, [], ◌∷◌, length, refl}
 use Rattle.std.specs.Prelude.{All, ◌==◌}
 use Rattle.std.specs.List.{concat}
-use Rattle.std.specs.Int.{w32, w64}
 use Rattle.std.proofs.lemmas.Bool.{eqb-true}
 use Rattle.js_base.specs.declared.ids.HostId.{HostId}
 use Rattle.js_base.specs.declared.ids.EntryId.{EntryId}
 use Rattle.host_code.specs.declared.code.Entry.{Entry}
-use Rattle.split_file.specs.Spelling.{number_bytes, word_bytes, host_id_bytes, entry_bytes, list_bytes}
-use Rattle.split_file.specs.Reader.{Reader, sequel, given, place, in_range, number_at, byte_at, items_at, list_at}
-use Rattle.split_file.specs.Reading.{index_at, host_id_at, is_empty, entry_row_at, is_entry_on, root_at, main_at, StartsShape, starts_at}
+use Rattle.split_file.specs.Spelling.{number_bytes, host_id_bytes, entry_bytes, list_bytes}
+use Rattle.split_file.specs.Reading.{host_id_at, is_empty, entry_row_at, is_entry_on, root_at, main_at, StartsShape, starts_at}
 use Rattle.split_file.proofs.Sequels.{Reads, Again, AgainSome, reads_then, reads_given, reads_last, reads_place, reads_in_range, again_then, again_given, again_last, again_in_range, some_then, some_place, some_same}
 use Rattle.split_file.proofs.NumberLaws.{byte_reads, byte_again, number_reads, number_again, word_reads, word_again, index_reads, index_again}
 use Rattle.split_file.proofs.ItemLaws.{AllIn, all_of, in_all, all_weaker, list_read, list_again}

@@ -1,6 +1,6 @@
 -- Laws of the readers of hosts, labels, fields and variables.
 use Rattle.std.proofs.Common.{◌≡◌, ℕ, ◌+◌, ◌^◌, ◌<◌, ◌≤◌, ◌⊎◌, inl, inr, Bool, true, false, ◌||◌, ◌&&◌, List, [], ◌∷◌, ◌++◌, length, refl, sym, ap, subst, ◌∙◌, append_assoc, arith}
-use Rattle.std.specs.Prelude.{ℤ, FitsSigned, All, ⊤, nat_lt, nat_le, ◌==◌, codes}
+use Rattle.std.specs.Prelude.{FitsSigned, All, nat_lt, nat_le, ◌==◌}
 use Rattle.std.specs.List.{flat_map, concat}
 use Rattle.std.specs.Int.{w64}
 use Rattle.std.proofs.lemmas.Bool.{ltb-true, lt-ltb, leb-true, le-leb, and_parts, eqb-true}
@@ -11,14 +11,14 @@ use Rattle.js_base.specs.Name.{IsName, is_name}
 use Rattle.label_lattice.specs.declared.label.Label.{Label}
 use Rattle.label_lattice.specs.Label.{IsLabel}
 use Rattle.host_code.specs.Code.{CodeHostShape, CodeFieldShape, CodeVariableShape}
-use Rattle.host_code.specs.Sound.{HasSize, IsVariableName}
+use Rattle.host_code.specs.Sound.{IsVariableName}
 use Rattle.split_file.specs.declared.fault.Fault.TheVariants as fault
-use Rattle.split_file.specs.Spelling.{word_bytes, text_bytes, number_bytes, integer_bytes, flag_bytes, label_bytes, host_bytes, host_id_bytes, field_bytes, variable_bytes, list_bytes, table_bytes}
-use Rattle.split_file.specs.Reader.{Reader, sequel, given, place, require, in_range, number_at, byte_at, text_at, items_at}
-use Rattle.split_file.specs.Reading.{name_at, is_variable_name, index_at, host_id_at, label_at, host_row_at, hosts_at, integer_at, flag_at, elements_of, is_size, shape_at, field_row_at, variable_row_at, TablesShape, tables_at}
+use Rattle.split_file.specs.Spelling.{word_bytes, text_bytes, number_bytes, integer_bytes, flag_bytes, label_bytes, host_bytes, host_id_bytes, field_bytes, variable_bytes, list_bytes}
+use Rattle.split_file.specs.Reader.{sequel, given, require, number_at, items_at}
+use Rattle.split_file.specs.Reading.{name_at, is_variable_name, host_id_at, label_at, host_row_at, hosts_at, flag_at, elements_of, is_size, shape_at, field_row_at, variable_row_at, TablesShape, tables_at}
 use Rattle.split_file.proofs.Sequels.{Reads, Again, reads_then, reads_given, reads_last, reads_place, reads_require, reads_in_range, reads_weaker, again_then, again_given, again_last, again_place, again_require, again_in_range}
 use Rattle.split_file.proofs.NumberLaws.{byte_reads, byte_again, number_reads, number_again, word_reads, word_again, integer_reads, integer_again, text_reads, text_again, index_reads, index_again, flag_reads, flag_again}
-use Rattle.split_file.proofs.ItemLaws.{AllIn, all_of, in_all, all_weaker, by_place, all_read, list_read, items_again, list_again}
+use Rattle.split_file.proofs.ItemLaws.{AllIn, all_of, in_all, all_weaker, all_read, list_read, items_again, list_again}
 use Rattle.split_file.proofs.VariableNames.{variable_name_is, variable_name_again}
 
 -- ---- names and host numbers

@@ -1,8 +1,8 @@
 -- Which code bytes spell, or what is wrong with them. Each item is read and tested in the order of the bytes. What
 -- speaks of a later part is tested behind all parts.
-use Rattle.std.specs.Prelude.{◌≡◌, ℕ, ◌+◌, ◌-◌, ◌*◌, zero, suc, ℤ, Bool, true, false, not, ◌&&◌, ◌||◌, ◌==◌}
+use Rattle.std.specs.Prelude.{ℕ, ◌+◌, ◌*◌, suc, ℤ, Bool, true, false, not, ◌&&◌, ◌||◌, ◌==◌}
 use Rattle.std.specs.Prelude.{if◌then◌else◌, List, [], ◌∷◌, length, nat_lt, nat_le, slice_get, sum_by, codes}
-use Rattle.std.specs.Prelude.{Option, Result, Ok, Err, ⊤}
+use Rattle.std.specs.Prelude.{Ok, Err, ⊤}
 use Rattle.std.specs.Option.{option_map_or}
 use Rattle.std.specs.List.{before_first, after_first}
 use Rattle.std.specs.Str.{bytes_eq}
@@ -28,7 +28,6 @@ use Rattle.host_code.specs.Code.{CodeShape, CodeHostShape, CodeFieldShape, CodeV
 use Rattle.host_code.specs.Code.{host_of_site}
 use Rattle.host_code.specs.CodeExpr.{depth_after}
 use Rattle.host_code.specs.Sound.{temporaries_at}
-use Rattle.split_file.specs.declared.fault.Fault.{Fault}
 use Rattle.split_file.specs.declared.fault.Fault.TheVariants as fault
 use Rattle.split_file.specs.Spelling.{magic}
 use Rattle.split_file.specs.Reader.{Reader, ◌>>=◌, given, refused, place, require, in_range, byte_at, bytes_at}

@@ -1,4 +1,4 @@
-use Rattle.std.proofs.Common.{◌≡◌, Ok, sym, ap, subst, ◌∙◌, List, [], ℕ}
+use Rattle.std.proofs.Common.{◌≡◌, sym, ap, subst, ◌∙◌, List, [], ℕ}
 use Rattle.host_code.specs.Code.{CodeShape}
 use Rattle.host_code.specs.CodeParts.{shape_of}
 use Rattle.split_file.specs.Spelling.{split_file}

@@ -1,4 +1,4 @@
-use Rattle.std.proofs.Common.{◌≡◌, ℕ, ◌≤◌, List, take, length, refl, arith, rules, sym, ◌∙◌, Result, Ok, ap}
+use Rattle.std.proofs.Common.{◌≡◌, ℕ, List, take, length, arith, ◌∙◌, Ok, ap}
 use Rattle.std.specs.Int.{w64}
 use Rattle.std.proofs.lemmas.Result.{err_from_is_err_and}
 use Rattle.std.proofs.lemmas.List.{take_more_set, take_all, length-set}

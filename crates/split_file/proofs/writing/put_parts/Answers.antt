@@ -1,4 +1,4 @@
-use Rattle.std.proofs.Common.{◌≡◌, ◌<◌, [], ◌++◌, length, ap, sym, subst, ◌∙◌, append_assoc, arith, take}
+use Rattle.std.proofs.Common.{◌<◌, [], ◌++◌, length, ap, sym, subst, ◌∙◌, append_assoc, arith, take}
 use Rattle.std.specs.Prelude.{All, unwrap_or}
 use Rattle.std.specs.List.{flat_map}
 use Rattle.std.proofs.lemmas.List.Elements.{All-more}

@@ -1,7 +1,7 @@
 use Rattle.std.proofs.Common.{◌≡◌, rules, ap, ◌∙◌, append_assoc}
 use Rattle.std.proofs.lemmas.List.{append-nil}
 use Rattle.split_file.specs.Spelling.{split_file}
-use Rattle.split_file.specs.File.{IsReal, IsRealCode, file_code}
+use Rattle.split_file.specs.File.{IsRealCode, file_code}
 use Rattle.split_file.proofs.FileLaws.{file_again}
 use Rattle.split_file.proofs.writing.write.Goals as goal
 
