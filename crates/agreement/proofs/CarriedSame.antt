@@ -22,7 +22,7 @@ use Rattle.host_code.specs.declared.instruction.Op.TheVariants as op
 use Rattle.host_code.specs.Code.{variable_at, field_at}
 use Rattle.host_code.specs.Sound.{NodeFits, ExpressionFits, IsVariable, IsField, OperationFits}
 use Rattle.host_code.specs.Thread.{ThreadShape}
-use Rattle.host_core.specs.Host.{HostShape, value_in_thread}
+use Rattle.host_core.specs.Host.{HostShape, value_in_thread, next_request}
 use Rattle.host_core.specs.Values.{temporary_at}
 use Rattle.msg_cost.proofs.Bounds.{all_left, all_right}
 use Rattle.need_labels.specs.Needs.{label_of}
@@ -32,7 +32,7 @@ use Rattle.split_rules.proofs.SeenLabels.{flows_both, flows_first, flows_second}
 use Rattle.split_rules.proofs.WalkedMoves.{at_last}
 use Rattle.split_shades.specs.Basis.{value_label, read_label}
 use Rattle.split_shades.specs.ShadedCode.{IsShadedOp}
-use Rattle.split_shades.specs.Shades.{Ahead, released_by}
+use Rattle.split_shades.specs.Shades.{released_by}
 use Rattle.split_shades.specs.Shading.{reads_tell, Keeps, Divides}
 use Rattle.split_shades.proofs.BasisLabels.{flows_self, bottom_flows}
 use Rattle.split_shades.proofs.ShadedValues.{told_many}
@@ -40,9 +40,9 @@ use Rattle.seen_world.specs.Eyes.{Eyes, AreEyes, sees_at, is_open, is_deep}
 use Rattle.seen_world.proofs.TurnsKept.{meets_next}
 use Rattle.agreement.specs.Turns.{carried_value, carried_in}
 use Rattle.agreement.specs.Values.{IsSeen, HoldAlike}
-use Rattle.agreement.specs.Views.{masked, masked_all, last_seen, sees_field, sees_variable}
+use Rattle.agreement.specs.Views.{masked, masked_all, last_seen, sees_field, sees_variable, sees_read}
 use Rattle.agreement.proofs.Places.{variable_unseen, field_unseen}
-use Rattle.agreement.proofs.SeenOperations.{last_label}
+use Rattle.agreement.proofs.SeenOperations.{read_seen}
 use Rattle.agreement.proofs.ValueLaws.{value_same}
 
 -- ---- lists
@@ -70,7 +70,7 @@ temp_same eyes (first ∷ labels) (x ∷ temps) (y ∷ held) (suc n) label same 
     temp_same eyes labels temps held n label tails there seen
 
 -- a variable of the code whose label may be seen
-variable_seen : (eyes : Eyes) → AreEyes eyes → (x : VarId) → IsVariable eyes.code x →
+pub variable_seen : (eyes : Eyes) → AreEyes eyes → (x : VarId) → IsVariable eyes.code x →
     eyes.sees (label_of eyes.scene.basis.labelled x) ≡ true → sees_variable eyes x ≡ true
 variable_seen eyes are x within seen = elim (slice_get_cases eyes.code.variables x.0).1 [
   | inl there ↦
@@ -83,7 +83,7 @@ variable_seen eyes are x within seen = elim (slice_get_cases eyes.code.variables
 ]
 
 -- and a field
-field_seen : (eyes : Eyes) → AreEyes eyes → (field : FieldId) → IsField eyes.code field →
+pub field_seen : (eyes : Eyes) → AreEyes eyes → (field : FieldId) → IsField eyes.code field →
     eyes.sees (field_label eyes.scene.basis.labelled.program field) ≡ true → sees_field eyes field ≡ true
 field_seen eyes are field within seen = elim (slice_get_cases eyes.code.fields field.0).1 [
   | inl there ↦
@@ -235,7 +235,7 @@ kept_same eyes me one other thread twin count nodes label are same fits none kee
     (keeps.is_value.temps ∙ sym (append-nil tell)) refl fits (sym keeps.is_value.releases ∙ none)
     (are.below (value_label eyes.scene.basis here.pc keeps.value) label keeps.flows.value_flows seen)
 
-masks_same : (seen : Bool) (one other : ℤ) → (seen ≡ true → one ≡ other) → masked seen one ≡ masked seen other
+pub masks_same : (seen : Bool) (one other : ℤ) → (seen ≡ true → one ≡ other) → masked seen one ≡ masked seen other
 masks_same true one other same = same refl
 masks_same false one other same = refl
 
@@ -342,6 +342,47 @@ branch_same eyes me one other thread twin count guard target are same seen law f
         kept_same eyes me one other thread twin count guard (eyes.shades.at me thread.at).pc are same fits none parts.0
         seen
 
+-- whether what is read may be seen is the same of both
+pub read_sees : (eyes : Eyes) (me : HostId) (one other : HostShape) (thread twin : ThreadShape) →
+    Twins eyes me one other thread twin →
+    sees_read eyes one.me (next_request one thread.at) ≡ sees_read eyes other.me (next_request other twin.at)
+read_sees eyes me one other thread twin same =
+    ap (λ (h : HostId). last_seen eyes (eyes.shades.at h (thread.at + 1)).temps) (same.me_one ∙ sym same.me_other)
+    ∙ ap (λ n. last_seen eyes (eyes.shades.at other.me (n + 1)).temps) (sym same.place)
+
+-- what is read, under the label that tells which element
+abbrev read_at : Eyes → HostId → ℕ → FieldId → ExprTree → Label
+read_at eyes me place field index =
+    read_label eyes.scene.basis (eyes.shades.at me place).pc (record { field = field; index = index })
+
+label_of_read : (eyes : Eyes) (me : HostId) (one other : HostShape) (thread twin : ThreadShape) (field : FieldId)
+    (index : List Node) → Twins eyes me one other thread twin →
+    (law : IsShadedOp eyes.scene eyes.shades me thread.at (op.Read field index)) →
+    sees_read eyes other.me (next_request other twin.at) ≡ true →
+    eyes.sees (read_at eyes me thread.at field law.1.index) ≡ true
+label_of_read eyes me one other thread twin field index same law seen =
+    sym (read_seen eyes me thread.at field index law)
+    ∙ ap (λ (h : HostId). last_seen eyes (eyes.shades.at h (thread.at + 1)).temps) (sym same.me_one)
+    ∙ read_sees eyes me one other thread twin same ∙ seen
+
+-- which element is asked for
+pub index_same : (eyes : Eyes) (me : HostId) (one other : HostShape) (thread twin : ThreadShape) (count : ℕ)
+    (field : FieldId) (index : List Node) → AreEyes eyes → Twins eyes me one other thread twin →
+    IsShadedOp eyes.scene eyes.shades me thread.at (op.Read field index) → ExpressionFits eyes.code count index →
+    (eyes.shades.at me thread.at).released ≡ [] → sees_read eyes other.me (next_request other twin.at) ≡ true →
+    value_in_thread one thread index ≡ value_in_thread other twin index
+index_same eyes me one other thread twin count field index are same law fits none seen =
+    let here = eyes.shades.at me thread.at in
+    let reads = law.1 in
+    let own : Label = field_label eyes.scene.basis.labelled.program field in
+    let asked : Label = value_label eyes.scene.basis here.pc reads.index in
+    let tell : List Label = reads_tell eyes.scene here.pc reads.index in
+    part_same eyes me one other thread twin count reads.index index reads.before [] (length reads.before) are same
+    reads.nodes_are (reads.temps ∙ ap (λ all. reads.before ++ all) (sym (append-nil tell))) refl fits
+    (sym reads.releases ∙ none)
+    (are.below asked (read_at eyes me thread.at field reads.index) (flows_second own asked)
+    (label_of_read eyes me one other thread twin field index same law seen))
+
 read_same : (eyes : Eyes) (me : HostId) (one other : HostShape) (thread twin : ThreadShape) (count : ℕ)
     (field : FieldId) (index : List Node) → AreEyes eyes → Twins eyes me one other thread twin →
     IsShadedOp eyes.scene eyes.shades me thread.at (op.Read field index) → IsField eyes.code field →
@@ -349,32 +390,18 @@ read_same : (eyes : Eyes) (me : HostId) (one other : HostShape) (thread twin : T
     carried_in eyes one thread (op.Read field index) ≡ carried_in eyes other twin (op.Read field index)
 read_same eyes me one other thread twin count field index are same law within fits none =
     let here = eyes.shades.at me thread.at in
-    let reads = law.1 in
     let own : Label = field_label eyes.scene.basis.labelled.program field in
-    let asked : Label = value_label eyes.scene.basis here.pc reads.index in
-    let label : Label = read_label eyes.scene.basis here.pc (record { field = field; index = reads.index }) in
-    let tell : List Label = reads_tell eyes.scene here.pc reads.index in
-    let next : (eyes.shades.at me (thread.at + 1)).temps ≡ here.temps ++ label ∷ [] =
-    (meets_next eyes me thread.at law.0 law.2).temps ∙ ap (λ (it : Ahead). it.temps) reads.goes in
-    let sees : Bool = last_seen eyes (eyes.shades.at me (thread.at + 1)).temps in
-    let sees_is : sees ≡ eyes.sees label = ap (last_seen eyes) next ∙ last_label eyes here.temps label in
-    let first : last_seen eyes (eyes.shades.at one.me (thread.at + 1)).temps ≡ sees =
-    ap (λ (h : HostId). last_seen eyes (eyes.shades.at h (thread.at + 1)).temps) same.me_one in
-    let second : last_seen eyes (eyes.shades.at other.me (twin.at + 1)).temps ≡ sees =
-    ap (λ (h : HostId). last_seen eyes (eyes.shades.at h (twin.at + 1)).temps) same.me_other
-    ∙ ap (λ n. last_seen eyes (eyes.shades.at me (n + 1)).temps) same.place in
+    let asked : Label = value_label eyes.scene.basis here.pc law.1.index in
     let value = element_at (row_of one.rows field.0) (value_in_thread one thread index) in
     let mirror = element_at (row_of other.rows field.0) (value_in_thread other twin index) in
-    ap (λ (b : Bool). carried_value (masked b value)) first
-    ∙ ap carried_value (masks_same sees value mirror (λ seen.
-    let label_seen : eyes.sees label ≡ true = sym sees_is ∙ seen in
+    ap (λ (b : Bool). carried_value (masked b value)) (read_sees eyes me one other thread twin same)
+    ∙ ap carried_value (masks_same (sees_read eyes other.me (next_request other twin.at)) value mirror (λ seen.
     ap (λ row. element_at row (value_in_thread one thread index))
-    (same.rows field (field_seen eyes are field within (are.below own label (flows_first own asked) label_seen)))
+    (same.rows field (field_seen eyes are field within
+    (are.below own (read_at eyes me thread.at field law.1.index) (flows_first own asked)
+    (label_of_read eyes me one other thread twin field index same law seen))))
     ∙ ap (element_at (row_of other.rows field.0))
-    (part_same eyes me one other thread twin count reads.index index reads.before [] (length reads.before) are same
-    reads.nodes_are (reads.temps ∙ ap (λ all. reads.before ++ all) (sym (append-nil tell))) refl fits
-    (sym reads.releases ∙ none) (are.below asked label (flows_second own asked) label_seen))))
-    ∙ sym (ap (λ (b : Bool). carried_value (masked b mirror)) second)
+    (index_same eyes me one other thread twin count field index are same law fits none seen)))
 
 pub operation_same : (eyes : Eyes) (me : HostId) (one other : HostShape) (thread twin : ThreadShape) (count : ℕ)
     (it : Op) → AreEyes eyes → Twins eyes me one other thread twin → is_open eyes me thread.at ≡ true →

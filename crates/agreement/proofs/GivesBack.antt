@@ -88,7 +88,7 @@ out_leaves eyes bare new holder token owed now shown label shown_here given seen
     none (Some thread) is = ap (λ (b : Bool). if b then None else Some thread) (seen thread is)
 
 -- a host is seen as before
-same_view : (now : View) (host : HostId) → with_host now host (now.hosts host) ≡ now
+pub same_view : (now : View) (host : HostId) → with_host now host (now.hosts host) ≡ now
 same_view now host = λ i. record now { hosts = λ other. each other (other.0 == host.0) refl i }
   where
     each : (other : HostId) (b : Bool) → (other.0 == host.0) ≡ b →
@@ -169,7 +169,7 @@ shows_halted eyes host state shown shows = record {
   requests = shows.requests;
 }
 
-shows_ignored : (eyes : Eyes) (host : HostId) (state : HostShape) (shown : HostView) → ShowsHost eyes host state shown →
+pub shows_ignored : (eyes : Eyes) (host : HostId) (state : HostShape) (shown : HostView) → ShowsHost eyes host state shown →
     ShowsHost eyes host (with_one_ignored state) shown
 shows_ignored eyes host state shown shows = record {
   key = shows.key;

@@ -34,13 +34,13 @@ event_leads eyes rows bad store events world after (Act from to made) shown are 
     absurd secret
 
 -- a secret event presents no token
-secret_own : (eyes : Eyes) (world start : WorldShape) (event : Event) → IsSecret eyes.code world event →
+pub secret_own : (eyes : Eyes) (world start : WorldShape) (event : Event) → IsSecret eyes.code world event →
     HasOwnToken start event
 secret_own eyes world start (Take from to place) secret = tt
 secret_own eyes world start (Turn host) secret = tt
 secret_own eyes world start (Act from to made) secret = absurd secret
 
-no_event : {A : Type 0} (event : Event) (others : List Event) → [] ≡ event ∷ others → A
+pub no_event : {A : Type 0} (event : Event) (others : List Event) → [] ≡ event ∷ others → A
 no_event event others is = absurd (cc)
 
 pub run_leads : (eyes : Eyes) (rows : List declared_hosts.HostShape) (bad : ℕ) (store : List (List ℤ))

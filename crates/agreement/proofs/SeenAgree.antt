@@ -109,12 +109,12 @@ shown_running eyes world now host state thread calm there is =
     ∙ ap (λ (b : Bool). if b then thread_view eyes host thread.at thread ∷ [] else [])
     (calm_open eyes host state.running thread is (calm.running host state there))
 
-state_me : (eyes : Eyes) (world : WorldShape) (host : HostId) (state : HostShape) → ShapeFits eyes.code world →
+pub state_me : (eyes : Eyes) (world : WorldShape) (host : HostId) (state : HostShape) → ShapeFits eyes.code world →
     state_at world host ≡ Some state → IsStateOf eyes.code host state
 state_me eyes world host state fits there =
     subst (λ one. IfSome one (IsStateOf eyes.code host)) there (fits.states host)
 
-twins_of : (eyes : Eyes) (one other : WorldShape) (now : View) (host : HostId) (state mirror : HostShape)
+pub twins_of : (eyes : Eyes) (one other : WorldShape) (now : View) (host : HostId) (state mirror : HostShape)
     (thread twin : ThreadShape) → ShapeFits eyes.code one → ShapeFits eyes.code other → Calm eyes one now →
     Calm eyes other now → state_at one host ≡ Some state → state_at other host ≡ Some mirror →
     state.running ≡ Some thread → mirror.running ≡ Some twin → Twins eyes host state mirror thread twin
@@ -181,7 +181,7 @@ calm_carried eyes one other now host alone twin are sound silent fits fits_other
     ∙ ap (λ (i : Instr). carried_in eyes twin.state twin.thread i.op) (sym there)
 
 -- what is known of a quiet world that events lead to
-reached_calm : (eyes : Eyes) (rows : List declared_hosts.HostShape) (bad : ℕ) (store : List (List ℤ))
+pub reached_calm : (eyes : Eyes) (rows : List declared_hosts.HostShape) (bad : ℕ) (store : List (List ℤ))
     (events : List Event) (world : WorldShape) (now : View) → AreEyes eyes →
     Watches eyes (world_at_start eyes.code rows bad store) → IsReached eyes.code rows bad store events world →
     IsQuiet eyes.code world → Leads eyes world now → ShapeFits eyes.code world × Calm eyes world now

@@ -73,7 +73,7 @@ quiet_calm eyes world now are watch fits quiet leads =
 
 -- ---- a thread arrives
 
-arrived_leads : (eyes : Eyes) (world after : WorldShape) (old : HostShape) (outcome : Outcome) (now seen : View)
+pub arrived_leads : (eyes : Eyes) (world after : WorldShape) (old : HostShape) (outcome : Outcome) (now seen : View)
     (label : Option ℕ) → AreEyes eyes → Calm eyes world now → state_at world old.me ≡ Some old →
     after_step world old.me outcome label ≡ after → StateFits eyes.code outcome.state →
     HostKeeps eyes old.me outcome.state → Arrives eyes old now outcome seen → Leads eyes after seen
@@ -88,8 +88,6 @@ arrived_leads eyes world after old outcome now seen label are calm obeys leaves 
     subst (λ running. IfSome running (RunsWell eyes old.me)) arrives.running keep.running in
     let may : MayHold eyes (eyes.shades.at old.me arrives.later.at) arrives.token =
     subst (λ held. IfSome held (MayHold eyes (eyes.shades.at old.me arrives.later.at))) arrives.held well.holds in
-    let waits : hidden_waiting eyes old.me outcome.state.waiting ≡ [] =
-    ap (hidden_waiting eyes old.me) arrives.waiting ∙ calm.waiting old.me old obeys in
     comes_leads eyes after old.me outcome.state arrives.later arrives.token (with_host now old.me arrives.shown) seen
     are (record {
       there = mover_state world after old.me old outcome.state world.flying obeys moved;
@@ -106,7 +104,8 @@ arrived_leads eyes world after old outcome now seen label are calm obeys leaves 
       waiting = λ host other there. elim (find host other there) [
         | inl same ↦
             ap (λ (s : HostShape). hidden_waiting eyes host s.waiting) same.is
-            ∙ ap (λ (h : HostId). hidden_waiting eyes h outcome.state.waiting) same.same ∙ waits
+            ∙ ap (λ (h : HostId). hidden_waiting eyes h outcome.state.waiting) same.same
+            ∙ arrives.waiting
         | inr rest ↦ calm.waiting host other rest.obeys
       ];
       entries = λ host other there. elim (find host other there) [
@@ -146,7 +145,7 @@ calm_keeps eyes world now calm = record {
   well = tt;
 }
 
-rested_leads : (eyes : Eyes) (world after : WorldShape) (old : HostShape) (outcome : Outcome) (now seen : View)
+pub rested_leads : (eyes : Eyes) (world after : WorldShape) (old : HostShape) (outcome : Outcome) (now seen : View)
     (label : Option ℕ) → Calm eyes world now → state_at world old.me ≡ Some old →
     after_step world old.me outcome label ≡ after → Rests eyes old now outcome seen → Leads eyes after seen
 rested_leads eyes world after old outcome now seen label calm obeys leaves rests =
@@ -161,7 +160,7 @@ rested_leads eyes world after old outcome now seen label calm obeys leaves rests
 
 -- ---- a turn
 
-open_block : (eyes : Eyes) (host : HostId) (place : ℕ) (there : Instr) → AreEyes eyes →
+pub open_block : (eyes : Eyes) (host : HostId) (place : ℕ) (there : Instr) → AreEyes eyes →
     instruction_at eyes.code host place ≡ Some there → is_open eyes host place ≡ true →
     eyes.sees (eyes.shades.at host place).block ≡ true
 open_block eyes host place there are is seen =
@@ -180,7 +179,7 @@ calm_open eyes host running thread is none = elim (cases_Bool (is_open eyes host
       absurd (cc)
 ]
 
-held_of : (eyes : Eyes) (held : Option Token) → IsSomeAnd held (TokenFits eyes.code) → (token : Token) × (held ≡ Some token)
+pub held_of : (eyes : Eyes) (held : Option Token) → IsSomeAnd held (TokenFits eyes.code) → (token : Token) × (held ≡ Some token)
 held_of eyes None fits = absurd fits
 held_of eyes (Some token) fits = (token, refl)
 

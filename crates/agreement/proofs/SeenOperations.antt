@@ -50,7 +50,7 @@ masked_twice true value = refl
 masked_twice false value = refl
 
 -- it is masked by the last label
-masked_more : (eyes : Eyes) (labels : List Label) (label : Label) (temps : List ℤ) (value : ℤ) →
+pub masked_more : (eyes : Eyes) (labels : List Label) (label : Label) (temps : List ℤ) (value : ℤ) →
     length temps ≡ length labels →
     masked_all eyes (labels ++ label ∷ []) (temps ++ value ∷ [])
     ≡ masked_all eyes (labels ++ label ∷ []) (masked_all eyes labels temps ++ masked (eyes.sees label) value ∷ [])
@@ -69,8 +69,20 @@ last_label eyes [] label = refl
 last_label eyes (first ∷ []) label = refl
 last_label eyes (first ∷ second ∷ labels) label = last_label eyes (second ∷ labels) label
 
+-- whether what a read leaves may be seen
+pub read_seen : (eyes : Eyes) (me : HostId) (place : ℕ) (field : FieldId) (index : List Node)
+    (law : IsShadedOp eyes.scene eyes.shades me place (op.Read field index)) →
+    last_seen eyes (eyes.shades.at me (place + 1)).temps
+    ≡ eyes.sees (read_label eyes.scene.basis (eyes.shades.at me place).pc
+    (record { field = field; index = law.1.index }))
+read_seen eyes me place field index law =
+    let here = eyes.shades.at me place in
+    ap (last_seen eyes) ((meets_next eyes me place law.0 law.2).temps ∙ ap (λ (it : Ahead). it.temps) law.1.goes)
+    ∙ last_label eyes here.temps
+    (read_label eyes.scene.basis here.pc (record { field = field; index = law.1.index }))
+
 -- a thread with other temporaries of which the same may be seen comes to the same
-comes_masked : (eyes : Eyes) (now : View) (host : HostId) (thread : ThreadShape) (temps : List ℤ) (token : Token)
+pub comes_masked : (eyes : Eyes) (now : View) (host : HostId) (thread : ThreadShape) (temps : List ℤ) (token : Token)
     (after : View) →
     masked_all eyes (eyes.shades.at host thread.at).temps thread.temporaries
     ≡ masked_all eyes (eyes.shades.at host thread.at).temps temps →
@@ -105,7 +117,7 @@ read_turned eyes old thread there token now field index run law (Some on) own =
     let next : (eyes.shades.at old.me (thread.at + 1)).temps ≡ here.temps ++ label ∷ [] =
     (meets_next eyes old.me thread.at law.0 law.2).temps ∙ ap (λ (it : Ahead). it.temps) law.1.goes in
     let sees : sees_read eyes old.me (next_request old thread.at) ≡ eyes.sees label =
-    ap (last_seen eyes) next ∙ last_label eyes here.temps label in
+    read_seen eyes old.me thread.at field index law in
     let shown = masked (sees_read eyes old.me (next_request old thread.at)) value in
     let before = masked_all eyes here.temps thread.temporaries in
     let same : masked_all eyes (eyes.shades.at old.me (thread.at + 1)).temps (thread.temporaries ++ value ∷ [])
@@ -129,7 +141,7 @@ read_turned eyes old thread there token now field index run law (Some on) own =
       me = refl;
       held = run.held;
       plain = run.shown;
-      waiting = refl;
+      waiting = run.waits;
       entries = run.entries;
       own = idle_shows eyes old.me old (now.hosts old.me) run.shows;
       comes = comes_masked eyes (with_host now old.me idle) old.me later (before ++ shown ∷ []) token some.0 same

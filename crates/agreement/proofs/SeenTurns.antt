@@ -28,7 +28,8 @@ use Rattle.host_code.specs.Sound.{IsEntryOn}
 use Rattle.host_code.specs.Thread.{ThreadShape}
 use Rattle.host_core.specs.Fits.{StateFits}
 use Rattle.host_core.specs.Host.{HostShape, Outcome, with_running, with_row_written, after_clearing}
-use Rattle.host_core.specs.Host.{after_step, with_token, new_token, value_in_thread}
+use Rattle.host_core.specs.Host.{after_step, after_push, with_token, new_token}
+use Rattle.host_core.specs.Host.{value_in_thread}
 use Rattle.host_core.specs.Turn.{after_let, after_put, after_branch}
 use Rattle.host_core.specs.Turn.{after_own_call, after_call, after_frame, after_own_push, with_thread}
 use Rattle.host_stores.specs.Stores.{is_same_variable, with_variable}
@@ -131,7 +132,7 @@ pub record Arrives (eyes : Eyes) (old : HostShape) (now : View) (outcome : Outco
   pub me : outcome.state.me ≡ old.me
   pub held : later.held ≡ Some token
   pub plain : ¬ IsHiddenToken eyes token
-  pub waiting : outcome.state.waiting ≡ old.waiting
+  pub waiting : hidden_waiting eyes old.me outcome.state.waiting ≡ []
   pub entries : outcome.state.entries ≡ filter (is_shown eyes) outcome.state.entries
   pub own : ShowsHost eyes old.me (with_running outcome.state None) shown
   pub comes : Comes eyes (with_host now old.me shown) old.me later token after
@@ -155,7 +156,7 @@ mask_off seen value is = sym (ap (λ (b : Bool). masked b value) is)
 
 -- ---- a variable is set
 
-variable_alike : (eyes : Eyes) (variables others : FrameId → VarId → ℤ) (frame : FrameId) (x : VarId) (value : ℤ)
+pub variable_alike : (eyes : Eyes) (variables others : FrameId → VarId → ℤ) (frame : FrameId) (x : VarId) (value : ℤ)
     (other : FrameId) (y : VarId) → sees_variable eyes y ≡ true →
     (sees_variable eyes y ≡ true → variables other y ≡ others other y) →
     with_variable variables frame x value other y
@@ -195,7 +196,7 @@ let_turned eyes old thread there token now frame x value run =
         me = refl;
         held = run.held;
         plain = run.shown;
-        waiting = refl;
+        waiting = run.waits;
         entries = run.entries;
         own = record {
           key = idle.key;
@@ -215,7 +216,7 @@ let_turned eyes old thread there token now frame x value run =
 
 -- ---- an element is set
 
-row_alike : (eyes : Eyes) (rows : List (List ℤ)) (others : ℕ → List ℤ) (field other : FieldId) (index value : ℤ) →
+pub row_alike : (eyes : Eyes) (rows : List (List ℤ)) (others : ℕ → List ℤ) (field other : FieldId) (index value : ℤ) →
     sees_field eyes other ≡ true → row_of rows other.0 ≡ others other.0 →
     row_of (store_after_write rows field.0 index value) other.0
     ≡ (if other.0 == field.0
@@ -274,7 +275,7 @@ put_turned eyes old thread there token now field index value run (Some on) own =
       me = refl;
       held = run.held;
       plain = run.shown;
-      waiting = refl;
+      waiting = run.waits;
       entries = run.entries;
       own = record {
         key = idle.key;
@@ -298,7 +299,7 @@ put_turned eyes old thread there token now field index value run (Some on) own =
 
 -- ---- nothing was read
 
-no_temps : (temps : List ℤ) (labels : List Label) → length temps ≡ length labels → labels ≡ [] → temps ≡ []
+pub no_temps : (temps : List ℤ) (labels : List Label) → length temps ≡ length labels → labels ≡ [] → temps ≡ []
 no_temps [] labels many none = refl
 no_temps (x ∷ temps) labels many none =
     let never = ap length none in
@@ -336,7 +337,7 @@ enter_turned eyes old thread there token now run plain (Some into) own =
         me = refl;
         held = run.held;
         plain = run.shown;
-        waiting = refl;
+        waiting = run.waits;
         entries = run.entries;
         own = idle_shows eyes old.me old (now.hosts old.me) run.shows;
         comes = some.1;
@@ -362,7 +363,7 @@ call_turned eyes old thread there token now entry on run plain own fits =
 
 -- ---- one count goes up
 
-count_alike : (counts : List ℕ) (others : ℕ → ℕ) (place number : ℕ) → place < length counts →
+pub count_alike : (counts : List ℕ) (others : ℕ → ℕ) (place number : ℕ) → place < length counts →
     slice_index counts number ≡ others number →
     slice_index (slice_set counts place (slice_index counts place + 1)) number
     ≡ (if number == place then others number + 1 else others number)
@@ -421,7 +422,7 @@ frame_turned eyes old thread there token now site run law fits =
         me = refl;
         held = run.held;
         plain = run.shown;
-        waiting = refl;
+        waiting = run.waits;
         entries = run.entries;
         own = record {
           key = idle.key;
@@ -459,6 +460,55 @@ pushes_shown eyes me here entry next seen false pushes = by here.guard pushes
     by None named = names_shown eyes here entry seen named.0
     by (Some loop) named = names_shown eyes here entry seen named.0
 
+-- what is seen of a host on which an entry was pushed that is not hidden
+pub push_shows : (eyes : Eyes) (old : HostShape) (shown : HostView) (entry : EntryId) (frame : FrameId) (kept : Token) →
+    ShowsHost eyes old.me old shown → is_hidden eyes entry.0 ≡ false → entry.0 < length old.serials →
+    (new_token old entry frame ≡ token_shown old.me shown entry frame)
+    × ShowsHost eyes old.me (after_push old entry frame kept) (entry_shown old.me shown entry frame kept)
+push_shows eyes old shown entry frame kept shows plain within =
+    let serial : slice_index old.serials entry.0 ≡ shown.serials entry.0 = shows.serials entry.0 plain in
+    let made = token_shown old.me shown entry frame in
+    let token_is : new_token old entry frame ≡ made =
+    ap (λ n. record {
+      host = old.me;
+      frame = frame;
+      entry = entry;
+      serial = n;
+      tag = tag_of old.key old.me frame entry n;
+    }) serial
+    ∙ ap (λ key. record {
+      host = old.me;
+      frame = frame;
+      entry = entry;
+      serial = shown.serials entry.0;
+      tag = tag_of key old.me frame entry (shown.serials entry.0);
+    }) shows.key in
+    let top_of : Token → StackEntry = λ t. record { token = t; entry = entry; frame = frame; kept = kept } in (
+      token_is,
+      record {
+        key = shows.key;
+        rows = shows.rows;
+        variables = shows.variables;
+        running = shows.running;
+        waiting = shows.waiting;
+        entries = kept_first (is_shown eyes) (top_of (new_token old entry frame)) old.entries (ap not plain)
+            ∙ ap (λ t. top_of t ∷ filter (is_shown eyes) old.entries) token_is
+            ∙ ap (λ all. top_of made ∷ all) shows.entries;
+        serials = λ number shown_is.
+            count_alike old.serials shown.serials entry.0 number within (shows.serials number shown_is);
+        frames = shows.frames;
+        requests = shows.requests;
+      },
+    )
+
+-- none of its entries is hidden then, where none was
+pub push_kept : (eyes : Eyes) (old : HostShape) (entry : EntryId) (frame : FrameId) (kept : Token) →
+    is_hidden eyes entry.0 ≡ false → old.entries ≡ filter (is_shown eyes) old.entries →
+    (after_push old entry frame kept).entries ≡ filter (is_shown eyes) (after_push old entry frame kept).entries
+push_kept eyes old entry frame kept plain are =
+    let top : StackEntry = record { token = new_token old entry frame; entry = entry; frame = frame; kept = kept } in
+    ap (λ all. top ∷ all) are ∙ sym (kept_first (is_shown eyes) top old.entries (ap not plain))
+
 pub push_turned : (eyes : Eyes) (old : HostShape) (thread : ThreadShape) (there : Instr) (token : Token) (now : View)
     (entry : EntryId) → Visible eyes old thread there token now →
     IsShadedOp eyes.scene eyes.shades old.me thread.at (op.Push entry) → entry.0 < length eyes.code.entries →
@@ -477,32 +527,13 @@ push_turned eyes old thread there token now entry run law below =
     let made = token_shown old.me view_here entry thread.frame in
     let shown = entry_shown old.me (host_idle view_here) entry thread.frame token in
     let later = with_token (Some made) (after_clearing thread) in
-    let serial : slice_index old.serials entry.0 ≡ view_here.serials entry.0 = run.shows.serials entry.0 plain in
-    let token_is : new_token bare entry thread.frame ≡ made =
-    ap (λ n. record {
-      host = old.me;
-      frame = thread.frame;
-      entry = entry;
-      serial = n;
-      tag = tag_of old.key old.me thread.frame entry n;
-    }) serial
-    ∙ ap (λ key. record {
-      host = old.me;
-      frame = thread.frame;
-      entry = entry;
-      serial = view_here.serials entry.0;
-      tag = tag_of key old.me thread.frame entry (view_here.serials entry.0);
-    }) run.shows.key in
+    let many = run.fits.serials in
+    let within : entry.0 < length old.serials = omega (arith, below, many) in
+    let pushed = push_shows eyes bare (host_idle view_here) entry thread.frame token idle plain within in
     let is : with_token (Some (new_token bare entry thread.frame)) (after_step thread) ≡ later =
     ap (λ ts. with_token (Some (new_token bare entry thread.frame)) (record (after_step thread) { temporaries = ts }))
     (plain_temps eyes old thread there token now run law.1.0)
-    ∙ ap (λ t. with_token (Some t) (after_clearing thread)) token_is in
-    let many = run.fits.serials in
-    let within : entry.0 < length old.serials = omega (arith, below, many) in
-    let top_of : Token → StackEntry = λ t. record { token = t; entry = entry; frame = thread.frame; kept = token } in
-    let top = top_of (new_token bare entry thread.frame) in
-    let kept : filter (is_shown eyes) (top ∷ old.entries) ≡ top ∷ filter (is_shown eyes) old.entries =
-    kept_first (is_shown eyes) top old.entries (ap not plain) in
+    ∙ ap (λ t. with_token (Some t) (after_clearing thread)) pushed.0 in
     let some = comes_some eyes (with_host now old.me shown) old.me later made in
     let done : Arrives eyes old now (after_own_push bare thread entry (Some token)) some.0 = record {
       shown = shown;
@@ -513,21 +544,9 @@ push_turned eyes old thread there token now entry run law below =
       me = refl;
       held = refl;
       plain = λ hidden. false≢true (sym plain ∙ hidden.1);
-      waiting = refl;
-      entries = ap (λ all. top ∷ all) run.entries ∙ sym kept;
-      own = record {
-        key = idle.key;
-        rows = idle.rows;
-        variables = idle.variables;
-        running = refl;
-        waiting = idle.waiting;
-        entries = kept ∙ ap (λ t. top_of t ∷ filter (is_shown eyes) old.entries) token_is
-            ∙ ap (λ all. top_of made ∷ all) run.shows.entries;
-        serials = λ number shown_is.
-            count_alike old.serials view_here.serials entry.0 number within (idle.serials number shown_is);
-        frames = idle.frames;
-        requests = idle.requests;
-      };
+      waiting = run.waits;
+      entries = push_kept eyes bare entry thread.frame token plain run.entries;
+      own = pushed.1;
       comes = some.1;
     } in (
       some.0,
@@ -568,7 +587,7 @@ went_arrives eyes old thread there token now after target run true comes = recor
   me = refl;
   held = run.held;
   plain = run.shown;
-  waiting = refl;
+  waiting = run.waits;
   entries = run.entries;
   own = idle_shows eyes old.me old (now.hosts old.me) run.shows;
   comes = comes;
@@ -582,7 +601,7 @@ went_arrives eyes old thread there token now after target run false comes = reco
   me = refl;
   held = run.held;
   plain = run.shown;
-  waiting = refl;
+  waiting = run.waits;
   entries = run.entries;
   own = idle_shows eyes old.me old (now.hosts old.me) run.shows;
   comes = comes;

@@ -19,7 +19,7 @@ use Rattle.agreement.proofs.Lists.{left_last, left_removed, left_first}
 
 -- ---- what is owed
 
-given_once : (eyes : Eyes) (view : View) (token : Token) (entries : List StackEntry) (first second : View) →
+pub given_once : (eyes : Eyes) (view : View) (token : Token) (entries : List StackEntry) (first second : View) →
     GivenBack eyes view token entries first → GivenBack eyes view token entries second → first ≡ second
 given_once eyes view token [] first second one two = one ∙ sym two
 given_once eyes view token (top ∷ below) first second (inl one) (inl two) = one.1 ∙ sym two.1

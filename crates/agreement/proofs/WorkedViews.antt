@@ -12,13 +12,13 @@ use Rattle.agreement.specs.Views.{View, gives, Completed}
 use Rattle.agreement.specs.Worked.{small_eyes, one_entry, popped_at, a_variable, idle, runs_at, set_at, came_to, seven}
 
 -- a thread more or less is not the same view
-more_runs : (one other : View) (thread : ThreadShape) → (one.hosts (host_id 0)).running ≡ [] →
+pub more_runs : (one other : View) (thread : ThreadShape) → (one.hosts (host_id 0)).running ≡ [] →
     (other.hosts (host_id 0)).running ≡ thread ∷ [] → one ≢ other
 more_runs one other thread none some same =
     let never : [] ≡ thread ∷ [] = sym none ∙ ap (λ (v : View). (v.hosts (host_id 0)).running) same ∙ some in
     absurd (cc)
 
-tokens_apart : first_token ≢ second_token
+pub tokens_apart : first_token ≢ second_token
 tokens_apart same =
     let number : 0 ≡ 2 = ap (λ (t : Token). t.entry.0) same in
     absurd (omega (arith, number))

@@ -6,4 +6,8 @@ pub mod Comes
 pub mod Alike
 pub mod Turns
 pub mod Handing
+pub mod Asking
+pub mod Taken
 pub mod Worked
+pub mod AskingExamples
+pub mod TakenExamples

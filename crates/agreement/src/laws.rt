@@ -1,6 +1,6 @@
 //! Laws of worlds of which the same may be seen. The calls do nothing: their contracts are the laws.
 
-ghost use Rattle.std.specs.Prelude.{◌≡◌, ℕ, ℤ, pos, true, false, List, [], ◌∷◌, ◌++◌, Some, None, IsSome, filter};
+ghost use Rattle.std.specs.Prelude.{◌≡◌, ◌⊎◌, ℕ, ℤ, pos, true, false, List, [], ◌∷◌, ◌++◌, Some, None, IsSome, filter};
 ghost use Rattle.std.specs.Prelude.{remove, slice_get};
 ghost use Rattle.js_base.specs.declared.ids.HostId.{HostId};
 ghost use Rattle.js_base.specs.declared.ids.FrameId.{FrameId};
@@ -13,9 +13,10 @@ ghost use Rattle.host_decl.specs.Hosts as declared_hosts;
 ghost use Rattle.host_code.specs.declared.instruction.Instr.{Instr};
 ghost use Rattle.host_code.specs.declared.instruction.Op.TheVariants as op;
 ghost use Rattle.host_code.specs.declared.message.Message.TheVariants as message;
-ghost use Rattle.host_code.specs.Code.{instruction_at};
+ghost use Rattle.host_code.specs.Code.{CodeShape, instruction_at};
 ghost use Rattle.host_code.specs.Sound.{IsSoundCode};
 ghost use Rattle.host_code.specs.Thread.{ThreadShape};
+ghost use Rattle.host_code.specs.Thread.Awaited.{acknowledgement, token_of_entry};
 ghost use Rattle.host_core.specs.Host as host_state;
 ghost use Rattle.host_core.specs.Start.{main_frame};
 ghost use Rattle.host_core.specs.Taking.{Passes};
@@ -29,12 +30,15 @@ ghost use Rattle.net_world.specs.Secret.{IsSecret, IsQuiet, IsSeenRun};
 ghost use Rattle.net_world.specs.World.{WorldShape, state_at, world_at_start, IsStep};
 ghost use Rattle.token_laws.specs.Reached.{IsReached};
 ghost use Rattle.token_laws.specs.Requests.{number_answered};
-ghost use Rattle.token_laws.specs.TokenExamples.{small, host_id, entry_id, first_request, first_token, second_token};
+ghost use Rattle.token_laws.specs.TokenExamples.{small, host_id, entry_id, a_field, first_request, first_token};
+ghost use Rattle.token_laws.specs.TokenExamples.{second_token};
 ghost use Rattle.split_shades.specs.ShadedCode.{ReleaseNothing};
 ghost use Rattle.seen_world.specs.Eyes.{Eyes, AreEyes, Watches, sees_at, is_open, is_deep, is_hidden};
 ghost use Rattle.seen_world.specs.Points.{HostsKeep, PointsHold};
 ghost use Rattle.agreement.specs.Changes.{StaysSeen};
 ghost use Rattle.agreement.specs.Alike.{AreStartsAlike};
+ghost use Rattle.agreement.specs.Asking.{AsksElsewhere, RunsAsking, carried_index, carried_asking, asked, SeenAsking};
+ghost use Rattle.agreement.specs.AskingExamples.{other_frame, other_token, asked_for};
 ghost use Rattle.agreement.specs.Comes.{Comes, HasCome};
 ghost use Rattle.agreement.specs.Handing.{handed, RunsHanding, SeenHanding, sent_view};
 ghost use Rattle.agreement.specs.Leads.{Link, links_on, hidden_waiting, Leads, Agree};
@@ -119,7 +123,7 @@ pub fn coming_laws()
         Comes eyes view host thread token first → Comes eyes view other later token second → first ≡ second }
 {}
 
-/// What is seen of a turn that may be seen, and that changes its host alone or hands control over.
+/// What is seen of a turn that may be seen, whether it changes its host alone, hands control over or asks another host.
 pub fn seen_laws()
     // A quiet world that events lead to, and that leads to a view, leads after it to what is seen of it then.
     ensures turn { (eyes : Eyes) (rows : List declared_hosts.HostShape) (bad : ℕ) (store : List (List ℤ))
@@ -172,6 +176,59 @@ pub fn seen_laws()
         IsReached eyes.code rows bad store events one → IsReached eyes.code rows bad start others other →
         RunsHanding eyes.code one host → IsStep eyes.code one (Turn host) one_after →
         IsStep eyes.code other (Turn host) other_after →
+        IsQuiet eyes.code one → IsQuiet eyes.code other → Agree eyes one other → Agree eyes one_after other_after }
+    // A quiet world in which a thread asks another host leads to what is seen then, with what it carries.
+    ensures asks { (eyes : Eyes) (rows : List declared_hosts.HostShape) (bad : ℕ) (store : List (List ℤ))
+        (events : List Event) (world after : WorldShape) (host : HostId) (view : View)
+        (asking : RunsAsking eyes.code world host) →
+        AreEyes eyes → Watches eyes (world_at_start eyes.code rows bad store) →
+        IsReached eyes.code rows bad store events world → IsStep eyes.code world (Turn host) after →
+        IsQuiet eyes.code world → Leads eyes world view →
+        (seen : View)
+        × SeenAsking eyes view host (carried_asking eyes asking.state asking.thread asking.instruction.op) seen
+        × Leads eyes after seen }
+    // That is one view.
+    ensures asks_once { (eyes : Eyes) (view : View) (host : HostId) (carried : Carried) (first second : View) →
+        SeenAsking eyes view host carried first → SeenAsking eyes view host carried second → first ≡ second }
+    // In two quiet worlds that agree the turn carries the same, where the code releases nothing.
+    ensures asks_carried { (eyes : Eyes) (rows : List declared_hosts.HostShape) (bad : ℕ) (store start : List (List ℤ))
+        (events others : List Event) (one other : WorldShape) (host : HostId) (asking : RunsAsking eyes.code one host)
+        (twin : RunsAsking eyes.code other host) →
+        AreEyes eyes → ReleaseNothing eyes.code eyes.shades →
+        Watches eyes (world_at_start eyes.code rows bad store) →
+        Watches eyes (world_at_start eyes.code rows bad start) →
+        IsReached eyes.code rows bad store events one → IsReached eyes.code rows bad start others other →
+        IsQuiet eyes.code one → IsQuiet eyes.code other → Agree eyes one other →
+        carried_asking eyes asking.state asking.thread asking.instruction.op
+        ≡ carried_asking eyes twin.state twin.thread twin.instruction.op }
+    // So they agree after it.
+    ensures asks_agree { (eyes : Eyes) (rows : List declared_hosts.HostShape) (bad : ℕ) (store start : List (List ℤ))
+        (events others : List Event) (one other one_after other_after : WorldShape) (host : HostId) →
+        AreEyes eyes → ReleaseNothing eyes.code eyes.shades →
+        Watches eyes (world_at_start eyes.code rows bad store) →
+        Watches eyes (world_at_start eyes.code rows bad start) →
+        IsReached eyes.code rows bad store events one → IsReached eyes.code rows bad start others other →
+        RunsAsking eyes.code one host → IsStep eyes.code one (Turn host) one_after →
+        IsStep eyes.code other (Turn host) other_after → IsQuiet eyes.code one → IsQuiet eyes.code other →
+        Agree eyes one other → Agree eyes one_after other_after }
+    // Each turn changes its host alone, hands control over, or asks another host.
+    ensures turn_kinds { (eyes : Eyes) (rows : List declared_hosts.HostShape) (bad : ℕ) (store : List (List ℤ))
+        (events : List Event) (world after : WorldShape) (host : HostId) →
+        IsReached eyes.code rows bad store events world → IsStep eyes.code world (Turn host) after →
+        RunsAlone eyes.code world host ⊎ (RunsHanding eyes.code world host ⊎ RunsAsking eyes.code world host) }
+    // It does one of these alone.
+    ensures kinds_apart { (code : CodeShape) (world : WorldShape) (host : HostId) →
+        (¬ (RunsAlone code world host × RunsHanding code world host))
+        × (¬ (RunsAlone code world host × RunsAsking code world host))
+        × (¬ (RunsHanding code world host × RunsAsking code world host)) }
+    // So two quiet worlds that agree do after the turns of one host, where the code releases nothing.
+    ensures any_turn { (eyes : Eyes) (rows : List declared_hosts.HostShape) (bad : ℕ) (store start : List (List ℤ))
+        (events others : List Event) (one other one_after other_after : WorldShape) (host : HostId) →
+        AreEyes eyes → ReleaseNothing eyes.code eyes.shades →
+        Watches eyes (world_at_start eyes.code rows bad store) →
+        Watches eyes (world_at_start eyes.code rows bad start) →
+        IsReached eyes.code rows bad store events one → IsReached eyes.code rows bad start others other →
+        IsStep eyes.code one (Turn host) one_after → IsStep eyes.code other (Turn host) other_after →
         IsQuiet eyes.code one → IsQuiet eyes.code other → Agree eyes one other → Agree eyes one_after other_after }
 {}
 
@@ -283,6 +340,33 @@ pub fn worked_laws()
     ensures flies { (flight : Flight) →
         (sent_view idle (host_id 0) (host_id 1) flight false).flying (host_id 0) (host_id 1) ≡ flight ∷ [] }
     ensures flies_untold { (flight : Flight) → (sent_view idle (host_id 0) (host_id 1) flight false).sent ≡ [] }
+    // An element is asked for of a field that stands elsewhere, and not on the host. A result for the host itself is
+    // not sent.
+    ensures asks_other { AsksElsewhere small (host_id 0) second_token (op.Read a_field seven) }
+    ensures asks_own { ¬ (AsksElsewhere small (host_id 1) second_token (op.Read a_field seven)) }
+    ensures own_result { ¬ (AsksElsewhere small (host_id 0) second_token (op.Ret a_variable seven)) }
+    // A push that is asked for sends the token away, and a result goes into the frame of the token.
+    ensures asks_push { asked small (runs_at 3) second_token first_request (carried_value (pos 0))
+        (op.Ask (entry_id 1) (host_id 1)) ≡ Some (record {
+          to = host_id 1;
+          said = message.Sync first_request main_frame (entry_id 1) second_token;
+          awaited = token_of_entry;
+          later = record (runs_at 4) { held = None };
+        }) }
+    ensures sends_result { asked small (runs_at 3) other_token first_request (carried_value (pos 7))
+        (op.Ret a_variable seven) ≡ Some (record {
+          to = host_id 1;
+          said = message.Forward first_request other_frame a_variable (pos 7);
+          awaited = acknowledgement;
+          later = runs_at 4;
+        }) }
+    // A thread that asks waits, and what it asks for is in flight: the element that it carries, and no other.
+    ensures asks_once { SeenAsking small_eyes (came_to 1) (host_id 0) (carried_index (pos 0)) (asked_for (pos 0)) }
+    ensures asks_for_more { ¬ (SeenAsking small_eyes (came_to 1) (host_id 0) (carried_index (pos 0)) (asked_for (pos 7))) }
+    ensures asks_on { ¬ (SeenAsking small_eyes (came_to 1) (host_id 0) (carried_index (pos 0)) (came_to 2)) }
+    // No value is carried that is sent to be kept where it may not be seen.
+    ensures unseen_sent { (state : host_state.HostShape) (thread : ThreadShape) →
+        carried_asking small_eyes state thread (op.Send a_variable (host_id 1)) ≡ carried_value (pos 0) }
     // A value is not carried of what may not be seen, nor a guard into a block that may not be seen. Other guards are.
     ensures unseen_value { (state : host_state.HostShape) (thread : ThreadShape) →
         carried_in small_eyes state thread (op.Let a_variable seven) ≡ carried_value (pos 0) }

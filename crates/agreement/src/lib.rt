@@ -2,5 +2,9 @@
 #![tactic(auto)]
 
 mod laws;
+mod seen_runs;
+mod seen_takes;
 
 pub use laws::{coming_laws, hidden_laws, seen_laws, value_laws, view_laws, worked_laws};
+pub use seen_runs::run_laws;
+pub use seen_takes::{taken_examples, taken_laws};

@@ -1,4 +1,5 @@
 use Rattle.std.proofs.Common.{refl}
+use Rattle.agreement.proofs.AskingExamples as examples
 use Rattle.agreement.proofs.WorkedViews as worked
 use Rattle.agreement.proofs.laws.worked_laws.Goals as goal
 
@@ -24,6 +25,15 @@ returns c = record {
   flies_untold = λ flight. refl;
   own_call = refl;
   other_call = worked.other_call;
+  asks_other = examples.asks_other;
+  asks_own = examples.asks_own;
+  own_result = examples.own_result;
+  asks_push = refl;
+  sends_result = refl;
+  asks_once = examples.asks_once;
+  asks_for_more = examples.asks_for_more;
+  asks_on = examples.asks_on;
+  unseen_sent = λ state thread. refl;
   unseen_value = λ state thread. refl;
   seen_guard = λ state thread is. rw is refl;
   unseen_guard = λ state thread is. rw is refl;

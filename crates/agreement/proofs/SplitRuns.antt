@@ -1,0 +1,93 @@
+-- Two runs of a program that releases nothing, split by a plan, tell misbehaving hosts the same.
+use Rattle.std.proofs.Common.{◌≡◌, ◌∙◌, ℕ, zero, suc, ◌+◌, Bool, true, false, List, [], ◌∷◌, ◌++◌, Some, None, refl}
+use Rattle.std.specs.Prelude.{ℤ, ◌==◌, if◌then◌else◌, All, slice_get}
+use Rattle.std.specs.Int.{bit_at}
+use Rattle.host_decl.specs.Hosts as declared_hosts
+use Rattle.host_decl.specs.Hosts.{HostsShape}
+use Rattle.host_code.specs.Code.{CodeShape}
+use Rattle.host_core.specs.Start.{host_at_start}
+use Rattle.event_text.specs.declared.event.Event.{Event}
+use Rattle.need_labels.specs.Labelled.{Labelled}
+use Rattle.need_labels.specs.Needs.{NeedsShape}
+use Rattle.need_labels.specs.Plan.{PlanShape}
+use Rattle.net_world.specs.Fits.{HasOwnToken}
+use Rattle.net_world.specs.Secret.{IsSeenRun, IsPrompt}
+use Rattle.net_world.specs.Told.{SentMessage}
+use Rattle.net_world.specs.World.{WorldShape, is_absent, misbehaves, hosts_before, world_at_start}
+use Rattle.split_rules.specs.Allowed.{IsAllowed}
+use Rattle.split_rules.specs.Held.{IsHeld}
+use Rattle.split_rules.specs.SplitCode.{split_code}
+use Rattle.split_rules.specs.Splittable.{IsSplittable}
+use Rattle.split_rules.proofs.SoundSplit.{split_is_sound}
+use Rattle.split_shades.specs.Flows.{AreResultsLabelled}
+use Rattle.split_shades.specs.ShadedCode.{ReleaseNothing}
+use Rattle.split_shades.specs.Sites.{ReleasesNothing, scene_of}
+use Rattle.seen_world.specs.Eyes.{Eyes, AreEyes, Watches}
+use Rattle.seen_world.proofs.SeenWorlds.{split_has_eyes, label_read}
+use Rattle.agreement.specs.Alike.{AreStartsAlike, AreStoresAlike}
+use Rattle.agreement.proofs.RunsAgree.{told_alike}
+
+-- ---- who misbehaves at the start
+
+-- the starting values play no part
+same_absent : (code : CodeShape) (store start : List (List ℤ)) (bad number : ℕ) (rows : List declared_hosts.HostShape)
+    (place : ℕ) →
+    is_absent (slice_get (hosts_before code start bad number rows) place)
+    ≡ is_absent (slice_get (hosts_before code store bad number rows) place)
+same_absent code store start bad number [] place = refl
+same_absent code store start bad number (row ∷ rows) zero = by (bit_at bad number == 1)
+  where
+    by : (b : Bool) →
+        is_absent (Some (if b then None else Some (host_at_start code start row.key (record { 0 = number }))))
+        ≡ is_absent (Some (if b then None else Some (host_at_start code store row.key (record { 0 = number }))))
+    by true = refl
+    by false = refl
+same_absent code store start bad number (row ∷ rows) (suc place) =
+    same_absent code store start bad (number + 1) rows place
+
+-- ---- code that releases nothing
+
+silent_code : (eyes : Eyes) → AreEyes eyes → eyes.scene.may_release ≡ false → ReleaseNothing eyes.code eyes.shades
+silent_code eyes are silent host place there is =
+    (are.shaded.instructions host place there is).is_shade.silent silent
+
+stores_alike : (eyes : Eyes) (world : WorldShape) (store start : List (List ℤ)) → AreEyes eyes → Watches eyes world →
+    AreStoresAlike eyes.code world store start → AreStartsAlike eyes store start
+stores_alike eyes world store start are watch alike field there is seen obeys =
+    alike field there is ((label_read eyes world there.label are watch).0 seen) (watch there.host ∙ obeys)
+
+-- ---- programs
+
+pub split_tells : (labelled : Labelled) (needs : NeedsShape) (hosts : HostsShape) (plan : PlanShape) (bad : ℕ)
+    (store start : List (List ℤ)) (events others seen more : List Event) (one other : WorldShape) →
+    IsSplittable labelled hosts plan → IsAllowed labelled needs hosts plan → IsHeld labelled needs hosts plan →
+    AreResultsLabelled labelled.program → ReleasesNothing labelled.program →
+    AreStoresAlike (split_code labelled needs hosts plan)
+    (world_at_start (split_code labelled needs hosts plan) hosts.hosts bad store) store start →
+    All (HasOwnToken (world_at_start (split_code labelled needs hosts plan) hosts.hosts bad store)) seen →
+    IsSeenRun (split_code labelled needs hosts plan)
+    (world_at_start (split_code labelled needs hosts plan) hosts.hosts bad store) events (seen ++ more) one →
+    IsSeenRun (split_code labelled needs hosts plan)
+    (world_at_start (split_code labelled needs hosts plan) hosts.hosts bad start) others seen other →
+    IsPrompt (split_code labelled needs hosts plan)
+    (world_at_start (split_code labelled needs hosts plan) hosts.hosts bad store) events →
+    IsPrompt (split_code labelled needs hosts plan)
+    (world_at_start (split_code labelled needs hosts plan) hosts.hosts bad start) others →
+    (rest : List SentMessage) × (one.sent ≡ other.sent ++ rest)
+split_tells labelled needs hosts plan bad store start events others seen more one other splittable allowed held results
+    releases alike own ran ran_other prompt prompt_other =
+    let code = split_code labelled needs hosts plan in
+    let first = world_at_start code hosts.hosts bad store in
+    let have = split_has_eyes labelled needs hosts plan false (misbehaves first) splittable allowed held results
+    (λ silent. releases) in
+    let eyes : Eyes = record {
+      scene = scene_of labelled needs hosts plan false;
+      code = code;
+      shades = have.0;
+      bad = misbehaves first;
+      sees = have.1;
+    } in
+    told_alike eyes hosts.hosts bad store start events others seen more one other have.2
+    (split_is_sound labelled needs hosts plan splittable) refl (silent_code eyes have.2 refl) (λ host. refl)
+    (λ host. same_absent code store start bad 0 hosts.hosts host.0)
+    (stores_alike eyes first store start have.2 (λ host. refl) alike) own ran ran_other prompt prompt_other

@@ -1,0 +1,12 @@
+use Rattle.agreement.proofs.RunsAgree.{event_agrees, agree_sent, runs_agree, told_alike}
+use Rattle.agreement.proofs.SplitRuns.{split_tells}
+use Rattle.agreement.proofs.seen_runs.run_laws.Goals as goal
+
+pub returns : goal.returns
+returns c = record {
+  event = event_agrees;
+  sent = agree_sent;
+  runs = runs_agree;
+  tells = told_alike;
+  split = split_tells;
+}

@@ -1,0 +1,81 @@
+//! Laws of two runs of which the same may be seen. The calls do nothing: their contracts are the laws.
+
+ghost use Rattle.std.specs.Prelude.{◌≡◌, ℕ, ℤ, List, ◌++◌, All};
+ghost use Rattle.host_decl.specs.Hosts as declared_hosts;
+ghost use Rattle.host_decl.specs.Hosts.{HostsShape};
+ghost use Rattle.host_code.specs.Sound.{IsSoundCode};
+ghost use Rattle.event_text.specs.declared.event.Event.{Event};
+ghost use Rattle.need_labels.specs.Labelled.{Labelled};
+ghost use Rattle.need_labels.specs.Needs.{NeedsShape};
+ghost use Rattle.need_labels.specs.Plan.{PlanShape};
+ghost use Rattle.net_world.specs.Fits.{HasOwnToken};
+ghost use Rattle.net_world.specs.Secret.{IsQuiet, IsSeenRun, IsPrompt};
+ghost use Rattle.net_world.specs.Told.{SentMessage};
+ghost use Rattle.net_world.specs.World.{WorldShape, AreHostsOf, world_at_start, IsStep};
+ghost use Rattle.split_rules.specs.Allowed.{IsAllowed};
+ghost use Rattle.split_rules.specs.Held.{IsHeld};
+ghost use Rattle.split_rules.specs.SplitCode.{split_code};
+ghost use Rattle.split_rules.specs.Splittable.{IsSplittable};
+ghost use Rattle.split_shades.specs.Flows.{AreResultsLabelled};
+ghost use Rattle.split_shades.specs.ShadedCode.{ReleaseNothing};
+ghost use Rattle.split_shades.specs.Sites.{ReleasesNothing};
+ghost use Rattle.token_laws.specs.Reached.{IsReached};
+ghost use Rattle.seen_world.specs.Eyes.{Eyes, AreEyes, Watches};
+ghost use Rattle.agreement.specs.Alike.{AreStartsAlike, AreStoresAlike};
+ghost use Rattle.agreement.specs.Leads.{Agree};
+
+/// What two runs tell misbehaving hosts of which the same may be seen, where the code releases nothing. Such hosts
+/// present tokens that they were sent, or their own.
+pub fn run_laws()
+    // Two quiet worlds that agree do after the same event, whatever it is.
+    ensures event { (eyes : Eyes) (rows : List declared_hosts.HostShape) (bad : ℕ) (store start : List (List ℤ))
+        (events others : List Event) (one other one_after other_after : WorldShape) (event : Event) →
+        AreEyes eyes → ReleaseNothing eyes.code eyes.shades →
+        Watches eyes (world_at_start eyes.code rows bad store) →
+        Watches eyes (world_at_start eyes.code rows bad start) →
+        IsReached eyes.code rows bad store events one → IsReached eyes.code rows bad start others other →
+        HasOwnToken (world_at_start eyes.code rows bad store) event →
+        IsStep eyes.code one event one_after → IsStep eyes.code other event other_after →
+        IsQuiet eyes.code one → IsQuiet eyes.code other → Agree eyes one other → Agree eyes one_after other_after }
+    // In worlds that agree misbehaving hosts were sent the same.
+    ensures sent { (eyes : Eyes) (one other : WorldShape) → Agree eyes one other → one.sent ≡ other.sent }
+    // Two runs leave worlds that agree which begin alike, and of which the same events may be seen, each in a quiet
+    // world.
+    ensures runs { (eyes : Eyes) (rows : List declared_hosts.HostShape) (bad : ℕ) (store start : List (List ℤ))
+        (events others seen : List Event) (one other : WorldShape) →
+        AreEyes eyes → IsSoundCode eyes.code → AreHostsOf eyes.code rows → ReleaseNothing eyes.code eyes.shades →
+        Watches eyes (world_at_start eyes.code rows bad store) →
+        Watches eyes (world_at_start eyes.code rows bad start) → AreStartsAlike eyes store start →
+        All (HasOwnToken (world_at_start eyes.code rows bad store)) seen →
+        IsSeenRun eyes.code (world_at_start eyes.code rows bad store) events seen one →
+        IsSeenRun eyes.code (world_at_start eyes.code rows bad start) others seen other →
+        IsPrompt eyes.code (world_at_start eyes.code rows bad store) events →
+        IsPrompt eyes.code (world_at_start eyes.code rows bad start) others → Agree eyes one other }
+    // Where more is seen of one of them, what misbehaving hosts were sent in it begins with all that they were sent in
+    // the other.
+    ensures tells { (eyes : Eyes) (rows : List declared_hosts.HostShape) (bad : ℕ) (store start : List (List ℤ))
+        (events others seen more : List Event) (one other : WorldShape) →
+        AreEyes eyes → IsSoundCode eyes.code → AreHostsOf eyes.code rows → ReleaseNothing eyes.code eyes.shades →
+        Watches eyes (world_at_start eyes.code rows bad store) →
+        Watches eyes (world_at_start eyes.code rows bad start) → AreStartsAlike eyes store start →
+        All (HasOwnToken (world_at_start eyes.code rows bad store)) seen →
+        IsSeenRun eyes.code (world_at_start eyes.code rows bad store) events (seen ++ more) one →
+        IsSeenRun eyes.code (world_at_start eyes.code rows bad start) others seen other →
+        IsPrompt eyes.code (world_at_start eyes.code rows bad store) events →
+        IsPrompt eyes.code (world_at_start eyes.code rows bad start) others →
+        (rest : List SentMessage) × (one.sent ≡ other.sent ++ rest) }
+    // So it is of the code of a program that releases nothing and was checked, placed and split, whichever hosts
+    // misbehave: in two runs from stores with the same values in all fields on obeying hosts that misbehaving hosts may
+    // read.
+    ensures split { (labelled : Labelled) (needs : NeedsShape) (hosts : HostsShape) (plan : PlanShape) (bad : ℕ)
+        (store start : List (List ℤ)) (events others seen more : List Event) (one other : WorldShape) →
+        let code = split_code labelled needs hosts plan in
+        let first = world_at_start code hosts.hosts bad store in
+        let second = world_at_start code hosts.hosts bad start in
+        IsSplittable labelled hosts plan → IsAllowed labelled needs hosts plan → IsHeld labelled needs hosts plan →
+        AreResultsLabelled labelled.program → ReleasesNothing labelled.program →
+        AreStoresAlike code first store start → All (HasOwnToken first) seen →
+        IsSeenRun code first events (seen ++ more) one → IsSeenRun code second others seen other →
+        IsPrompt code first events → IsPrompt code second others →
+        (rest : List SentMessage) × (one.sent ≡ other.sent ++ rest) }
+{}
