@@ -51,6 +51,11 @@ one_of_some (Some x) P has = record { one = x; is = refl; has = has }
 pub some_of : {X : Type 0} (o : Option X) (P : X → Type 0) (x : X) → o ≡ Some x → P x → IsSomeAnd o P
 some_of o P x is has = subst (λ p. IsSomeAnd p P) (sym is) has
 
+-- no item is there for which it is impossible
+pub nothing : {X : Type 0} (o : Option X) → IsSomeAnd o (λ x. ⊥) → ⊥
+nothing None has = has
+nothing (Some x) has = has
+
 pub if_of : {X : Type 0} (o : Option X) (P : X → Type 0) (x : X) → o ≡ Some x → IfSome o P → P x
 if_of o P x is has = subst (λ p. IfSome p P) is has
 

@@ -1,7 +1,7 @@
--- Where no instruction enters a misbehaving host, no turn hands such a host a new token.
-use Rattle.std.proofs.Common.{◌≡◌, ◌∙◌, ◌⊎◌, inl, inr, ℕ, Bool, true, false, List, [], ◌∷◌, Option, Some, None, refl}
-use Rattle.std.proofs.Common.{sym, ap, subst, suc, get_or, arith}
-use Rattle.std.specs.Prelude.{◌==◌, if◌then◌else◌, pos, All, IfSome}
+-- What an instruction sends: a token goes to the host that it enters, or back to the host that the token names.
+use Rattle.std.proofs.Common.{◌≡◌, ◌∙◌, ◌⊎◌, inl, inr, Bool, true, false, List, Option, Some, None, refl}
+use Rattle.std.proofs.Common.{sym, ap}
+use Rattle.std.specs.Prelude.{◌==◌, if◌then◌else◌, pos}
 use Rattle.std.specs.Ordering.{int_eq}
 use Rattle.js_base.specs.declared.ids.HostId.{HostId}
 use Rattle.js_base.specs.declared.ids.EntryId.{EntryId}
@@ -11,35 +11,27 @@ use Rattle.js_base.specs.declared.ids.VarId.{VarId}
 use Rattle.capability.specs.declared.token.Token.{Token}
 use Rattle.host_code.specs.declared.code.Entry.{Entry}
 use Rattle.host_code.specs.declared.code_expr.Node.{Node}
-use Rattle.host_code.specs.declared.instruction.Instr.{Instr}
 use Rattle.host_code.specs.declared.instruction.Op.{Op}
 use Rattle.host_code.specs.declared.instruction.Op.TheVariants as op
 use Rattle.host_code.specs.declared.message.Message.{Message}
 use Rattle.host_code.specs.declared.message.Message.TheVariants as message
-use Rattle.host_code.specs.Code.{CodeShape, CodeFieldShape, instruction_at, field_at, entry_at}
+use Rattle.host_code.specs.Code.{CodeShape, CodeFieldShape, field_at, entry_at}
 use Rattle.host_code.specs.Thread.{ThreadShape}
-use Rattle.host_core.specs.Host.{HostShape, Outcome, with_message, without_message, with_running}
+use Rattle.host_core.specs.Host.{HostShape, Outcome, with_message, without_message}
 use Rattle.host_core.specs.Host.{value_in_thread}
 use Rattle.host_core.specs.Turn.{after_operation, after_read, after_put, after_own_push, after_ask, after_go}
-use Rattle.host_core.specs.Turn.{after_own_call, after_return, after_back, label_of_turn}
-use Rattle.host_core.specs.Turn.{IsTurnOf, IsRunning}
-use Rattle.event_text.specs.declared.event.Event.{Event}
-use Rattle.event_text.specs.declared.event.Event.TheVariants.{Act, Take, Turn}
-use Rattle.host_code.specs.Sound.{IsSoundCode}
-use Rattle.net_world.specs.Fits.{HasOwnToken, IsStateOf, ShapeFits}
-use Rattle.net_world.specs.World.{WorldShape, IsStep, IsTurnStep, misbehaves}
-use Rattle.net_world.proofs.Fitting.{bad_differs}
-use Rattle.net_world.proofs.Shapes.{own_kept, shape_step}
+use Rattle.host_core.specs.Turn.{after_own_call, after_return, after_back}
 use Rattle.net_world.specs.Told.{token_in}
-use Rattle.net_world.proofs.Moved.{moved_told, moved_posted, silent_sent}
-use Rattle.net_world.proofs.StepLaws.{same_misbehave}
-use Rattle.integrity.specs.Altering.{entered_host, EntersObeying, HandsNoNewToken, RunsQuietly}
-use Rattle.integrity.proofs.NewTokens.{nothing_sent, tokenless, theirs}
 
--- ---- what an instruction sends
+-- the host that an instruction hands control over to, or asks to push an entry
+abbrev pub entered_host : Op → Option HostId
+entered_host (op.Ask entry on) = Some on
+entered_host (op.Go entry on) = Some on
+entered_host (op.Call entry on) = Some on
+entered_host other = None
 
 -- A token goes to the host that the instruction enters, or back to its own host.
-data Sends (it : Op) (outcome : Outcome) : Type 0 where
+pub data Sends (it : Op) (outcome : Outcome) : Type 0 where
   silent : (new : HostShape) → without_message new ≡ outcome → Sends it outcome
   sends : (new : HostShape) (to : HostId) (m : Message) → with_message new to m ≡ outcome →
       ((token : Token) → token_in m ≡ Some token → (entered_host it ≡ Some to) ⊎ (token.host ≡ to)) →
@@ -100,7 +92,7 @@ back_sends it code host thread (Some held) passes =
     (sends _ held.host (message.Lgoto held) refl
     (λ token is. let same : held ≡ token = cc in inr (ap (λ (t : Token). t.host) (sym same))))
 
-operation_sends : (code : CodeShape) (bare : HostShape) (thread : ThreadShape) (it : Op) (passes : Bool) →
+pub operation_sends : (code : CodeShape) (bare : HostShape) (thread : ThreadShape) (it : Op) (passes : Bool) →
     Sends it (after_operation code bare thread it passes)
 operation_sends code bare thread (op.Read field index) passes =
     read_sends (op.Read field index) bare thread field index (field_at code field)
@@ -125,91 +117,3 @@ operation_sends code bare thread op.Back passes = back_sends op.Back code bare t
 operation_sends code bare thread (op.Branch guard target) passes =
     either_sends (op.Branch guard target) (int_eq (value_in_thread bare thread guard) (pos 0)) _ _ (silent _ refl)
     (silent _ refl)
-
--- ---- a turn
-
-module _ (code : CodeShape) (world after : WorldShape) (host : HostId) (step : IsTurnStep code world host after)
-    (fits : ShapeFits code world) (obeying : EntersObeying code world) where
-  mover_obeys : misbehaves world step.state.me ≡ false
-  mover_obeys = ap (misbehaves world) me ∙ by (misbehaves world host) refl
-    where
-      me : step.state.me ≡ host
-      me = (subst (λ one. IfSome one (IsStateOf code host)) step.obeys (fits.states host)).me
-
-      by : (bad : Bool) → misbehaves world host ≡ bad → misbehaves world host ≡ false
-      by true bad = absurd (bad_differs world host host step.state bad step.obeys refl)
-      by false good = good
-
-  told_one : (there : Instr) (at : ℕ) → instruction_at code step.state.me at ≡ Some there →
-      label_of_turn code step.state ≡ Some there.label → Sends there.op step.outcome →
-      HandsNoNewToken (Turn host) world after
-  told_one there at found labels (silent new is) =
-      nothing_sent world after host
-      (silent_sent world host step.outcome new (label_of_turn code step.state) after is step.leaves)
-  told_one there at found labels (sends new to m is goes) = by (misbehaves world to) refl
-    where
-      by_token : misbehaves world to ≡ true → (more : Option Token) → token_in m ≡ more →
-          HandsNoNewToken (Turn host) world after
-      by_token bad None none =
-          tokenless world after host to m
-          (moved_told world host step.outcome step.state new to m (label_of_turn code step.state) there.label after
-          step.obeys bad labels is step.leaves).sent none
-      by_token bad (Some token) some =
-          theirs world after host to m token
-          (moved_told world host step.outcome step.state new to m (label_of_turn code step.state) there.label after
-          step.obeys bad labels is step.leaves).sent some
-          (elim (goes token some) [
-            | inl enters ↦
-                absurd (let good = obeying step.state.me to at there mover_obeys found enters in
-                let never : true ≡ false = sym bad ∙ good in cc)
-            | inr same ↦ ap (misbehaves world) same ∙ bad
-          ])
-
-      by : (bad : Bool) → misbehaves world to ≡ bad → HandsNoNewToken (Turn host) world after
-      by true bad = by_token bad (token_in m) refl
-      by false good =
-          nothing_sent world after host
-          (moved_posted world host step.outcome step.state new to m (label_of_turn code step.state) there.label after
-          step.obeys good labels is step.leaves).sent
-
-  by_instruction : (thread : ThreadShape) → step.state.running ≡ Some thread → (found : Option Instr) →
-      instruction_at code step.state.me thread.at ≡ found →
-      IsRunning code (with_running step.state None) thread found step.outcome → HandsNoNewToken (Turn host) world after
-  by_instruction thread running None missing is =
-      nothing_sent world after host
-      (silent_sent world host step.outcome _ (label_of_turn code step.state) after is step.leaves)
-  by_instruction thread running (Some there) found is =
-      told_one there thread.at found (rw (running, found) refl)
-      (subst (Sends there.op) is.2
-      (operation_sends code (with_running step.state None) thread there.op is.0))
-
-  by_running : (running : Option ThreadShape) → step.state.running ≡ running →
-      IsTurnOf code step.state running step.outcome → HandsNoNewToken (Turn host) world after
-  by_running None rests is =
-      nothing_sent world after host
-      (silent_sent world host step.outcome _ (label_of_turn code step.state) after is step.leaves)
-  by_running (Some thread) running is =
-      by_instruction thread running (instruction_at code step.state.me thread.at) refl is
-
-  turn_hands : HandsNoNewToken (Turn host) world after
-  turn_hands = by_running step.state.running refl step.turns
-
-event_hands : (code : CodeShape) (event : Event) (world after : WorldShape) → IsStep code world event after →
-    ShapeFits code world → EntersObeying code world → HandsNoNewToken event world after
-event_hands code (Turn host) world after step fits obeying = turn_hands code world after host step fits obeying
-event_hands code (Take from to place) world after step fits obeying = tt
-event_hands code (Act from to made) world after step fits obeying = tt
-
-pub unentered_quiet : (code : CodeShape) → IsSoundCode code → (events : List Event) (world : WorldShape) →
-    ShapeFits code world → All (HasOwnToken world) events → EntersObeying code world → RunsQuietly code world events
-unentered_quiet code sound [] world fits own obeying = tt
-unentered_quiet code sound (event ∷ events) world fits own obeying = λ next step.
-    let first = own 0 event (omega arith) in (
-      event_hands code event world next step fits obeying,
-      unentered_quiet code sound events next (shape_step code world next event sound fits first step)
-          (λ k d lt. own_kept world next (get_or events k d) (λ host. same_misbehave code world next event host step)
-          (own (suc k) d (omega arith)))
-          (λ host on at there good found enters.
-          same_misbehave code world next event on step
-          ∙ obeying host on at there (sym (same_misbehave code world next event host step) ∙ good) found enters),
-    )

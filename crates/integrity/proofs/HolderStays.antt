@@ -160,7 +160,7 @@ module _ (code : CodeShape) (world after : WorldShape) (is : IsKnown code world)
       stays_gone code world after e.token fits step
       (own_before code world e.token.host at.one at.has.0 e is.fits at.is at.has.1) nobody standing.unsent
 
-  unsent_held : (e : StackEntry) → IsStanding world e → IsHeld after e.token → ¬ IsSent after e.token
+  pub unsent_held : (e : StackEntry) → IsStanding world e → IsHeld after e.token → ¬ IsSent after e.token
   unsent_held e standing held =
       let at = one_of_some (state_at world e.token.host) (λ state. IsAmong state.entries e) standing.there in
       still_unsent code world after e.token at.one is fits step

@@ -17,7 +17,11 @@ pub mod StandsOn
 pub mod StandsAtStart
 pub mod TightMoves
 pub mod ChainMoves
+pub mod LooseChains
 pub mod PopMoves
+pub mod LooseEvents
+pub mod LoosePops
+pub mod LooseLaws
 pub mod TurnMoves
 pub mod TakeMoves
 pub mod AnswerMoves
@@ -30,9 +34,11 @@ pub mod HeldFields
 pub mod StallMoves
 pub mod TakeLaws
 pub mod OwnEvents
-pub mod QuietRuns
-pub mod SetPrograms
 pub mod IntegrityExamples
 pub mod ChainExamples
-pub mod NewTokens
 pub mod Entering
+pub mod LeftOut
+pub mod LooseTurns
+pub mod LooseExamples
+pub mod AlteredRuns
+pub mod AlteredLaws

@@ -84,7 +84,7 @@ field_affected threat known field any =
     (any_each (λ label. MayChangeField threat.code label field) (λ label. IsSomeAnd there (IntegFlows label))
     threat.exposure.bad (λ label. known.fields label field) any)
 
-variable_affected : (threat : Threat) → IsKnown threat → (x : VarId) →
+pub variable_affected : (threat : Threat) → IsKnown threat → (x : VarId) →
     Any (λ label. MayChange threat.code label x) threat.exposure.bad → VariableIsAffected threat.exposure x
 variable_affected threat known x any =
     let there = slice_get threat.exposure.variables x.0 in
@@ -451,6 +451,12 @@ abbrev pub PopsOpen : Threat → HostShape → Option Token → Type 0
 PopsOpen threat host held = (token : Token) → held ≡ Some token → top_token host.entries ≡ Some token →
     TopIsOpen threat host.entries
 
+-- so it is where the thread's instruction gives its token back
+abbrev pub BacksOpen : Threat → HostShape → ThreadShape → Type 0
+BacksOpen threat host thread = (instruction : Instr) →
+    instruction_at threat.code host.me thread.at ≡ Some instruction → instruction.op ≡ op.Back →
+    PopsOpen threat host thread.held
+
 pops_if : (threat : Threat) (kinds : Kinds threat) → IsKnown threat → (host : HostShape) (passes : Bool) →
     HasOpen threat kinds host →
     All (EntryFits threat.code host.me) host.entries → (passes ≡ true → TopIsOpen threat host.entries) →
@@ -494,8 +500,8 @@ operation : (threat : Threat) (kinds : Kinds threat) → IsKnown threat →
     (host : HostShape) (thread : ThreadShape) (operation : Op) (count : ℕ)
     (passes : Bool) → HasOpen threat kinds host → ThreadIsOpen threat host.me thread →
     All (EntryFits threat.code host.me) host.entries → OperationFits threat.code host.me count operation →
-    (IsTrue passes → PassesWith threat.code host operation thread.held) → PopsOpen threat host thread.held →
-    OpIsOpen threat host.me thread.at operation →
+    (IsTrue passes → PassesWith threat.code host operation thread.held) →
+    (operation ≡ op.Back → PopsOpen threat host thread.held) → OpIsOpen threat host.me thread.at operation →
     LeavesOpen threat kinds host (after_operation threat.code host thread operation passes)
 operation threat kinds known host thread (op.Read field index) count passes was here fits names check may law =
     reads threat kinds host thread field index (field_at threat.code field) was here
@@ -555,7 +561,7 @@ operation threat kinds known host thread (op.Ret x value) count passes was here 
     (variable_affected threat known x
     (part threat host.me thread.at (op.Ret x value) (λ label. MayChange threat.code label x) (λ label one. one.0) law))
 operation threat kinds known host thread op.Back count passes was here fits names check may law =
-    gives_back threat kinds known host thread thread.held passes was here fits check may
+    gives_back threat kinds known host thread thread.held passes was here fits check (may refl)
 operation threat kinds known host thread (op.Branch guard target) count passes was here fits names check may law =
     either threat kinds host _ _ _ (λ is. goes_on threat kinds host _ was
     (part threat host.me thread.at (op.Branch guard target)
@@ -568,7 +574,7 @@ operation threat kinds known host thread (op.Branch guard target) count passes w
 running_open : (threat : Threat) (kinds : Kinds threat) → IsKnown threat →
     (host : HostShape) (thread : ThreadShape) (there : Option Instr)
     (outcome : Outcome) → HasOpen threat kinds host → ThreadIsOpen threat host.me thread →
-    StateFits threat.code host → PopsOpen threat host thread.held →
+    StateFits threat.code host → BacksOpen threat host thread →
     instruction_at threat.code host.me thread.at ≡ there → IsRunning threat.code host thread there outcome →
     LeavesOpen threat kinds host outcome
 running_open threat kinds known host thread None outcome was here fits may is step =
@@ -577,7 +583,7 @@ running_open threat kinds known host thread (Some instruction) outcome was here 
     subst (LeavesOpen threat kinds host) step.2
     (operation threat kinds known host thread instruction.op
     (temporaries_at threat.code.entries host.me (part_of threat.code host.me) thread.at) step.0 was here fits.entries
-    ((known.sound.parts host.me fits.me).instructions thread.at instruction is).operation step.1.0 may
+    ((known.sound.parts host.me fits.me).instructions thread.at instruction is).operation step.1.0 (may instruction is)
     (any_each (λ label. IsOpenTo threat.planned label (threat.table.at host.me.0 thread.at))
     (λ label. OpensOp threat.planned threat.code threat.table label host.me thread.at instruction.op)
     threat.exposure.bad
@@ -586,7 +592,7 @@ running_open threat kinds known host thread (Some instruction) outcome was here 
 turn_of : (threat : Threat) (kinds : Kinds threat) → IsKnown threat →
     (host : HostShape) (running : Option ThreadShape) (outcome : Outcome) →
     HasOpen threat kinds host → IfSome running (ThreadIsOpen threat host.me) → StateFits threat.code host →
-    IfSome running (λ thread. PopsOpen threat host thread.held) → IsTurnOf threat.code host running outcome →
+    IfSome running (BacksOpen threat host) → IsTurnOf threat.code host running outcome →
     LeavesOpen threat kinds host outcome
 turn_of threat kinds known host None outcome was here fits may step =
     subst (LeavesOpen threat kinds host) step (stands threat kinds host host refl refl refl was)
@@ -599,7 +605,7 @@ turn_of threat kinds known host (Some thread) outcome was here fits may step =
 -- an open thread's turn
 pub open_turn : (threat : Threat) (kinds : Kinds threat) → IsKnown threat → (host : HostShape) (outcome : Outcome) →
     HasOpen threat kinds host → StateFits threat.code host →
-    IfSome host.running (λ thread. PopsOpen threat host thread.held) → IsTurn threat.code host outcome →
+    IfSome host.running (BacksOpen threat host) → IsTurn threat.code host outcome →
     LeavesOpen threat kinds host outcome
 open_turn threat kinds known host outcome was fits may step =
     turn_of threat kinds known host host.running outcome was was.running fits may step

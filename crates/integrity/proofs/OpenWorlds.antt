@@ -45,7 +45,7 @@ use Rattle.token_laws.proofs.Walks.{same_bad, fits_there, one_more}
 use Rattle.integrity.specs.Exposed.{IsAsBefore, AreAsBefore, bad_labels}
 use Rattle.integrity.specs.Outside.{ThreadIsOpen, EntryIsOpen}
 use Rattle.integrity.specs.Outside.{Threat, StateIsOpen, MessageIsOpen, IsOutside}
-use Rattle.integrity.proofs.OpenSteps.{IsKnown, Kinds, HasOpen, TopIsOpen, PopsOpen, WakesOpen, DoesOpen}
+use Rattle.integrity.proofs.OpenSteps.{IsKnown, Kinds, HasOpen, TopIsOpen, BacksOpen, WakesOpen, DoesOpen}
 use Rattle.integrity.proofs.OpenSteps.{open_turn, open_taking, passes_open}
 
 -- ---- who misbehaves
@@ -174,9 +174,10 @@ top_open threat [] all = tt
 top_open threat (top ∷ below) all = all 0 top (omega arith)
 
 pops_open : (threat : Threat) (state : HostShape) (running : Option ThreadShape) → StateIsOpen threat state →
-    IfSome running (λ thread. PopsOpen threat state thread.held)
+    IfSome running (BacksOpen threat state)
 pops_open threat state None was = tt
-pops_open threat state (Some thread) was = λ token held top. top_open threat state.entries was.entries
+pops_open threat state (Some thread) was =
+    λ instruction at is token held top. top_open threat state.entries was.entries
 
 wakes_open : (threat : Threat) (state : HostShape) (place : Option ℕ) → StateIsOpen threat state →
     WakesOpen threat state place

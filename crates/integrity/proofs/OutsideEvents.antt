@@ -31,18 +31,19 @@ use Rattle.token_laws.proofs.EachFlight.{of_state}
 use Rattle.token_laws.proofs.HeldLaws.{all_at}
 use Rattle.token_laws.proofs.HostRequests.{Turns, turn_requests}
 use Rattle.integrity.specs.Exposed.{IsAsBefore}
-use Rattle.integrity.specs.Holding.{IsAmong, Holder, OwnsRunning, OwnsWaiting, OwnsMessage, IsOwn}
-use Rattle.integrity.specs.Holding.{StateIsOutside, IsStanding, IsTight}
+use Rattle.integrity.specs.Holding.{IsAmong, Holder, OwnsRunning, OwnsWaiting, OwnsMessage, IsOwn, IsThere}
+use Rattle.integrity.specs.Holding.{StateIsOutside, IsOutsideBut, IsStanding, IsTight}
 use Rattle.integrity.specs.Outside.{Threat, ThreadIsOpen, EntryIsOpen, MessageIsOpen}
 use Rattle.integrity.proofs.Among.{among_push, among_without, one_of_some, some_of, each_among, all_among}
 use Rattle.integrity.proofs.FliesOn.{FlyAs, flies_without, sends_on, all_without, all_sent}
 use Rattle.integrity.proofs.HeldTokens.{IsKeptBy, StandsThere, chain_kept, not_running, not_flying, given_back}
 use Rattle.integrity.proofs.HolderStays.{LeavesAlone}
-use Rattle.integrity.proofs.OpenSteps.{IsKnown, Kinds, HasOpen, LeavesOpen, FramesStay, TopIsOpen, PopsOpen, WakesOpen}
+use Rattle.integrity.proofs.OpenSteps.{IsKnown, Kinds, HasOpen, LeavesOpen, FramesStay, TopIsOpen, BacksOpen, WakesOpen}
 use Rattle.integrity.proofs.OpenSteps.{DoesOpen, open_turn, open_taking, passes_open}
 use Rattle.integrity.proofs.OpenWorlds.{state_fits}
 use Rattle.integrity.proofs.StackMoves as stacks
-use Rattle.integrity.proofs.StackMoves.{Restacks, RunsWith, GivesBack, restacks_by, turn_restacks, taking_restacks}
+use Rattle.integrity.proofs.StackMoves.{Restacks, RunsWith, RunsBack, GivesBack, restacks_by, back_restacks}
+use Rattle.integrity.proofs.StackMoves.{taking_restacks}
 use Rattle.integrity.proofs.TightKept.{IsLawful, tokens_known, Comes, flies, told, not_woken, rests_apart}
 use Rattle.integrity.proofs.WaitMoves.{WaitsAt, found_at, Rewaits, stays, wakes, taking_rewaits}
 
@@ -56,8 +57,12 @@ pub record IsSafe (world : WorldShape) (holder : Holder) (token : Token) : Type 
   pub unsent : ¬ IsSent world token
   pub kept : IsKeptBy world holder token
 
-safe : (threat : Threat) (chain : List StackEntry) (holder : Holder) (world : WorldShape) →
-    IsTight threat chain holder world → (e : StackEntry) → IsAmong chain e → IsSafe world holder e.token
+-- so it is with each entry of some
+abbrev pub AreSafe : List StackEntry → Holder → WorldShape → Type 0
+AreSafe chain holder world = (e : StackEntry) → IsAmong chain e → IsSafe world holder e.token
+
+pub safe : (threat : Threat) (chain : List StackEntry) (holder : Holder) (world : WorldShape) →
+    IsTight threat chain holder world → AreSafe chain holder world
 safe threat chain holder world tight e among =
     let one = each_among (IsStanding world) chain e tight.standing among in
     let at = one_of_some (state_at world e.token.host) (λ state. IsAmong state.entries e) one.there in
@@ -72,35 +77,36 @@ safe threat chain holder world tight e among =
     }
 
 -- a token that no entry of the chain has
-abbrev IsNone : List StackEntry → Token → Type 0
+abbrev pub IsNone : List StackEntry → Token → Type 0
 IsNone chain token = (e : StackEntry) → IsAmong chain e → e.token ≢ token
 
-run_none : (threat : Threat) (chain : List StackEntry) (holder : Holder) (world : WorldShape) → IsLawful threat world →
-    IsTight threat chain holder world → (me : HostId) (state : HostShape) → state_at world me ≡ Some state →
-    (OwnsRunning holder me → ⊥) → (token : Token) → RunsWith state.running token → IsNone chain token
-run_none threat chain holder world is tight me state obeys apart token held e among same =
-    let it = safe threat chain holder world tight e among in
+pub run_none : (threat : Threat) (chain : List StackEntry) (holder : Holder) (world : WorldShape) →
+    IsLawful threat world → AreSafe chain holder world → (me : HostId) (state : HostShape) →
+    state_at world me ≡ Some state → (OwnsRunning holder me → ⊥) → (token : Token) → RunsWith state.running token →
+    IsNone chain token
+run_none threat chain holder world is safe_each me state obeys apart token held e among same =
+    let it = safe_each e among in
     not_running threat.code world holder e.token me (tokens_known threat world is) it.obeys it.unsent it.kept
     (some_of (state_at world me) (λ s. IsSomeAnd s.running (λ t. t.held ≡ Some e.token)) state obeys
     (subst (RunsWith state.running) (sym same) held)) apart
 
-fly_none : (threat : Threat) (chain : List StackEntry) (holder : Holder) (world : WorldShape) → IsLawful threat world →
-    IsTight threat chain holder world → (from to : HostId) (place : ℕ) (flight : Flight) →
+pub fly_none : (threat : Threat) (chain : List StackEntry) (holder : Holder) (world : WorldShape) →
+    IsLawful threat world → AreSafe chain holder world → (from to : HostId) (place : ℕ) (flight : Flight) →
     slice_get (world.flying from to) place ≡ Some flight → ¬ IsOwn holder world (Take from to place) →
     (token : Token) → GivesBack flight.message token → IsNone chain token
-fly_none threat chain holder world is tight from to place flight there apart token gives e among same =
-    let it = safe threat chain holder world tight e among in
+fly_none threat chain holder world is safe_each from to place flight there apart token gives e among same =
+    let it = safe_each e among in
     not_flying threat.code world holder e.token from to place (tokens_known threat world is) it.obeys it.unsent it.kept
     (some_of (slice_get (world.flying from to) place) (λ f. token_in f.message ≡ Some e.token) flight there
     (ap token_in gives ∙ ap (λ (t : Token). Some t) (sym same)))
     (λ other here own.
     apart (some_of (slice_get (world.flying from to) place) (λ f. OwnsMessage holder from to f.message) other here own))
 
-act_none : (threat : Threat) (chain : List StackEntry) (holder : Holder) (world : WorldShape) →
-    IsTight threat chain holder world → (made : BadMessage) (m : Message) → OwnTokenIn world made →
-    message_made (tokens_sent world) made ≡ Some m → (token : Token) → GivesBack m token → IsNone chain token
-act_none threat chain holder world tight made m own makes token gives e among same =
-    let it = safe threat chain holder world tight e among in
+pub act_none : (chain : List StackEntry) (holder : Holder) (world : WorldShape) → AreSafe chain holder world →
+    (made : BadMessage) (m : Message) → OwnTokenIn world made → message_made (tokens_sent world) made ≡ Some m →
+    (token : Token) → GivesBack m token → IsNone chain token
+act_none chain holder world safe_each made m own makes token gives e among same =
+    let it = safe_each e among in
     elim (given_back world made token own (makes ∙ ap (λ (x : Message). Some x) gives)) [
       | inl bad ↦
           bad_differs world token.host e.token.host it.state bad it.is (ap (λ (t : Token). t.host) (sym same))
@@ -142,15 +148,15 @@ top_open threat chain (top ∷ below) all apart =
 
 pops_open : (threat : Threat) (chain : List StackEntry) (state : HostShape) (running : Option ThreadShape) →
     All (λ on_stack. IsAmong chain on_stack ⊎ EntryIsOpen threat on_stack.entry) state.entries →
-    ((token : Token) → RunsWith running token → IsNone chain token) →
-    IfSome running (λ thread. PopsOpen threat state thread.held)
+    ((token : Token) → RunsBack threat.code state.me running token → top_token state.entries ≡ Some token →
+    IsNone chain token) → IfSome running (BacksOpen threat state)
 pops_open threat chain state None all apart = tt
 pops_open threat chain state (Some thread) all apart =
-    λ token held top.
+    λ instruction at back token held top.
     top_open threat chain state.entries all (λ other is.
     let both : Some token ≡ Some other = sym top ∙ is in
     let same : token ≡ other = cc in
-    apart other (held ∙ ap (λ (t : Token). Some t) same))
+    apart other (held ∙ ap (λ (t : Token). Some t) same, instruction, at, back) is)
 
 does_open : (threat : Threat) (state : HostShape) (from : HostId) (m : Message) → MessageIsOpen threat m →
     ((token : Token) → m ≡ message.Lgoto token → top_token state.entries ≡ Some token →
@@ -202,20 +208,21 @@ waiting_more old outcome one (inr asks) among =
     subst (λ list. IsAmong list one) (sym asks.waiting) (among_push old.waiting asks.thread one among)
 
 pub turn_leaves : (threat : Threat) → IsKnown threat → (chain : List StackEntry) (holder : Holder)
-    (world after : WorldShape) (me : HostId) → IsLawful threat world → IsTurnStep threat.code world me after →
-    IsTight threat chain holder world → (OwnsRunning holder me → ⊥) → Leaves threat chain holder world after
-turn_leaves threat known chain holder world after me is step tight apart =
+    (world after : WorldShape) (me : HostId) → IsLawful threat world → (step : IsTurnStep threat.code world me after) →
+    IsOutsideBut threat chain holder world → (OwnsRunning holder me → ⊥) →
+    ((token : Token) → RunsBack threat.code step.state.me step.state.running token →
+    top_token step.state.entries ≡ Some token → IsNone chain token) → Leaves threat chain holder world after
+turn_leaves threat known chain holder world after me is step outside apart none =
     let fits = state_fits threat world me step.state is.fits step.obeys in
-    let none = run_none threat chain holder world is tight me step.state step.obeys apart in
-    let was = of_state (StateIsOutside threat chain holder) world me step.state tight.outside.states step.obeys in
+    let was = of_state (StateIsOutside threat chain holder) world me step.state outside.states step.obeys in
     let has =
     has_open threat chain holder step.state was (λ own. apart (subst (OwnsRunning holder) fits.me own)) in
     let leaves =
     open_turn threat (but threat chain holder) known step.state step.outcome has fits.fits
     (pops_open threat chain step.state step.state.running was.entries none) step.turns in
     let stack =
-    restacks_by (RunsWith step.state.running) (IsNone chain) step.state step.outcome.state none
-    (turn_restacks threat.code step.state step.outcome step.turns) in
+    restacks_by (RunsBack threat.code step.state.me step.state.running) (IsNone chain) step.state step.outcome.state
+    none (back_restacks threat.code step.state step.outcome step.turns) in
     record {
       alone = record {
         me = me;
@@ -241,33 +248,33 @@ turn_leaves threat known chain holder world after me is step tight apart =
           λ from to m. OwnsMessage holder from to m ⊎ MessageIsOpen threat m in
           subst (λ (w : WorldShape). FlyAs P w.flying) step.leaves
           (all_sent P (with_state world me step.outcome.state) me (label_of_turn threat.code step.state)
-          step.outcome.sent tight.outside.flying (said_open threat holder me step.outcome.sent leaves.sent));
+          step.outcome.sent outside.flying (said_open threat holder me step.outcome.sent leaves.sent));
       halts = not_halted threat chain step.state step.outcome.state was.entries stack;
     }
 
 -- ---- a message
 
--- a message that is none of the holder's comes to a host at rest
+-- A message that is none of the holder's comes to a host at rest, and takes no entry of the chain off its stack.
 record IsComing (threat : Threat) (chain : List StackEntry) (holder : Holder) (world : WorldShape) (from me : HostId)
     (state : HostShape) (m : Message) : Type 0 where
   obeys : state_at world me ≡ Some state
   rests : state.running ≡ None
   comes : Comes world from me m
   apart : OwnsMessage holder from me m → ⊥
-  none : (token : Token) → GivesBack m token → IsNone chain token
+  none : (token : Token) → GivesBack m token → top_token state.entries ≡ Some token → IsNone chain token
   said : Passes threat.code state from m → MessageIsOpen threat m
 
 module _ (threat : Threat) (known : IsKnown threat) (chain : List StackEntry) (holder : Holder) (world : WorldShape)
-    (is : IsLawful threat world) (tight : IsTight threat chain holder world) (from me : HostId) (state : HostShape)
-    (m : Message) (it : IsComing threat chain holder world from me state m) where
+    (is : IsLawful threat world) (there : IsThere world holder) (outside : IsOutsideBut threat chain holder world)
+    (from me : HostId) (state : HostShape) (m : Message) (it : IsComing threat chain holder world from me state m) where
   sleeps : (request : RequestId) (place : ℕ) (one : WaitingShape) → number_answered m ≡ Some request →
       WaitsAt state.waiting request from place one → OwnsWaiting holder me one → ⊥
   sleeps request place one answer at own =
-      not_woken threat world is holder tight.there me from state m request place one it.obeys at answer own it.comes
+      not_woken threat world is holder there me from state m request place one it.obeys at answer own it.comes
       it.apart
 
   was : StateIsOutside threat chain holder state
-  was = of_state (StateIsOutside threat chain holder) world me state tight.outside.states it.obeys
+  was = of_state (StateIsOutside threat chain holder) world me state outside.states it.obeys
 
   me_is : state.me ≡ me
   me_is = (state_fits threat world me state is.fits it.obeys).me
@@ -281,7 +288,7 @@ module _ (threat : Threat) (known : IsKnown threat) (chain : List StackEntry) (h
       (subst (λ h. OwnsWaiting holder h waiting) me_is own))
 
   not_here : OwnsRunning holder me → ⊥
-  not_here = rests_apart world holder me state tight.there it.obeys it.rests
+  not_here = rests_apart world holder me state there it.obeys it.rests
 
   taking_leaves : (outcome : Outcome) → IsTaking threat.code state from m outcome →
       LeavesOpen threat (but threat chain holder) state outcome
@@ -294,7 +301,7 @@ module _ (threat : Threat) (known : IsKnown threat) (chain : List StackEntry) (h
       (λ token gives top. top_open threat chain state.entries was.entries (λ other also.
       let both : Some token ≡ Some other = sym top ∙ also in
       let same : token ≡ other = cc in
-      subst (IsNone chain) same (it.none token gives))) wakes_open passes) takes
+      subst (IsNone chain) same (it.none token gives top))) wakes_open passes) takes
 
   still_waits : (new : List WaitingShape) (one : WaitingShape) → Rewaits from m state.waiting new →
       IsAmong state.waiting one → OwnsWaiting holder me one → IsAmong new one
@@ -338,9 +345,11 @@ module _ (threat : Threat) (known : IsKnown threat) (chain : List StackEntry) (h
 
 pub take_leaves : (threat : Threat) → IsKnown threat → (chain : List StackEntry) (holder : Holder)
     (world after : WorldShape) (from to : HostId) (place : ℕ) → IsLawful threat world →
-    IsTakeStep threat.code world from to place after → IsTight threat chain holder world →
-    ¬ IsOwn holder world (Take from to place) → Leaves threat chain holder world after
-take_leaves threat known chain holder world after from to place is step tight apart =
+    (step : IsTakeStep threat.code world from to place after) → IsThere world holder →
+    IsOutsideBut threat chain holder world → ¬ IsOwn holder world (Take from to place) →
+    ((token : Token) → GivesBack step.flight.message token → top_token step.state.entries ≡ Some token →
+    IsNone chain token) → Leaves threat chain holder world after
+take_leaves threat known chain holder world after from to place is step there outside apart none =
     let P : HostId → HostId → Message → Type 0 = λ one other m. OwnsMessage holder one other m ⊎
     MessageIsOpen threat m in
     let m = step.flight.message in
@@ -354,15 +363,15 @@ take_leaves threat known chain holder world after from to place is step tight ap
       rests = step.rests;
       comes = flies (record { flight = step.flight; among = (place, step.there); is = refl });
       apart = not_own;
-      none = fly_none threat chain holder world is tight from to place step.flight step.there apart;
+      none = none;
       said = λ passes.
           other_of (all_at (λ (f : Flight). P from to f.message) (world.flying from to) place step.flight
-          (tight.outside.flying from to) step.there) not_own;
+          (outside.flying from to) step.there) not_own;
     } in
     let leaves =
-    taking_leaves threat known chain holder world is tight from to step.state m it step.outcome step.takes in
+    taking_leaves threat known chain holder world is there outside from to step.state m it step.outcome step.takes in
     let left = without_flight world from to place in
-    event_leaves threat known chain holder world is tight from to step.state m it after step.outcome step.takes
+    event_leaves threat known chain holder world is there outside from to step.state m it after step.outcome step.takes
     (take_puts threat.code world after from to place step)
     (λ one other flight among own.
     subst (λ (w : WorldShape). IsAmong (w.flying one other) flight) step.leaves
@@ -376,14 +385,16 @@ take_leaves threat known chain holder world after from to place is step tight ap
     (subst (λ h. OwnsMessage holder one h flight.message) second own)))))))
     (subst (λ (w : WorldShape). FlyAs P w.flying) step.leaves
     (all_sent P (with_state left to step.outcome.state) to (Some step.flight.label) step.outcome.sent
-    (all_without P world from to place tight.outside.flying)
+    (all_without P world from to place outside.flying)
     (said_open threat holder to step.outcome.sent leaves.sent)))
 
 pub act_leaves : (threat : Threat) → IsKnown threat → (chain : List StackEntry) (holder : Holder)
-    (world after : WorldShape) (from to : HostId) (made : BadMessage) → IsLawful threat world → OwnTokenIn world made →
-    IsActStep threat.code world from to made after → IsTight threat chain holder world →
-    ¬ IsOwn holder world (Act from to made) → Leaves threat chain holder world after
-act_leaves threat known chain holder world after from to made is own step tight apart =
+    (world after : WorldShape) (from to : HostId) (made : BadMessage) → IsLawful threat world →
+    (step : IsActStep threat.code world from to made after) → IsThere world holder →
+    IsOutsideBut threat chain holder world → ¬ IsOwn holder world (Act from to made) →
+    ((token : Token) → GivesBack step.message token → top_token step.state.entries ≡ Some token →
+    IsNone chain token) → Leaves threat chain holder world after
+act_leaves threat known chain holder world after from to made is step there outside apart none =
     let m = step.message in
     let sender = is.bad from step.bad in
     let it : IsComing threat chain holder world from to step.state m =
@@ -393,12 +404,12 @@ act_leaves threat known chain holder world after from to made is own step tight 
       comes = told step.bad;
       apart = λ its.
           apart (some_of (message_made (tokens_sent world) made) (OwnsMessage holder from to) m step.makes its);
-      none = act_none threat chain holder world tight made m own step.makes;
+      none = none;
       said = passes_open threat known step.state from sender.label m sender.of_host sender.among;
     } in
     let flying = (moved_acted world to step.outcome after step.leaves).flying in
-    event_leaves threat known chain holder world is tight from to step.state m it after step.outcome step.takes
+    event_leaves threat known chain holder world is there outside from to step.state m it after step.outcome step.takes
     (act_puts threat.code world after from to made step)
     (λ one other flight among its. subst (λ f. IsAmong (f one other) flight) (sym flying) among)
     (subst (FlyAs (λ one other said. OwnsMessage holder one other said ⊎ MessageIsOpen threat said)) (sym flying)
-    tight.outside.flying)
+    outside.flying)

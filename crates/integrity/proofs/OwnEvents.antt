@@ -19,7 +19,7 @@ use Rattle.token_laws.proofs.HeldLaws.{has_state}
 use Rattle.typed_steps.specs.Views.{Split, View}
 use Rattle.integrity.specs.Holding.{Holder, runs, asked, answered, stuck, passes, lost, halted, IsOwn, OwnsMessage}
 use Rattle.integrity.specs.Standing.{threat_in, IsFree, StandsBy}
-use Rattle.integrity.proofs.Among.{one_of_some, some_of}
+use Rattle.integrity.proofs.Among.{nothing, one_of_some, some_of}
 use Rattle.integrity.proofs.TakeLaws.{IsOnly, state_of, asked_only, answered_only, passes_only}
 use Rattle.integrity.proofs.TightKept.{IsLawful}
 
@@ -51,10 +51,6 @@ own_there : (holder : Holder) (world : WorldShape) (from to : HostId) (flight : 
     OwnsMessage holder from to flight.message → IsOwn holder world (Take from to place)
 own_there holder world from to flight place there own =
     some_of (slice_get (world.flying from to) place) (λ f. OwnsMessage holder from to f.message) flight there own
-
-none_own : (world : WorldShape) (from to : HostId) (place : ℕ) →
-    IsSomeAnd (slice_get (world.flying from to) place) (λ f. ⊥) → ⊥
-none_own world from to place has = (one_of_some (slice_get (world.flying from to) place) (λ f. ⊥) has).has
 
 abbrev Decided : Type 0 → Type 0
 Decided A = A ⊎ (¬ A)
@@ -88,7 +84,7 @@ module _ (split : Split) (c : Configuration) (view : View) (world : WorldShape) 
   where
     pub decide_take : (holder : Holder) → StandsBy split c view holder world → (from to : HostId) (k : ℕ) →
         IsOwn holder world (Take from to k) ⊎ (¬ IsOwn holder world (Take from to k))
-    decide_take (runs host thread) stands from to k = inr (none_own world from to k)
+    decide_take (runs host thread) stands from to k = inr (nothing (slice_get (world.flying from to) k))
     decide_take (asked host w m) stands from to k =
         let flies = stands.tight.there.1 in
         let state = state_of world host w stands.tight.there.0 in
@@ -115,8 +111,8 @@ module _ (split : Split) (c : Configuration) (view : View) (world : WorldShape) 
         (own_there (passes sender target m) world sender target flies.flight flies.among.0 flies.among.1
         (refl, refl, flies.is))
         (passes_only split c view world is sender target m stands flies.among.0 flies.flight flies.among.1 flies.is)
-    decide_take lost stands from to k = inr (none_own world from to k)
-    decide_take halted stands from to k = inr (none_own world from to k)
+    decide_take lost stands from to k = inr (nothing (slice_get (world.flying from to) k))
+    decide_take halted stands from to k = inr (nothing (slice_get (world.flying from to) k))
 
     pub decide_turn : (holder : Holder) (host : HostId) →
         IsOwn holder world (Turn host) ⊎ (¬ IsOwn holder world (Turn host))

@@ -32,7 +32,8 @@ use Rattle.integrity.proofs.Among.{one_of_some, some_of}
 use Rattle.integrity.proofs.FliesOn.{FlyAs}
 use Rattle.integrity.proofs.HolderStays.{on_some}
 use Rattle.integrity.proofs.OutsideEvents.{other_of}
-use Rattle.integrity.proofs.PopMoves.{Popping, was_at, pops_own, loses}
+use Rattle.integrity.proofs.LooseChains.{unsent_below}
+use Rattle.integrity.proofs.PopMoves.{Popping, was_at, pops_held, loses}
 use Rattle.integrity.proofs.TakeMoves.{Taking, cell_apart, left_open, left_flying, me_is, none_halted, standing_each}
 use Rattle.integrity.proofs.TakeMoves.{taken_is, was}
 use Rattle.integrity.proofs.TightMoves.{tight_moved, all_as}
@@ -137,7 +138,12 @@ module _ (split : Split) (c : Configuration) (view : View) (m : Message) (world 
   popping : (token : Token) → m ≡ message.Lgoto token → GoesBack split c view to token → after.sent ≡ world.sent →
       Popping split c view (passes from to m) world after to
   popping token is g quiet = record {
-    stands = t.stands;
+    outside = t.stands.tight.outside;
+    linked = t.stands.tight.linked;
+    there = λ e among. (standing_each split c view (passes from to m) world after from to place t e among).there;
+    unsent = unsent_below world (entries_of view.chain) t.stands.tight.standing;
+    holds = t.stands.holds;
+    runs_on = λ has. let same = t.stands.halts has in absurd (cc);
     is_chain = t.stands.does.0;
     lawful = t.lawful;
     fits = t.fits;
@@ -172,14 +178,13 @@ module _ (split : Split) (c : Configuration) (view : View) (m : Message) (world 
         (was split c view (passes from to m) world after from to place t).waiting;
     own_runs = λ other apart own. own;
     own_waits = λ other one own. own;
-    place = in_flight from to place;
-    not_kept = λ other at same. absurd (cc);
-    held = λ other top.
-        some_of (slice_get (world.flying from to) place)
-        (λ f. token_in f.message ≡ Some other) t.step.flight t.step.there
-        (ap token_in (message_is ∙ is) ∙ sym g.top ∙ top);
-    goes = λ same. absurd (cc);
   }
+
+  held_here : (token : Token) → m ≡ message.Lgoto token → GoesBack split c view to token → (other : Token) →
+      top_token (entries_of view.chain) ≡ Some other → HoldsAt world other (in_flight from to place)
+  held_here token is g other top =
+      some_of (slice_get (world.flying from to) place) (λ f. token_in f.message ≡ Some other) t.step.flight t.step.there
+      (ap token_in (message_is ∙ is) ∙ sym g.top ∙ top)
 
   -- where it is not the top one's, nobody has it any more
   nobody_has : (new : HostShape) → new.running ≡ t.step.state.running → new.waiting ≡ t.step.state.waiting →
@@ -229,8 +234,8 @@ module _ (split : Split) (c : Configuration) (view : View) (m : Message) (world 
       let quiet =
       silent_sent (without_flight world from to place) to t.step.outcome
       (after_pop split.code t.step.state t.step.state.entries) (Some t.step.flight.label) after taken t.step.leaves in
-      pops_own split c view (passes from to m) world after to (popping token is g quiet) token g.host g.top (top refl)
-      g.gives_up taken
+      pops_held split c view (passes from to m) world after to (popping token is g quiet) (in_flight from to place)
+      (λ other at same. absurd (cc)) token (held_here token is g token g.top) g.host g.top (top refl) g.gives_up taken
   comes_if token is g false top taken =
       let new : HostShape = with_one_ignored t.step.state in
       let quiet =
@@ -239,7 +244,8 @@ module _ (split : Split) (c : Configuration) (view : View) (m : Message) (world 
       let silent =
       moved_silent (without_flight world from to place) to t.step.outcome new (Some t.step.flight.label) after taken
       t.step.leaves in
-      loses split c view (passes from to m) world after to (popping token is g quiet) g.gives_up taken
+      loses split c view (passes from to m) world after to (popping token is g quiet) (in_flight from to place)
+      (held_here token is g) t.stands.tight.standing g.gives_up taken
       (nobody_has new refl refl refl (record { hosts = silent.hosts; flying = silent.flying }))
 
   comes_back : (token : Token) → m ≡ message.Lgoto token → GoesBack split c view to token → Goes split c after

@@ -24,24 +24,27 @@ use Rattle.token_laws.proofs.WorldTokens.{Accounts}
 use Rattle.typed_steps.specs.Chains.{IsChain, chain_due}
 use Rattle.typed_steps.specs.Requests.{GivesUp, starting}
 use Rattle.typed_steps.specs.Threads.{IsLeft}
-use Rattle.typed_steps.specs.Variables.{Sends}
+use Rattle.typed_steps.specs.Variables.{Sends, Holds}
 use Rattle.typed_steps.specs.Views.{Split, View, Link, entries_of}
 use Rattle.typed_steps.proofs.HeldSteps.{holds_same, holds_calm}
 use Rattle.typed_steps.proofs.Pops.{Ended, Continued, popped}
 use Rattle.integrity.specs.Holding.{IsAmong, Holder, runs, lost, halted, IsThere, HasTop, OwnsRunning, OwnsWaiting}
-use Rattle.integrity.specs.Holding.{OwnsMessage, StateIsOutside, AreLinked, IsStanding, IsTight}
+use Rattle.integrity.specs.Holding.{OwnsMessage, StateIsOutside, IsOutsideBut, AreLinked, IsStanding, IsTight}
+use Rattle.integrity.specs.Loose.{AreUnsentBelow}
 use Rattle.integrity.specs.Outside.{ThreadIsOpen, EntryIsOpen, MessageIsOpen}
 use Rattle.integrity.specs.Standing as standing
-use Rattle.integrity.specs.Standing.{threat_in, StandsBy, Goes}
-use Rattle.integrity.proofs.Among.{all_among, each_among, one_of_some, some_of, same_item}
+use Rattle.integrity.specs.Standing.{threat_in, IsFree, StandsBy, Goes}
+use Rattle.integrity.proofs.Among.{each_among, one_of_some, some_of, same_item}
 use Rattle.integrity.proofs.ChainMoves.{linked_below}
 use Rattle.integrity.proofs.FliesOn.{FlyAs}
-use Rattle.integrity.proofs.HeldTokens.{StandsThere, later_held}
+use Rattle.integrity.proofs.HeldTokens.{StandsThere}
 use Rattle.integrity.proofs.HolderStays.{on_some, below_top}
+use Rattle.integrity.proofs.LooseChains.{below_first, unsent_each, none_below}
 use Rattle.integrity.proofs.OpenWorlds.{state_fits}
+use Rattle.integrity.proofs.OutsideEvents.{IsNone}
 use Rattle.integrity.proofs.StandsOn.{halted_before}
 use Rattle.integrity.proofs.TightKept.{IsLawful, tokens_known}
-use Rattle.integrity.proofs.TightMoves.{tight_moved, all_as, as_other}
+use Rattle.integrity.proofs.TightMoves.{tight_from, all_as, as_other}
 
 -- what a host has now it had before, where the one that changed had it
 pub was_at : (world after : WorldShape) (me other : HostId) (old new : HostShape) → state_at world me ≡ Some old →
@@ -60,6 +63,12 @@ was_at world after me other old new obeys puts P has keeps =
       | inr one ↦ some_of (state_at world other) P at.one one.obeys at.has
     ]
 
+-- an item at the place of the first one is that
+first_same : (entries : List StackEntry) (place : ℕ) (upper first : StackEntry) →
+    slice_get entries 0 ≡ Some upper → slice_get entries place ≡ Some first → 0 ≡ place → upper ≡ first
+first_same entries place upper first above at same =
+    same_item entries place upper first (subst (λ n. slice_get entries n ≡ Some upper) same above) at
+
 -- the same host, where nothing runs
 pub record IsBare (old bare : HostShape) : Type 0 where
   pub me : bare.me ≡ old.me
@@ -71,10 +80,16 @@ pub record IsBare (old bare : HostShape) : Type 0 where
   pub halts : bare.halted ≡ old.halted
   pub rests : bare.running ≡ None
 
--- A host is given back a token, by its own thread or in a message, which then nobody else has.
+-- A host is given back a token, by its own thread or in a message, and sends nothing. The chain is tight, or loose, and
+-- all else is outside.
 pub record Popping (split : Split) (c : Configuration) (view : View) (holder : Holder) (world after : WorldShape)
     (host : HostId) : Type 0 where
-  pub stands : StandsBy split c view holder world
+  pub outside : IsOutsideBut (threat_in split) (entries_of view.chain) holder world
+  pub linked : AreLinked (entries_of view.chain)
+  pub there : (e : StackEntry) → IsAmong (entries_of view.chain) e → StandsThere world e
+  pub unsent : AreUnsentBelow world (entries_of view.chain)
+  pub holds : Holds split c view world
+  pub runs_on : ¬ has_halted split.code.root world
   pub is_chain : IsChain split view.naming view.chain
   pub lawful : IsLawful (threat_in split) world
   pub fits : ShapeFits split.code after
@@ -91,22 +106,25 @@ pub record Popping (split : Split) (c : Configuration) (view : View) (holder : H
   pub waits : All (λ w. ThreadIsOpen (threat_in split) host w.thread) old.waiting
   pub own_runs : (other : HostId) → other ≢ host → OwnsRunning holder other → ⊥
   pub own_waits : (other : HostId) (one : WaitingShape) → OwnsWaiting holder other one → ⊥
-  pub place : Place
-  pub not_kept : (other : HostId) (at : ℕ) → place ≡ kept_on other at → ⊥
-  pub held : (token : Token) → top_token (entries_of view.chain) ≡ Some token → HoldsAt world token place
-  pub goes : holder ≡ halted → ⊥
+
+-- The world stands for the same configuration, by the thread of the first entry or by none.
+pub record Restarts (split : Split) (c : Configuration) (after : WorldShape) : Type 0 where
+  pub view : View
+  pub holder : Holder
+  pub free : IsFree holder
+  pub stands : StandsBy split c view holder after
+
+pub restarted : (split : Split) (c : Configuration) (after : WorldShape) → Restarts split c after → Goes split c after
+restarted split c after it = standing.stays it.view it.holder it.free it.stands
 
 module _ (split : Split) (c : Configuration) (view : View) (holder : Holder) (world after : WorldShape) (host : HostId)
     (t : Popping split c view holder world after host) where
   was : StateIsOutside (threat_in split) (entries_of view.chain) holder t.old
   was = of_state (StateIsOutside (threat_in split) (entries_of view.chain) holder) world host t.old
-      t.stands.tight.outside.states t.obeys
+      t.outside.states t.obeys
 
   me_is : t.old.me ≡ host
   me_is = (state_fits (threat_in split) world host t.old t.lawful.fits t.obeys).me
-
-  standing_each : (e : StackEntry) → IsAmong (entries_of view.chain) e → IsStanding world e
-  standing_each e = each_among (IsStanding world) (entries_of view.chain) e t.stands.tight.standing
 
   waits_for : (next : Holder) (me : HostId) (waiting : List WaitingShape) → me ≡ host → waiting ≡ t.old.waiting →
       All (λ w. OwnsWaiting next me w ⊎ ThreadIsOpen (threat_in split) me w.thread) waiting
@@ -119,8 +137,8 @@ module _ (split : Split) (c : Configuration) (view : View) (holder : Holder) (wo
   none_halted : (next : Holder) (new : HostShape) → (is : without_message new ≡ t.outcome) →
       new.halted ≡ t.old.halted → has_halted split.code.root after → next ≡ halted
   none_halted next new is same has =
-      absurd (t.goes (t.stands.halts
-      (halted_before world after split.code.root host t.old new t.obeys (t.moved new is).hosts same has)))
+      absurd (t.runs_on (halted_before world after split.code.root host t.old new t.obeys (t.moved new is).hosts same
+      has))
 
   all_flying : (next : Holder) → FlyAs (λ from to m. OwnsMessage next from to m ⊎ MessageIsOpen (threat_in split) m)
       t.flying
@@ -137,8 +155,8 @@ module _ (split : Split) (c : Configuration) (view : View) (holder : Holder) (wo
     pub below : List StackEntry
     pub entries_are : t.old.entries ≡ first.entry ∷ below
     pub own : first.entry.token.host ≡ host
-    pub held : HoldsAt world first.entry.token t.place
-    pub standing : (e : StackEntry) → IsAmong (first.entry ∷ entries_of rest) e → IsStanding world e
+    pub none : IsNone (entries_of rest) first.entry.token
+    pub standing : (e : StackEntry) → IsAmong (entries_of rest) e → IsStanding world e
     pub linked : AreLinked (first.entry ∷ entries_of rest)
     pub was : All (λ e. IsAmong (first.entry ∷ entries_of rest) e ⊎ EntryIsOpen (threat_in split) e.entry)
         t.old.entries
@@ -150,19 +168,6 @@ module _ (split : Split) (c : Configuration) (view : View) (holder : Holder) (wo
       same_place split.code world host t.old place 0 e top.first.entry t.lawful.fits t.obeys there
       (ap (λ list. slice_get list 0) top.entries_are) same
 
-  apart_rest : (top : Tops) (e : StackEntry) → IsAmong (entries_of top.rest) e → e.token ≢ top.first.entry.token
-  apart_rest top e among same =
-      let stands : AllByRecursion (StandsThere world) (top.first.entry ∷ entries_of top.rest) =
-      all_among (StandsThere world) (top.first.entry ∷ entries_of top.rest) (λ x here. (top.standing x here).there) in
-      let held = later_held world top.first.entry (entries_of top.rest) among.0 e top.linked stands among.1 in
-      let it = top.standing e (suc among.0, among.1) in
-      let at = one_of_some (state_at world e.token.host) (λ state. IsAmong state.entries e) it.there in
-      let place =
-      held_once split.code world e.token (kept_on held.0 held.1) t.place
-      (tokens_known (threat_in split) world t.lawful) (subst (λ o. IsSome o) (sym at.is) refl) it.unsent held.2
-      (subst (λ k. HoldsAt world k t.place) (sym same) top.held) in
-      t.not_kept held.0 held.1 (sym place)
-
   pops : (top : Tops) (new : HostShape) (next : Holder) → without_message new ≡ t.outcome → new.me ≡ host →
       new.entries ≡ top.below → new.waiting ≡ t.old.waiting →
       OwnsRunning next host ⊎ IfSome new.running (ThreadIsOpen (threat_in split) host) →
@@ -172,9 +177,9 @@ module _ (split : Split) (c : Configuration) (view : View) (holder : Holder) (wo
       let old = t.old in
       let moved =
       t.moved new is in
-      tight_moved (threat_in split) (top.first.entry ∷ entries_of top.rest) (entries_of top.rest) holder
+      tight_from (threat_in split) (top.first.entry ∷ entries_of top.rest) (entries_of top.rest) holder
       next world after t.lawful t.fits t.account
-      (subst (λ list. IsTight (threat_in split) (entries_of list) holder world) top.chain_is t.stands.tight)
+      (subst (λ list. IsOutsideBut (threat_in split) (entries_of list) holder world) top.chain_is t.outside)
       (record {
         me = host;
         old = old;
@@ -184,11 +189,11 @@ module _ (split : Split) (c : Configuration) (view : View) (holder : Holder) (wo
         linked = linked_below top.first.entry (entries_of top.rest) top.linked;
         stands = λ e among.
             on_some world after host e.token.host old new t.obeys moved.hosts (λ state. IsAmong state.entries e)
-            (top.standing e (suc among.0, among.1)).there
+            (top.standing e among).there
             (λ here has. subst (λ list. IsAmong list e) (sym entries)
             (below_top top.first.entry e top.below (subst (λ list. IsAmong list e) top.entries_are has)
-            (apart_rest top e among)));
-        known = λ e among. inl (top.standing e (suc among.0, among.1));
+            (top.none e among)));
+        known = λ e among. inl (top.standing e among);
         there = there (mover_state world after host old new t.flying t.obeys moved);
         has_top = has;
         held = λ is_lost. absurd (held is_lost);
@@ -223,16 +228,16 @@ module _ (split : Split) (c : Configuration) (view : View) (holder : Holder) (wo
           omega arith)) was
 
   make_tops : (token : Token) → token.host ≡ host → top_token (entries_of view.chain) ≡ Some token →
-      top_token t.old.entries ≡ Some token → (chain : List Link) → view.chain ≡ chain →
-      (entries : List StackEntry) → t.old.entries ≡ entries → Tops
-  make_tops token own top also [] chain_is entries entries_is =
+      top_token t.old.entries ≡ Some token → IsNone (below_first (entries_of view.chain)) token →
+      (chain : List Link) → view.chain ≡ chain → (entries : List StackEntry) → t.old.entries ≡ entries → Tops
+  make_tops token own top also none [] chain_is entries entries_is =
       let never : top_token (entries_of []) ≡ Some token =
       sym (ap (λ list. top_token (entries_of list)) chain_is) ∙ top in
       absurd (cc)
-  make_tops token own top also (first ∷ rest) chain_is [] entries_is =
+  make_tops token own top also none (first ∷ rest) chain_is [] entries_is =
       let never : top_token [] ≡ Some token = sym (ap top_token entries_is) ∙ also in
       absurd (cc)
-  make_tops token own top also (first ∷ rest) chain_is (upper ∷ below) entries_is =
+  make_tops token own top also none (first ∷ rest) chain_is (upper ∷ below) entries_is =
       let old = t.old in
       let one : Some first.entry.token ≡ Some token =
       sym (ap (λ list. top_token (entries_of list)) chain_is) ∙ top in
@@ -241,11 +246,11 @@ module _ (split : Split) (c : Configuration) (view : View) (holder : Holder) (wo
       let upper_is : upper.token ≡ token = cc in
       let here : first.entry.token.host ≡ host = ap (λ (k : Token). k.host) first_is ∙ own in
       let among_is : entries_of view.chain ≡ first.entry ∷ entries_of rest = ap entries_of chain_is in
-      let standing : (e : StackEntry) → IsAmong (first.entry ∷ entries_of rest) e → IsStanding world e =
-      λ e among. standing_each e (subst (λ list. IsAmong list e) (sym among_is) among) in
+      let there : (e : StackEntry) → IsAmong (first.entry ∷ entries_of rest) e → StandsThere world e =
+      λ e among. t.there e (subst (λ list. IsAmong list e) (sym among_is) among) in
       let at =
       one_of_some (state_at world first.entry.token.host) (λ state. IsAmong state.entries first.entry)
-      (standing first.entry (0, refl)).there in
+      (there first.entry (0, refl)) in
       let both : Some at.one ≡ Some old = sym at.is ∙ ap (state_at world) here ∙ t.obeys in
       let same_state : at.one ≡ old = cc in
       let among : IsAmong old.entries first.entry = subst (λ s. IsAmong s.entries first.entry) same_state at.has in
@@ -254,8 +259,7 @@ module _ (split : Split) (c : Configuration) (view : View) (holder : Holder) (wo
       same_place split.code world host old 0 among.0 upper first.entry t.lawful.fits t.obeys upper_at among.1
       (upper_is ∙ sym first_is) in
       let same : upper ≡ first.entry =
-      same_item old.entries among.0 upper first.entry (subst (λ n. slice_get old.entries n ≡ Some upper) place upper_at)
-      among.1 in
+      first_same old.entries among.0 upper first.entry upper_at among.1 place in
       record {
         first = first;
         rest = rest;
@@ -263,9 +267,14 @@ module _ (split : Split) (c : Configuration) (view : View) (holder : Holder) (wo
         below = below;
         entries_are = entries_is ∙ ap (λ x. x ∷ below) same;
         own = here;
-        held = t.held first.entry.token (top ∙ ap (λ (k : Token). Some k) (sym first_is));
-        standing = standing;
-        linked = subst AreLinked among_is t.stands.tight.linked;
+        none = subst (IsNone (entries_of rest)) (sym first_is)
+            (subst (λ list. IsNone (below_first list) token) among_is none);
+        standing = λ e among. record {
+          there = there e (suc among.0, among.1);
+          unsent = unsent_each world (first.entry ∷ entries_of rest)
+              (subst (AreUnsentBelow world) among_is t.unsent) e among;
+        };
+        linked = subst AreLinked among_is t.linked;
         was = subst (λ list. All (λ e. IsAmong list e ⊎ EntryIsOpen (threat_in split) e.entry) old.entries) among_is
             was.entries;
       }
@@ -274,7 +283,7 @@ module _ (split : Split) (c : Configuration) (view : View) (holder : Holder) (wo
   after_top : (top : Tops) → GivesUp split c view →
       without_message (after_pop split.code t.bare t.old.entries) ≡ t.outcome →
       Ended split c top.first top.rest host t.bare top.below
-      ⊎ Continued split c view top.first top.rest host t.bare top.below → Goes split c after
+      ⊎ Continued split c view top.first top.rest host t.bare top.below → Restarts split c after
   after_top top gives_up is (inl ended) =
       let old = t.old in
       let bare : HostShape = t.bare in
@@ -284,17 +293,22 @@ module _ (split : Split) (c : Configuration) (view : View) (holder : Holder) (wo
       ∙ ap (λ list. without_message (after_pop split.code bare list)) (sym top.entries_are) ∙ is in
       let moved =
       t.moved new new_is in
-      standing.stays (starting view [] view.sender) halted tt (record {
-        tight = subst (λ list. IsTight (threat_in split) (entries_of list) halted after) ended.last
-            (pops top new halted new_is (t.is_bare.me ∙ me_is) refl t.is_bare.waiting (inr tt) (λ there. tt)
-            (sym (ap (λ list. top_token (entries_of list)) ended.last)) (λ same. absurd (cc)));
-        holds = holds_calm split c view after [] view.sender
-            (holds_same split c view world after host old new t.flying t.stands.holds t.obeys moved
-            t.is_bare.rows t.is_bare.variables t.is_bare.frames) gives_up.none_out;
-        sends = tt;
-        does = (refl, refl, ended.ends);
-        halts = λ has. refl;
-      })
+      record {
+        view = starting view [] view.sender;
+        holder = halted;
+        free = tt;
+        stands = record {
+          tight = subst (λ list. IsTight (threat_in split) (entries_of list) halted after) ended.last
+              (pops top new halted new_is (t.is_bare.me ∙ me_is) refl t.is_bare.waiting (inr tt) (λ there. tt)
+              (sym (ap (λ list. top_token (entries_of list)) ended.last)) (λ same. absurd (cc)));
+          holds = holds_calm split c view after [] view.sender
+              (holds_same split c view world after host old new t.flying t.holds t.obeys moved
+              t.is_bare.rows t.is_bare.variables t.is_bare.frames) gives_up.none_out;
+          sends = tt;
+          does = (refl, refl, ended.ends);
+          halts = λ has. refl;
+        };
+      }
   after_top top gives_up is (inr more) =
       let old = t.old in
       let bare : HostShape = t.bare in
@@ -305,73 +319,95 @@ module _ (split : Split) (c : Configuration) (view : View) (holder : Holder) (wo
       ∙ ap (λ list. without_message (after_pop split.code bare list)) (sym top.entries_are) ∙ is in
       let moved =
       t.moved new new_is in
-      standing.stays (starting view top.rest top.first.call) next tt (record {
-        tight = pops top new next new_is (t.is_bare.me ∙ me_is) refl t.is_bare.waiting (inl refl)
-            (λ there. some_of (state_at after host) (λ s. s.running ≡ Some more.thread) new there refl) more.at.held
-            (λ same. absurd (cc));
-        holds = holds_calm split c view after top.rest top.first.call
-            (holds_same split c view world after host old new t.flying t.stands.holds t.obeys moved
-            t.is_bare.rows t.is_bare.variables t.is_bare.frames) gives_up.none_out;
-        sends = some_of (state_at after host) (λ state. Sends split (starting view top.rest top.first.call) state host)
-            new (mover_state world after host old new t.flying t.obeys moved) tt;
-        does = (more.is_chain, more.at);
-        halts = none_halted next new new_is t.is_bare.halts;
-      })
+      record {
+        view = starting view top.rest top.first.call;
+        holder = next;
+        free = tt;
+        stands = record {
+          tight = pops top new next new_is (t.is_bare.me ∙ me_is) refl t.is_bare.waiting (inl refl)
+              (λ there. some_of (state_at after host) (λ s. s.running ≡ Some more.thread) new there refl) more.at.held
+              (λ same. absurd (cc));
+          holds = holds_calm split c view after top.rest top.first.call
+              (holds_same split c view world after host old new t.flying t.holds t.obeys moved
+              t.is_bare.rows t.is_bare.variables t.is_bare.frames) gives_up.none_out;
+          sends = some_of (state_at after host) (λ s. Sends split (starting view top.rest top.first.call) s host)
+              new (mover_state world after host old new t.flying t.obeys moved) tt;
+          does = (more.is_chain, more.at);
+          halts = none_halted next new new_is t.is_bare.halts;
+        };
+      }
 
+  -- no other entry of the chain has the token
   pub pops_own : (token : Token) → token.host ≡ host → top_token (entries_of view.chain) ≡ Some token →
-      top_token t.old.entries ≡ Some token → GivesUp split c view →
-      without_message (after_pop split.code t.bare t.old.entries) ≡ t.outcome →
-      Goes split c after
-  pops_own token own top also gives_up is =
-      let tops = make_tops token own top also view.chain refl t.old.entries refl in
+      top_token t.old.entries ≡ Some token → IsNone (below_first (entries_of view.chain)) token →
+      GivesUp split c view → without_message (after_pop split.code t.bare t.old.entries) ≡ t.outcome →
+      Restarts split c after
+  pops_own token own top also none gives_up is =
+      let tops = make_tops token own top also none view.chain refl t.old.entries refl in
       after_top tops gives_up is
       (popped split c view tops.first tops.rest host t.bare tops.below
       (subst (IsChain split view.naming) tops.chain_is t.is_chain) gives_up.count
       (subst (λ list. IsLeft split c view.keeper (chain_due split list)) tops.chain_is gives_up.left) tops.own)
 
+  -- so it is where the token is held here, and kept with no entry
+  pub pops_held : (here : Place) → ((other : HostId) (at : ℕ) → here ≡ kept_on other at → ⊥) → (token : Token) →
+      HoldsAt world token here → token.host ≡ host → top_token (entries_of view.chain) ≡ Some token →
+      top_token t.old.entries ≡ Some token → GivesUp split c view →
+      without_message (after_pop split.code t.bare t.old.entries) ≡ t.outcome → Goes split c after
+  pops_held here apart token held own top also gives_up is =
+      restarted split c after
+      (pops_own token own top also
+      (none_below (threat_in split) world t.lawful (entries_of view.chain) t.linked t.there t.unsent token here apart
+      held) gives_up is)
+
   -- ---- the token is lost
 
   -- who gives it back alone has it
-  only_here : (list : List StackEntry) (token : Token) → ((e : StackEntry) → IsAmong list e → IsStanding world e) →
-      top_token list ≡ Some token → HoldsAt world token t.place → (place : Place) → HoldsAt world token place →
-      place ≡ t.place
-  only_here [] token standing top held place also = absurd (cc)
-  only_here (e ∷ list) token standing top held place also =
+  only_here : (list : List StackEntry) (token : Token) (here : Place) →
+      ((e : StackEntry) → IsAmong list e → IsStanding world e) → top_token list ≡ Some token →
+      HoldsAt world token here → (place : Place) → HoldsAt world token place → place ≡ here
+  only_here [] token here standing top held place also = absurd (cc)
+  only_here (e ∷ list) token here standing top held place also =
       let same : e.token ≡ token = cc in
       let it = standing e (0, refl) in
       let at = one_of_some (state_at world e.token.host) (λ state. IsAmong state.entries e) it.there in
       let obeys : IsSome (state_at world token.host) =
       subst (λ (k : Token). IsSome (state_at world k.host)) same (subst (λ o. IsSome o) (sym at.is) refl) in
-      held_once split.code world token place t.place (tokens_known (threat_in split) world t.lawful) obeys
+      held_once split.code world token place here (tokens_known (threat_in split) world t.lawful) obeys
       (subst (λ (k : Token). ¬ IsSent world k) same it.unsent) also held
 
-  -- another entry is on top, so the token is gone
-  pub loses : GivesUp split c view → without_message (with_one_ignored t.bare) ≡ t.outcome →
-      ((token : Token) → ((place : Place) → HoldsAt world token place → place ≡ t.place) → (place : Place) →
+  -- another entry is on top, so the token is gone where it was nowhere else
+  pub loses : (here : Place) →
+      ((token : Token) → top_token (entries_of view.chain) ≡ Some token → HoldsAt world token here) →
+      AllByRecursion (IsStanding world) (entries_of view.chain) → GivesUp split c view →
+      without_message (with_one_ignored t.bare) ≡ t.outcome →
+      ((token : Token) → ((place : Place) → HoldsAt world token place → place ≡ here) → (place : Place) →
       HoldsAt after token place → ⊥) → Goes split c after
-  loses gives_up is nobody =
+  loses here held chain_stands gives_up is nobody =
+      let standing_each : (e : StackEntry) → IsAmong (entries_of view.chain) e → IsStanding world e =
+      λ e. each_among (IsStanding world) (entries_of view.chain) e chain_stands in
       let old = t.old in
       let new : HostShape = with_one_ignored t.bare in
       let moved = t.moved new is in
       let me : new.me ≡ host = t.is_bare.me ∙ me_is in
       standing.stays view lost tt (record {
-        tight = tight_moved (threat_in split) (entries_of view.chain) (entries_of view.chain) holder lost world after
-            t.lawful t.fits t.account t.stands.tight (record {
+        tight = tight_from (threat_in split) (entries_of view.chain) (entries_of view.chain) holder lost world after
+            t.lawful t.fits t.account t.outside (record {
               me = host;
               old = old;
               new = new;
               obeys = t.obeys;
               puts = moved.hosts;
-              linked = t.stands.tight.linked;
+              linked = t.linked;
               stands = λ e among.
                   on_some world after host e.token.host old new t.obeys moved.hosts (λ state. IsAmong state.entries e)
-                  (standing_each e among).there
-                  (λ here has. subst (λ list. IsAmong list e) (sym t.is_bare.entries) has);
+                  (t.there e among)
+                  (λ same has. subst (λ list. IsAmong list e) (sym t.is_bare.entries) has);
               known = λ e among. inl (standing_each e among);
               there = tt;
-              has_top = λ token top held.
-                  nobody token (only_here (entries_of view.chain) token standing_each top (t.held token top)) held.0
-                  held.1;
+              has_top = λ token top has.
+                  nobody token (only_here (entries_of view.chain) token here standing_each top (held token top)) has.0
+                  has.1;
               held = λ is_lost e among sent.
                   (standing_each e among).unsent (subst (λ list. Contains (tokens_in list) e.token) t.quiet sent);
               state = record {
@@ -386,7 +422,7 @@ module _ (split : Split) (c : Configuration) (view : View) (holder : Holder) (wo
               flying = subst (FlyAs (λ from target said. OwnsMessage lost from target said
                   ⊎ MessageIsOpen (threat_in split) said)) (sym moved.flying) (all_flying lost);
             });
-        holds = holds_same split c view world after host old new t.flying t.stands.holds t.obeys moved t.is_bare.rows
+        holds = holds_same split c view world after host old new t.flying t.holds t.obeys moved t.is_bare.rows
             t.is_bare.variables t.is_bare.frames;
         sends = tt;
         does = (t.is_chain, gives_up);

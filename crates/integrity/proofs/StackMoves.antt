@@ -45,6 +45,13 @@ either : (P : Token → Type 0) (old : HostShape) (b : Bool) (first second : Out
 either P old true first second one other = one refl
 either P old false first second one other = other
 
+-- where fewer tokens are presented, of those that the top entry has
+pub restacks_by : (P Q : Token → Type 0) (old new : HostShape) →
+    ((token : Token) → P token → top_token old.entries ≡ Some token → Q token) → Restacks P old new → Restacks Q old new
+restacks_by P Q old new each (stays is same) = stays is same
+restacks_by P Q old new each (pushes on_stack is same next) = pushes on_stack is same next
+restacks_by P Q old new each (pops top is given same) = pops top is (each top.token given (ap top_token is)) same
+
 -- ---- an entry that is taken off
 
 -- where a thread starts or ends, neither the stack nor whether the host has halted changes
@@ -158,9 +165,13 @@ gives_back code host thread (Some held) passes check =
     (pops_top code P bare host.entries refl (λ token top.
     sym (check is (number_same held.host.0 host.me.0 own)) ∙ top))) (stays refl refl)) (stays refl refl)
 
+-- only an instruction that gives the token back presents it
+abbrev BackWith : Op → ThreadShape → Token → Type 0
+BackWith it thread token = (it ≡ op.Back) × HeldIs thread.held token
+
 operation : (code : CodeShape) (host : HostShape) (thread : ThreadShape) (it : Op) (passes : Bool) →
     (IsTrue passes → PassesWith code host it thread.held) →
-    Restacks (HeldIs thread.held) host (after_operation code host thread it passes).state
+    Restacks (BackWith it thread) host (after_operation code host thread it passes).state
 operation code host thread (op.Read field index) passes check = reads _ host thread field index (field_at code field)
 operation code host thread (op.Let x value) passes check = stays refl refl
 operation code host thread (op.Put field index value) passes check =
@@ -173,39 +184,67 @@ operation code host thread (op.Push entry) passes check = pushes_own _ host thre
 operation code host thread (op.Ask entry on) passes check = asks _ host thread entry on thread.held
 operation code host thread (op.Go entry on) passes check = goes _ host thread thread.frame entry on thread.held
 operation code host thread (op.Call entry on) passes check =
-    either (HeldIs thread.held) host (on.0 == host.me.0) _ _
+    either (BackWith (op.Call entry on) thread) host (on.0 == host.me.0) _ _
     (λ own. calls_own _ host thread (entry_at code entry)) (goes _ host thread thread.new_frame entry on thread.held)
 operation code host thread (op.Ret x value) passes check = gives_result _ host thread x value thread.held passes
-operation code host thread op.Back passes check = gives_back code host thread thread.held passes check
+operation code host thread op.Back passes check =
+    restacks_by (HeldIs thread.held) (BackWith op.Back thread) host
+    (after_back code host thread thread.held passes).state (λ token held top. (refl, held))
+    (gives_back code host thread thread.held passes check)
 operation code host thread (op.Branch guard target) passes check =
-    either (HeldIs thread.held) host (int_eq (value_in_thread host thread guard) (pos 0))
+    either (BackWith (op.Branch guard target) thread) host (int_eq (value_in_thread host thread guard) (pos 0))
     (with_thread host (record (after_clearing thread) { at = target })) (with_thread host (after_clearing thread))
     (λ is. stays refl refl) (stays refl refl)
 
+-- the instruction of a thread gives this token back
+abbrev pub GivesItBack : CodeShape → HostId → Token → ThreadShape → Type 0
+GivesItBack code me token thread = (thread.held ≡ Some token) × (instruction : Instr)
+    × (instruction_at code me thread.at ≡ Some instruction) × (instruction.op ≡ op.Back)
+
 running_restacks : (code : CodeShape) (host : HostShape) (thread : ThreadShape) (there : Option Instr)
-    (outcome : Outcome) → IsRunning code host thread there outcome → Restacks (HeldIs thread.held) host outcome.state
-running_restacks code host thread None outcome step =
-    subst (λ (o : Outcome). Restacks (HeldIs thread.held) host o.state) step (stays refl refl)
-running_restacks code host thread (Some instruction) outcome step =
-    subst (λ (o : Outcome). Restacks (HeldIs thread.held) host o.state) step.2
-    (operation code host thread instruction.op step.0 step.1.0)
+    (outcome : Outcome) → instruction_at code host.me thread.at ≡ there →
+    IsRunning code host thread there outcome →
+    Restacks (λ token. GivesItBack code host.me token thread) host outcome.state
+running_restacks code host thread None outcome is step =
+    subst (λ (o : Outcome). Restacks (λ token. GivesItBack code host.me token thread) host o.state) step
+    (stays refl refl)
+running_restacks code host thread (Some instruction) outcome is step =
+    subst (λ (o : Outcome). Restacks (λ token. GivesItBack code host.me token thread) host o.state) step.2
+    (restacks_by (BackWith instruction.op thread) (λ token. GivesItBack code host.me token thread) host
+    (after_operation code host thread instruction.op step.0).state
+    (λ token back top. (back.1, instruction, is, back.0)) (operation code host thread instruction.op step.0 step.1.0))
 
 -- the token of whatever runs
 abbrev pub RunsWith : Option ThreadShape → Token → Type 0
 RunsWith running token = IsSomeAnd running (λ thread. thread.held ≡ Some token)
 
+-- so it is, where the instruction of that gives it back
+abbrev pub RunsBack : CodeShape → HostId → Option ThreadShape → Token → Type 0
+RunsBack code me running token = IsSomeAnd running (GivesItBack code me token)
+
+pub held_back : (code : CodeShape) (me : HostId) (running : Option ThreadShape) (token : Token) →
+    RunsBack code me running token → RunsWith running token
+held_back code me None token back = back
+held_back code me (Some thread) token back = back.0
+
 turn_of : (code : CodeShape) (host : HostShape) (running : Option ThreadShape) (outcome : Outcome) →
-    IsTurnOf code host running outcome → Restacks (RunsWith running) host outcome.state
+    IsTurnOf code host running outcome → Restacks (RunsBack code host.me running) host outcome.state
 turn_of code host None outcome step =
-    subst (λ (o : Outcome). Restacks (RunsWith None) host o.state) step (stays refl refl)
+    subst (λ (o : Outcome). Restacks (RunsBack code host.me None) host o.state) step (stays refl refl)
 turn_of code host (Some thread) outcome step =
     let bare = with_running host None in
-    from_bare (HeldIs thread.held) bare host outcome.state refl refl refl
-    (running_restacks code bare thread (instruction_at code host.me thread.at) outcome step)
+    from_bare (RunsBack code host.me (Some thread)) bare host outcome.state refl refl refl
+    (running_restacks code bare thread (instruction_at code host.me thread.at) outcome refl step)
+
+pub back_restacks : (code : CodeShape) (host : HostShape) (outcome : Outcome) → IsTurn code host outcome →
+    Restacks (RunsBack code host.me host.running) host outcome.state
+back_restacks code host outcome step = turn_of code host host.running outcome step
 
 pub turn_restacks : (code : CodeShape) (host : HostShape) (outcome : Outcome) → IsTurn code host outcome →
     Restacks (RunsWith host.running) host outcome.state
-turn_restacks code host outcome step = turn_of code host host.running outcome step
+turn_restacks code host outcome step =
+    restacks_by (RunsBack code host.me host.running) (RunsWith host.running) host outcome.state
+    (λ token back top. held_back code host.me host.running token back) (back_restacks code host outcome step)
 
 -- ---- a message
 
@@ -246,10 +285,3 @@ pub taking_restacks : (code : CodeShape) (host : HostShape) (from : HostId) (m :
     IsTaking code host from m outcome → Restacks (GivesBack m) host outcome.state
 taking_restacks code host from m outcome step =
     subst (λ (o : Outcome). Restacks (GivesBack m) host o.state) step.2 (takes code host from m step.0 step.1.0)
-
--- where fewer tokens are presented
-pub restacks_by : (P Q : Token → Type 0) (old new : HostShape) → ((token : Token) → P token → Q token) →
-    Restacks P old new → Restacks Q old new
-restacks_by P Q old new each (stays is same) = stays is same
-restacks_by P Q old new each (pushes on_stack is same next) = pushes on_stack is same next
-restacks_by P Q old new each (pops top is given same) = pops top is (each top.token given) same

@@ -2,9 +2,8 @@
 -- thread waits for that host.
 use Rattle.std.proofs.Common.{◌≡◌, ◌∙◌, ◌⊎◌, inl, inr, ℕ, ℤ, Bool, true, false, List, [], ◌∷◌, ◌++◌, Some, None, refl}
 use Rattle.std.proofs.Common.{sym, ap, subst}
-use Rattle.std.specs.Prelude.{Contains, All}
+use Rattle.std.specs.Prelude.{All}
 use Rattle.std.specs.List.{AllByRecursion}
-use Rattle.std.proofs.lemmas.List.Elements.{Contains-push}
 use Rattle.js_base.specs.declared.ids.FieldId.{FieldId}
 use Rattle.js_base.specs.declared.ids.HostId.{HostId}
 use Rattle.host_decl.specs.Hosts as declared_hosts
@@ -21,18 +20,16 @@ use Rattle.host_code.specs.Thread.{ThreadShape, Awaited}
 use Rattle.host_code.specs.Thread.Awaited.{acknowledgement}
 use Rattle.host_core.specs.Host.{HostShape, with_message, without_message, with_running, after_asking}
 use Rattle.host_core.specs.Turn.{label_of_turn}
-use Rattle.event_text.specs.declared.event.Event.TheVariants.{Turn}
 use Rattle.event_text.specs.declared.event.Event.{Event}
 use Rattle.need_labels.specs.Labelled.{Labelled}
 use Rattle.need_labels.specs.Needs.{NeedsShape}
 use Rattle.need_labels.specs.Plan.{PlanShape}
 use Rattle.split_rules.specs.Allowed.{IsAllowed}
 use Rattle.split_rules.specs.Held.{IsHeld}
-use Rattle.net_world.specs.World.{state_at, WorldShape, IsTurnStep, misbehaves, tokens_sent}
-use Rattle.net_world.specs.Told.{token_in, token_list, tokens_in}
+use Rattle.net_world.specs.World.{state_at, WorldShape, IsTurnStep, misbehaves}
+use Rattle.net_world.specs.Told.{token_in}
 use Rattle.net_world.proofs.Fitting.{bad_differs}
 use Rattle.net_world.proofs.Moved.{moved_told, moved_posted, silent_sent}
-use Rattle.net_world.proofs.ToldTokens.{tokens_more}
 use Rattle.token_laws.specs.Holders.{IsSent}
 use Rattle.token_laws.specs.Numbers.{CodeHasNumbers, RowsHaveNumbers, EventHasNumbers}
 use Rattle.token_laws.specs.Reached.{IsReached}
@@ -41,16 +38,15 @@ use Rattle.typed_steps.specs.Requests.{IsFieldOn, IsRequest}
 use Rattle.typed_steps.specs.Turns as turns
 use Rattle.typed_steps.specs.Turns.{waiting_for}
 use Rattle.typed_steps.specs.Variables.{AreSent, Sends}
-use Rattle.integrity.specs.Altering.{HandsNoNewToken}
 use Rattle.integrity.specs.Holding.{IsAmong, IsStanding, runs}
 use Rattle.integrity.specs.Exposed.{bad_labels}
 use Rattle.integrity.specs.Outside.{Threat, threat_of}
-use Rattle.integrity.specs.Standing.{threat_in, IsFor, StandsBy, Goes, Stalls, waits, waits_behind}
+use Rattle.integrity.specs.Standing.{threat_in, IsFor, StandsBy, Stalls, waits, waits_behind}
 use Rattle.integrity.proofs.Among.{one_of_some}
 use Rattle.integrity.proofs.HeldFields.{field_on_bad}
 use Rattle.integrity.proofs.TightLaws.{lawful}
 use Rattle.integrity.proofs.Elsewhere.{holds_sent, holds_result_sent}
-use Rattle.integrity.proofs.HolderLaws.{HolderTurn, turn_of, holder_turned}
+use Rattle.integrity.proofs.HolderLaws.{HolderTurn, turn_of}
 use Rattle.integrity.proofs.TellMoves.{Telling, telling, sent_is, silent_never, waits_for, sets_there}
 
 module _ (split : Split) (c : Configuration) (view : View) (host : HostId) (thread : ThreadShape)
@@ -180,7 +176,7 @@ holder_sends split labelled needs hosts plan bad store events world after host t
 
 -- ---- a turn tells a misbehaving host something, or nothing
 
-record TellsOne (host : HostId) (world after : WorldShape) : Type 0 where
+pub record TellsOne (host : HostId) (world after : WorldShape) : Type 0 where
   pub to : HostId
   pub m : Message
   pub bad : misbehaves world to ≡ true
@@ -211,7 +207,7 @@ module _ (split : Split) (c : Configuration) (view : View) (host : HostId) (thre
   silent_there new is =
       inl (silent_sent world host step.outcome new (label_of_turn split.code step.state) after is step.leaves)
 
-  tells : turns.Turned split c view world host step.state thread step.outcome →
+  pub tells : turns.Turned split c view world host step.state thread step.outcome →
       (after.sent ≡ world.sent) ⊎ TellsOne host world after
   tells (turns.runs_on g) = silent_there _ g.is
   tells (turns.steps now does g) = silent_there _ g.is
@@ -222,8 +218,9 @@ module _ (split : Split) (c : Configuration) (view : View) (host : HostId) (thre
   tells (turns.ends e) = silent_there _ e.is
 
 -- misbehaving hosts were not sent the token of the first entry, and it is none of theirs
-top_stands : (world : WorldShape) (list : List StackEntry) (token : Token) → AllByRecursion (IsStanding world) list →
-    top_token list ≡ Some token → IsSent world token ⊎ (misbehaves world token.host ≡ true) → ⊥
+pub top_stands : (world : WorldShape) (list : List StackEntry) (token : Token) →
+    AllByRecursion (IsStanding world) list → top_token list ≡ Some token →
+    IsSent world token ⊎ (misbehaves world token.host ≡ true) → ⊥
 top_stands world [] token standing top either = absurd (cc)
 top_stands world (e ∷ list) token standing top either =
     let same : e.token ≡ token = cc in
@@ -232,33 +229,4 @@ top_stands world (e ∷ list) token standing top either =
       | inl sent ↦ standing.0.unsent (subst (IsSent world) (sym same) sent)
       | inr bad ↦
           bad_differs world token.host e.token.host at.one bad at.is (ap (λ (t : Token). t.host) (sym same))
-    ]
-
--- a turn that hands over no new token of an obeying host
-pub holder_moves : (split : Split) (rows : List declared_hosts.HostShape) (bad : ℕ) (store : List (List ℤ))
-    (events : List Event) (world after : WorldShape) (host : HostId) (thread : ThreadShape) (c : Configuration)
-    (view : View) → split.exposure.bad ≡ bad_labels bad 0 rows →
-    IsReached split.code rows bad store events world → CodeHasNumbers split.code → RowsHaveNumbers store →
-    All EventHasNumbers events → IsTurnStep split.code world host after → HandsNoNewToken (Turn host) world after →
-    ((field : FieldId) (to : HostId) → IsFieldOn split.code field to → misbehaves world to ≡ true →
-    FieldIsAffected split.exposure field) → StandsBy split c view (runs host thread) world →
-    Goes split c after ⊎ Stalls split c host after
-holder_moves split rows bad store events world after host thread c view same reach code_numbers store_numbers said step
-    kept opens stands =
-    let turn =
-    turn_of split rows bad store events world after host thread c view same reach code_numbers store_numbers said step
-    stands in
-    elim (tells split c view host thread world after step turn turn.turned) [
-      | inl quiet ↦
-          inl (holder_turned split rows bad store events world after host thread c view same reach code_numbers
-          store_numbers said step quiet stands)
-      | inr one ↦
-          inr (holder_stalls split rows bad store events world after host thread c view one.to one.m same reach
-          code_numbers store_numbers said step one.bad one.told
-          (λ token has top.
-          top_stands world (entries_of view.chain) token stands.tight.standing top
-          (kept token (subst (λ list. Contains list token)
-          (sym (ap tokens_in one.told ∙ tokens_more world.sent host one.to one.m
-          ∙ ap (λ o. tokens_sent world ++ token_list o) has)) (Contains-push (tokens_sent world) token))))
-          (λ field on. opens field one.to on one.bad) stands)
     ]

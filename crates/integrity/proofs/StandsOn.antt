@@ -106,8 +106,8 @@ stands_after split c view holder world after stands leaves tight =
 -- ---- the law
 
 -- what is known of the code of a split program
-known_in : AreLaws → (split : Split) (labelled : Labelled) (needs : NeedsShape) (hosts : HostsShape) (plan : PlanShape)
-    (bad : ℕ) → threat_in split ≡ threat_of labelled needs hosts plan split.table bad →
+pub known_in : AreLaws → (split : Split) (labelled : Labelled) (needs : NeedsShape) (hosts : HostsShape)
+    (plan : PlanShape) (bad : ℕ) → threat_in split ≡ threat_of labelled needs hosts plan split.table bad →
     IsSplittable labelled hosts plan → IsAllowed labelled needs hosts plan → IsKnown (threat_in split)
 known_in laws split labelled needs hosts plan bad is splittable allowed =
     let planned = ap (λ (t : Threat). t.planned) is in

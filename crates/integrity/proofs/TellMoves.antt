@@ -99,14 +99,14 @@ module _ (split : Split) (c : Configuration) (view : View) (host : HostId) (thre
       not_silent
       (silent_sent world host t.step.outcome new (label_of_turn split.code t.step.state) after is t.step.leaves)
 
-  was : StateIsOutside (threat_in split) (entries_of view.chain) (runs host thread) t.step.state
+  pub was : StateIsOutside (threat_in split) (entries_of view.chain) (runs host thread) t.step.state
   was = of_state (StateIsOutside (threat_in split) (entries_of view.chain) (runs host thread)) world host t.step.state
       t.stands.tight.outside.states t.step.obeys
 
-  me_is : t.step.state.me ≡ host
+  pub me_is : t.step.state.me ≡ host
   me_is = (state_fits (threat_in split) world host t.step.state t.lawful.fits t.step.obeys).me
 
-  standing_each : (e : StackEntry) → IsAmong (entries_of view.chain) e → IsStanding world e
+  pub standing_each : (e : StackEntry) → IsAmong (entries_of view.chain) e → IsStanding world e
   standing_each e = each_among (IsStanding world) (entries_of view.chain) e t.stands.tight.standing
 
   -- the thread waits for the misbehaving host

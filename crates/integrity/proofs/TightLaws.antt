@@ -30,8 +30,10 @@ use Rattle.integrity.proofs.HeldTokens.{StandsThere}
 use Rattle.integrity.proofs.HolderStays.{stands_after, there_after, top_after, gone_after, chain_stands}
 use Rattle.integrity.proofs.OpenSteps.{IsKnown}
 use Rattle.integrity.proofs.OpenWorlds.{bad_reached, before_after}
-use Rattle.integrity.proofs.OutsideEvents.{Leaves, turn_leaves, take_leaves, act_leaves}
+use Rattle.integrity.proofs.OutsideEvents.{Leaves, safe, run_none, fly_none, act_none, turn_leaves, take_leaves}
+use Rattle.integrity.proofs.OutsideEvents.{act_leaves}
 use Rattle.integrity.proofs.OutsideLaws.{AreLaws, known}
+use Rattle.integrity.proofs.StackMoves.{held_back}
 use Rattle.integrity.proofs.TightKept.{IsLawful, tokens_known}
 
 -- what is known of a world that events lead to
@@ -50,11 +52,19 @@ pub event_leaves : (threat : Threat) → IsKnown threat → (chain : List StackE
     IsStep threat.code world event after → IsTight threat chain holder world → ¬ IsOwn holder world event →
     Leaves threat chain holder world after
 event_leaves threat known chain holder world after (Take from to place) is own step tight apart =
-    take_leaves threat known chain holder world after from to place is step tight apart
+    take_leaves threat known chain holder world after from to place is step tight.there tight.outside apart
+    (λ token gives top.
+    fly_none threat chain holder world is (safe threat chain holder world tight) from to place step.flight step.there
+    apart token gives)
 event_leaves threat known chain holder world after (Turn host) is own step tight apart =
-    turn_leaves threat known chain holder world after host is step tight apart
+    turn_leaves threat known chain holder world after host is step tight.outside apart
+    (λ token back top.
+    run_none threat chain holder world is (safe threat chain holder world tight) host step.state step.obeys apart token
+    (held_back threat.code step.state.me step.state.running token back))
 event_leaves threat known chain holder world after (Act from to made) is own step tight apart =
-    act_leaves threat known chain holder world after from to made is own step tight apart
+    act_leaves threat known chain holder world after from to made is step tight.there tight.outside apart
+    (λ token gives top.
+    act_none chain holder world (safe threat chain holder world tight) made step.message own step.makes token gives)
 
 pub tight_after : (threat : Threat) (chain : List StackEntry) (holder : Holder) (world after : WorldShape) →
     IsLawful threat world → ShapeFits threat.code after → Accounts world after → IsTight threat chain holder world →

@@ -5,7 +5,7 @@ use Rattle.std.specs.Prelude.{slice_set, All, IfSome}
 use Rattle.std.specs.List.{AllByRecursion}
 use Rattle.js_base.specs.declared.ids.HostId.{HostId}
 use Rattle.ics_stack.specs.declared.stack.StackEntry.{StackEntry}
-use Rattle.host_code.specs.Thread.{WaitingShape}
+use Rattle.host_code.specs.Thread.{ThreadShape, WaitingShape}
 use Rattle.host_core.specs.Fits.{EntryFits}
 use Rattle.host_core.specs.Host.{HostShape}
 use Rattle.net_world.specs.Fits.{ShapeFits}
@@ -15,19 +15,20 @@ use Rattle.token_laws.specs.Holders.{IsSent, IsHeld, kept_on}
 use Rattle.token_laws.proofs.EachFlight.{StatesHave, of_state}
 use Rattle.token_laws.proofs.HeldLaws.{own_before}
 use Rattle.token_laws.proofs.WorldTokens.{Accounts}
-use Rattle.integrity.specs.Holding.{IsAmong, Holder, lost, IsThere, HasTop, OwnsRunning, OwnsWaiting, OwnsMessage}
-use Rattle.integrity.specs.Holding.{StateIsOutside, AreLinked, IsStanding, IsTight}
+use Rattle.integrity.specs.Holding.{IsAmong, Holder, runs, lost, IsThere, HasTop, OwnsRunning, OwnsWaiting, OwnsMessage}
+use Rattle.integrity.specs.Holding.{StateIsOutside, IsOutsideBut, AreLinked, IsStanding, IsTight}
 use Rattle.integrity.specs.Outside.{Threat, ThreadIsOpen, EntryIsOpen, MessageIsOpen}
 use Rattle.integrity.proofs.Among.{each_among, all_among, one_of_some}
 use Rattle.integrity.proofs.FliesOn.{FlyAs}
 use Rattle.integrity.proofs.HeldTokens.{StandsThere, top_kept, held_or_lost, later_held, still_unsent}
 use Rattle.integrity.proofs.OpenWorlds.{state_fits}
+use Rattle.integrity.proofs.OutsideEvents.{other_of}
 use Rattle.integrity.proofs.TightKept.{IsLawful, tokens_known}
 
 -- ---- the states of hosts
 
 -- the host that changed has it, and others have it where they had another thing
-states_change : (P Q : HostShape → Type 0) (world after : WorldShape) (me : HostId) (old new : HostShape) →
+pub states_change : (P Q : HostShape → Type 0) (world after : WorldShape) (me : HostId) (old new : HostShape) →
     state_at world me ≡ Some old → after.hosts ≡ slice_set world.hosts me.0 (Some new) → StatesHave P world → Q new →
     ((host : HostId) (state : HostShape) → host ≢ me → state_at world host ≡ Some state → P state → Q state) →
     (host : HostId) (o : Option HostShape) → state_at after host ≡ o → IfSome o Q
@@ -76,23 +77,40 @@ entries_as : (threat : Threat) (state : HostShape) (P Q : StackEntry → Type 0)
     ((e : StackEntry) → e.token.host ≡ state.me → P e → Q e) → All P state.entries → All Q state.entries
 entries_as threat state P Q fits each all k d lt = each (get_or state.entries k d) (fits k d lt).token (all k d lt)
 
+-- where a host stays as it is, what is outside there stays so
+pub outside_as : (threat : Threat) (chain now : List StackEntry) (holder next : Holder) (state : HostShape) →
+    All (EntryFits threat.code state.me) state.entries → (OwnsRunning holder state.me → OwnsRunning next state.me) →
+    ((one : WaitingShape) → OwnsWaiting holder state.me one → OwnsWaiting next state.me one) →
+    ((e : StackEntry) → e.token.host ≡ state.me → IsAmong chain e → IsAmong now e) →
+    StateIsOutside threat chain holder state → StateIsOutside threat now next state
+outside_as threat chain now holder next state fits runs_as waits_as keeps_as was = record {
+  running = as_other runs_as was.running;
+  waiting = all_as (λ w. OwnsWaiting holder state.me w ⊎ ThreadIsOpen threat state.me w.thread)
+      (λ w. OwnsWaiting next state.me w ⊎ ThreadIsOpen threat state.me w.thread) state.waiting
+      (λ w. as_other (waits_as w)) was.waiting;
+  entries = entries_as threat state (λ e. IsAmong chain e ⊎ EntryIsOpen threat e.entry)
+      (λ e. IsAmong now e ⊎ EntryIsOpen threat e.entry) fits (λ e own. as_other (keeps_as e own)) was.entries;
+}
+
+-- all that waits where the holder's thread runs is open
+pub waits_apart : (threat : Threat) (chain : List StackEntry) (host : HostId) (thread : ThreadShape)
+    (state : HostShape) → state.me ≡ host → StateIsOutside threat chain (runs host thread) state →
+    All (λ w. ThreadIsOpen threat host w.thread) state.waiting
+waits_apart threat chain host thread state me was =
+    all_as (λ w. OwnsWaiting (runs host thread) state.me w ⊎ ThreadIsOpen threat state.me w.thread)
+    (λ w. ThreadIsOpen threat host w.thread) state.waiting
+    (λ w either. subst (λ h. ThreadIsOpen threat h w.thread) me (other_of either (λ never. never))) was.waiting
+
 module _ (threat : Threat) (chain now : List StackEntry) (holder next : Holder) (world after : WorldShape)
     (is : IsLawful threat world) (fits : ShapeFits threat.code after) (step : Accounts world after)
-    (tight : IsTight threat chain holder world) (move : Moves threat chain now holder next world after) where
+    (outside : IsOutsideBut threat chain holder world) (move : Moves threat chain now holder next world after) where
   others : (host : HostId) (state : HostShape) → host ≢ move.me → state_at world host ≡ Some state →
       StateIsOutside threat chain holder state → StateIsOutside threat now next state
   others host state apart obeys was =
       let state_is = state_fits threat world host state is.fits obeys in
       let far : state.me ≢ move.me = λ same. apart (sym state_is.me ∙ same) in
-      record {
-        running = as_other (move.runs_as state.me far) was.running;
-        waiting = all_as (λ w. OwnsWaiting holder state.me w ⊎ ThreadIsOpen threat state.me w.thread)
-            (λ w. OwnsWaiting next state.me w ⊎ ThreadIsOpen threat state.me w.thread) state.waiting
-            (λ w. as_other (move.waits_as state.me w far)) was.waiting;
-        entries = entries_as threat state (λ e. IsAmong chain e ⊎ EntryIsOpen threat e.entry)
-            (λ e. IsAmong now e ⊎ EntryIsOpen threat e.entry) state_is.fits.entries
-            (λ e own. as_other (move.keeps_as e (λ same. far (sym own ∙ same)))) was.entries;
-      }
+      outside_as threat chain now holder next state state_is.fits.entries (move.runs_as state.me far)
+      (λ one. move.waits_as state.me one far) (λ e own. move.keeps_as e (λ same. far (sym own ∙ same))) was
 
   unsent_if : (e : StackEntry) → IsStanding world e ⊎ (¬ IsSent after e.token) → IsHeld after e.token →
       ¬ IsSent after e.token
@@ -126,8 +144,8 @@ module _ (threat : Threat) (chain now : List StackEntry) (holder next : Holder) 
     }),
   )
 
-  pub tight_moved : IsTight threat now next after
-  tight_moved = record {
+  pub tight_from : IsTight threat now next after
+  tight_from = record {
     linked = move.linked;
     standing = stand_now now move.linked (all_among (StandsThere after) now move.stands) move.has_top move.known
         move.held;
@@ -136,7 +154,13 @@ module _ (threat : Threat) (chain now : List StackEntry) (holder next : Holder) 
     outside = record {
       states = λ host.
           states_change (StateIsOutside threat chain holder) (StateIsOutside threat now next) world after move.me
-          move.old move.new move.obeys move.puts tight.outside.states move.state others host (state_at after host) refl;
+          move.old move.new move.obeys move.puts outside.states move.state others host (state_at after host) refl;
       flying = move.flying;
     };
   }
+
+pub tight_moved : (threat : Threat) (chain now : List StackEntry) (holder next : Holder) (world after : WorldShape) →
+    IsLawful threat world → ShapeFits threat.code after → Accounts world after → IsTight threat chain holder world →
+    Moves threat chain now holder next world after → IsTight threat now next after
+tight_moved threat chain now holder next world after is fits step tight move =
+    tight_from threat chain now holder next world after is fits step tight.outside move

@@ -50,8 +50,9 @@ use Rattle.integrity.proofs.OutsideEvents.{other_of}
 use Rattle.integrity.proofs.StackMoves.{Restacks, RunsWith, turn_restacks}
 use Rattle.integrity.proofs.StandsOn.{halted_before}
 use Rattle.integrity.proofs.TightKept.{IsLawful}
-use Rattle.integrity.proofs.PopMoves.{Popping, was_at, pops_own, loses}
-use Rattle.integrity.proofs.TightMoves.{tight_moved, all_as}
+use Rattle.integrity.proofs.LooseChains.{unsent_below}
+use Rattle.integrity.proofs.PopMoves.{Popping, was_at, pops_held, loses}
+use Rattle.integrity.proofs.TightMoves.{tight_moved, all_as, waits_apart}
 
 -- what is known before the turn, and after it
 pub record Turning (split : Split) (c : Configuration) (view : View) (host : HostId) (thread : ThreadShape)
@@ -115,11 +116,7 @@ module _ (split : Split) (c : Configuration) (view : View) (host : HostId) (thre
   -- all that waits there is open
   waits_open : All (λ w. ThreadIsOpen (threat_in split) host w.thread) t.step.state.waiting
   waits_open =
-      all_as (λ w. OwnsWaiting (runs host thread) t.step.state.me w
-      ⊎ ThreadIsOpen (threat_in split) t.step.state.me w.thread)
-      (λ w. ThreadIsOpen (threat_in split) host w.thread) t.step.state.waiting
-      (λ w either. subst (λ h. ThreadIsOpen (threat_in split) h w.thread) me_is (other_of either (λ never. never)))
-      was.waiting
+      waits_apart (threat_in split) (entries_of view.chain) host thread t.step.state me_is was
 
   waits_for : (next : Holder) (me : HostId) (waiting : List WaitingShape) → me ≡ host →
       waiting ≡ t.step.state.waiting →
@@ -392,7 +389,12 @@ module _ (split : Split) (c : Configuration) (view : View) (host : HostId) (thre
 
   popping : Popping split c view (runs host thread) world after host
   popping = record {
-    stands = t.stands;
+    outside = t.stands.tight.outside;
+    linked = t.stands.tight.linked;
+    there = λ e among. (each_among (IsStanding world) (entries_of view.chain) e t.stands.tight.standing among).there;
+    unsent = unsent_below world (entries_of view.chain) t.stands.tight.standing;
+    holds = t.stands.holds;
+    runs_on = λ has. let same = t.stands.halts has in absurd (cc);
     is_chain = t.stands.does.0;
     lawful = t.lawful;
     fits = t.fits;
@@ -423,14 +425,13 @@ module _ (split : Split) (c : Configuration) (view : View) (host : HostId) (thre
     waits = waits_open;
     own_runs = λ other apart own. apart own;
     own_waits = λ other one own. own;
-    place = running_on host;
-    not_kept = λ other at same. absurd (cc);
-    held = λ token top.
-        some_of (state_at world host) (λ s. IsSomeAnd s.running
-        (λ one. one.held ≡ Some token)) t.step.state t.step.obeys
-        (some_of t.step.state.running (λ one. one.held ≡ Some token) thread t.running (t.stands.does.1.held ∙ top));
-    goes = λ same. absurd (cc);
   }
+
+  held_here : (token : Token) → top_token (entries_of view.chain) ≡ Some token →
+      HoldsAt world token (running_on host)
+  held_here token top =
+      some_of (state_at world host) (λ s. IsSomeAnd s.running (λ one. one.held ≡ Some token)) t.step.state t.step.obeys
+      (some_of t.step.state.running (λ one. one.held ≡ Some token) thread t.running (t.stands.does.1.held ∙ top))
 
   -- ---- whatever the turn makes
 
@@ -440,12 +441,14 @@ module _ (split : Split) (c : Configuration) (view : View) (host : HostId) (thre
       else with_one_ignored (with_running t.step.state None)) ≡ t.step.outcome → Goes split c after
   unfolding popping
   ends_if token true passing own top gives_up is =
-      pops_own split c view (runs host thread) world after host popping token own top (passing refl) gives_up is
+      pops_held split c view (runs host thread) world after host popping (running_on host)
+      (λ other at same. absurd (cc)) token (held_here token top) own top (passing refl) gives_up is
   ends_if token false passing own top gives_up is =
       let new : HostShape = with_one_ignored (with_running t.step.state None) in
       let moved =
       moved_silent world host t.step.outcome new (label_of_turn split.code t.step.state) after is t.step.leaves in
-      loses split c view (runs host thread) world after host popping gives_up is
+      loses split c view (runs host thread) world after host popping (running_on host) held_here
+      t.stands.tight.standing gives_up is
       (λ lost_token only place. nobody_has new moved.hosts lost_token refl refl refl moved.flying only place)
 
   pub goes_of : turns.Turned split c view world host t.step.state thread t.step.outcome → Goes split c after

@@ -3,25 +3,24 @@ use Rattle.std.specs.Prelude.{ℕ, ℤ, pos, List, [], ◌∷◌, Some, None, co
 use Rattle.host_decl.specs.Hosts as declared_hosts
 use Rattle.jif_tree.specs.Altered.{Exposure}
 use Rattle.jif_tree.specs.SourceRun.{Configuration, keep}
+use Rattle.ics_stack.specs.declared.stack.StackEntry.{StackEntry}
 use Rattle.host_code.specs.declared.code.Entry.{Entry}
-use Rattle.host_code.specs.declared.instruction.Instr.{Instr}
-use Rattle.host_code.specs.declared.instruction.Op.{Op}
 use Rattle.host_code.specs.declared.instruction.Op.TheVariants as op
 use Rattle.host_code.specs.declared.message.Message.TheVariants as message
 use Rattle.host_code.specs.Thread.{ThreadShape}
-use Rattle.host_code.specs.Code.{CodeShape}
+use Rattle.host_code.specs.Code.{CodeShape, halt}
 use Rattle.event_text.specs.declared.event.Event.{Event}
 use Rattle.event_text.specs.declared.event.Event.TheVariants.{Act}
+use Rattle.event_text.specs.declared.event.BadToken.TheVariants.{Sent}
 use Rattle.event_text.specs.declared.event.BadMessage.TheVariants as bad
 use Rattle.host_core.specs.Host.{HostShape, Outcome, with_running}
-use Rattle.host_core.specs.Start.{main_frame, idle_host}
+use Rattle.host_core.specs.Start.{main_frame, idle_host, last_token}
 use Rattle.host_core.specs.Taking.{after_taking}
 use Rattle.host_core.specs.Turn.{after_operation}
 use Rattle.net_world.specs.World.{WorldShape, world_at_start, after_telling, with_state}
 use Rattle.split_rules.specs.OpenExamples.{untrusted, trusted_by_first, sent_table}
 use Rattle.split_rules.specs.Worked.{host_id, field_id, var_id, a_host, labelled_with, sent_local}
-use Rattle.host_code.specs.declared.code_expr.Node.TheVariants as node
-use Rattle.token_laws.specs.TokenExamples.{first_request, small, a_field, start, start_state}
+use Rattle.token_laws.specs.TokenExamples.{first_request, first_token, start, start_state, handing, handed, given}
 use Rattle.integrity.specs.Exposed.{bad_labels}
 use Rattle.integrity.specs.Outside.{Threat, threat_of}
 
@@ -116,14 +115,18 @@ not_at_end = record { store = (pos 7 ∷ []) ∷ []; calls = []; pending = keep 
 abbrev pub at_end : Configuration
 at_end = record not_at_end { pending = [] }
 
--- ---- code that enters no misbehaving host
+-- ---- the entry that ends the program, where it was from the start
 
-abbrev step : Op → Instr
-step operation = record { label = 0; statement = record { 0 = 0 }; op = operation }
+abbrev pub last_entry : StackEntry
+last_entry = record { token = first_token; entry = halt; frame = main_frame; kept = last_token (host_id 0) }
 
--- The first of two hosts reads the field of the second. That enters itself.
-abbrev pub reading : CodeShape
-reading = record small {
-  parts = (step (op.Read a_field (node.Number (pos 0) ∷ [])) ∷ step op.Back ∷ [])
-      ∷ (step (op.Go (record { 0 = 3 }) (host_id 1)) ∷ []) ∷ [];
-}
+-- ---- a misbehaving host that was handed the token of that entry gives it back
+
+abbrev pub giving : Event
+giving = Act (host_id 1) (host_id 0) (bad.Lgoto (Sent 0))
+
+abbrev pub ending : Outcome
+ending = after_taking handing handed.state (host_id 1) (message.Lgoto first_token) true
+
+abbrev pub ended : WorldShape
+ended = after_telling (with_state given (host_id 0) ending.state) (host_id 0) ending.sent

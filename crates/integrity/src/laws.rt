@@ -44,13 +44,14 @@ ghost use Rattle.token_laws.specs.Reached.{IsReached};
 ghost use Rattle.typed_steps.specs.Views.{Split, View};
 ghost use Rattle.simulation.specs.Obeying.{IsSet};
 ghost use Rattle.token_laws.specs.TokenExamples.{bad_start, first_token, given, handing, host_id, small, start};
-ghost use Rattle.integrity.specs.Altering.{EntersObeying, FollowsAltered, HandsNoNewToken, RunsQuietly, StandsFor};
+ghost use Rattle.integrity.specs.Altering.{FollowsAltered, StandsFor};
 ghost use Rattle.integrity.specs.Exposed.{AreAsBefore, FieldsStand, bad_labels, exposure_of};
 ghost use Rattle.integrity.specs.Holding.{AreLinked, Holder, runs, lost, IsOwn, IsOutsideBut, IsStanding, IsTight};
 ghost use Rattle.integrity.specs.Holding.{stuck, StartsTight};
 ghost use Rattle.integrity.specs.IntegrityExamples.{sent_threat, sending, waiting, two_fields, exposed_to, store};
 ghost use Rattle.integrity.specs.IntegrityExamples.{before_set, sets_to_nine, after_set, after_refused, halted_world};
-ghost use Rattle.integrity.specs.IntegrityExamples.{at_end, not_at_end, reading};
+ghost use Rattle.integrity.specs.IntegrityExamples.{at_end, last_entry, not_at_end, giving, ended};
+ghost use Rattle.integrity.specs.Loose.{AreUnsentBelow, IsLoose, Loosens, Recovers, StandsLoosely};
 ghost use Rattle.integrity.specs.Standing.{Goes, SetsThere, Stalls, StandsBy, threat_in};
 ghost use Rattle.integrity.specs.Outside.{EntryIsOpen, IsOutside, MessageIsOpen, StateIsOpen, Threat, threat_of};
 
@@ -190,6 +191,28 @@ pub fn standing_laws()
         IsStep split.code world (Turn host) after → misbehaves world to ≡ true →
         after.sent ≡ world.sent ++ (host, to, sent) ∷ [] → token_in sent ≡ None →
         StandsBy split c view (runs host thread) world → Stalls split c host after }
+    // Where its turn sends a misbehaving host a token, that is the token of the first entry. What was due before that
+    // entry is left out, and only what is due behind the chain is left to do.
+    ensures handed { (split : Split) (labelled : Labelled) (needs : NeedsShape) (hosts : HostsShape)
+        (plan : PlanShape) (bad : ℕ) (store : List (List ℤ)) (events : List Event) (world after : WorldShape)
+        (host : HostId) (thread : ThreadShape) (c : Configuration) (view : View) (to : HostId) (sent : Message)
+        (token : Token) →
+        threat_in split ≡ threat_of labelled needs hosts plan split.table bad → IsSplittable labelled hosts plan →
+        IsAllowed labelled needs hosts plan → IsReached split.code hosts.hosts bad store events world →
+        CodeHasNumbers split.code → RowsHaveNumbers store → All EventHasNumbers events →
+        IsStep split.code world (Turn host) after → misbehaves world to ≡ true →
+        after.sent ≡ world.sent ++ (host, to, sent) ∷ [] → token_in sent ≡ Some token →
+        StandsBy split c view (runs host thread) world → Loosens split c after }
+    // So one of these comes of every turn of the holder's thread, whatever that sends.
+    ensures loosens { (split : Split) (labelled : Labelled) (needs : NeedsShape) (hosts : HostsShape)
+        (plan : PlanShape) (bad : ℕ) (store : List (List ℤ)) (events : List Event) (world after : WorldShape)
+        (host : HostId) (thread : ThreadShape) (c : Configuration) (view : View) →
+        threat_in split ≡ threat_of labelled needs hosts plan split.table bad → IsSplittable labelled hosts plan →
+        IsAllowed labelled needs hosts plan → IsHeld labelled needs hosts plan →
+        IsReached split.code hosts.hosts bad store events world → CodeHasNumbers split.code → RowsHaveNumbers store →
+        All EventHasNumbers events → IsStep split.code world (Turn host) after →
+        StandsBy split c view (runs host thread) world →
+        Goes split c after ⊎ (Stalls split c host after ⊎ Loosens split c after) }
     // Where the holder's thread waits for a misbehaving host and that answers it, the thread goes on. It waits on where
     // it waits for an answer of another kind.
     ensures acted { (split : Split) (rows : List HostRow) (bad : ℕ) (store : List (List ℤ)) (events : List Event)
@@ -205,38 +228,35 @@ pub fn standing_laws()
     opening_laws();
 }
 
-/// Where the root obeys and no turn hands a misbehaving host a token of an obeying host that such hosts were not sent
-/// before, the hosts follow an altered run of the program, whatever else misbehaving hosts are told, and whatever they
-/// send and are answered: at every moment each field on an obeying host, which no misbehaving host may affect, has the
-/// value of one configuration of it, and once the root has halted that is at its end.
-pub fn quiet_laws()
+/// A chain is loose where misbehaving hosts may have the token of its first entry, and what is left to do is due behind
+/// it. Until the token is given back all that goes on is outside, and the configuration stays.
+pub fn loose_laws()
+    // So it is where that token is lost.
+    ensures from_lost { (split : Split) (c : Configuration) (view : View) (world : WorldShape) →
+        StandsBy split c view lost world → StandsLoosely split c view world }
+    // After any event the world stands for the same configuration. The chain is loose still, or the token was given
+    // back and the thread of the first entry goes on, or the program is at its end.
+    ensures recovers { (split : Split) (labelled : Labelled) (needs : NeedsShape) (hosts : HostsShape)
+        (plan : PlanShape) (bad : ℕ) (store : List (List ℤ)) (events : List Event) (world after : WorldShape)
+        (event : Event) (c : Configuration) (view : View) →
+        threat_in split ≡ threat_of labelled needs hosts plan split.table bad →
+        IsSplittable labelled hosts plan → IsAllowed labelled needs hosts plan →
+        IsReached split.code hosts.hosts bad store events world →
+        HasOwnToken (world_at_start split.code hosts.hosts bad store) event → IsStep split.code world event after →
+        StandsLoosely split c view world → Recovers split c after }
+{
+    opening_laws();
+}
+
+/// Whichever hosts misbehave, and whatever they are told, send and are answered, the hosts follow an altered run of the
+/// program: at every moment each field on an obeying host, which no misbehaving host may affect, has the value of one
+/// configuration of it, and once an obeying root has halted that is at its end.
+pub fn integrity_laws()
     ensures follows { (program : Program) (labelled : Labelled) (needs : NeedsShape) (hosts : HostsShape)
-        (plan : PlanShape) (bad : ℕ) (store : List (List ℤ)) (events : List Event) (world : WorldShape)
-        (state : HostShape) →
-        let code = split_code labelled needs hosts plan in
-        let start = world_at_start code hosts.hosts bad store in
-        IsSet program labelled needs hosts plan → CodeHasNumbers code → RowsHaveNumbers store →
-        IsReached code hosts.hosts bad store events world → All EventHasNumbers events →
-        state_at start code.root ≡ Some state → RunsQuietly code start events →
-        FollowsAltered program (exposure_of labelled needs hosts bad) code hosts.hosts bad store events }
-    // So they do where misbehaving hosts were sent no token but their own before the end of the events.
-    ensures unsent { (program : Program) (labelled : Labelled) (needs : NeedsShape) (hosts : HostsShape)
-        (plan : PlanShape) (bad : ℕ) (store : List (List ℤ)) (events : List Event) (world : WorldShape)
-        (state : HostShape) →
+        (plan : PlanShape) (bad : ℕ) (store : List (List ℤ)) (events : List Event) (world : WorldShape) →
         let code = split_code labelled needs hosts plan in
         IsSet program labelled needs hosts plan → CodeHasNumbers code → RowsHaveNumbers store →
         IsReached code hosts.hosts bad store events world → All EventHasNumbers events →
-        state_at (world_at_start code hosts.hosts bad store) code.root ≡ Some state →
-        ((token : Token) → IsSent world token → misbehaves world token.host ≡ true) →
-        FollowsAltered program (exposure_of labelled needs hosts bad) code hosts.hosts bad store events }
-    // So they do where no instruction of an obeying host enters a misbehaving one.
-    ensures unentered { (program : Program) (labelled : Labelled) (needs : NeedsShape) (hosts : HostsShape)
-        (plan : PlanShape) (bad : ℕ) (store : List (List ℤ)) (events : List Event) (world : WorldShape)
-        (state : HostShape) →
-        let code = split_code labelled needs hosts plan in let start = world_at_start code hosts.hosts bad store in
-        IsSet program labelled needs hosts plan → CodeHasNumbers code → RowsHaveNumbers store →
-        IsReached code hosts.hosts bad store events world → All EventHasNumbers events →
-        state_at start code.root ≡ Some state → EntersObeying code start →
         FollowsAltered program (exposure_of labelled needs hosts bad) code hosts.hosts bad store events }
 {
     split_laws();
@@ -307,21 +327,16 @@ pub fn chain_examples()
     ensures other_turn { (thread : ThreadShape) → ¬ IsOwn (runs (host_id 0) thread) start (Turn (host_id 1)) }
     // Each entry of a chain keeps the token of the next.
     ensures unlinked { (one next : StackEntry) → one.kept ≢ next.token → ¬ AreLinked (one ∷ next ∷ []) }
-    // A turn that pushes an entry hands misbehaving hosts no token. One that hands control over to such a host hands it
-    // a new one.
-    ensures quiet { RunsQuietly small start (Turn (host_id 0) ∷ []) }
-    ensures told { ¬ RunsQuietly handing bad_start (Turn (host_id 0) ∷ []) }
-    // One that sends such a host a message without a token, or with one of theirs, does not.
-    ensures tokenless { (world after : WorldShape) (host to : HostId) (sent : Message) →
-        after.sent ≡ world.sent ++ (host, to, sent) ∷ [] → token_in sent ≡ None →
-        HandsNoNewToken (Turn host) world after }
-    ensures theirs { (world after : WorldShape) (host to : HostId) (sent : Message) (token : Token) →
-        after.sent ≡ world.sent ++ (host, to, sent) ∷ [] → token_in sent ≡ Some token →
-        misbehaves world token.host ≡ true → HandsNoNewToken (Turn host) world after }
-    // Code that hands control over to a misbehaving host enters one. Code that reads a field there does not, and what
-    // the misbehaving host's own code enters is not asked about.
-    ensures enters { ¬ EntersObeying handing bad_start }
-    ensures reads { EntersObeying reading bad_start }
+    // Where the token of the entry that ends the program is handed over to a misbehaving host, the chain is loose.
+    ensures loose { (planned : PlannedShape) (table : Table) (exposure : Exposure) →
+        let threat : Threat = record { planned = planned; code = handing; table = table; exposure = exposure } in
+        IsLoose threat (last_entry ∷ []) given }
+    // Where that host gives the token back, the entry is taken off, and the program has halted.
+    ensures gives_back { IsRun handing given (giving ∷ []) ended }
+    ensures ends { has_halted handing.root ended }
+    // The token of an entry below the first may not be handed over.
+    ensures sent_below { (first below : StackEntry) → below.token ≡ first_token →
+        ¬ AreUnsentBelow given (first ∷ below ∷ []) }
     // Where the root has halted, no thread is the holder.
     ensures halted_denied { (split : Split) (c : Configuration) (view : View) (host : HostId) (thread : ThreadShape)
         (world : WorldShape) → has_halted split.code.root world → ¬ StandsBy split c view (runs host thread) world }

@@ -4,6 +4,6 @@
 mod laws;
 
 pub use laws::{
-    chain_examples, chain_laws, integrity_examples, outside_laws, quiet_laws, root_laws,
-    standing_laws,
+    chain_examples, chain_laws, integrity_examples, integrity_laws, loose_laws, outside_laws,
+    root_laws, standing_laws,
 };

@@ -1,5 +1,5 @@
 use Rattle.integrity.proofs.ChainExamples as example
-use Rattle.integrity.proofs.NewTokens as tokens
+use Rattle.integrity.proofs.LooseExamples.{loose, gives_back, ends, sent_below}
 use Rattle.integrity.proofs.laws.chain_examples.Goals as goal
 
 pub returns-clause-not_lost : goal.returns-clause-not_lost
@@ -20,23 +20,17 @@ returns-clause-other_turn c = example.other_turn
 pub returns-clause-unlinked : goal.returns-clause-unlinked
 returns-clause-unlinked c = example.unlinked
 
-pub returns-clause-quiet : goal.returns-clause-quiet
-returns-clause-quiet c = example.quiet c.token_examples.ensures.pushes
-
-pub returns-clause-told : goal.returns-clause-told
-returns-clause-told c = example.told c.token_examples.ensures.hands_over c.token_examples.ensures.sent
-
-pub returns-clause-tokenless : goal.returns-clause-tokenless
-returns-clause-tokenless c = tokens.tokenless
-
-pub returns-clause-theirs : goal.returns-clause-theirs
-returns-clause-theirs c = tokens.theirs
-
-pub returns-clause-enters : goal.returns-clause-enters
-returns-clause-enters c = example.enters
-
-pub returns-clause-reads : goal.returns-clause-reads
-returns-clause-reads c = example.reads
-
 pub returns-clause-halted_denied : goal.returns-clause-halted_denied
 returns-clause-halted_denied c = example.halted_denied
+
+pub returns-clause-loose : goal.returns-clause-loose
+returns-clause-loose c = loose
+
+pub returns-clause-gives_back : goal.returns-clause-gives_back
+returns-clause-gives_back c = gives_back
+
+pub returns-clause-ends : goal.returns-clause-ends
+returns-clause-ends c = ends
+
+pub returns-clause-sent_below : goal.returns-clause-sent_below
+returns-clause-sent_below c = sent_below c.token_examples.ensures.sent

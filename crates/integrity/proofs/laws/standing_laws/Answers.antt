@@ -4,6 +4,7 @@ use Rattle.token_laws.specs.Numbers.{MessageHasNumbers}
 use Rattle.integrity.proofs.ActMoves.{holder_acted}
 use Rattle.integrity.proofs.Among.{if_of}
 use Rattle.integrity.proofs.HolderLaws.{holder_turned}
+use Rattle.integrity.proofs.LooseTurns.{holder_loosens, holder_goes}
 use Rattle.integrity.proofs.StallMoves.{holder_sends}
 use Rattle.integrity.proofs.StandsAtStart.{stands_at_start}
 use Rattle.integrity.proofs.StandsOn.{stands_kept}
@@ -40,3 +41,11 @@ returns-clause-told c = holder_told
 
 pub returns-clause-stalled : goal.returns-clause-stalled
 returns-clause-stalled c = holder_sends
+
+pub returns-clause-handed : goal.returns-clause-handed
+returns-clause-handed c =
+    holder_loosens (record { opens = c.opening_laws.ensures.opens; labels = c.opening_laws.ensures.labels })
+
+pub returns-clause-loosens : goal.returns-clause-loosens
+returns-clause-loosens c =
+    holder_goes (record { opens = c.opening_laws.ensures.opens; labels = c.opening_laws.ensures.labels })

@@ -1,6 +1,6 @@
+use Rattle.integrity.proofs.AlteredLaws.{follows_always}
 use Rattle.integrity.proofs.RootLaws.{AreSplitLaws}
-use Rattle.integrity.proofs.SetPrograms.{follows_set, follows_unsent, follows_unentered}
-use Rattle.integrity.proofs.laws.quiet_laws.Goals as goal
+use Rattle.integrity.proofs.laws.integrity_laws.Goals as goal
 
 pub returns : goal.returns
 returns c =
@@ -10,8 +10,4 @@ returns c =
       typable = c.trust_laws.ensures.typable;
       typed = c.split_laws.ensures.typed;
     } in
-    record {
-      follows = follows_set laws;
-      unsent = follows_unsent laws;
-      unentered = follows_unentered laws;
-    }
+    record { follows = follows_always laws }
