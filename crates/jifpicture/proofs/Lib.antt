@@ -1,0 +1,12 @@
+pub mod Answering
+pub mod Apart
+pub mod ArrowWalks
+pub mod BoxPlaces
+pub mod BoxRows
+pub mod Completeness
+pub mod Drawings
+pub mod DueFiles
+pub mod LineCounts
+pub mod OneVerdict
+pub mod SomeVerdict
+pub mod Walks

@@ -1,0 +1,6 @@
+pub mod Answers
+pub mod Arrows
+pub mod Boxes
+pub mod Due
+pub mod Layout
+pub mod Picture

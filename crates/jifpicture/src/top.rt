@@ -1,0 +1,119 @@
+//! The top call, from words and files to a status and what is put out.
+
+ghost use Rattle.std.specs.Prelude.{◌≡◌, ◌<◌, ◌≤◌, ◌+◌, ◌⊎◌, ℕ, List, length, map, string_bytes, OnOk, IsErrOf};
+ghost use Rattle.std.specs.Prelude.{Option, Some};
+ghost use Rattle.js_base.specs.Counts.{last_count};
+ghost use Rattle.js_base.specs.Sink.{TakesFront};
+ghost use Rattle.js_base.specs.declared.status.Status.{Status};
+ghost use Rattle.front_end.specs.Loads.{AreKept, files_change};
+ghost use Rattle.front_end.specs.Verdicts.{Print};
+ghost use Rattle.jifpicture.specs.Answers.{AnswersTo, sink_change};
+ghost use Rattle.jifpicture.specs.Due.{Due, no_memory_line};
+
+use crate::due::due;
+use crate::laws::picture_laws;
+use front_end::Verdict;
+use js_base::{Files, OutOfMemory, PutError, Sink, Status};
+use std::alloc::Global;
+
+/// Runs `jifpicture` on the words after its name, which are the names of a program and a host file.
+///
+/// It answers `Done` where the picture was put on `out`. Any other answer is a refusal or a fault, and but for `Usage`
+/// each comes where `jifsplit check` of the same files would answer it, with the same line on `err`:
+/// - `Usage`: the words are not two.
+/// - `SourceRefused`: the program is refused for its text, its names or its labels; or no host may hold some part of
+///   it.
+/// - `InputRefused`: a file is absent, or the host file is refused.
+/// - `FileFault`: a file could not be read.
+/// - `OutFault`: what was due could not all be put out.
+/// - `NoMemory`: memory ran out.
+///
+/// The program is loaded first, and after the first file that is absent or could not be read none is loaded. Where
+/// memory runs out, a front of what was due may have been put, and the line `jifpicture: no memory` follows on `err`
+/// where it can.
+pub fn jifpicture<F: Files, S: Sink, E: Sink>(
+    alloc: Global,
+    words: &[String],
+    files: &mut F,
+    out: &mut S,
+    err: &mut E,
+) -> Status
+    // What is answered and put out is what is due.
+    ensures answer { AnswersTo (map string_bytes words.now)
+        (files_change F.Files files.old files.new)
+        result
+        (sink_change S.Sink out.old out.new)
+        (sink_change E.Sink err.old err.new) }
+    // Where a picture is due for what the files hold, and neither they nor the output count a fault, the answer is its
+    // status, or memory ran out.
+    ensures complete { (holds : List ℕ → Option (List ℕ)) (number : ℕ) (status : Status) (text : List ℕ) →
+        F.held files.old ≡ Some holds → Due (map string_bytes words.now) (Some holds) number (Print status text) →
+        F.faults files.new ≡ F.faults files.old → F.faults files.old < last_count →
+        S.faults out.new ≡ S.faults out.old → S.faults out.old < last_count →
+        (result ≡ status) ⊎ (result ≡ Status.NoMemory) }
+    // Whatever it answers, it asks for no more loads than there are words, saves nothing, and leaves what is held.
+    ensures loads { F.loads files.new ≤ F.loads files.old + length words.now }
+    ensures kept { AreKept (files_change F.Files files.old files.new) }
+{
+    picture_laws();
+    answered(alloc, words, files, out, err)
+}
+
+/// Answers to what is due, and puts out what belongs to it.
+fn answered<F: Files, S: Sink, E: Sink>(
+    alloc: Global,
+    words: &[String],
+    files: &mut F,
+    out: &mut S,
+    err: &mut E,
+) -> Status
+    ensures answer { AnswersTo (map string_bytes words.now)
+        (files_change F.Files files.old files.new)
+        result
+        (sink_change S.Sink out.old out.new)
+        (sink_change E.Sink err.old err.new) }
+    ensures loads { F.loads files.new ≤ F.loads files.old + length words.now }
+    ensures kept { AreKept (files_change F.Files files.old files.new) }
+{
+    match due(alloc, words, files) {
+        Ok(Verdict::Print { status, text }) => {
+            let put = out.put(alloc, text.as_bytes());
+            status_after(alloc, put, status, err)
+        }
+        Ok(Verdict::Refuse { status, line }) => {
+            let put = err.put(alloc, line.as_bytes());
+            status_after(alloc, put, status, err)
+        }
+        Err(OutOfMemory) => no_memory(alloc, err),
+    }
+}
+
+/// The status after a put, by how it ended.
+fn status_after<E: Sink>(
+    alloc: Global,
+    put: Result<(), PutError>,
+    status: Status,
+    err: &mut E,
+) -> Status
+    ensures ok { OnOk put (result ≡ status) }
+    ensures failed { IsErrOf put PutError.Failed → result ≡ Status.OutFault }
+    ensures memory { IsErrOf put PutError.OutOfMemory → result ≡ Status.NoMemory }
+    ensures line { IsErrOf put PutError.OutOfMemory → TakesFront no_memory_line (E.taken err.old) (E.taken err.new) }
+    ensures untouched { (IsErrOf put PutError.OutOfMemory → ⊥) →
+        (E.taken err.new ≡ E.taken err.old) × (E.faults err.new ≡ E.faults err.old) }
+{
+    match put {
+        Ok(()) => status,
+        Err(PutError::Failed) => Status::OutFault,
+        Err(PutError::OutOfMemory) => no_memory(alloc, err),
+    }
+}
+
+/// Says that memory ran out, where that can be said.
+fn no_memory<E: Sink>(alloc: Global, err: &mut E) -> Status
+    ensures status { result ≡ Status.NoMemory }
+    ensures line { TakesFront no_memory_line (E.taken err.old) (E.taken err.new) }
+{
+    let _ = err.put(alloc, b"jifpicture: no memory\n");
+    Status::NoMemory
+}
