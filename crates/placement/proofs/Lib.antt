@@ -4,3 +4,4 @@ pub mod Held
 pub mod SomePlan
 pub mod Passes
 pub mod TriedSteps
+pub mod Stays

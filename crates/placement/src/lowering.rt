@@ -1,6 +1,6 @@
 //! Moves that lower the cost of a plan.
 
-ghost use Rattle.std.specs.Prelude.{◌≡◌, ◌-ℤ◌, pos, IfOk, length, slice_set};
+ghost use Rattle.std.specs.Prelude.{◌≡◌, ◌↔◌, ◌-ℤ◌, pos, IfOk, IsTrue, length, slice_set};
 ghost use Rattle.jif_tree.specs.Trees.{program_tree};
 ghost use Rattle.jif_tree.specs.Limits.{IsWithinLimits};
 ghost use Rattle.msg_cost.specs.Rows.{IsIndex};
@@ -177,18 +177,43 @@ fn try_step(
     }
 }
 
-/// What a move adds to the cost, less what it saves. A part that stands on the host already changes nothing.
+/// What a move adds to the cost, less what it saves. A part that stands on the host already changes nothing, and so
+/// nothing is counted for it.
 fn change(counted: Counted<'_>, index: &Index<'_>, plan: &Plan, step: Step) -> i64
     requires within { IsWithinLimits (program_tree counted.checked.now.program) }
     requires index { IsIndex (program_tree counted.checked.now.program) counted.needs.now index.now }
     ensures { result ≡ pos (cost_in counted.entry (moved plan.now step)) -ℤ pos (cost_in counted.entry plan.now) }
 {
+    if stands_there(plan, step) {
+        return 0;
+    }
     let Counted {
         checked,
         needs,
         hosts,
     } = counted;
     delta_by_pieces(checked, needs, hosts, index, plan, step)
+}
+
+/// Whether a move leaves the plan as it is: its part stands on the host already, or there is no such part.
+fn stands_there(plan: &Plan, step: Step) -> bool
+    ensures { IsTrue result ↔ (moved plan.now step ≡ plan.now) }
+{
+    match step {
+        Step::Field(field, host) => is_at(plan.fields(), field.0, host),
+        Step::Statement(statement, host) => is_at(plan.statements(), statement.0, host),
+    }
+}
+
+/// Whether to put a host at a place leaves the hosts as they are: it is there already, or there is no such place.
+#[tactic(auto, using(crate::proofs::Stays::set_there))]
+fn is_at(hosts: &[HostId], place: u32, host: HostId) -> bool
+    ensures { IsTrue result ↔ (slice_set hosts.now place host ≡ hosts.now) }
+{
+    match hosts.get(place as usize) {
+        Some(there) => there.0 == host.0,
+        None => true,
+    }
 }
 
 /// The plan after a move.
