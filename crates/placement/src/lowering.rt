@@ -220,20 +220,13 @@ fn is_at(hosts: &[HostId], place: u32, host: HostId) -> bool
 fn moved(alloc: Global, plan: &Plan, step: Step) -> Result<Plan, OutOfMemory>
     ensures { IfOk result (λ next. next ≡ moved plan.now step) }
 {
-    let mut fields = copy(alloc, plan.fields())?;
-    let mut statements = copy(alloc, plan.statements())?;
+    let mut fields = Vec::from_slice(alloc, plan.fields())?;
+    let mut statements = Vec::from_slice(alloc, plan.statements())?;
     match step {
         Step::Field(field, host) => put(&mut fields, field.0, host),
         Step::Statement(statement, host) => put(&mut statements, statement.0, host),
     }
     Ok(Plan::new(fields, statements))
-}
-
-/// These hosts once more.
-fn copy(alloc: Global, hosts: &[HostId]) -> Result<Vec<HostId>, OutOfMemory>
-    ensures { IfOk result (λ copied. copied.items ≡ hosts.now) }
-{
-    Ok(hosts.iter().copied().collect(alloc)?)
 }
 
 /// Puts a host at a place, where there is such a place.
