@@ -2,9 +2,10 @@
 use Rattle.std.proofs.Common.{◌≡◌, ◌≤◌, ◌+◌, ◌*◌, ◌∙◌, ℕ, suc, List, [], ◌∷◌, ◌++◌, map, length, Option, Some, Ok, refl, sym, ap}
 use Rattle.std.proofs.Common.{subst, length-append}
 use Rattle.std.proofs.Common.{⊎_elim, inl, arith, take}
-use Rattle.std.specs.Prelude.{ℤ, ◌⊎◌, slice_index, replicate}
+use Rattle.std.specs.Prelude.{ℤ, ◌⊎◌, All, slice_index, replicate}
 use Rattle.std.specs.List.{AllZip}
 use Rattle.std.proofs.lemmas.List.{take_all}
+use Rattle.std.proofs.lemmas.List.Elements.{All-map}
 use Rattle.js_base.specs.Sink.{Takes}
 use Rattle.js_base.specs.declared.ids.HostId.{HostId}
 use Rattle.js_base.specs.declared.limits.TheConstants.{SCRIPT_BYTES}
@@ -17,13 +18,17 @@ use Rattle.jif_tree.specs.SourceRun.{HasLength}
 use Rattle.jif_tree.specs.Store.{starting_values}
 use Rattle.jif_tree.specs.Trees.{FieldTree, ProgramTree, field_tree, program_tree}
 use Rattle.event_text.specs.declared.event.Event.{Event}
+use Rattle.event_text.specs.OwnTokens.{IsOwnEvent}
 use Rattle.event_text.specs.Lines.{said_lines}
 use Rattle.event_text.specs.Misbehaving.{past_bad}
 use Rattle.event_text.specs.Script.{ScriptShape, script_of}
 use Rattle.event_text.specs.Start.{start_of}
 use Rattle.event_text.specs.Settings.{form_of, settings_in_front, starting_rows, after_settings}
 use Rattle.host_code.specs.Code.{CodeShape}
+use Rattle.host_code.specs.Sound.{IsSoundCode}
 use Rattle.host_core.specs.Host.{HostShape}
+use Rattle.integrity.specs.Altering.{FollowsAltered}
+use Rattle.integrity.specs.Exposed.{exposure_of}
 use Rattle.label_lattice.specs.declared.label.Label.{Label}
 use Rattle.need_labels.specs.Labelled as needs
 use Rattle.need_labels.specs.Needs.{NeedsShape}
@@ -31,9 +36,13 @@ use Rattle.need_labels.specs.Plan.{PlanShape}
 use Rattle.net_world.specs.Choice.{NoneRuns, NothingFlies, IsNextEvent}
 use Rattle.net_world.specs.World.{WorldShape, IsStep, IsRun, world_at_start, state_at, has_halted}
 use Rattle.net_world.specs.World.{not_bad, not_there, host_busy, no_such_token}
+use Rattle.net_world.specs.Fits.{HasOwnToken}
 use Rattle.split_rules.specs.SplitCode.{split_code, placed_code_fields}
+use Rattle.split_rules.specs.Splittable.{IsSplittable}
 use Rattle.simulation.specs.Ending.{EVENTS}
 use Rattle.simulation.specs.Obeying.{IsSet, Follows}
+use Rattle.token_laws.specs.Numbers.{CodeHasNumbers, RowsHaveNumbers, EventHasNumbers}
+use Rattle.token_laws.specs.Reached.{IsReached}
 use Rattle.split_cli.specs.Commands.{CommandShape, Replay, Drive, IsCommand, words_of, files_of}
 use Rattle.front_end.specs.StepCounts.{IsStepCount}
 use Rattle.front_end.specs.Verdicts.{VerdictShape, Refuse, Print}
@@ -50,13 +59,17 @@ use Rattle.front_end.specs.Starting as starting
 use Rattle.split_cli.specs.Due.{DueForBytes, DueForCommand, Due, no_words, for_command, IsDue}
 use Rattle.split_cli.specs.Due as due
 use Rattle.split_cli.specs.Answers.{SinkChange, Puts, IsAnswered, AnswersTo}
-use Rattle.split_cli.specs.Faithful.{IsPlacedAs, IsFaithfulRun, IsReplayed, IsFaithful, IsDrivenTo, IsFaithfulDrive}
+use Rattle.split_cli.specs.Faithful.{IsPlacedAs, IsObeyingRun, IsFaithfulRun, IsReplayed, IsFaithful, IsDrivenTo}
+use Rattle.split_cli.specs.Faithful.{IsFaithfulDrive}
 use Rattle.split_cli.specs.Faithful.{PutsText, Only, PutsFaithfully, PutsDriven}
 use Rattle.split_cli.proofs.OneDrive.{driven_run}
 use Rattle.split_cli.proofs.OneVerdict.{fault_verdict, one_command}
 use Rattle.front_end.proofs.RefusedStages.{IsFailure, IsRefusal, placed_refuse}
+use Rattle.split_cli.proofs.CodeNumbers.{code_has}
+use Rattle.split_cli.proofs.ReplayDue.{OwnAtStart, own_in_first}
 use Rattle.split_cli.proofs.ReplayedEvents.{script_starts}
-use Rattle.split_cli.proofs.SetSources.{ReadingLaws, PlanLaws, GrantedLaw, set_there}
+use Rattle.split_cli.proofs.ScriptNumbers.{events_have, starts_have}
+use Rattle.split_cli.proofs.SetSources.{ReadingLaws, PlanLaws, GrantedLaw, set_there, has_numbers}
 
 -- ---- hosts that all obey
 
@@ -91,6 +104,23 @@ NextLaw = (tree : Program) (labelled : needs.Labelled) (need : NeedsShape) (file
     events world → IsNextEvent world (Some event) →
     (after : WorldShape) × IsStep (split_code labelled need file plan) world event after
 
+-- whoever misbehaves, the others follow an altered run
+abbrev pub AlteredLaw : Type 0
+AlteredLaw = (tree : Program) (labelled : needs.Labelled) (need : NeedsShape) (file : HostsShape) (plan : PlanShape)
+    (bad : ℕ) (store : List (List ℤ)) (events : List Event) (world : WorldShape) →
+    IsSet tree labelled need file plan → CodeHasNumbers (split_code labelled need file plan) → RowsHaveNumbers store →
+    IsReached (split_code labelled need file plan) file.hosts bad store events world → All EventHasNumbers events →
+    FollowsAltered tree (exposure_of labelled need file bad) (split_code labelled need file plan) file.hosts bad store
+    events
+
+-- what emitted code and scripts are
+pub record ScriptLaws : Type 0 where
+  pub sound : (labelled : needs.Labelled) (need : NeedsShape) (file : HostsShape) (plan : PlanShape) →
+      IsSplittable labelled file plan → IsSoundCode (split_code labelled need file plan)
+  pub said_own : (code : CodeShape) (bytes : List ℕ) (said : ScriptShape) → script_of code bytes ≡ Ok said →
+      All (λ one. IsOwnEvent code.hosts said.bad one.1) said.events
+  pub own_at_start : OwnAtStart
+
 -- all that is cited
 pub record AllLaws : Type 0 where
   pub reading : ReadingLaws
@@ -99,18 +129,24 @@ pub record AllLaws : Type 0 where
   pub obeying : ObeyingLaws
   pub next : NextLaw
   pub ending : EndingLaw
+  pub altered : AlteredLaw
+  pub scripts : ScriptLaws
 
-faithful_run : AllLaws → (program hosts : List ℕ) (placed : PlacedSource) (tree : Program) (start : List (List ℤ))
+-- all events are taken
+runs_all : (code : CodeShape) (first last : WorldShape) (events : List Event) → IsRun code first events last →
+    IsRun code first (take (length events) events) last
+runs_all code first last events ran =
+    subst (λ (es : List Event). IsRun code first es last) (sym (take_all (length events) events (omega arith))) ran
+
+obeying_run : AllLaws → (program hosts : List ℕ) (placed : PlacedSource) (tree : Program) (start : List (List ℤ))
     (events : List Event) (last : WorldShape) → IsPlacedAs program hosts placed tree →
-    IsRun (code_of placed) (first_world placed 0 start) events last → IsFaithfulRun placed tree start events last
-faithful_run laws program hosts placed tree start events last is_placed ran =
+    IsRun (code_of placed) (first_world placed 0 start) events last → IsObeyingRun placed tree start events last
+obeying_run laws program hosts placed tree start events last is_placed ran =
     let law = laws.obeying tree (labelled_source placed.source) placed.needs placed.source.file placed.plan start events
     last
     (set_there laws.reading laws.plans laws.granted program hosts placed is_placed.accepted tree is_placed.tree_is)
     ran in
-    let ended : IsRun (code_of placed) (first_world placed 0 start) (take (length events) events) last =
-    subst (λ (es : List Event). IsRun (code_of placed) (first_world placed 0 start) es last)
-    (sym (take_all (length events) events (omega arith))) ran in
+    let ended = runs_all (code_of placed) (first_world placed 0 start) last events ran in
     record {
       follows = law.follows;
       steps = slice_index law.follows.steps (length events);
@@ -142,6 +178,67 @@ values_of_text placed tree is =
     ∙ ap (λ (t : ProgramTree). map (λ (field : FieldTree). replicate field.size field.first) t.fields) (sym is)
     ∙ rows_of_trees tree.fields.items
 
+-- the fields of a script start with numbers
+said_numbers : AllLaws → (program hosts script : List ℕ) (placed : PlacedSource) (said : ScriptShape) →
+    PlacedSources program hosts (given placed) → script_of (code_of placed) script ≡ Ok said →
+    RowsHaveNumbers said.start
+said_numbers laws program hosts script placed said accepted read =
+    let code = code_of placed in
+    let fields = placed.source.tree.fields in
+    let small = has_numbers laws.reading laws.plans laws.granted program hosts placed accepted in
+    subst RowsHaveNumbers (sym (script_starts code script said read))
+    (starts_have fields (map form_of code.fields) (past_bad code.hosts (said_lines script))
+    (rows_placed code.labels placed.plan 0 fields) small.fields)
+
+-- ---- hosts of which some misbehave
+
+-- the events of a script lead to its last world
+reached_there : AllLaws → (program hosts script : List ℕ) (placed : PlacedSource) (tree : Program)
+    (said : ScriptShape) (last : WorldShape) → IsPlacedAs program hosts placed tree →
+    script_of (code_of placed) script ≡ Ok said →
+    IsRun (code_of placed) (first_world placed said.bad said.start) (events_in said.events) last →
+    IsReached (code_of placed) placed.source.file.hosts said.bad said.start (events_in said.events) last
+reached_there laws program hosts script placed tree said last is_placed read ran =
+    let code = code_of placed in
+    let rows = placed.source.file.hosts in
+    let first = first_world placed said.bad said.start in
+    let set = set_there laws.reading laws.plans laws.granted program hosts placed is_placed.accepted tree
+    is_placed.tree_is in
+    record {
+      sound = laws.scripts.sound (labelled_source placed.source) placed.needs placed.source.file placed.plan
+          set.splittable;
+      hosts = refl;
+      own = All-map (HasOwnToken first) (λ (one : ℕ × Event). one.1) said.events
+          (own_in_first laws.scripts.own_at_start code rows said.bad said.start said first said.events refl refl refl refl
+          (laws.scripts.said_own code script said read));
+      ran = ran;
+    }
+
+faithful_run : AllLaws → (program hosts script : List ℕ) (placed : PlacedSource) (tree : Program)
+    (said : ScriptShape) (last : WorldShape) → IsPlacedAs program hosts placed tree →
+    script_of (code_of placed) script ≡ Ok said →
+    IsRun (code_of placed) (first_world placed said.bad said.start) (events_in said.events) last →
+    IsFaithfulRun placed tree said.bad said.start (events_in said.events) last
+faithful_run laws program hosts script placed tree said last is_placed read ran =
+    let labelled = labelled_source placed.source in
+    let file = placed.source.file in
+    let code = code_of placed in
+    let events = events_in said.events in
+    let follows = laws.altered tree labelled placed.needs file placed.plan said.bad said.start events last
+    (set_there laws.reading laws.plans laws.granted program hosts placed is_placed.accepted tree is_placed.tree_is)
+    (code_has labelled placed.needs file placed.plan
+    (has_numbers laws.reading laws.plans laws.granted program hosts placed is_placed.accepted))
+    (said_numbers laws program hosts script placed said is_placed.accepted read)
+    (reached_there laws program hosts script placed tree said last is_placed read ran)
+    (events_have code script said read) in
+    record {
+      follows = follows;
+      reported = follows.stands (length events) last (omega arith)
+          (runs_all code (first_world placed said.bad said.start) last events ran);
+      obeying = λ nobody. obeying_run laws program hosts placed tree said.start events last is_placed
+          (subst (λ bad. IsRun code (first_world placed bad said.start) events last) nobody ran);
+    }
+
 -- ---- what is reported
 
 is_faithful : AllLaws → (program hosts script text : List ℕ) (replayed : IsReplayed program hosts script text) →
@@ -155,10 +252,8 @@ is_faithful laws program hosts script text replayed =
       starts = script_starts code script replayed.said replayed.read
           ∙ ap (λ (rows : List (List ℤ)). after_settings rows settings)
           (values_of_text replayed.placed replayed.tree replayed.is_placed.tree_is);
-      faithful = λ nobody. faithful_run laws program hosts replayed.placed replayed.tree replayed.said.start
-          (events_in replayed.said.events) replayed.last replayed.is_placed
-          (subst (λ bad. IsRun code (first_world replayed.placed bad replayed.said.start)
-          (events_in replayed.said.events) replayed.last) nobody replayed.runs);
+      faithful = faithful_run laws program hosts script replayed.placed replayed.tree replayed.said replayed.last
+          replayed.is_placed replayed.read replayed.runs;
     }
 
 ends_rested : (code : CodeShape) (world : WorldShape) (most : ℕ) (events : List Event) (last : WorldShape)
@@ -204,7 +299,7 @@ is_faithful_drive : AllLaws → (program hosts start : List ℕ) (most : ℕ) (s
 is_faithful_drive laws program hosts start most status text driven =
     let code = code_of driven.placed in
     let first = first_world driven.placed 0 driven.values in
-    let run = faithful_run laws program hosts driven.placed driven.tree driven.values driven.events driven.last
+    let run = obeying_run laws program hosts driven.placed driven.tree driven.values driven.events driven.last
     driven.is_placed (ends_run code first most driven.events driven.last status driven.ends) in
     record {
       driven = driven;

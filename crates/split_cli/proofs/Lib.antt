@@ -2,6 +2,7 @@ pub mod Accepted
 pub mod AlikeLists
 pub mod Answering
 pub mod CodeLines
+pub mod CodeNumbers
 pub mod CommandWords
 pub mod CompareDue
 pub mod Completeness
@@ -30,6 +31,7 @@ pub mod ReportLines
 pub mod RunDue
 pub mod RunReport
 pub mod SameMessages
+pub mod ScriptNumbers
 pub mod SetSources
 pub mod SomeCompare
 pub mod SomeDrive

@@ -7,6 +7,7 @@ use Rattle.js_base.specs.declared.ids.HostId.{HostId}
 use Rattle.js_base.specs.declared.limits.TheConstants.{PROGRAM_BYTES}
 use Rattle.principals.specs.ActsFor.{Declared, IsDeclared}
 use Rattle.jif_lex.specs.declared.token.Token.{Token}
+use Rattle.jif_lex.specs.TokenLists.{AreTokens}
 use Rattle.jif_lex.specs.Tokens.{ReadsAs, tokens}
 use Rattle.label_lattice.specs.declared.label.Label.{Label}
 use Rattle.label_lattice.specs.Label.{IsTrustedBy}
@@ -19,6 +20,7 @@ use Rattle.jif_tree.specs.Named.{AreNamed}
 use Rattle.jif_tree.specs.Results.{AreGivenBack, AreUnread}
 use Rattle.jif_tree.specs.Limits.{IsWithinLimits}
 use Rattle.jif_tree.specs.Numbering.{CountsFrom, statement_numbers, site_numbers}
+use Rattle.jif_tree.specs.Numbers.{HasNumbers}
 use Rattle.jif_tree.specs.Trees.{ProgramTree, program_tree}
 use Rattle.jif_tree.specs.ValueLabels.{AreAllValuesLabelled}
 use Rattle.jif_tree.specs.WellNumbered.{IsWellNumbered}
@@ -75,6 +77,10 @@ pub record ReadingLaws : Type 0 where
       IsProgramOf principals draft tree → AreUnread tree
   pub in_order : (principals : Declared) (draft : DraftShape) (tree : ProgramTree) →
       IsProgramOf principals draft tree → AreInOrder tree
+  pub tokens : (text : List ℕ) (list : List Token) → length text ≤ PROGRAM_BYTES → ReadsAs text (tokens list) →
+      AreTokens list
+  pub numbers : (list : List Token) (principals : Declared) (draft : DraftShape) (program : ProgramTree) →
+      AreTokens list → grammar.IsProgramOf list draft → IsProgramOf principals draft program → HasNumbers program
 
 pub record PlanLaws : Type 0 where
   pub lengths : (principals : Declared) (labelled : needs.Labelled) (need : NeedsShape) →
@@ -204,3 +210,9 @@ module _ (sources : ReadingLaws) (plans : PlanLaws) (granted : GrantedLaw) (prog
     unread = sources.unread placed.source.file.principals read.draft placed.source.tree read.resolved;
     in_order = sources.in_order placed.source.file.principals read.draft placed.source.tree read.resolved;
   }
+
+  -- the numbers of the program have 64 bits
+  pub has_numbers : HasNumbers placed.source.tree
+  has_numbers =
+      sources.numbers read.list placed.source.file.principals read.draft placed.source.tree
+      (sources.tokens program read.list read.few read.read) read.parsed read.resolved

@@ -1,6 +1,7 @@
--- The headline for hosts that all obey: what is reported of them is a world whose fields follow the plain run.
-use Rattle.std.specs.Prelude.{◌≡◌, ℕ, ◌+◌, ◌*◌, ◌≤◌, ℤ, List, [], ◌∷◌, length, map, Option, Some}
-use Rattle.std.specs.Prelude.{Ok}
+-- The headline: what is reported of hosts is a world whose fields, but for those that misbehaving hosts may affect,
+-- follow a run of the program that is altered as such hosts may alter it. Where all hosts obey it is the plain run.
+use Rattle.std.specs.Prelude.{◌≡◌, ℕ, ◌+◌, ◌*◌, ◌≤◌, ℤ, List, [], ◌∷◌, length, map, Option, Some, IsSomeAnd}
+use Rattle.std.specs.Prelude.{Ok, slice_get, slice_index}
 use Rattle.std.specs.List.{AllZip}
 use Rattle.js_base.specs.declared.ids.HostId.{HostId}
 use Rattle.js_base.specs.declared.limits.TheConstants.{SCRIPT_BYTES}
@@ -8,6 +9,7 @@ use Rattle.js_base.specs.declared.status.Status.{Status}
 use Rattle.js_base.specs.declared.status.Status.TheVariants.{Done}
 use Rattle.js_base.specs.Sink.{Takes}
 use Rattle.jif_tree.specs.declared.program.Program.{Program}
+use Rattle.jif_tree.specs.Altered.{Exposure}
 use Rattle.jif_tree.specs.Store.{starting_values}
 use Rattle.jif_tree.specs.SourceRun.{prefix, HasLength}
 use Rattle.jif_tree.specs.Trees.{program_tree}
@@ -22,11 +24,13 @@ use Rattle.net_world.specs.Choice.{NoneRuns, NothingFlies}
 use Rattle.net_world.specs.World.{WorldShape, IsRun, state_at, has_halted}
 use Rattle.simulation.specs.Ending.{EVENTS}
 use Rattle.simulation.specs.Obeying.{FieldsAre, Follows}
+use Rattle.integrity.specs.Altering.{FollowsAltered, StandsFor}
+use Rattle.integrity.specs.Exposed.{exposure_of}
 use Rattle.split_cli.specs.Drive.{first_world, drive_text}
 use Rattle.front_end.specs.PlacedCode.{code_of}
 use Rattle.split_cli.specs.Driven.{DrivesTo}
 use Rattle.front_end.specs.Loads.{Told}
-use Rattle.front_end.specs.PlacedSources.{PlacedSource, PlacedSources}
+use Rattle.front_end.specs.PlacedSources.{PlacedSource, PlacedSources, labelled_source}
 use Rattle.split_cli.specs.Replay.{events_in, replay_text}
 use Rattle.front_end.specs.Stages.{given}
 
@@ -35,8 +39,9 @@ pub record IsPlacedAs (program hosts : List ℕ) (placed : PlacedSource) (tree :
   pub accepted : PlacedSources program hosts (given placed)
   pub tree_is : program_tree tree ≡ placed.source.tree
 
--- From these starting values on events left this world, and the hosts followed the plain run, at every moment.
-pub record IsFaithfulRun (placed : PlacedSource) (tree : Program) (start : List (List ℤ)) (events : List Event)
+-- From these starting values on events left this world, all hosts obeyed, and they followed the plain run, at every
+-- moment.
+pub record IsObeyingRun (placed : PlacedSource) (tree : Program) (start : List (List ℤ)) (events : List Event)
     (last : WorldShape) : Type 0 where
   pub follows : Follows tree (code_of placed) placed.source.file.hosts start events
   -- the fields of the last world are those after so many steps of the plain run, and at its end once it has halted
@@ -46,6 +51,22 @@ pub record IsFaithfulRun (placed : PlacedSource) (tree : Program) (start : List 
   -- where nothing moves any more the program has halted, and no message was ignored
   pub idle : NoneRuns last → NothingFlies last → has_halted (code_of placed).root last
   pub none_ignored : (host : HostId) (state : HostShape) → state_at last host ≡ Some state → state.ignored ≡ 0
+
+-- what the hosts of the word's bits may affect
+abbrev pub exposure_in : PlacedSource → ℕ → Exposure
+exposure_in placed bad = exposure_of (labelled_source placed.source) placed.needs placed.source.file bad
+
+-- From these starting values on events left this world, where the hosts of the word's bits misbehave. The others
+-- followed one altered run, at every moment.
+pub record IsFaithfulRun (placed : PlacedSource) (tree : Program) (bad : ℕ) (start : List (List ℤ))
+    (events : List Event) (last : WorldShape) : Type 0 where
+  pub follows : FollowsAltered tree (exposure_in placed bad) (code_of placed) placed.source.file.hosts bad start events
+  -- each field of the last world that misbehaving hosts may not affect has its value in a configuration of that run,
+  -- which is at its end once an obeying root has halted
+  pub reported : IsSomeAnd (slice_get follows.run (slice_index follows.places (length events)))
+      (StandsFor (code_of placed) (exposure_in placed bad) last)
+  -- with nobody misbehaving all fields follow the plain run
+  pub obeying : bad ≡ 0 → IsObeyingRun placed tree start events last
 
 -- ---- replays
 
@@ -62,15 +83,15 @@ pub record IsReplayed (program hosts script : List ℕ) (text : List ℕ) : Type
   pub runs : IsRun (code_of placed) (first_world placed said.bad said.start) (events_in said.events) last
   pub text_is : text ≡ replay_text (code_of placed) last
 
--- The replay follows the plain run of its program, where the script names no host that misbehaves.
+-- The replay follows the program, whichever hosts the script says misbehave.
 pub record IsFaithful (program hosts script : List ℕ) (text : List ℕ) : Type 0 where
   pub replayed : IsReplayed program hosts script text
   -- the fields start with the values of the program's text, but for what the script sets
   pub starts : replayed.said.start ≡ after_settings (starting_values replayed.tree)
       (settings_in_front (map form_of (code_of replayed.placed).fields)
       (past_bad (code_of replayed.placed).hosts (said_lines script)))
-  pub faithful : replayed.said.bad ≡ 0 →
-      IsFaithfulRun replayed.placed replayed.tree replayed.said.start (events_in replayed.said.events) replayed.last
+  pub faithful : IsFaithfulRun replayed.placed replayed.tree replayed.said.bad replayed.said.start
+      (events_in replayed.said.events) replayed.last
 
 -- ---- drives
 
@@ -92,7 +113,7 @@ pub record IsDrivenTo (program hosts start : List ℕ) (most : ℕ) (status : St
 -- halted. It comes to rest in time.
 pub record IsFaithfulDrive (program hosts start : List ℕ) (most : ℕ) (status : Status) (text : List ℕ) : Type 0 where
   pub driven : IsDrivenTo program hosts start most status text
-  pub faithful : IsFaithfulRun driven.placed driven.tree driven.values driven.events driven.last
+  pub faithful : IsObeyingRun driven.placed driven.tree driven.values driven.events driven.last
   pub rested : status ≡ Done → has_halted (code_of driven.placed).root driven.last
   -- where the plain run ends after so many steps, so many events are enough
   pub in_time : (steps : ℕ) → HasLength driven.tree driven.values steps → EVENTS * (steps + 1) ≤ most → status ≡ Done

@@ -24,15 +24,19 @@ use crate::commands::run::due_for_run;
 use crate::commands::split::due_for_split;
 use crate::laws::due_laws;
 use crate::words::{Command, command_of};
+use event_text::script_laws;
 use front_end::{Stop, Verdict};
 use host_decl::host_file_laws;
-use jif_parse::named_laws;
+use integrity::integrity_laws;
+use jif_lex::token_laws;
+use jif_parse::{named_laws, number_laws};
 use jif_resolve::{labelling_laws, limit_laws, program_laws, result_laws};
 use js_base::{Files, OutOfMemory, PutError, Sink, Status};
 use need_labels::need_laws;
+use net_world::laws::fits_laws;
 use placement::placement_laws;
 use simulation::{ending_laws, obeying_laws};
-use split_rules::asking_laws;
+use split_rules::{asking_laws, split_laws};
 use std::alloc::Global;
 
 /// Runs `jifsplit` on the words after its name.
@@ -65,7 +69,10 @@ pub fn jifsplit<F: Files, S: Sink, E: Sink>(
         result
         (sink_change S.Sink out.old out.new)
         (sink_change E.Sink err.old err.new) }
-    // Where a replay went well, what was put is the report of hosts whose fields follow the plain run of the program.
+    // Where a replay went well, what was put is the report of hosts whose fields follow the program, whichever hosts
+    // the script says misbehave and whatever it has them do: at every moment each field on an obeying host that they
+    // may not affect has its value in one run of the program, altered only in what they may affect, and it has its
+    // value at the end of that run once an obeying root has halted. Where nobody misbehaves this is the plain run.
     ensures headline { (program hosts events : List ℕ) →
         map string_bytes words.now ≡ command.words_of (command.Replay program hosts events) → result ≡ Status.Done →
         PutsFaithfully program hosts events (F.held files.old) (S.taken out.old) (S.taken out.new) }
@@ -92,16 +99,22 @@ pub fn jifsplit<F: Files, S: Sink, E: Sink>(
         (map string_bytes words.now) (files_change F.Files files.old files.new) }
 {
     host_file_laws();
+    token_laws();
     named_laws();
+    number_laws();
     limit_laws();
     program_laws();
     labelling_laws();
     result_laws();
     need_laws();
     placement_laws();
+    split_laws();
     asking_laws();
+    script_laws();
+    fits_laws();
     obeying_laws();
     ending_laws();
+    integrity_laws();
     due_laws();
     answered(alloc, words, files, out, err)
 }

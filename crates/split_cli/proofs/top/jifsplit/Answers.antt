@@ -19,6 +19,8 @@ all_laws g c = record {
     given_back = c.result_laws.ensures.given;
     unread = c.result_laws.ensures.unread;
     in_order = c.program_laws.ensures.parameters;
+    tokens = c.token_laws.ensures;
+    numbers = c.number_laws.ensures;
   };
   plans = record {
     lengths = c.need_laws.ensures.lengths;
@@ -34,6 +36,12 @@ all_laws g c = record {
   };
   next = c.obeying_laws.ensures.next;
   ending = c.ending_laws.ensures.ends;
+  altered = c.integrity_laws.ensures;
+  scripts = record {
+    sound = c.split_laws.ensures.sound;
+    said_own = c.script_laws.ensures.own;
+    own_at_start = c.fits_laws.ensures.own_at_start;
+  };
 }
 
 pub returns-clause-headline : goal.returns-clause-headline
