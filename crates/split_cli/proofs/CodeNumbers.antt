@@ -1,7 +1,7 @@
 -- The numbers that the code of a split program names are those of the program, so they have 64 bits.
 use Rattle.std.proofs.Common.{◌≡◌, ◌∙◌, ℕ, suc, ◌+◌, List, [], ◌∷◌, ◌++◌, map, length, Option, Some, None}
-use Rattle.std.proofs.Common.{slice_get, refl, ap, sym, subst, pos}
-use Rattle.std.specs.Prelude.{⊤, All, unwrap_or}
+use Rattle.std.proofs.Common.{slice_get, refl, ap, subst, pos}
+use Rattle.std.specs.Prelude.{⊤, unwrap_or}
 use Rattle.std.specs.List.{AllByRecursion, range_with_len}
 use Rattle.std.proofs.lemmas.List.Elements.{All-nil, All-cons, All-append, All-push, recursion_from_All}
 use Rattle.js_base.specs.declared.ids.HostId.{HostId}
@@ -31,7 +31,7 @@ use Rattle.split_rules.specs.Emissions.{Emission, instruction, entry, stands, la
 use Rattle.split_rules.specs.Expressions.{Reading, reads_in, nodes_of, readings_of, first_element}
 use Rattle.split_rules.specs.SplitCode.{emitted_on, landed, placed_instruction, part_on, code_labels, split_code}
 use Rattle.split_rules.specs.Walk.{Walked, Around, Lane, lane_on, entry_id, under_token, emitted, push_or_ask}
-use Rattle.split_rules.specs.Walk.{expr_emissions, read_emissions, other_readers, pass_emissions, leave_emissions}
+use Rattle.split_rules.specs.Walk.{expr_emissions, read_emissions, other_readers, leave_emissions}
 use Rattle.split_rules.specs.Walk.{enter_emissions, move_emissions, end_emissions, argument_emissions, kept_emissions}
 use Rattle.split_rules.specs.Walk.{call_emissions, result_emissions, block_emissions, walked_in, method_entry}
 use Rattle.split_rules.specs.Walk.{method_emissions, methods_emissions, halt_entries, program_emissions}
@@ -93,8 +93,8 @@ readings_have first (endorsed operand label) small = readings_have first operand
 abbrev EmissionHasNumbers : Emission → Type 0
 EmissionHasNumbers (instruction one) = OperationHasNumbers one.op
 EmissionHasNumbers (entry named) = ⊤
-EmissionHasNumbers (stands on number) = ⊤
-EmissionHasNumbers (lands on number) = ⊤
+EmissionHasNumbers (stands on at) = ⊤
+EmissionHasNumbers (lands on at) = ⊤
 
 abbrev EmitNumbers : List Emission → Type 0
 EmitNumbers emissions = AllByRecursion EmissionHasNumbers emissions
@@ -129,23 +129,23 @@ leaves_then : (around : Around) (lane : Lane) (more : List Emission) → EmitNum
     EmitNumbers (leave_emissions around lane ++ more)
 leaves_then around lane more small = by lane.spot.host lane.spot.back lane.return_entry
   where
-    by : (host : HostId) (back : Option HostId) (number : ℕ) →
-        let it : Lane = record { spot = record { host = host; back = back }; return_entry = number } in
+    by : (host : HostId) (back : Option HostId) (place : ℕ) →
+        let it : Lane = record { spot = record { host = host; back = back }; return_entry = place } in
         EmitNumbers (leave_emissions around it ++ more)
-    by host None number = small
-    by host (Some back) number = (tt, tt, small)
+    by host None place = small
+    by host (Some back) place = (tt, (tt, small))
 
-push_has : (from host : HostId) (number : ℕ) → OperationHasNumbers (push_or_ask from host number)
-push_has from host number =
-    one_of_two OperationHasNumbers (is_same from host) (op.Push (entry_id number)) (op.Ask (entry_id number) host) tt tt
+push_has : (from host : HostId) (place : ℕ) → OperationHasNumbers (push_or_ask from host place)
+push_has from host place =
+    one_of_two OperationHasNumbers (is_same from host) (op.Push (entry_id place)) (op.Ask (entry_id place) host) tt tt
 
 enters_have : (walked : Walked) (around : Around) (counts : Counts) (from host : HostId) (back : Option HostId)
     (statements : List StmtId) →
     EmitNumbers (enter_emissions walked around counts from (record { host = host; back = back }) statements)
 enters_have walked around counts from host None statements =
-    one_of_two EmitNumbers (is_same from host) [] _ tt (tt, tt, tt, tt)
+    one_of_two EmitNumbers (is_same from host) [] _ tt (tt, (tt, (tt, tt)))
 enters_have walked around counts from host (Some back) statements =
-    one_of_two EmitNumbers (is_same from host) [] _ tt (tt, tt, push_has from back counts.entries, tt, tt, tt)
+    one_of_two EmitNumbers (is_same from host) [] _ tt (tt, (tt, (push_has from back counts.entries, (tt, (tt, tt)))))
 
 moves_have : (walked : Walked) (around : Around) (counts : Counts) (lane : Lane) (next : Spot)
     (statements : List StmtId) → EmitNumbers (move_emissions walked around counts lane next statements)
@@ -184,12 +184,14 @@ call_has : (walked : Walked) (counts : Counts) (host : HostId) (pc : Label) (sta
     EmitNumbers (call_emissions walked counts host pc statement site method arguments into left)
 call_has walked counts host pc statement site method arguments into left small =
     let called = method_at walked.labelled.program method in
-    let params = params_of called in (
+    let params = params_of called in
+    let kept = kept_has walked host pc statement (result_of called) into in (
       tt,
-      tt,
-      both (argument_emissions walked host pc statement params arguments) _
-          (arguments_have walked host pc statement params arguments small)
-          (tt, tt, tt, kept_has walked host pc statement (result_of called) into),
+      (
+        tt,
+        both (argument_emissions walked host pc statement params arguments) _
+            (arguments_have walked host pc statement params arguments small) (tt, (tt, (tt, kept))),
+      ),
     )
 
 answer_has : (walked : Walked) (host : HostId) (pc : Label) (statement : StmtId) (value : ExprTree) →
@@ -218,9 +220,11 @@ branch_has walked around heading guard next others first second here small one t
     let last = second (counts_after here (front ++ middle ++ between)) in
     let begins : EmitNumbers front = (
       tt,
-      tt,
-      both (expr_emissions next.host around.pc heading.id 0 guard) _
-          (expr_has next.host around.pc heading.id 0 guard small) (nodes_have 0 guard small, tt),
+      (
+        tt,
+        both (expr_emissions next.host around.pc heading.id 0 guard) _
+            (expr_has next.host around.pc heading.id 0 guard small) (nodes_have 0 guard small, tt),
+      ),
     ) in
     both (front ++ middle ++ between ++ last) (stands next.host here.entries ∷ [])
     (both (front ++ middle ++ between) last
@@ -236,9 +240,11 @@ loop_has walked around heading guard next others body here small inner =
     let front = loop_front walked around here heading guard next others in
     let begins : EmitNumbers front = (
       tt,
-      tt,
-      both (expr_emissions next.host pc heading.id 0 guard) _ (expr_has next.host pc heading.id 0 guard small)
-          (nodes_have 0 guard small, tt, tt),
+      (
+        tt,
+        both (expr_emissions next.host pc heading.id 0 guard) _ (expr_has next.host pc heading.id 0 guard small)
+            (nodes_have 0 guard small, (tt, tt)),
+      ),
     ) in
     three front (body (counts_after here front)) (lands next.host here.branches ∷ []) begins
     (inner (counts_after here front)) (tt, tt)
@@ -338,7 +344,7 @@ entries_have planned (method ∷ methods) = (tt, entries_have planned methods)
 
 halts_have : (planned : PlannedShape) (main : Option MethodTree) → EmitNumbers (halt_entries planned main)
 halts_have planned None = tt
-halts_have planned (Some main) = (tt, tt, tt)
+halts_have planned (Some main) = (tt, (tt, tt))
 
 program_has : (principals : Declared) (labelled : Labelled) (planned : PlannedShape) → HasNumbers labelled.program →
     EmitNumbers (program_emissions principals labelled planned)
@@ -354,7 +360,7 @@ program_has principals labelled planned small =
 
 landed_has : (host : HostId) (emissions : List Emission) (what : Op) → OperationHasNumbers what →
     OperationHasNumbers (landed host emissions what)
-landed_has host emissions (op.Branch guard number) small = small
+landed_has host emissions (op.Branch guard target) small = small
 landed_has host emissions other small = small
 
 -- the code of a program whose numbers have 64 bits
@@ -369,7 +375,7 @@ code_has labelled needs hosts plan small = λ host at there is. by host at there
     labels = code_labels labelled all
 
     part : ℕ → List Instr
-    part number = part_on labels all (record { 0 = number })
+    part place = part_on labels all (record { 0 = place })
 
     parts : List (List Instr)
     parts = map part (range_with_len 0 (length hosts.hosts))
@@ -378,8 +384,8 @@ code_has labelled needs hosts plan small = λ host at there is. by host at there
         slice_get (unwrap_or own []) at ≡ Some there → OperationHasNumbers there.op
     by host at there None is has = absurd (nothing_there at there has)
     by host at there (Some own) is has =
-        let (number, within, made) = mapped part (range_with_len 0 (length hosts.hosts)) host.0 own is in
-        let me : HostId = record { 0 = number } in
+        let (own_place, within, made) = mapped part (range_with_len 0 (length hosts.hosts)) host.0 own is in
+        let me : HostId = record { 0 = own_place } in
         let (one, emits, placed) = mapped (placed_instruction labels all) (emitted_on me all) at there
         (ap (λ list. slice_get list at) made ∙ has) in
         let so = found me all at one emits in

@@ -1,6 +1,6 @@
 -- The numbers of a script have 64 bits: those that misbehaving hosts send, and what the fields start with.
-use Rattle.std.proofs.Common.{◌≡◌, ◌∙◌, ℕ, ◌-◌, ◌^◌, ◌<◌, ◌≤◌, ◌==◌, ℤ, pos, negsuc, Bool, true, false, not, ◌&&◌}
-use Rattle.std.proofs.Common.{List, [], ◌∷◌, map, Option, Some, None, Result, Ok, Err, refl, ap, sym, subst, inl, inr}
+use Rattle.std.proofs.Common.{◌≡◌, ℕ, ◌-◌, ◌^◌, ◌<◌, ◌≤◌, ◌==◌, ℤ, pos, negsuc, Bool, true, false, not, ◌&&◌}
+use Rattle.std.proofs.Common.{List, [], ◌∷◌, map, Option, Some, None, Result, Ok, Err, refl, sym, subst, inl, inr}
 use Rattle.std.proofs.Common.{arith}
 use Rattle.std.specs.Prelude.{All, nat_lt, nat_le, if◌then◌else◌, replicate, slice_get, codes}
 use Rattle.std.specs.List.{AllByRecursion}
@@ -8,7 +8,7 @@ use Rattle.std.specs.Str.{bytes_eq}
 use Rattle.std.proofs.lemmas.Bool.{and_parts}
 use Rattle.std.proofs.lemmas.Bool.Decides.{nat_tests}
 use Rattle.std.proofs.lemmas.List.Elements.{All-map, All-weaker, All-replicate, All-from_recursion}
-use Rattle.jif_tree.specs.Numbers.{IsNumber, HasNumbers}
+use Rattle.jif_tree.specs.Numbers.{IsNumber}
 use Rattle.jif_tree.specs.Trees.{FieldTree}
 use Rattle.host_code.specs.Code.{CodeShape}
 use Rattle.event_text.specs.declared.event.Event.{Event}
@@ -51,7 +51,7 @@ below (Some size) value is =
     elim (either_made (nat_lt 0 size && nat_le size (2 ^ 63)) (Some (negsuc (size - 1))) None value is) [
       | inl (holds, made) ↦
           let same : negsuc (size - 1) ≡ value = cc in
-          let (some, few) = and_parts _ _ holds in
+          let (some, few) = and_parts (nat_lt 0 size) (nat_le size (2 ^ 63)) holds in
           let least : 0 < size = grind (arith, nat_tests) in
           let most : size ≤ 2 ^ 63 = grind (arith, nat_tests) in
           let fits : IsNumber (negsuc (size - 1)) = record { sfits = omega (arith, least, most) } in
@@ -62,8 +62,8 @@ below (Some size) value is =
 signed_has : (word : Word) (value : ℤ) → signed_of word ≡ Some value → IsNumber value
 signed_has [] value is = absurd cc
 signed_has (byte ∷ digits) value is =
-    elim (either_made (byte == 45) (below_zero (number_of digits)) (not_below_zero (number_of (byte ∷ digits))) value is)
-    [
+    elim (either_made (byte == 45) (below_zero (number_of digits)) (not_below_zero (number_of (byte ∷ digits))) value
+    is) [
       | inl (holds, made) ↦ below (number_of digits) value made
       | inr (fails, made) ↦ not_below (number_of (byte ∷ digits)) value made
     ]
@@ -279,12 +279,12 @@ setting_has : (fields : List FieldForm) (words : List Word) → SetsSmall (setti
 setting_has fields [] setting is = absurd cc
 setting_has fields (verb ∷ []) setting is = absurd cc
 setting_has fields (verb ∷ name ∷ []) setting is = absurd cc
-setting_has fields (verb ∷ name ∷ value ∷ []) =
+setting_has fields (verb ∷ name ∷ value ∷ []) setting is =
     set_small (bytes_eq verb (codes "set")) _
-    (plain_has fields (field_named fields name) (signed_of value) (signed_has value))
-setting_has fields (verb ∷ name ∷ index ∷ value ∷ []) =
+    (plain_has fields (field_named fields name) (signed_of value) (signed_has value)) setting is
+setting_has fields (verb ∷ name ∷ index ∷ value ∷ []) setting is =
     set_small (bytes_eq verb (codes "set")) _
-    (element_has fields (field_named fields name) (number_of index) (signed_of value) (signed_has value))
+    (element_has fields (field_named fields name) (number_of index) (signed_of value) (signed_has value)) setting is
 setting_has fields (verb ∷ name ∷ index ∷ value ∷ next ∷ others) setting is = absurd cc
 
 abbrev SetSmall : List Setting → Type 0
