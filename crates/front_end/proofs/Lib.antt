@@ -1,4 +1,6 @@
+pub mod Answering
 pub mod BlockParts
+pub mod LineCounts
 pub mod ListLimits
 pub mod LoadedFiles
 pub mod Loading

@@ -1,3 +1,4 @@
+pub mod Answers
 pub mod Loading
 pub mod Loads
 pub mod PlacedCode

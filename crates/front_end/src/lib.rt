@@ -1,6 +1,7 @@
 //! What commands begin with: from files to an accepted program in its places and its code, and what refuses it.
 #![tactic(auto)]
 
+mod answers;
 mod laws;
 mod load;
 mod placed;
@@ -12,6 +13,7 @@ mod step_counts;
 mod stop;
 mod verdict;
 
+pub use answers::answer;
 pub use laws::source_laws;
 pub use load::{Asked, Loaded, as_loaded, load_all};
 pub use placed::{PlacedSource, read_places};

@@ -1,13 +1,14 @@
 -- Where a report is due and nothing outside fails, it is answered, or memory ran out.
-use Rattle.std.proofs.Common.{◌≡◌, ◌⊎◌, ℕ, ◌<◌, List, Option, Some, subst, inl, inr, ⊎_elim}
+use Rattle.std.proofs.Common.{◌≡◌, ◌⊎◌, ℕ, ◌+◌, ◌<◌, List, Option, Some, subst, ⊎_elim}
 use Rattle.js_base.specs.Counts.{last_count}
 use Rattle.js_base.specs.declared.status.Status.{Status}
 use Rattle.js_base.specs.declared.status.Status.TheVariants.{NoMemory}
-use Rattle.jifpicture.specs.Answers.{SinkChange, IsAnswered, AnswersTo}
-use Rattle.jifpicture.specs.Due.{Due, IsDue}
+use Rattle.front_end.specs.Answers.{SinkChange}
 use Rattle.front_end.specs.Loads.{FilesChange}
 use Rattle.front_end.specs.Verdicts.{VerdictShape, Print}
-use Rattle.jifpicture.proofs.OneVerdict.{no_fault_and_fault}
+use Rattle.front_end.proofs.Answering.{no_fault_and_fault, report_answered}
+use Rattle.jifpicture.specs.Answers.{AnswersTo}
+use Rattle.jifpicture.specs.Due.{Due, IsDue}
 
 -- one verdict is due at most
 abbrev pub OneVerdict : Type 0
@@ -24,8 +25,8 @@ due_by_content one words files holds number first second tells due calm below al
     ⊎_elim
     (λ by_files. (one words holds by_files.0 number second first
     (subst (λ (held : Option (List ℕ → Option (List ℕ))). Due words held by_files.0 second) tells by_files.1) due).1)
-    (λ fault. absurd (no_fault_and_fault files.faults_before files.faults_after below calm (fault.3.rose)))
-    also
+    (λ fault. absurd (no_fault_and_fault files.faults_before files.faults_after below calm
+    fault.3.rose)) also
 
 pub complete : OneVerdict → (words : List (List ℕ)) (files : FilesChange) (answer : Status) (out err : SinkChange)
     (holds : List ℕ → Option (List ℕ)) (number : ℕ) (status : Status) (text : List ℕ) →
@@ -34,14 +35,6 @@ pub complete : OneVerdict → (words : List (List ℕ)) (files : FilesChange) (a
     files.faults_before < last_count → out.faults_after ≡ out.faults_before → out.faults_before < last_count →
     (answer ≡ status) ⊎ (answer ≡ NoMemory)
 complete one words files answer out err holds number status text answers tells due calm below quiet under =
-    ⊎_elim
-    (λ memory. inr memory.0)
-    (λ whole.
-    let same = due_by_content one words files holds number (Print status text) whole.0 tells due calm below whole.1 in
-    let answered : IsAnswered (Print status text) answer out err =
-    subst (λ (verdict : VerdictShape). IsAnswered verdict answer out err) same whole.2 in
-    inl (⊎_elim
-    (λ put. put.0)
-    (λ fault. absurd (no_fault_and_fault out.faults_before out.faults_after under quiet fault.1))
-    answered.1))
-    answers
+    report_answered _ _ _ answer out err status text answers
+    (λ verdict is. due_by_content one words files holds number (Print status text) verdict tells due calm below is)
+    quiet under

@@ -1,4 +1,3 @@
-pub mod Answering
 pub mod Apart
 pub mod ArrowWalks
 pub mod BoxPlaces
@@ -6,7 +5,6 @@ pub mod BoxRows
 pub mod Completeness
 pub mod Drawings
 pub mod DueFiles
-pub mod LineCounts
 pub mod OneVerdict
 pub mod SomeVerdict
 pub mod Walks

@@ -3,10 +3,11 @@ use Rattle.std.proofs.Common.{◌≡◌, ℕ, ◌+◌, ◌<◌, List, [], ◌∷
 use Rattle.std.proofs.Common.{subst, ⊎_elim, arith}
 use Rattle.std.specs.Prelude.{IsSome}
 use Rattle.std.proofs.lemmas.Bool.{false≢true}
-use Rattle.js_base.specs.Counts.{last_count, Rose}
+use Rattle.js_base.specs.Counts.{last_count}
 use Rattle.front_end.specs.Loads.{FilesChange, Told, IsHeld, IsFirstAbsent}
 use Rattle.front_end.specs.PlacedSources.{PlacedSources}
 use Rattle.front_end.specs.Verdicts.{VerdictShape, no_such_file}
+use Rattle.front_end.proofs.Answering.{no_fault_and_fault}
 use Rattle.front_end.proofs.Places.{same_place, same_here, of_front, of_all}
 use Rattle.front_end.proofs.Stages.{IsOne, one_due}
 use Rattle.jifpicture.specs.Due.{DueForBytes, DueForNames, absent, loaded, Due, no_words, two_words, IsDue}
@@ -99,9 +100,6 @@ due_once plans words holds _ _ _ _ (two_words program hosts number first asked o
     (subst (λ (name : List ℕ). DueForNames (Some holds) other name place second) hosts_same two))
 
 -- ---- what is due for words and for what the files did
-
-pub no_fault_and_fault : (before after : ℕ) → before < last_count → after ≡ before → ¬ Rose before after
-no_fault_and_fault before after below same rose = ⊎_elim (λ lt. omega arith) (λ last. omega arith) rose
 
 pub answer_once : OnePlan → (words : List (List ℕ)) (files : FilesChange) (holds : List ℕ → Option (List ℕ))
     (first second : VerdictShape) →

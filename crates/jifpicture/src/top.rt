@@ -1,19 +1,19 @@
 //! The top call, from words and files to a status and what is put out.
 
-ghost use Rattle.std.specs.Prelude.{◌≡◌, ◌<◌, ◌≤◌, ◌+◌, ◌⊎◌, ℕ, List, length, map, string_bytes, OnOk, IsErrOf};
+ghost use Rattle.std.specs.Prelude.{◌≡◌, ◌<◌, ◌≤◌, ◌+◌, ◌⊎◌, ℕ, List, length, map, string_bytes};
 ghost use Rattle.std.specs.Prelude.{Option, Some};
 ghost use Rattle.js_base.specs.Counts.{last_count};
-ghost use Rattle.js_base.specs.Sink.{TakesFront};
 ghost use Rattle.js_base.specs.declared.status.Status.{Status};
+ghost use Rattle.front_end.specs.Answers.{sink_change};
 ghost use Rattle.front_end.specs.Loads.{AreKept, files_change};
 ghost use Rattle.front_end.specs.Verdicts.{Print};
-ghost use Rattle.jifpicture.specs.Answers.{AnswersTo, sink_change};
-ghost use Rattle.jifpicture.specs.Due.{Due, no_memory_line};
+ghost use Rattle.jifpicture.specs.Answers.{AnswersTo};
+ghost use Rattle.jifpicture.specs.Due.{Due};
 
 use crate::due::due;
 use crate::laws::picture_laws;
-use front_end::Verdict;
-use js_base::{Files, OutOfMemory, PutError, Sink, Status};
+use front_end::answer;
+use js_base::{Files, Sink, Status};
 use std::alloc::Global;
 
 /// Runs `jifpicture` on the words after its name, which are the names of a program and a host file.
@@ -56,64 +56,6 @@ pub fn jifpicture<F: Files, S: Sink, E: Sink>(
     ensures kept { AreKept (files_change F.Files files.old files.new) }
 {
     picture_laws();
-    answered(alloc, words, files, out, err)
-}
-
-/// Answers to what is due, and puts out what belongs to it.
-fn answered<F: Files, S: Sink, E: Sink>(
-    alloc: Global,
-    words: &[String],
-    files: &mut F,
-    out: &mut S,
-    err: &mut E,
-) -> Status
-    ensures answer { AnswersTo (map string_bytes words.now)
-        (files_change F.Files files.old files.new)
-        result
-        (sink_change S.Sink out.old out.new)
-        (sink_change E.Sink err.old err.new) }
-    ensures loads { F.loads files.new ≤ F.loads files.old + length words.now }
-    ensures kept { AreKept (files_change F.Files files.old files.new) }
-{
-    match due(alloc, words, files) {
-        Ok(Verdict::Print { status, text }) => {
-            let put = out.put(alloc, text.as_bytes());
-            status_after(alloc, put, status, err)
-        }
-        Ok(Verdict::Refuse { status, line }) => {
-            let put = err.put(alloc, line.as_bytes());
-            status_after(alloc, put, status, err)
-        }
-        Err(OutOfMemory) => no_memory(alloc, err),
-    }
-}
-
-/// The status after a put, by how it ended.
-fn status_after<E: Sink>(
-    alloc: Global,
-    put: Result<(), PutError>,
-    status: Status,
-    err: &mut E,
-) -> Status
-    ensures ok { OnOk put (result ≡ status) }
-    ensures failed { IsErrOf put PutError.Failed → result ≡ Status.OutFault }
-    ensures memory { IsErrOf put PutError.OutOfMemory → result ≡ Status.NoMemory }
-    ensures line { IsErrOf put PutError.OutOfMemory → TakesFront no_memory_line (E.taken err.old) (E.taken err.new) }
-    ensures untouched { (IsErrOf put PutError.OutOfMemory → ⊥) →
-        (E.taken err.new ≡ E.taken err.old) × (E.faults err.new ≡ E.faults err.old) }
-{
-    match put {
-        Ok(()) => status,
-        Err(PutError::Failed) => Status::OutFault,
-        Err(PutError::OutOfMemory) => no_memory(alloc, err),
-    }
-}
-
-/// Says that memory ran out, where that can be said.
-fn no_memory<E: Sink>(alloc: Global, err: &mut E) -> Status
-    ensures status { result ≡ Status.NoMemory }
-    ensures line { TakesFront no_memory_line (E.taken err.old) (E.taken err.new) }
-{
-    let _ = err.put(alloc, b"jifpicture: no memory\n");
-    Status::NoMemory
+    let found = due(alloc, words, files);
+    answer(alloc, found, "jifpicture: no memory\n", out, err)
 }

@@ -58,7 +58,8 @@ use Rattle.front_end.specs.Starting.{StartingValues}
 use Rattle.front_end.specs.Starting as starting
 use Rattle.split_cli.specs.Due.{DueForBytes, DueForCommand, Due, no_words, for_command, IsDue}
 use Rattle.split_cli.specs.Due as due
-use Rattle.split_cli.specs.Answers.{SinkChange, Puts, IsAnswered, AnswersTo}
+use Rattle.front_end.specs.Answers.{SinkChange, Puts, IsAnswered}
+use Rattle.split_cli.specs.Answers.{AnswersTo}
 use Rattle.split_cli.specs.Faithful.{IsPlacedAs, IsObeyingRun, IsFaithfulRun, IsReplayed, IsFaithful, IsDrivenTo}
 use Rattle.split_cli.specs.Faithful.{IsFaithfulDrive}
 use Rattle.split_cli.specs.Faithful.{PutsText, Only, PutsFaithfully, PutsDriven}

@@ -1,6 +1,5 @@
 pub mod Accepted
 pub mod AlikeLists
-pub mod Answering
 pub mod CodeLines
 pub mod CodeNumbers
 pub mod CommandWords
@@ -12,7 +11,6 @@ pub mod Faithful
 pub mod FirstHosts
 pub mod FollowedEvents
 pub mod LabelCounts
-pub mod LineCounts
 pub mod LoadedFiles
 pub mod MadeCounts
 pub mod MadeTexts

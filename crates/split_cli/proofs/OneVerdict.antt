@@ -30,6 +30,7 @@ use Rattle.split_cli.proofs.OneDrive.{drive_once}
 use Rattle.split_cli.proofs.OneReplay.{StepLaws, replay_once}
 use Rattle.split_cli.proofs.OneRun.{RunLaws, run_once}
 use Rattle.split_cli.proofs.SplitStages.{split_once}
+use Rattle.front_end.proofs.Answering.{no_fault_and_fault}
 use Rattle.front_end.proofs.Places.{same_place, same_here, of_front, of_all}
 use Rattle.front_end.proofs.Stages.{IsOne, one_due}
 use Rattle.front_end.proofs.StepCounts.{same_steps}
@@ -293,9 +294,6 @@ fault_verdict (Drive program hosts start events) files verdict (inr none) = absu
 fault_verdict (Compare program hosts one other) files verdict (inr none) = absurd none
 fault_verdict (Make statements) files verdict (inr none) = absurd none
 fault_verdict (Split program hosts out) files verdict (inr saving) = saving.3.verdict_is
-
-pub no_fault_and_fault : (before after : ℕ) → before < last_count → after ≡ before → ¬ Rose before after
-no_fault_and_fault before after below same rose = ⊎_elim (λ lt. omega arith) (λ last. omega arith) rose
 
 pub answer_once : AllLaws → (words : List (List ℕ)) (files : FilesChange) (holds : List ℕ → Option (List ℕ))
     (first second : VerdictShape) →

@@ -1,19 +1,19 @@
 //! The top call, from words and files to a status and what is put out.
 
-ghost use Rattle.std.specs.Prelude.{◌≡◌, ◌<◌, ◌≤◌, ◌+◌, ◌⊎◌, ℕ, List, length, map, string_bytes, IfOk, OnOk, IsErrOf};
+ghost use Rattle.std.specs.Prelude.{◌≡◌, ◌<◌, ◌≤◌, ◌+◌, ◌⊎◌, ℕ, List, length, map, string_bytes, IfOk};
 ghost use Rattle.std.specs.Prelude.{Option, Some};
 ghost use Rattle.js_base.specs.Counts.{last_count};
 ghost use Rattle.js_base.specs.declared.status.Status.{Status};
-ghost use Rattle.js_base.specs.Sink.{TakesFront};
-ghost use Rattle.split_cli.specs.Answers.{AnswersTo, sink_change};
+ghost use Rattle.split_cli.specs.Answers.{AnswersTo};
 ghost use Rattle.split_cli.specs.Commands as command;
 ghost use Rattle.split_cli.specs.Asked.{command_shape};
 ghost use Rattle.split_cli.specs.Due.{Due, IsDue, IsDueForCommand, MaySave, OfCommand};
 ghost use Rattle.split_cli.specs.Faithful.{PutsDriven, PutsFaithfully};
+ghost use Rattle.front_end.specs.Answers.{sink_change};
 ghost use Rattle.front_end.specs.Loading.{EndsIn};
 ghost use Rattle.front_end.specs.Loads.{files_change};
 ghost use Rattle.front_end.specs.StepCounts.{IsStepCount};
-ghost use Rattle.front_end.specs.Verdicts.{Print, verdict_shape, no_memory_line};
+ghost use Rattle.front_end.specs.Verdicts.{Print, verdict_shape};
 
 use crate::commands::check::due_for_check;
 use crate::commands::compare::due_for_compare;
@@ -25,13 +25,13 @@ use crate::commands::split::due_for_split;
 use crate::laws::due_laws;
 use crate::words::{Command, command_of};
 use event_text::script_laws;
-use front_end::{Stop, Verdict};
+use front_end::{Stop, Verdict, answer};
 use host_decl::host_file_laws;
 use integrity::integrity_laws;
 use jif_lex::token_laws;
 use jif_parse::{named_laws, number_laws};
 use jif_resolve::{labelling_laws, limit_laws, program_laws, result_laws};
-use js_base::{Files, OutOfMemory, PutError, Sink, Status};
+use js_base::{Files, OutOfMemory, Sink, Status};
 use need_labels::need_laws;
 use net_world::laws::fits_laws;
 use placement::placement_laws;
@@ -116,40 +116,8 @@ pub fn jifsplit<F: Files, S: Sink, E: Sink>(
     ending_laws();
     integrity_laws();
     due_laws();
-    answered(alloc, words, files, out, err)
-}
-
-/// Answers to what is due, and puts out what belongs to it.
-fn answered<F: Files, S: Sink, E: Sink>(
-    alloc: Global,
-    words: &[String],
-    files: &mut F,
-    out: &mut S,
-    err: &mut E,
-) -> Status
-    ensures answer { AnswersTo (map string_bytes words.now)
-        (files_change F.Files files.old files.new)
-        result
-        (sink_change S.Sink out.old out.new)
-        (sink_change E.Sink err.old err.new) }
-    ensures loads { (asked : command.CommandShape) → command.IsCommand asked →
-        map string_bytes words.now ≡ command.words_of asked →
-        F.loads files.new ≤ F.loads files.old + length (command.files_of asked) }
-    ensures no_loads { command.HaveNoForm (map string_bytes words.now) → F.loads files.new ≡ F.loads files.old }
-    ensures saves { OfCommand (λ asked. MaySave asked (files_change F.Files files.old files.new))
-        (map string_bytes words.now) (files_change F.Files files.old files.new) }
-{
-    match due(alloc, words, files) {
-        Ok(Verdict::Print { status, text }) => {
-            let put = out.put(alloc, text.as_bytes());
-            status_after(alloc, put, status, err)
-        }
-        Ok(Verdict::Refuse { status, line }) => {
-            let put = err.put(alloc, line.as_bytes());
-            status_after(alloc, put, status, err)
-        }
-        Err(OutOfMemory) => no_memory(alloc, err),
-    }
+    let found = due(alloc, words, files);
+    answer(alloc, found, "jifsplit: no memory\n", out, err)
 }
 
 /// What is due for the words.
@@ -229,34 +197,4 @@ fn ended<F: Files>(alloc: Global, asked: &Command<'_>, files: &mut F) -> Result<
         } => due_for_split(alloc, program, hosts, out, files),
         Command::Make { statements } => due_for_make(alloc, *statements, files),
     }
-}
-
-/// The status after a put, by how it ended.
-fn status_after<E: Sink>(
-    alloc: Global,
-    put: Result<(), PutError>,
-    status: Status,
-    err: &mut E,
-) -> Status
-    ensures ok { OnOk put (result ≡ status) }
-    ensures failed { IsErrOf put PutError.Failed → result ≡ Status.OutFault }
-    ensures memory { IsErrOf put PutError.OutOfMemory → result ≡ Status.NoMemory }
-    ensures line { IsErrOf put PutError.OutOfMemory → TakesFront no_memory_line (E.taken err.old) (E.taken err.new) }
-    ensures untouched { (IsErrOf put PutError.OutOfMemory → ⊥) →
-        (E.taken err.new ≡ E.taken err.old) × (E.faults err.new ≡ E.faults err.old) }
-{
-    match put {
-        Ok(()) => status,
-        Err(PutError::Failed) => Status::OutFault,
-        Err(PutError::OutOfMemory) => no_memory(alloc, err),
-    }
-}
-
-/// Says that memory ran out, where that can be said.
-fn no_memory<E: Sink>(alloc: Global, err: &mut E) -> Status
-    ensures status { result ≡ Status.NoMemory }
-    ensures line { TakesFront no_memory_line (E.taken err.old) (E.taken err.new) }
-{
-    let _ = err.put(alloc, b"jifsplit: no memory\n");
-    Status::NoMemory
 }

@@ -4,7 +4,7 @@ use Rattle.jif_tree.specs.Trees.{program_tree}
 use Rattle.front_end.specs.PlacedShapes.{PlacedModel}
 use Rattle.front_end.specs.SourceShapes.{SourceModel}
 use Rattle.jifpicture.proofs.Drawings.{picture_drawn}
-use Rattle.jifpicture.proofs.LineCounts.{few_lines}
+use Rattle.front_end.proofs.LineCounts.{few_lines}
 use Rattle.jifpicture.proofs.picture.picture_text.Goals as goal
 
 pub drawing-requires-clause-lines : goal.drawing-requires-clause-lines

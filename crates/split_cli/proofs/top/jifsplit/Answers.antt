@@ -1,8 +1,9 @@
+use Rattle.front_end.proofs.Answering.{answers_to}
 use Rattle.split_cli.proofs.Completeness.{complete}
 use Rattle.split_cli.proofs.Faithful.{AllLaws, replay_is_faithful, drive_is_faithful}
 use Rattle.split_cli.proofs.top.jifsplit.Goals as goal
 
-all_laws : (g : _) (c : goal.After-answered g) → AllLaws
+all_laws : (g : _) (c : goal.After-answer g) → AllLaws
 all_laws g c = record {
   reading = record {
     hosts = c.host_file_laws.ensures.sound;
@@ -44,15 +45,20 @@ all_laws g c = record {
   };
 }
 
+pub returns-clause-answer : goal.returns-clause-answer
+returns-clause-answer g c =
+    answers_to _ _ _ c.due.result _ _ _ c.due.ensures.saves c.due.ensures.due c.answer.ensures.due
+    c.answer.ensures.undue
+
 pub returns-clause-headline : goal.returns-clause-headline
 returns-clause-headline g c = λ program hosts events asked done.
-    replay_is_faithful (all_laws g c) _ _ _ _ _ program hosts events c.answered.ensures.answer asked done
+    replay_is_faithful (all_laws g c) _ _ _ _ _ program hosts events (returns-clause-answer g c) asked done
 
 pub returns-clause-driven : goal.returns-clause-driven
 returns-clause-driven g c = λ program hosts start events few asked success.
-    drive_is_faithful (all_laws g c) _ _ _ _ _ program hosts start events c.answered.ensures.answer few asked success
+    drive_is_faithful (all_laws g c) _ _ _ _ _ program hosts start events (returns-clause-answer g c) few asked success
 
 pub returns-clause-complete : goal.returns-clause-complete
 returns-clause-complete g c = λ holds number status text tells due calm below quiet under.
-    complete c.due_laws.ensures.one_verdict _ _ _ _ _ holds number status text c.answered.ensures.answer tells due calm
+    complete c.due_laws.ensures.one_verdict _ _ _ _ _ holds number status text (returns-clause-answer g c) tells due calm
     below quiet under

@@ -1,5 +1,5 @@
-use Rattle.jifpicture.proofs.Answering.{front_put}
-use Rattle.jifpicture.proofs.top.no_memory.Goals as goal
+use Rattle.front_end.proofs.Answering.{front_put}
+use Rattle.front_end.proofs.answers.out_of_memory.Goals as goal
 
 pub returns-clause-line : goal.returns-clause-line
 returns-clause-line g c = front_put c.put.result _ _ _ c.put.ensures.ok c.put.ensures.err
