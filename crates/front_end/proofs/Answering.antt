@@ -1,17 +1,14 @@
 -- What a put leaves on a sink, what is then answered, and what follows of answers.
-use Rattle.std.proofs.Common.{◌≡◌, ℕ, ◌<◌, List, length, Option, refl, sym, ◌∙◌, subst, inl, inr, ⊎_elim, Result, Ok, Err}
-use Rattle.std.proofs.Common.{arith}
-use Rattle.std.specs.Prelude.{◌⊎◌, OnOk, OnErr, IsErrOf, IfOk, IfErr}
+use Rattle.std.proofs.Common.{◌≡◌, ℕ, ◌<◌, List, length, Option, sym, subst, inl, inr, ⊎_elim, Result, Ok, Err, arith}
+use Rattle.std.specs.Prelude.{◌⊎◌, OnOk, OnErr, IfOk, IfErr}
 use Rattle.std.proofs.lemmas.List.{take_all}
 use Rattle.js_base.specs.Counts.{Rose, last_count}
 use Rattle.js_base.specs.Sink.{Takes, TakesFront}
-use Rattle.js_base.specs.declared.sink.PutError.{PutError}
-use Rattle.js_base.specs.declared.sink.PutError.TheVariants as put_error
 use Rattle.js_base.specs.declared.status.Status.{Status}
-use Rattle.js_base.specs.declared.status.Status.TheVariants.{OutFault, NoMemory}
+use Rattle.js_base.specs.declared.status.Status.TheVariants.{NoMemory}
 use Rattle.front_end.specs.declared.verdict.Verdict.{Verdict}
-use Rattle.front_end.specs.Verdicts.{VerdictShape, Refuse, Print, verdict_shape}
-use Rattle.front_end.specs.Answers.{SinkChange, IsUntouched, IsUndue, IsAnswered, AnswersVerdict, AnswersTo}
+use Rattle.front_end.specs.Verdicts.{VerdictShape, Print, verdict_shape}
+use Rattle.front_end.specs.Answers.{SinkChange, IsUndue, IsAnswered, AnswersVerdict, AnswersTo}
 
 -- whatever a put answered, a front of the text was put
 pub front_put : {T E : Type 0} (put : Result T E) (text : List ℕ) (before after : Option (List ℕ)) →
@@ -23,58 +20,6 @@ front_put (Ok x) text before after whole front = (
       λ t. Takes t before after in subst P (sym (take_all (length text) text (omega arith))) whole,
 )
 front_put (Err e) text before after whole front = front
-
--- the answer after a put of a report
-pub printed : {T : Type 0} (no_memory : List ℕ) (status answer : Status) (text : List ℕ) (put : Result T PutError)
-    (out err : SinkChange) → OnOk put (Takes text out.taken_before out.taken_after) →
-    OnErr put (TakesFront text out.taken_before out.taken_after) →
-    IsErrOf put put_error.Failed ⊎ (out.faults_after ≡ out.faults_before) →
-    (IsErrOf put put_error.Failed → Rose out.faults_before out.faults_after) →
-    OnOk put (answer ≡ status) → (IsErrOf put put_error.Failed → answer ≡ OutFault) →
-    (IsErrOf put put_error.OutOfMemory → answer ≡ NoMemory) →
-    (IsErrOf put put_error.OutOfMemory → TakesFront no_memory err.taken_before err.taken_after) →
-    ((IsErrOf put put_error.OutOfMemory → ⊥) → IsUntouched err) →
-    AnswersVerdict no_memory (Print status text) answer out err
-printed no_memory status answer text (Ok x) out err whole front fault cause ok failed memory line untouched =
-    let faultless = ⊎_elim (λ fails. absurd (let no : ⊥ = cc in no)) (λ none. none) fault in
-    inr (untouched (λ is. cc), inl (ok, whole, faultless))
-printed no_memory status answer text (Err put_error.Failed) out err whole front fault cause ok failed memory line
-    untouched = inr (untouched (λ is. cc), inr (failed refl, cause refl, front))
-printed no_memory status answer text (Err put_error.OutOfMemory) out err whole front fault cause ok failed memory line
-    untouched = inl (memory refl, (front, line refl))
-
--- the answer after a put of a refusal's line
-pub refused : {T : Type 0} (no_memory : List ℕ) (status answer : Status) (line : List ℕ) (put : Result T PutError)
-    (out : SinkChange) (faults_before faults_between faults_after : ℕ)
-    (taken_before taken_between taken_after : Option (List ℕ)) → IsUntouched out →
-    OnOk put (Takes line taken_before taken_between) → OnErr put (TakesFront line taken_before taken_between) →
-    IsErrOf put put_error.Failed ⊎ (faults_between ≡ faults_before) →
-    (IsErrOf put put_error.Failed → Rose faults_before faults_between) →
-    OnOk put (answer ≡ status) → (IsErrOf put put_error.Failed → answer ≡ OutFault) →
-    (IsErrOf put put_error.OutOfMemory → answer ≡ NoMemory) →
-    (IsErrOf put put_error.OutOfMemory → TakesFront no_memory taken_between taken_after) →
-    ((IsErrOf put put_error.OutOfMemory → ⊥) → (taken_after ≡ taken_between) × (faults_after ≡ faults_between)) →
-    AnswersVerdict no_memory (Refuse status line) answer out
-    (record {
-      faults_before = faults_before;
-      faults_after = faults_after;
-      taken_before = taken_before;
-      taken_after = taken_after;
-    })
-refused no_memory status answer line (Ok x) out faults_before faults_between faults_after taken_before taken_between
-    taken_after same whole front fault cause ok failed memory line_put untouched =
-    let no_more = untouched (λ is. cc) in
-    let faultless = ⊎_elim (λ fails. absurd (let no : ⊥ = cc in no)) (λ none. none) fault in
-    inr (same, inl (ok, no_more.0 ∙ whole, no_more.1 ∙ faultless))
-refused no_memory status answer line (Err put_error.Failed) out faults_before faults_between faults_after taken_before
-    taken_between taken_after same whole front fault cause ok failed memory line_put untouched =
-    let no_more = untouched (λ is. cc) in
-    let line_front = subst (λ (t : Option (List ℕ)). TakesFront line taken_before t) (sym no_more.0) front in
-    let rose = subst (λ (n : ℕ). Rose faults_before n) (sym no_more.1) (cause refl) in
-    inr (same, inr (failed refl, rose, line_front))
-refused no_memory status answer line (Err put_error.OutOfMemory) out faults_before faults_between faults_after
-    taken_before taken_between taken_after same whole front fault cause ok failed memory line_put untouched =
-    inl (memory refl, (same, (taken_between, front, line_put refl)))
 
 -- ---- answers
 
