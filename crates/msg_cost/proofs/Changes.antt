@@ -19,7 +19,6 @@ use Rattle.msg_cost.specs.Pieces.{Piece, piece_cost, pieces_cost}
 use Rattle.msg_cost.specs.Pieces.{program_pieces}
 use Rattle.msg_cost.specs.Rows.{has_number, numbers_of, pieces_with, kind_of, number_of}
 use Rattle.msg_cost.specs.Steps.{moved}
-use Rattle.msg_cost.specs.Terms.{program_terms}
 use Rattle.msg_cost.specs.Views.{capped}
 use Rattle.msg_cost.specs.Touches.{statements_of, fields_of}
 use Rattle.msg_cost.proofs.Bounds.{program_small}
@@ -161,23 +160,6 @@ row_small planned sound sized test row is total counted =
     let same = ap (pieces_cost planned) is in
     (omega arith, omega arith)
 
-differ_alike : (all before then after : ℕ) → then + before ≡ all + after →
+pub differ_alike : (all before then after : ℕ) → then + before ≡ all + after →
     pos after -ℤ pos before ≡ pos then -ℤ pos all
 differ_alike all before then after same = omega (arith, ints)
-
-pub row_changed : (planned : PlannedShape) (move : Step) (row : List Piece) →
-    row ≡ pieces_with (numbers_of (kind_of move) planned.program planned.needs) (number_of move)
-    (program_pieces planned.program) → (before after : ℕ) → before ≡ pieces_cost planned row →
-    after ≡ pieces_cost (under planned (moved planned.plan move)) row →
-    pos after -ℤ pos before
-    ≡ pos (cost_of planned.hosts (program_terms (under planned (moved planned.plan move))))
-    -ℤ pos (cost_of planned.hosts (program_terms planned))
-row_changed planned move row is before after before_is after_is =
-    let then = under planned (moved planned.plan move) in
-    let parts = by_pieces planned in
-    let then_parts = by_pieces then in
-    let change = changed planned move (program_pieces planned.program) in
-    let same = ap (pieces_cost planned) is in
-    let then_same = ap (pieces_cost then) is in
-    differ_alike (cost_of planned.hosts (program_terms planned)) before (cost_of planned.hosts (program_terms then))
-    after (omega arith)

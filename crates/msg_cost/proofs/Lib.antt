@@ -15,3 +15,4 @@ pub mod PieceSums
 pub mod Independent
 pub mod Noting
 pub mod Changes
+pub mod Touched

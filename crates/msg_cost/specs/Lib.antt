@@ -10,3 +10,5 @@ pub mod Pieces
 pub mod PieceViews
 pub mod Touches
 pub mod Rows
+pub mod Touched
+pub mod Ends

@@ -22,7 +22,7 @@ mod trust;
 mod values;
 mod weight;
 
-pub use change::delta_by_pieces;
+pub use change::{cost_after, cost_before, delta_by_pieces};
 pub use index::{Index, index_of};
 pub use laws::{cost_examples, cost_laws};
 pub use piece::Piece;

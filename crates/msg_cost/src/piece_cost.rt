@@ -1,16 +1,17 @@
 //! What pieces cost.
 
-ghost use Rattle.std.specs.Prelude.{◌≡◌, [], ◌∷◌, ◌++◌, if◌then◌else◌};
+ghost use Rattle.std.specs.Prelude.{◌≡◌, [], ◌∷◌, ◌++◌, IfSome, if◌then◌else◌};
 ghost use Rattle.jif_tree.specs.LabelRules.{method_at};
 ghost use Rattle.jif_tree.specs.Trees.{program_tree};
 ghost use Rattle.msg_cost.specs.Cost.{cost_of};
+ghost use Rattle.msg_cost.specs.Ends.{IsEnd};
 ghost use Rattle.msg_cost.specs.Moves.{on, end_host, called_home, called_end};
 ghost use Rattle.msg_cost.specs.Pieces.{piece_cost, walk_terms};
 ghost use Rattle.msg_cost.specs.PieceViews.{piece_shape};
 ghost use Rattle.msg_cost.specs.Terms.{message, exchange};
 ghost use Rattle.msg_cost.specs.Views.{seated_shape, ids_of, capped};
 
-use crate::ends::found_end;
+use crate::ends::{End, last_end};
 use crate::kept::Kept;
 use crate::messages::{exchange, leave, message, move_on};
 use crate::piece::Piece;
@@ -29,9 +30,11 @@ const NOTHING: Kept<'static> = Kept {
     found: 0,
 };
 
-/// What a piece costs.
-pub fn piece_cost(planned: &Seated<'_>, piece: &Piece<'_>) -> u64
-    ensures { result ≡ capped (piece_cost (seated_shape planned.now) (piece_shape piece.now)) }
+/// What a piece costs. It is kept where the method ends that was called last.
+pub fn piece_cost(planned: &Seated<'_>, piece: &Piece<'_>, last: &mut Option<End>) -> u64
+    requires { IfSome last.old (IsEnd (seated_shape planned.now)) }
+    ensures cost { result ≡ capped (piece_cost (seated_shape planned.now) (piece_shape piece.now)) }
+    ensures last { IfSome last.new (IsEnd (seated_shape planned.now)) }
 {
     match piece {
         Piece::Access {
@@ -52,13 +55,11 @@ pub fn piece_cost(planned: &Seated<'_>, piece: &Piece<'_>) -> u64
             statement,
             method,
             kept,
-        } => calling_cost(
-            planned,
-            *weight,
-            planned.host_of(*statement),
-            *method,
-            *kept,
-        ),
+        } => {
+            let end = last_end(planned, last, *method);
+            let host = planned.host_of(*statement);
+            calling_cost(planned, *weight, host, *method, end, *kept)
+        }
         Piece::Walk {
             weight,
             home,
@@ -66,27 +67,28 @@ pub fn piece_cost(planned: &Seated<'_>, piece: &Piece<'_>) -> u64
             block,
         } => walk_cost(planned, *weight, planned.host_of(*home), *nested, block),
         Piece::Ending { method } => {
-            let end = found_end(planned, *method);
+            let end = last_end(planned, last, *method);
             message(planned.hosts, 1, end, called_home(planned, *method))
         }
     }
 }
 
-/// What it costs to call a method and to come back.
+/// What it costs to call a method, which ends on this host, and to come back.
 fn calling_cost(
     planned: &Seated<'_>,
     weight: u64,
     host: HostId,
     method: MethodId,
+    end: HostId,
     kept: bool,
 ) -> u64
+    requires { end ≡ called_end (seated_shape planned.now) (method_at (program_tree planned.now.program.now) method) }
     ensures { let called = method_at (program_tree planned.now.program.now) method in
         let shape = seated_shape planned.now in
         result ≡ capped (cost_of planned.now.hosts.now
         ((message weight host (called_home shape called) ∷ message weight (called_end shape called) host ∷ [])
         ++ (if kept then exchange weight (called_end shape called) host ∷ [] else []))) }
 {
-    let end = found_end(planned, method);
     let there = message(planned.hosts, weight, host, called_home(planned, method));
     let both = there.saturating_add(message(planned.hosts, weight, end, host));
     if kept {

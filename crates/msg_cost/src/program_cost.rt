@@ -39,7 +39,7 @@ fn bodies_cost(planned: &Seated<'_>, kept: &Kept<'_>) -> u64
 }
 
 /// The cost of all messages of a program.
-fn program_cost(planned: &Seated<'_>) -> u64
+pub fn program_cost(planned: &Seated<'_>) -> u64
     requires { length (program_tree planned.now.program.now).methods ≤ METHODS }
     ensures { result ≡ capped (cost_of planned.now.hosts.now (program_terms (seated_shape planned.now))) }
 {
