@@ -5,3 +5,4 @@ pub mod SomePlan
 pub mod Passes
 pub mod TriedSteps
 pub mod Stays
+pub mod Touched

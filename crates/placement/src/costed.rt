@@ -18,3 +18,11 @@ pub struct Costed {
     pub plan: Plan,
     pub cost: u64,
 }
+
+/// A plan with its cost, while moves of one part are tried.
+#[derive(Drop)]
+pub struct Weighed {
+    pub best: Costed,
+    /// What the pieces cost in it that moves of the part touch, once that was counted.
+    pub touched: Option<u64>,
+}

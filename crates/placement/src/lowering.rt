@@ -1,19 +1,19 @@
 //! Moves that lower the cost of a plan.
 
-ghost use Rattle.std.specs.Prelude.{◌≡◌, ◌↔◌, ◌-ℤ◌, pos, IfOk, IsTrue, length, slice_set};
+ghost use Rattle.std.specs.Prelude.{◌≡◌, ◌↔◌, ◌+◌, IfOk, IsTrue, length, slice_set};
 ghost use Rattle.jif_tree.specs.Trees.{program_tree};
 ghost use Rattle.jif_tree.specs.Limits.{IsWithinLimits};
 ghost use Rattle.msg_cost.specs.Rows.{IsIndex};
 ghost use Rattle.msg_cost.specs.Steps.{moved};
 ghost use Rattle.placement.specs.Choice.{after_step, after_steps, IsLowered};
-ghost use Rattle.placement.specs.Steps.{field_part, statement_part, steps_of, steps_from, steps_in};
-ghost use Rattle.placement.specs.Views.{cost_in, count_in, IsCosted, IsCostedAs};
+ghost use Rattle.placement.specs.Steps.{field_part, statement_part, step_to, steps_of, steps_from, steps_in};
+ghost use Rattle.placement.specs.Views.{cost_in, count_in, touched_in, IsCosted, IsCostedAs, IsWeighed};
 
-use crate::costed::{Costed, Counted};
+use crate::costed::{Costed, Counted, Weighed};
 use crate::part::Part;
 use js_base::bits::has_bit;
 use js_base::{FieldId, HostId, OutOfMemory, StmtId};
-use msg_cost::{Index, Step, delta_by_pieces};
+use msg_cost::{Index, Step, cost_after, cost_before};
 use need_labels::Plan;
 use place_rules::Allowed;
 use std::alloc::Global;
@@ -144,55 +144,97 @@ fn try_part(
     ensures { IfOk result (IsCostedAs (cost_in counted.entry)
         (after_steps (cost_in counted.entry) best.plan (steps_of part word (count_in counted.entry)))) }
 {
-    let mut best = best;
+    let mut tried = Weighed {
+        best,
+        touched: None,
+    };
     for number in 0..counted.hosts.hosts().len() {
         let host = number as u8;
         if has_bit(u64::from(word), host) {
-            best = try_step(alloc, counted, index, best, part.step_to(HostId(host)))?;
+            tried = try_host(alloc, counted, index, tried, part, HostId(host))?;
         }
     }
-    Ok(best)
+    Ok(tried.best)
 }
 
-/// The plan after a move was tried.
-fn try_step(
+/// The plan after the move of a part to a host was tried. A part that stands on the host already changes nothing, and
+/// so nothing is counted for it.
+fn try_host(
     alloc: Global,
     counted: Counted<'_>,
     index: &Index<'_>,
-    best: Costed,
-    step: Step,
-) -> Result<Costed, OutOfMemory>
+    tried: Weighed,
+    part: Part,
+    host: HostId,
+) -> Result<Weighed, OutOfMemory>
     requires within { IsWithinLimits (program_tree counted.checked.now.program) }
     requires index { IsIndex (program_tree counted.checked.now.program) counted.needs.now index.now }
-    requires costed { IsCosted (cost_in counted) best }
-    ensures { IfOk result (IsCostedAs (cost_in counted.entry) (after_step (cost_in counted.entry) best.plan step)) }
+    requires costed { IsCosted (cost_in counted) tried.best }
+    requires weighed { IsWeighed (touched_in counted index.now part) tried }
+    ensures best { IfOk result (λ next. IsCostedAs (cost_in counted.entry)
+        (after_step (cost_in counted.entry) tried.best.plan (step_to part host.0)) next.best) }
+    ensures weighed { IfOk result (IsWeighed (touched_in counted.entry index.now part)) }
 {
-    let change = change(counted, index, &best.plan, step);
-    if change < 0 {
-        let plan = moved(alloc, &best.plan, step)?;
-        let cost = best.cost.saturating_sub(change.unsigned_abs());
-        Ok(Costed { plan, cost })
+    let step = part.step_to(host);
+    if stands_there(&tried.best.plan, step) {
+        return Ok(tried);
+    }
+    let before = touched_before(counted, index, &tried, part);
+    let after = touched_after(counted, index, &tried.best.plan, part, host);
+    if after < before {
+        let plan = moved(alloc, &tried.best.plan, step)?;
+        let cost = tried.best.cost.saturating_sub(before - after);
+        Ok(Weighed {
+            best: Costed { plan, cost },
+            touched: Some(after),
+        })
     } else {
-        Ok(best)
+        Ok(Weighed {
+            best: tried.best,
+            touched: Some(before),
+        })
     }
 }
 
-/// What a move adds to the cost, less what it saves. A part that stands on the host already changes nothing, and so
-/// nothing is counted for it.
-fn change(counted: Counted<'_>, index: &Index<'_>, plan: &Plan, step: Step) -> i64
+/// What the pieces cost that moves of a part touch, as the plan stands. It is counted once for a plan.
+fn touched_before(counted: Counted<'_>, index: &Index<'_>, tried: &Weighed, part: Part) -> u64
     requires within { IsWithinLimits (program_tree counted.checked.now.program) }
     requires index { IsIndex (program_tree counted.checked.now.program) counted.needs.now index.now }
-    ensures { result ≡ pos (cost_in counted.entry (moved plan.now step)) -ℤ pos (cost_in counted.entry plan.now) }
+    requires weighed { IsWeighed (touched_in counted index.now part) tried.now }
+    ensures { result ≡ touched_in counted.entry index.now part tried.now.best.plan }
 {
-    if stands_there(plan, step) {
-        return 0;
+    if let Some(cost) = tried.touched {
+        return cost;
     }
     let Counted {
         checked,
         needs,
         hosts,
     } = counted;
-    delta_by_pieces(checked, needs, hosts, index, plan, step)
+    let step = part.step_to(HostId(0));
+    cost_before(checked, needs, hosts, index, &tried.best.plan, step)
+}
+
+/// What they cost behind a move of the part. The cost of the plan changes as this does.
+fn touched_after(
+    counted: Counted<'_>,
+    index: &Index<'_>,
+    plan: &Plan,
+    part: Part,
+    host: HostId,
+) -> u64
+    requires within { IsWithinLimits (program_tree counted.checked.now.program) }
+    requires index { IsIndex (program_tree counted.checked.now.program) counted.needs.now index.now }
+    ensures cost { result ≡ touched_in counted.entry index.now part (moved plan.now (step_to part host.0)) }
+    ensures change { cost_in counted.entry (moved plan.now (step_to part host.0))
+        + touched_in counted.entry index.now part plan.now ≡ cost_in counted.entry plan.now + result }
+{
+    let Counted {
+        checked,
+        needs,
+        hosts,
+    } = counted;
+    cost_after(checked, needs, hosts, index, plan, part.step_to(host))
 }
 
 /// Whether a move leaves the plan as it is: its part stands on the host already, or there is no such part.
