@@ -21,7 +21,7 @@ all_laws g c = record {
     unread = c.result_laws.ensures.unread;
     in_order = c.program_laws.ensures.parameters;
     tokens = c.token_laws.ensures;
-    numbers = c.number_laws.ensures;
+    numbers = c.number_laws.ensures.numbers;
   };
   plans = record {
     lengths = c.need_laws.ensures.lengths;
@@ -37,7 +37,7 @@ all_laws g c = record {
   };
   next = c.obeying_laws.ensures.next;
   ending = c.ending_laws.ensures.ends;
-  altered = c.integrity_laws.ensures;
+  altered = c.integrity_laws.ensures.follows;
   scripts = record {
     sound = c.split_laws.ensures.sound;
     said_own = c.script_laws.ensures.own;
