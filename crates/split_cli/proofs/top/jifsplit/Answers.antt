@@ -47,7 +47,7 @@ all_laws g c = record {
 
 pub returns-clause-answer : goal.returns-clause-answer
 returns-clause-answer g c =
-    answers_to _ _ _ c.due.result _ _ _ c.due.ensures.saves c.due.ensures.due c.answer.ensures.due
+    answers_to _ _ _ c.due-found.result _ _ _ c.due-found.ensures.saves c.due-found.ensures.due c.answer.ensures.due
     c.answer.ensures.undue
 
 pub returns-clause-headline : goal.returns-clause-headline
