@@ -1,8 +1,8 @@
 -- From what is due to the headline.
 use Rattle.std.proofs.Common.{◌≡◌, ◌≤◌, ◌+◌, ◌*◌, ◌∙◌, ℕ, suc, List, [], ◌∷◌, ◌++◌, map, length, Option, Some, Ok, refl, sym, ap}
 use Rattle.std.proofs.Common.{subst, length-append}
-use Rattle.std.proofs.Common.{⊎_elim, inl, arith, take}
-use Rattle.std.specs.Prelude.{ℤ, ◌⊎◌, All, slice_index, replicate}
+use Rattle.std.proofs.Common.{⊎_elim, inl, inr, arith, take}
+use Rattle.std.specs.Prelude.{ℤ, ◌⊎◌, ◌≢◌, All, slice_index, replicate}
 use Rattle.std.specs.List.{AllZip}
 use Rattle.std.proofs.lemmas.List.{take_all}
 use Rattle.std.proofs.lemmas.List.Elements.{All-map}
@@ -10,7 +10,8 @@ use Rattle.js_base.specs.Sink.{Takes}
 use Rattle.js_base.specs.declared.ids.HostId.{HostId}
 use Rattle.js_base.specs.declared.limits.TheConstants.{SCRIPT_BYTES}
 use Rattle.js_base.specs.declared.status.Status.{Status}
-use Rattle.js_base.specs.declared.status.Status.TheVariants.{Done, Spent, InputRefused, FileFault, Usage}
+use Rattle.js_base.specs.declared.status.Status.TheVariants.{Done, Spent, Differ, Usage, SourceRefused, InputRefused}
+use Rattle.js_base.specs.declared.status.Status.TheVariants.{FileFault, OutFault, NoMemory}
 use Rattle.host_decl.specs.Hosts.{HostsShape}
 use Rattle.jif_tree.specs.declared.program.Field.{Field}
 use Rattle.jif_tree.specs.declared.program.Program.{Program}
@@ -65,8 +66,8 @@ use Rattle.split_cli.specs.Faithful.{IsFaithfulDrive}
 use Rattle.split_cli.specs.Faithful.{PutsText, Only, PutsFaithfully, PutsDriven}
 use Rattle.split_cli.proofs.OneDrive.{driven_run}
 use Rattle.split_cli.proofs.OneVerdict.{fault_verdict, one_command}
-use Rattle.front_end.proofs.RefusedStages.{IsFailure, IsRefusal, placed_refuse}
 use Rattle.split_cli.proofs.CodeNumbers.{code_has}
+use Rattle.split_cli.proofs.PlacedStops.{placed_stops}
 use Rattle.split_cli.proofs.ReplayDue.{OwnAtStart, own_in_first}
 use Rattle.split_cli.proofs.ReplayedEvents.{script_starts}
 use Rattle.split_cli.proofs.ScriptNumbers.{events_have, starts_have}
@@ -322,23 +323,45 @@ is_faithful_drive laws program hosts start most status text driven =
 
 -- ---- what a verdict says
 
+-- the status of a report
+abbrev pub IsSuccess : Status → Type 0
+IsSuccess status = (status ≡ Done) ⊎ ((status ≡ Spent) ⊎ (status ≡ Differ))
+
+-- any other is that of a refusal or a fault
+fails : (status : Status) → status ≢ Done → status ≢ Spent → status ≢ Differ → ¬ IsSuccess status
+fails status not_done not_spent not_differ success =
+    ⊎_elim (λ done. not_done done)
+    (λ other. ⊎_elim (λ spent. not_spent spent) (λ differ. not_differ differ) other) success
+
+program_fails : ¬ IsSuccess SourceRefused
+program_fails = fails SourceRefused (λ same. cc) (λ same. cc) (λ same. cc)
+
+pub input_fails : ¬ IsSuccess InputRefused
+input_fails = fails InputRefused (λ same. cc) (λ same. cc) (λ same. cc)
+
+fault_fails : ¬ IsSuccess FileFault
+fault_fails = fails FileFault (λ same. cc) (λ same. cc) (λ same. cc)
+
+usage_fails : ¬ IsSuccess Usage
+usage_fails = fails Usage (λ same. cc) (λ same. cc) (λ same. cc)
+
+output_fails : ¬ IsSuccess OutFault
+output_fails = fails OutFault (λ same. cc) (λ same. cc) (λ same. cc)
+
+memory_fails : ¬ IsSuccess NoMemory
+memory_fails = fails NoMemory (λ same. cc) (λ same. cc) (λ same. cc)
+
 -- a refusal is no success, and a report is such a text with its status
-Says : (Status → List ℕ → Type 0) → VerdictShape → Type 0
-Says IsText (Refuse status line) = IsFailure status
+unfoldable pub Says : (Status → List ℕ → Type 0) → VerdictShape → Type 0
+Says IsText (Refuse status line) = ¬ IsSuccess status
 Says IsText (Print status text) = IsText status text
 
-refusal_says : (IsText : Status → List ℕ → Type 0) (verdict : VerdictShape) → IsRefusal verdict → Says IsText verdict
+-- where a program and its hosts are refused
+pub placed_says : (IsText : Status → List ℕ → Type 0) (program hosts : List ℕ) (verdict : VerdictShape) →
+    PlacedSources program hosts (stopped verdict) → Says IsText verdict
 unfolding Says
-refusal_says IsText verdict refusal = subst (Says IsText) (sym refusal.2) refusal.3
-
-input_fails : IsFailure InputRefused
-input_fails = ((λ same. let no : ⊥ = cc in no), (λ same. let no : ⊥ = cc in no))
-
-fault_fails : IsFailure FileFault
-fault_fails = ((λ same. let no : ⊥ = cc in no), (λ same. let no : ⊥ = cc in no))
-
-usage_fails : IsFailure Usage
-usage_fails = ((λ same. let no : ⊥ = cc in no), (λ same. let no : ⊥ = cc in no))
+placed_says IsText program hosts verdict stops =
+    placed_stops (Says IsText) (λ line. program_fails) (λ line. input_fails) program hosts verdict stops
 
 -- ---- a replay
 
@@ -346,16 +369,16 @@ abbrev IsReplayText : List ℕ → List ℕ → List ℕ → Status → List ℕ
 IsReplayText program hosts script status text = IsFaithful program hosts script text
 
 -- a script that was read
-record IsRead (script : List ℕ) (placed : PlacedSource) (said : ScriptShape) : Type 0 where
-  short : length script ≤ SCRIPT_BYTES
-  read : script_of (code_of placed) script ≡ Ok said
+pub record IsRead (script : List ℕ) (placed : PlacedSource) (said : ScriptShape) : Type 0 where
+  pub short : length script ≤ SCRIPT_BYTES
+  pub read : script_of (code_of placed) script ≡ Ok said
 
 -- a script says something, or what is due for it is no success
-abbrev ScriptSays : (Status → List ℕ → Type 0) → List ℕ → PlacedSource → Outcome ScriptShape → Type 0
+abbrev pub ScriptSays : (Status → List ℕ → Type 0) → List ℕ → PlacedSource → Outcome ScriptShape → Type 0
 ScriptSays Text script placed (given said) = IsRead script placed said
 ScriptSays Text script placed (stopped verdict) = Says Text verdict
 
-script_says : (Text : Status → List ℕ → Type 0) (file script : List ℕ) (placed : PlacedSource)
+pub script_says : (Text : Status → List ℕ → Type 0) (file script : List ℕ) (placed : PlacedSource)
     (end : Outcome ScriptShape) → ScriptRead file script (code_of placed) end → ScriptSays Text script placed end
 unfolding Says
 script_says Text file script placed _ (replay.long more) = input_fails
@@ -473,11 +496,11 @@ drive_says laws file program hosts start most placed verdict accepted ends =
 -- ---- a command of a program, a host file and others
 
 -- what is reported for a program, a host file and other files of these bytes, with its status
-abbrev Kind : Type 1
+abbrev pub Kind : Type 1
 Kind = List ℕ → List ℕ → List (List ℕ) → Status → List ℕ → Type 0
 
 -- what is due for the bytes of the files is such a report, or a failure
-abbrev SaysOfBytes : Kind → CommandShape → Type 0
+abbrev pub SaysOfBytes : Kind → CommandShape → Type 0
 SaysOfBytes Text command = (p h : List ℕ) (others : List (List ℕ)) (verdict : VerdictShape) →
     DueForBytes command (p ∷ h ∷ others) verdict → Says (Text p h others) verdict
 
@@ -494,7 +517,7 @@ record IsPrinted (Text : Kind) (program hosts : List ℕ) (others : List (List �
 
 -- for the names: a refusal is no success, and a report is one of their files
 SaysOfFiles : (Text : Kind) (program hosts : List ℕ) (others : List (List ℕ)) → Option (List ℕ → Option (List ℕ)) → VerdictShape → Type 0
-SaysOfFiles Text program hosts others held (Refuse status line) = IsFailure status
+SaysOfFiles Text program hosts others held (Refuse status line) = ¬ IsSuccess status
 SaysOfFiles Text program hosts others held (Print status text) = IsPrinted Text program hosts others held status text
 
 printed_says : (Text : Kind) (program hosts : List ℕ) (others : List (List ℕ)) (held : Option (List ℕ → Option (List ℕ)))
@@ -560,19 +583,12 @@ due_says Text command program hosts others words files verdict is names says ask
 
 -- ---- the answer
 
-abbrev IsSuccess : Status → Type 0
-IsSuccess status = (status ≡ Done) ⊎ (status ≡ Spent)
-
-never_both : (status : Status) → IsFailure status → ¬ IsSuccess status
-never_both status fails success = ⊎_elim (λ done. fails.0 done) (λ spent. fails.1 spent) success
-
 -- an answer that went well puts the text
 puts_text : (text : List ℕ) (status answer : Status) (sink : SinkChange) → IsSuccess answer →
     Puts text status answer sink → (answer ≡ status) × Takes text sink.taken_before sink.taken_after
 puts_text text status answer sink success puts =
     ⊎_elim (λ put. (put.0, put.1))
-    (λ fault. absurd (⊎_elim (λ done. let out = fault.0 in let no : ⊥ = cc in no)
-    (λ spent. let out = fault.0 in let no : ⊥ = cc in no) success))
+    (λ fault. absurd (output_fails (subst IsSuccess fault.0 success)))
     puts
 
 verdict_put : (Text : Kind) (program hosts : List ℕ) (others : List (List ℕ)) (held : Option (List ℕ → Option (List ℕ)))
@@ -581,8 +597,7 @@ verdict_put : (Text : Kind) (program hosts : List ℕ) (others : List (List ℕ)
     PutsText (λ p h t text. Text p h t answer text) program hosts others held out.taken_before out.taken_after
 unfolding SaysOfFiles
 verdict_put Text program hosts others held answer out err (Refuse status line) success says answered =
-    absurd (never_both status says
-    (subst IsSuccess (puts_text line status answer err success answered.1).0 success))
+    absurd (says (subst IsSuccess (puts_text line status answer err success answered.1).0 success))
 verdict_put Text program hosts others held answer out err (Print status text) success says answered =
     let put = puts_text text status answer out success answered.1 in
     record {
@@ -597,15 +612,14 @@ verdict_put Text program hosts others held answer out err (Print status text) su
       put = put.1;
     }
 
-answer_put : (Text : Kind) (command : CommandShape) (program hosts : List ℕ) (others : List (List ℕ)) (words : List (List ℕ))
+pub answer_put : (Text : Kind) (command : CommandShape) (program hosts : List ℕ) (others : List (List ℕ)) (words : List (List ℕ))
     (files : FilesChange) (answer : Status) (out err : SinkChange) → IsCommand command →
     files_of command ≡ program ∷ hosts ∷ others → SaysOfBytes Text command →
     AnswersTo words files answer out err → words ≡ words_of command → IsSuccess answer →
     PutsText (λ p h t text. Text p h t answer text) program hosts others files.held out.taken_before out.taken_after
 answer_put Text command program hosts others words files answer out err is names says answers asked success =
     ⊎_elim
-    (λ memory. absurd (⊎_elim (λ done. let out_of = memory.0 in let no : ⊥ = cc in no)
-    (λ spent. let out_of = memory.0 in let no : ⊥ = cc in no) success))
+    (λ memory. absurd (memory_fails (subst IsSuccess memory.0 success)))
     (λ whole. verdict_put Text program hosts others files.held answer out err whole.0 success
     (due_says Text command program hosts others words files whole.0 is names says asked whole.1) whole.2)
     answers
@@ -622,7 +636,7 @@ replay_bytes : AllLaws → (program hosts events : List ℕ) → SaysOfBytes Rep
 replay_bytes laws program hosts events p h [] verdict ends = absurd ends
 replay_bytes laws program hosts events p h (e ∷ []) verdict ends = ⊎_elim
     (λ both. replay_says laws events p h e both.0 verdict both.1 both.2)
-    (λ no. refusal_says (IsReplayText p h e) verdict (placed_refuse p h verdict no)) ends
+    (λ no. placed_says (IsReplayText p h e) p h verdict no) ends
 replay_bytes laws program hosts events p h (e ∷ x ∷ more) verdict ends = absurd ends
 
 drive_bytes : AllLaws → (program hosts start : List ℕ) (most : ℕ) →
@@ -630,7 +644,7 @@ drive_bytes : AllLaws → (program hosts start : List ℕ) (most : ℕ) →
 drive_bytes laws program hosts start most p h [] verdict ends = absurd ends
 drive_bytes laws program hosts start most p h (s ∷ []) verdict ends = ⊎_elim
     (λ both. drive_says laws start p h s most both.0 verdict both.1 both.2)
-    (λ no. refusal_says (IsDriveText most p h s) verdict (placed_refuse p h verdict no)) ends
+    (λ no. placed_says (IsDriveText most p h s) p h verdict no) ends
 drive_bytes laws program hosts start most p h (s ∷ x ∷ more) verdict ends = absurd ends
 
 pub replay_is_faithful : AllLaws → (words : List (List ℕ)) (files : FilesChange) (answer : Status)
@@ -647,4 +661,5 @@ pub drive_is_faithful : AllLaws → (words : List (List ℕ)) (files : FilesChan
     PutsDriven program hosts start most answer files.held out.taken_before out.taken_after
 drive_is_faithful laws words files answer out err program hosts start most answers few asked success =
     answer_put (DriveKind most) (Drive program hosts start most) program hosts (start ∷ []) words files answer out err
-    few refl (drive_bytes laws program hosts start most) answers asked success
+    few refl (drive_bytes laws program hosts start most) answers asked
+    (⊎_elim (λ done. inl done) (λ spent. inr (inl spent)) success)

@@ -1,9 +1,11 @@
 pub mod Accepted
 pub mod AlikeLists
+pub mod AlikeStarts
 pub mod CodeLines
 pub mod CodeNumbers
 pub mod CommandWords
 pub mod CompareDue
+pub mod Compared
 pub mod Completeness
 pub mod DriveDue
 pub mod DriveEnds
@@ -21,7 +23,9 @@ pub mod OneDrive
 pub mod OneReplay
 pub mod OneRun
 pub mod OneVerdict
+pub mod PlacedStops
 pub mod PlanLines
+pub mod PromptRuns
 pub mod ReleaseParts
 pub mod ReplayDue
 pub mod ReplayedEvents
@@ -31,6 +35,7 @@ pub mod RunReport
 pub mod SameMessages
 pub mod ScriptNumbers
 pub mod SetSources
+pub mod SilentPrograms
 pub mod SomeCompare
 pub mod SomeDrive
 pub mod SomeReplay

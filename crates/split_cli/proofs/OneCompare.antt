@@ -44,7 +44,7 @@ one_value : {X : Type 0} (found : Option X) (x y : X) → found ≡ Some x → f
 one_value found x y one two = let both : Some x ≡ Some y = sym one ∙ two in cc
 
 -- lists that differ at a place are not alike
-differ_not_alike : {X : Type 0} (one other : List X) (place : ℕ) → DifferAt one other place → ¬ AreAlike one other
+pub differ_not_alike : {X : Type 0} (one other : List X) (place : ℕ) → DifferAt one other place → ¬ AreAlike one other
 differ_not_alike {X} one other place apart alike =
     ⊎_elim
     (λ front. apart.differ (one_value (slice_get other place) apart.first apart.second

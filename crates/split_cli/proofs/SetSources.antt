@@ -40,6 +40,7 @@ use Rattle.split_rules.specs.Asking.{AreGranted}
 use Rattle.split_rules.specs.Held.{IsHeld}
 use Rattle.split_rules.specs.SplitCode.{split_code}
 use Rattle.split_rules.specs.Splittable.{IsSplittable}
+use Rattle.split_shades.specs.Flows.{AreResultsLabelled}
 use Rattle.simulation.specs.Obeying.{IsSet}
 use Rattle.simulation.specs.Programs.{AreInOrder}
 use Rattle.front_end.specs.PlacedSources.{PlacedSource, AreChosen, PlacedSources, labelled_source}
@@ -71,6 +72,8 @@ pub record ReadingLaws : Type 0 where
       AreLabelledMethods principals tree (declared_labels tree) tree.methods
   pub values : (principals : Declared) (draft : DraftShape) (tree : ProgramTree) →
       IsProgramOf principals draft tree → AreAllValuesLabelled principals tree (declared_labels tree) tree.methods
+  pub results : (principals : Declared) (draft : DraftShape) (tree : ProgramTree) →
+      IsProgramOf principals draft tree → AreResultsLabelled tree
   pub given_back : (principals : Declared) (draft : DraftShape) (tree : ProgramTree) →
       AreReturnedLast draft → IsProgramOf principals draft tree → AreGivenBack tree
   pub unread : (principals : Declared) (draft : DraftShape) (tree : ProgramTree) →
@@ -193,6 +196,10 @@ module _ (sources : ReadingLaws) (plans : PlanLaws) (granted : GrantedLaw) (prog
     fields = held.fields;
     statements = held.statements;
   }
+
+  -- each result has a label
+  pub results_there : AreResultsLabelled placed.source.tree
+  results_there = sources.results placed.source.file.principals read.draft placed.source.tree read.resolved
 
   -- hosts that all obey follow the plain run of the program
   pub set_there : (tree : Program) → program_tree tree ≡ placed.source.tree →

@@ -114,7 +114,7 @@ alike_or_differ each (x ∷ one) (y ∷ other) = elim (each x y) [
   )
 ]
 
-same_list : {X : Type 0} → ((x y : X) → Decided (x ≡ y)) → (xs ys : List X) → Decided (xs ≡ ys)
+pub same_list : {X : Type 0} → ((x y : X) → Decided (x ≡ y)) → (xs ys : List X) → Decided (xs ≡ ys)
 same_list each [] [] = inl refl
 same_list each [] (y ∷ ys) = inr (λ is. cc)
 same_list each (x ∷ xs) [] = inr (λ is. cc)
@@ -123,7 +123,7 @@ same_list each (x ∷ xs) (y ∷ ys) =
     (λ is. (let first : x ≡ y = cc in first, let rest : xs ≡ ys = cc in rest))
     (both _ _ (each x y) (same_list each xs ys))
 
-same_int : (x y : ℤ) → Decided (x ≡ y)
+pub same_int : (x y : ℤ) → Decided (x ≡ y)
 same_int (pos m) (pos n) = as_well (m ≡ n) (pos m ≡ pos n) (ap pos) (λ is. let same : m ≡ n = cc in same) (cases_eq m n)
 same_int (pos m) (negsuc n) = inr (λ is. cc)
 same_int (negsuc m) (pos n) = inr (λ is. cc)

@@ -4,6 +4,7 @@ pub mod Check
 pub mod CodeLines
 pub mod Commands
 pub mod Compare
+pub mod Compared
 pub mod Drive
 pub mod Driven
 pub mod Due

@@ -1,15 +1,18 @@
 //! The laws of what is due.
 
-ghost use Rattle.std.specs.Prelude.{◌≡◌, ◌<◌, ℕ, List, [], ◌∷◌, ◌++◌, Option, Some, None, codes};
+ghost use Rattle.std.specs.Prelude.{◌≡◌, ◌<◌, ◌↔◌, ℕ, List, [], ◌∷◌, ◌++◌, Option, Some, None, codes};
 ghost use Rattle.js_base.specs.Counts.{last_count};
 ghost use Rattle.event_text.specs.declared.event.Event.{Event};
 ghost use Rattle.host_code.specs.Code.{CodeShape};
 ghost use Rattle.net_world.specs.World.{WorldShape, IsRun};
+ghost use Rattle.jif_tree.specs.Trees.{ProgramTree};
 ghost use Rattle.simulation.specs.Driven.{IsDriven};
+ghost use Rattle.split_shades.specs.Sites.{ReleasesNothing};
 ghost use Rattle.front_end.specs.Verdicts.{VerdictShape, usage, no_such_file};
 ghost use Rattle.front_end.specs.Loads.{FilesChange};
 ghost use Rattle.split_cli.specs.Due.{Due, IsDue};
 ghost use Rattle.split_cli.specs.MadePrograms.{made_head, made_program};
+ghost use Rattle.split_cli.specs.Releases.{program_releases};
 ghost use Rattle.front_end.specs.Text.{lines_text};
 
 use event_text::script_laws;
@@ -54,6 +57,9 @@ pub fn due_laws()
     // The events of a drive are a run of the world.
     ensures driven_runs { (code : CodeShape) (world after : WorldShape) (events : List Event) →
         IsDriven code world events after → IsRun code world events after }
+
+    // No statement of a program releases something exactly where the program releases nothing.
+    ensures silent { (program : ProgramTree) → (program_releases program ≡ []) ↔ ReleasesNothing program }
 {
     source_laws();
     token_laws();

@@ -7,6 +7,7 @@ ghost use Rattle.js_base.specs.declared.status.Status.{Status};
 ghost use Rattle.split_cli.specs.Answers.{AnswersTo};
 ghost use Rattle.split_cli.specs.Commands as command;
 ghost use Rattle.split_cli.specs.Asked.{command_shape};
+ghost use Rattle.split_cli.specs.Compared.{PutsPrivately};
 ghost use Rattle.split_cli.specs.Due.{Due, IsDue, IsDueForCommand, MaySave, OfCommand};
 ghost use Rattle.split_cli.specs.Faithful.{PutsDriven, PutsFaithfully};
 ghost use Rattle.front_end.specs.Answers.{sink_change};
@@ -24,6 +25,7 @@ use crate::commands::run::due_for_run;
 use crate::commands::split::due_for_split;
 use crate::laws::due_laws;
 use crate::words::{Command, command_of};
+use agreement::run_laws;
 use event_text::script_laws;
 use front_end::{Stop, Verdict, answer};
 use host_decl::host_file_laws;
@@ -33,7 +35,7 @@ use jif_parse::{named_laws, number_laws};
 use jif_resolve::{labelling_laws, limit_laws, program_laws, result_laws};
 use js_base::{Files, OutOfMemory, Sink, Status};
 use need_labels::need_laws;
-use net_world::laws::fits_laws;
+use net_world::laws::{fits_laws, step_laws};
 use placement::placement_laws;
 use simulation::{ending_laws, obeying_laws};
 use split_rules::{asking_laws, split_laws};
@@ -82,6 +84,12 @@ pub fn jifsplit<F: Files, S: Sink, E: Sink>(
         map string_bytes words.now ≡ command.words_of (command.Drive program hosts start events) →
         (result ≡ Status.Done) ⊎ (result ≡ Status.Spent) →
         PutsDriven program hosts start events result (F.held files.old) (S.taken out.old) (S.taken out.new) }
+    // Where two scripts were compared, what was put tells whether misbehaving hosts were sent the same in both runs.
+    // Without `declassify` they were, as far as both runs go, and it never says that they differ.
+    ensures compared { (program hosts one other : List ℕ) →
+        map string_bytes words.now ≡ command.words_of (command.Compare program hosts one other) →
+        (result ≡ Status.Done) ⊎ (result ≡ Status.Differ) →
+        PutsPrivately program hosts one other result (F.held files.old) (S.taken out.old) (S.taken out.new) }
     // Where a report is due for what the files hold, and neither they nor the output count a fault, the answer is the
     // status of the report, or memory ran out.
     ensures complete { (holds : List ℕ → Option (List ℕ)) (number : ℕ) (status : Status) (text : List ℕ) →
@@ -112,6 +120,8 @@ pub fn jifsplit<F: Files, S: Sink, E: Sink>(
     asking_laws();
     script_laws();
     fits_laws();
+    step_laws();
+    run_laws();
     obeying_laws();
     ending_laws();
     integrity_laws();

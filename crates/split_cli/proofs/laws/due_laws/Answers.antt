@@ -4,6 +4,7 @@ use Rattle.split_cli.proofs.MadeTexts.{two_made}
 use Rattle.split_cli.proofs.OneDrive.{driven_run}
 use Rattle.split_cli.proofs.OneVerdict.{AllLaws, due_once, answer_once}
 use Rattle.front_end.proofs.NativeSources.{NativeLaws}
+use Rattle.split_cli.proofs.SilentPrograms.{silent_program}
 use Rattle.split_cli.proofs.SomeVerdict.{AllCauses, due_some}
 use Rattle.split_cli.proofs.WordForms.{none_asked}
 use Rattle.split_cli.specs.Commands.{Check}
@@ -77,6 +78,9 @@ returns-clause-one_answer c = answer_once (all_laws c)
 
 pub returns-clause-driven_runs : goal.returns-clause-driven_runs
 returns-clause-driven_runs c = driven_run
+
+pub returns-clause-silent : goal.returns-clause-silent
+returns-clause-silent c = silent_program
 
 pub returns-clause-worked_made : goal.returns-clause-worked_made
 returns-clause-worked_made c = two_made

@@ -1,4 +1,5 @@
 use Rattle.front_end.proofs.Answering.{answers_to}
+use Rattle.split_cli.proofs.Compared.{PrivateLaws, compare_is_private}
 use Rattle.split_cli.proofs.Completeness.{complete}
 use Rattle.split_cli.proofs.Faithful.{AllLaws, replay_is_faithful, drive_is_faithful}
 use Rattle.split_cli.proofs.top.jifsplit.Goals as goal
@@ -17,6 +18,7 @@ all_laws g c = record {
     numbered = c.program_laws.ensures.well_numbered;
     labelled = c.labelling_laws.ensures.labelled;
     values = c.labelling_laws.ensures.values;
+    results = c.labelling_laws.ensures.results;
     given_back = c.result_laws.ensures.given;
     unread = c.result_laws.ensures.unread;
     in_order = c.program_laws.ensures.parameters;
@@ -45,6 +47,9 @@ all_laws g c = record {
   };
 }
 
+private_laws : (g : _) (c : goal.After-answer g) → PrivateLaws
+private_laws g c = record { told_alike = c.run_laws.ensures.split; one_step = c.step_laws.ensures.one }
+
 pub returns-clause-answer : goal.returns-clause-answer
 returns-clause-answer g c =
     answers_to _ _ _ c.due-found.result _ _ _ c.due-found.ensures.saves c.due-found.ensures.due c.answer.ensures.due
@@ -57,6 +62,11 @@ returns-clause-headline g c = λ program hosts events asked done.
 pub returns-clause-driven : goal.returns-clause-driven
 returns-clause-driven g c = λ program hosts start events few asked success.
     drive_is_faithful (all_laws g c) _ _ _ _ _ program hosts start events (returns-clause-answer g c) few asked success
+
+pub returns-clause-compared : goal.returns-clause-compared
+returns-clause-compared g c = λ program hosts one other asked success.
+    compare_is_private (all_laws g c) (private_laws g c) _ _ _ _ _ program hosts one other (returns-clause-answer g c)
+    asked success
 
 pub returns-clause-complete : goal.returns-clause-complete
 returns-clause-complete g c = λ holds number status text tells due calm below quiet under.

@@ -1,0 +1,78 @@
+-- A run that was followed, with none of its events untimely, is a run of which events are seen, each in a quiet world.
+use Rattle.std.proofs.Common.{◌≡◌, ℕ, List, [], ◌∷◌, Some, None, refl, sym, ap, subst, inl, inr}
+use Rattle.std.specs.Prelude.{◌⊎◌, All}
+use Rattle.std.proofs.lemmas.List.Elements.{All-nil, All-cons, All-head, All-tail}
+use Rattle.event_text.specs.declared.event.Event.{Event}
+use Rattle.host_code.specs.Code.{CodeShape}
+use Rattle.net_world.specs.Secret.{IsSecret, IsQuiet, IsSeenRun, IsPrompt}
+use Rattle.net_world.specs.World.{WorldShape}
+use Rattle.split_cli.specs.Followed.{Followed, IsKept, hidden, prompt, untimely, IsFollowed}
+use Rattle.split_cli.specs.Replay.{events_in}
+use Rattle.split_cli.proofs.OneDrive.{OneStep}
+
+-- ---- what is seen
+
+-- what is seen from one event on, by what is seen behind it
+abbrev IsSeenFrom : CodeShape → (world next : WorldShape) → Event → List Event → List Event → WorldShape → Type 0
+IsSeenFrom code world next event events seen after =
+    (IsSecret code world event × IsSeenRun code next events seen after)
+    ⊎ ((¬ IsSecret code world event)
+    × ((others : List Event) × (seen ≡ event ∷ others) × IsSeenRun code next events others after))
+
+seen_from : (code : CodeShape) (world next : WorldShape) (one : ℕ × Event) (said : List (ℕ × Event))
+    (rest run : Followed) → IsKept code world one rest run →
+    IsSeenRun code next (events_in said) (events_in rest.seen) rest.last →
+    IsSeenFrom code world next one.1 (events_in said) (events_in run.seen) run.last
+seen_from code world next one said rest _ (hidden is) ran = inl (is, ran)
+seen_from code world next one said rest _ (prompt not quiet) ran = inr (not, (events_in rest.seen, refl, ran))
+seen_from code world next one said rest _ (untimely not loud) ran = inr (not, (events_in rest.seen, refl, ran))
+
+pub followed_seen : (code : CodeShape) (world : WorldShape) (said : List (ℕ × Event)) (run : Followed) →
+    IsFollowed code world said run → IsSeenRun code world (events_in said) (events_in run.seen) run.last
+followed_seen code world [] run is =
+    (ap (λ (r : Followed). events_in r.seen) is, ap (λ (r : Followed). r.last) (sym is))
+followed_seen code world (one ∷ said) run (next, rest, step, follows, kept) =
+    (next, step, seen_from code world next one said rest run kept (followed_seen code next said rest follows))
+
+-- what holds of all events holds of those that are seen
+seen_kept : (P : Event → Type 0) (code : CodeShape) (world : WorldShape) (one : ℕ × Event) (rest run : Followed) →
+    IsKept code world one rest run → P one.1 → All P (events_in rest.seen) → All P (events_in run.seen)
+seen_kept P code world one rest _ (hidden is) here others = others
+seen_kept P code world one rest _ (prompt not quiet) here others =
+    All-cons P one.1 (events_in rest.seen) here others
+seen_kept P code world one rest _ (untimely not loud) here others =
+    All-cons P one.1 (events_in rest.seen) here others
+
+pub all_seen : (P : Event → Type 0) (code : CodeShape) (world : WorldShape) (said : List (ℕ × Event))
+    (run : Followed) → IsFollowed code world said run → All (λ (one : ℕ × Event). P one.1) said →
+    All P (events_in run.seen)
+all_seen P code world [] run is all =
+    subst (λ (r : Followed). All P (events_in r.seen)) (sym is) (All-nil P)
+all_seen P code world (one ∷ said) run (next, rest, step, follows, kept) all =
+    let Q : ℕ × Event → Type 0 = λ it. P it.1 in
+    seen_kept P code world one rest run kept (All-head Q one said all)
+    (all_seen P code next said rest follows (All-tail Q one said all))
+
+-- ---- whether it was quiet
+
+record IsTimely (code : CodeShape) (world : WorldShape) (event : Event) (rest : Followed) : Type 0 where
+  here : IsSecret code world event ⊎ IsQuiet code world
+  behind : rest.late ≡ None
+
+timely : (code : CodeShape) (world : WorldShape) (one : ℕ × Event) (rest run : Followed) →
+    IsKept code world one rest run → run.late ≡ None → IsTimely code world one.1 rest
+timely code world one rest _ (hidden is) none = record { here = inl is; behind = none }
+timely code world one rest _ (prompt not quiet) none = record { here = inr quiet; behind = none }
+timely code world one rest _ (untimely not loud) none =
+    absurd (let late : Some one.0 ≡ None = none in let no : ⊥ = cc in no)
+
+pub followed_prompt : OneStep → (code : CodeShape) (world : WorldShape) (said : List (ℕ × Event)) (run : Followed) →
+    IsFollowed code world said run → run.late ≡ None → IsPrompt code world (events_in said)
+followed_prompt law code world [] run is none = tt
+followed_prompt law code world (one ∷ said) run (next, rest, step, follows, kept) none =
+    let was = timely code world one rest run kept none in (
+      was.here,
+      λ other goes. subst (λ (w : WorldShape). IsPrompt code w (events_in said))
+          (law code world next other one.1 step goes)
+          (followed_prompt law code next said rest follows was.behind),
+    )
