@@ -90,8 +90,8 @@ pub record AskedShape : Type 0 where
   pub what : List ℕ
 
 -- An element of a field is read or set, a variable goes to a host, an entry is pushed on a stack, and control is
--- handed on to an entry. The other instructions ask nothing of a host that they name: who gets a result, and to whom a token is
--- given back, is told by the token.
+-- handed on to an entry. The other instructions ask nothing of a host that they name: who gets a result, and to whom a
+-- token is given back, is told by the token.
 abbrev pub asked_by : SheetShape → Op → Option AskedShape
 asked_by sheet (op.Read field index) = Some (record {
   kind = Get;
