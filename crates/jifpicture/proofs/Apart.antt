@@ -1,5 +1,5 @@
 -- An arrow leads from a host to another one.
-use Rattle.std.proofs.Common.{◌≡◌, ◌≢◌, ℕ, List, [], ◌∷◌, ◌++◌, Option, Some, None, All, Bool, sym, ◌∙◌, refl, length}
+use Rattle.std.proofs.Common.{◌≡◌, ◌≢◌, ℕ, List, [], ◌∷◌, Option, Some, None, All, Bool, sym, ◌∙◌, refl, length}
 use Rattle.std.proofs.Common.{eq-eqb}
 use Rattle.std.specs.Prelude.{◌==◌, if◌then◌else◌, true, false}
 use Rattle.std.specs.List.{flat_map, range_with_len}

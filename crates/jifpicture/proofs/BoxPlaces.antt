@@ -1,8 +1,7 @@
 -- Which box stands at which place of a list of boxes.
-use Rattle.std.proofs.Common.{◌≡◌, ℕ, zero, suc, ◌+◌, List, [], ◌∷◌, ◌++◌, length, map, Some, refl, ap, sym, ◌∙◌}
-use Rattle.std.proofs.Common.{add-one, arith}
-use Rattle.std.specs.Prelude.{slice_get, Option}
-use Rattle.std.specs.List.{range_with_len}
+use Rattle.std.proofs.Common.{◌≡◌, ℕ, zero, suc, ◌+◌, List, [], ◌∷◌, length, Some, ap, ◌∙◌}
+use Rattle.std.proofs.Common.{arith}
+use Rattle.std.specs.Prelude.{slice_get}
 
 -- F gives each element one f, by its number
 pub at_place : {X Y : Type 0} (F : ℕ → List X → List Y) (f : ℕ → X → Y) →

@@ -1,5 +1,5 @@
 -- What is due for the names of a program and a host file that were loaded, or of which one was not, and for words.
-use Rattle.std.proofs.Common.{◌≡◌, ℕ, ◌+◌, List, [], ◌∷◌, length, Option, Some, sym, subst, inl, inr, ⊎_elim, Result}
+use Rattle.std.proofs.Common.{◌≡◌, ℕ, ◌+◌, List, [], ◌∷◌, length, sym, subst, inl, inr, ⊎_elim, Result}
 use Rattle.std.proofs.Common.{String, Global, arith, get_or, map}
 use Rattle.std.specs.Prelude.{◌≢◌, string_bytes}
 use Rattle.js_base.specs.declared.limits.TheConstants.{PROGRAM_BYTES, HOSTS_BYTES}

@@ -1,5 +1,5 @@
 -- For all words something is due, whatever the files hold and whether they tell or not.
-use Rattle.std.proofs.Common.{◌≡◌, ℕ, List, [], ◌∷◌, length, Option, Some, None, refl, arith}
+use Rattle.std.proofs.Common.{◌≡◌, ℕ, List, [], ◌∷◌, Option, Some, None, refl, arith}
 use Rattle.front_end.specs.PlacedSources.{PlacedSources}
 use Rattle.front_end.specs.Verdicts.{VerdictShape, no_such_file}
 use Rattle.front_end.proofs.SomeStages.{HasOutcome, HasVerdict, some_due}

@@ -13,7 +13,7 @@ use Rattle.host_core.specs.Start.{host_at_start}
 use Rattle.host_decl.specs.Hosts as declared_hosts
 use Rattle.js_base.specs.declared.ids.HostId.{HostId}
 use Rattle.net_world.specs.Secret.{IsReadable}
-use Rattle.net_world.specs.World.{WorldShape, given, is_absent, state_at, misbehaves, named_host, AreHostsOf}
+use Rattle.net_world.specs.World.{given, is_absent, state_at, misbehaves, named_host, AreHostsOf}
 use Rattle.net_world.specs.World.{host_before, hosts_before, world_at_start}
 use Rattle.agreement.specs.Alike.{AreStoresAlike}
 use Rattle.split_cli.specs.Compare.{StartsUnlike, StartAlike}

@@ -1,5 +1,5 @@
 -- From what is due for two scripts to what misbehaving hosts are told by them.
-use Rattle.std.proofs.Common.{◌≡◌, ℕ, List, [], ◌∷◌, ◌++◌, Ok, None, get_or, refl, sym, subst, inl, inr, ⊎_elim}
+use Rattle.std.proofs.Common.{◌≡◌, ℕ, List, [], ◌∷◌, ◌++◌, None, get_or, refl, sym, subst, inl, inr, ⊎_elim}
 use Rattle.std.specs.Prelude.{ℤ, ◌⊎◌, ⊤, All}
 use Rattle.js_base.specs.declared.status.Status.{Status}
 use Rattle.js_base.specs.declared.status.Status.TheVariants.{Done, Differ, InputRefused}

@@ -1,6 +1,6 @@
 -- For words and for files that tell what they hold, one verdict is due.
 use Rattle.std.proofs.Common.{◌≡◌, ℕ, ◌+◌, ◌<◌, List, [], ◌∷◌, Option, Some, None, refl, sym, ap, ◌∙◌}
-use Rattle.std.proofs.Common.{codes, subst, inl, inr, ⊎_elim, arith}
+use Rattle.std.proofs.Common.{codes, subst, inl, inr, ⊎_elim}
 use Rattle.std.specs.Prelude.{IsSome}
 use Rattle.std.specs.Fmt.{decimal}
 use Rattle.std.specs.List.{AllZip, AllByRecursion}

@@ -1,4 +1,4 @@
-use Rattle.std.proofs.Common.{◌≡◌, ◌≢◌, ◌∙◌, List, length, map, refl, sym, arith, rules, String, Global}
+use Rattle.std.proofs.Common.{◌≢◌, ◌∙◌, List, length, map, refl, sym, arith, rules, String, Global}
 use Rattle.std.proofs.lemmas.Grind.{common_steps}
 use Rattle.std.proofs.lemmas.List.{length-map}
 use Rattle.std.proofs.lemmas.Result.{IfOk-weaker}

@@ -1,4 +1,4 @@
-use Rattle.std.proofs.Common.{◌≡◌, ◌<◌, ◌^◌, ◌∙◌, List, ap, arith, length, refl, rules, sym, vec_len}
+use Rattle.std.proofs.Common.{◌≡◌, ◌∙◌, ap, arith, length, rules, vec_len}
 use Rattle.host_decl.specs.Hosts.{HostsShape}
 use Rattle.jif_tree.specs.Trees.{program_tree}
 use Rattle.front_end.specs.PlacedShapes.{PlacedModel}
