@@ -1447,7 +1447,19 @@ impl<'a> Costs<'a> {
         self.block_end(self.home(method), &self.program.methods[method].body)
     }
 
-    fn piece(&self, piece: &Piece) -> u64 {
+    /// The same, kept where the method was asked for last.
+    fn last_end(&self, last: &mut Option<(usize, usize)>, method: usize) -> usize {
+        match *last {
+            Some((known, end)) if known == method => end,
+            _ => {
+                let end = self.found_end(method);
+                *last = Some((method, end));
+                end
+            }
+        }
+    }
+
+    fn piece(&self, piece: &Piece, last: &mut Option<(usize, usize)>) -> u64 {
         let at = |statement: usize| self.plan.statements[statement];
         match *piece {
             Piece::Access { weight, statement, field } => self.field(weight, at(statement), field),
@@ -1458,7 +1470,7 @@ impl<'a> Costs<'a> {
                 others.map(|other| self.exchange(weight, host, other)).sum()
             }
             Piece::Calling { weight, statement, method, kept } => {
-                let (host, end) = (at(statement), self.found_end(method));
+                let (host, end) = (at(statement), self.last_end(last, method));
                 let both = self.message(weight, host, self.home(method)) + self.message(weight, end, host);
                 both + if kept { self.exchange(weight, end, host) } else { 0 }
             }
@@ -1473,12 +1485,13 @@ impl<'a> Costs<'a> {
                 }
                 total + self.leave(weight, spot) + if nested { self.message(weight, spot.end(), home) } else { 0 }
             }
-            Piece::Ending { method } => self.message(1, self.found_end(method), self.home(method)),
+            Piece::Ending { method } => self.message(1, self.last_end(last, method), self.home(method)),
         }
     }
 
     fn row(&self, row: &[Piece]) -> u64 {
-        row.iter().map(|piece| self.piece(piece)).sum()
+        let mut last = None;
+        row.iter().map(|piece| self.piece(piece, &mut last)).sum()
     }
 }
 
@@ -1486,40 +1499,38 @@ impl<'a> Costs<'a> {
 fn lowered(program: &Program, needs: &Needs, hosts: &Hosts, allowed: &Allowed, start: (Plan, u64)) -> (Plan, u64) {
     let index = Index::of(program, needs, allowed.fields.len(), allowed.statements.len());
     let (mut plan, mut cost) = start;
-    let (mut tries, mut moves, mut passes) = (0u64, 0u64, 0u64);
     loop {
         let before = cost;
-        passes += 1;
         for (kind, words, rows) in
             [(0, &allowed.fields, &index.fields), (1, &allowed.statements, &index.statements)]
         {
             for (number, word) in words.iter().enumerate() {
+                let row = &rows[number];
+                let mut known = None;
                 for host in 0..hosts.hosts.len() {
                     if word >> host & 1 == 0 {
                         continue;
                     }
                     let old = if kind == 0 { plan.fields[number] } else { plan.statements[number] };
-                    if SKIP && old == host { continue; }
-                    tries += 1;
-                    let row = &rows[number];
-                    let was = counted(program, needs, hosts, &plan).row(row);
+                    if old == host {
+                        continue;
+                    }
+                    let was = known.unwrap_or_else(|| counted(program, needs, hosts, &plan).row(row));
+                    known = Some(was);
                     if kind == 0 { plan.fields[number] = host } else { plan.statements[number] = host }
                     let now = counted(program, needs, hosts, &plan).row(row);
                     if now < was {
-                        moves += 1;
                         cost = cost + now - was;
+                        known = Some(now);
                     } else if kind == 0 { plan.fields[number] = old } else { plan.statements[number] = old }
                 }
             }
         }
         if cost == before {
-            if std::env::var("TELL").is_ok() { eprintln!("passes {passes} tries {tries} moves {moves}"); }
             return (plan, cost);
         }
     }
 }
-
-const SKIP: bool = true;
 
 fn counted<'a>(program: &'a Program, needs: &'a Needs, hosts: &'a Hosts, plan: &'a Plan) -> Costs<'a> {
     Costs { program, needs, hosts, plan, reading: Vec::new(), ends: Vec::new() }
