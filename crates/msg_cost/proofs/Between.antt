@@ -11,10 +11,13 @@ use Rattle.jif_tree.specs.declared.program.Stmt.{Stmt}
 use Rattle.msg_cost.specs.Kept.{is_trusted_from, IsTrustedBetween, AreTrustedTo}
 use Rattle.msg_cost.specs.Moves.{PlannedShape, is_trusted_for, is_trusted_for_all, next_spot, end_host}
 use Rattle.msg_cost.specs.declared.spot.Spot.{Spot}
+use Rattle.msg_cost.specs.declared.trust.Trust.{Trust}
+use Rattle.msg_cost.specs.declared.trust.Trust.TheVariants as trust
+use Rattle.msg_cost.specs.Tables.{IsRight}
 use Rattle.msg_cost.specs.Views.{ids_of}
 
 -- the statements that are left begin with the next
-left : (planned : PlannedShape) (host : HostId) (block : List Stmt) (place : ℕ) (statement : Stmt) →
+pub left : (planned : PlannedShape) (host : HostId) (block : List Stmt) (place : ℕ) (statement : Stmt) →
     place < length block → statement ≡ get_or block place statement →
     is_trusted_from planned host block place
     ≡ is_trusted_for planned host statement.id && is_trusted_from planned host block (suc place)
@@ -22,21 +25,21 @@ left planned host block place statement within is =
     ap (λ statements. is_trusted_for_all planned host (ids_of statements))
     (drop-cons block place statement within ∙ ap (λ (next : Stmt). next ∷ drop (suc place) block) (sym is))
 
-both_true : (first second : Bool) → first ≡ true → (first && second) ≡ second
+pub both_true : (first second : Bool) → first ≡ true → (first && second) ≡ second
 both_true true second is = refl
 both_true false second is = absurd (not_true is)
   where
     not_true : false ≡ true → ⊥
     not_true same = grind (arith, same)
 
-first_false : (first second : Bool) → first ≡ false → (first && second) ≡ false
+pub first_false : (first second : Bool) → first ≡ false → (first && second) ≡ false
 first_false false second is = refl
 first_false true second is = absurd (not_false is)
   where
     not_false : true ≡ false → ⊥
     not_false same = grind (arith, same)
 
-too_far : (first second : ℕ) → second < first → nat_le first second ≡ false
+pub too_far : (first second : ℕ) → second < first → nat_le first second ≡ false
 too_far first second below = elim (cases_Bool (nat_le first second)) [
   | inl is ↦ absurd (omega (arith, leb-true first second is))
   | inr is ↦ is
@@ -113,6 +116,12 @@ noted_too planned host block place end ends here known other = elim (cases_eq ot
               (sym (get_or_past (set ends host.0 end) host.0 0 (rw (length-set ends host.0 end) past)))
               (nothing planned host block place)
         ])
+
+-- what is known at a place is right at the next one
+pub right_on : (planned : PlannedShape) (block : List Stmt) (place : ℕ) (knows : Trust) →
+    IsRight planned block place knows → IsRight planned block (place + 1) knows
+right_on planned block place (trust.Noted ends) known = λ host p from to. known host p (omega arith) to
+right_on planned block place (trust.Table table) known = known
 
 -- the walk goes over the statement at a place
 pub walked : (planned : PlannedShape) (block : List Stmt) (place : ℕ) (spot next : Spot) → place < length block →

@@ -2,8 +2,6 @@
 use Rattle.std.proofs.Common.{◌≡◌, ◌≢◌, ℕ, ◌+◌, ◌<◌, ◌≤◌, ◌^◌, Bool, true, false, ◌||◌, cond, nat_eq, List, [], ◌∷◌, map, filter}
 use Rattle.std.proofs.Common.{refl, ap, sym, arith, inl, inr}
 use Rattle.std.proofs.lemmas.Bool.{cases_Bool, eqb-false}
-use Rattle.std.specs.Prelude.{pos, ◌-ℤ◌}
-use Rattle.std.proofs.lemmas.Int.{ints}
 use Rattle.host_decl.specs.Hosts.{AreHosts}
 use Rattle.jif_tree.specs.Limits.{IsWithinLimits}
 use Rattle.std.specs.List.{AllByRecursion}
@@ -159,7 +157,3 @@ row_small planned sound sized test row is total counted =
     let some = fewer planned test (program_pieces planned.program) in
     let same = ap (pieces_cost planned) is in
     (omega arith, omega arith)
-
-pub differ_alike : (all before then after : ℕ) → then + before ≡ all + after →
-    pos after -ℤ pos before ≡ pos then -ℤ pos all
-differ_alike all before then after same = omega (arith, ints)

@@ -1,4 +1,5 @@
 pub mod Trusted
+pub mod TrustTables
 pub mod Statements
 pub mod Readers
 pub mod Sums

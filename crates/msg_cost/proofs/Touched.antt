@@ -42,7 +42,7 @@ row_is touched all rows are number = elim (there rows number all) [
 ]
 
 -- they are those that depend on the part, or all
-touched_are : (planned : PlannedShape) (index : Index) → IsIndex planned.program planned.needs index → (move : Step) →
+touched_are : (planned : PlannedShape) (index : Index) → IsIndex planned.program planned.needs planned.hosts index → (move : Step) →
     (touched_pieces planned.program index move
     ≡ pieces_with (numbers_of (kind_of move) planned.program planned.needs) (number_of move)
     (program_pieces planned.program))
@@ -57,7 +57,7 @@ touched_are planned index is (step.Statement statement host) =
 -- ---- costs
 
 pub touched_small : (planned : PlannedShape) → AreHosts planned.hosts → IsWithinLimits planned.program →
-    (index : Index) → IsIndex planned.program planned.needs index → (move : Step) → (total : ℕ) →
+    (index : Index) → IsIndex planned.program planned.needs planned.hosts index → (move : Step) → (total : ℕ) →
     total ≡ capped (pieces_cost planned (touched_pieces planned.program index move)) →
     (total ≡ pieces_cost planned (touched_pieces planned.program index move)) × (total < 2 ^ 62)
 touched_small planned sound sized index is move total counted = elim (touched_are planned index is move) [
@@ -71,7 +71,7 @@ touched_small planned sound sized index is move total counted = elim (touched_ar
 ]
 
 -- what a move changes is what it changes of that
-pub touched_changed : (planned : PlannedShape) (index : Index) → IsIndex planned.program planned.needs index →
+pub touched_changed : (planned : PlannedShape) (index : Index) → IsIndex planned.program planned.needs planned.hosts index →
     (move : Step) →
     cost_of planned.hosts (program_terms (under planned (moved planned.plan move)))
     + pieces_cost planned (touched_pieces planned.program index move)

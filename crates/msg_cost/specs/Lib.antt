@@ -9,6 +9,7 @@ pub mod Steps
 pub mod Pieces
 pub mod PieceViews
 pub mod Touches
+pub mod Tables
 pub mod Rows
 pub mod Touched
 pub mod Ends

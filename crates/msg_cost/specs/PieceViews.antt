@@ -9,7 +9,7 @@ abbrev pub piece_shape : Kept → Piece
 piece_shape (kept.Access weight statement field) = access weight statement field
 piece_shape (kept.Giving weight statement variable) = giving weight statement variable
 piece_shape (kept.Calling weight statement method kept) = calling weight statement method kept
-piece_shape (kept.Walk weight home nested block) = walk weight home nested (ids_of block.now)
+piece_shape (kept.Walk weight home nested block table) = walk weight home nested (ids_of block.now)
 piece_shape (kept.Ending method) = ending method
 
 abbrev pub all_pieces : List Kept → List Piece

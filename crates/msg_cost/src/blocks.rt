@@ -15,6 +15,7 @@ use crate::messages::{leave, message, move_on};
 use crate::seated::Seated;
 use crate::spot::Spot;
 use crate::tokens::{block_end, next_spot};
+use crate::trust::Trust;
 use crate::values::{expr_cost, field_cost, forwards};
 use crate::weight::inside;
 use jif_tree::{Stmt, StmtKind, tree_laws};
@@ -36,9 +37,9 @@ pub fn block_cost(
 {
     let mut total: u64 = 0;
     let mut spot = Spot::on(home);
-    let mut noted = [0; HOSTS];
+    let mut trust = Trust::Noted([0; HOSTS]);
     for (place, statement) in block.iter().enumerate() {
-        let next = next_spot(planned, spot, block, place, &mut noted);
+        let next = next_spot(planned, spot, block, place, &mut trust);
         total = total
             .saturating_add(move_on(planned.hosts, weight, spot, next))
             .saturating_add(statement_cost(planned, kept, weight, statement));

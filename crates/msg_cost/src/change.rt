@@ -1,6 +1,6 @@
 //! What a move adds to the cost, by the pieces that it touches.
 
-ghost use Rattle.std.specs.Prelude.{◌≡◌, ◌<◌, ◌≤◌, ◌^◌, ◌+◌, ◌-ℤ◌, pos, length};
+ghost use Rattle.std.specs.Prelude.{◌≡◌, ◌<◌, ◌≤◌, ◌^◌, ◌+◌, length};
 ghost use Rattle.jif_tree.specs.Trees.{program_tree};
 ghost use Rattle.jif_tree.specs.Limits.{IsWithinLimits};
 ghost use Rattle.js_base.specs.declared.limits.TheConstants.{METHODS};
@@ -10,6 +10,7 @@ ghost use Rattle.msg_cost.specs.Pieces.{pieces_cost, program_pieces};
 ghost use Rattle.msg_cost.specs.PieceViews.{all_pieces};
 ghost use Rattle.msg_cost.specs.Rows.{IsIndex};
 ghost use Rattle.msg_cost.specs.Steps.{moved};
+ghost use Rattle.msg_cost.specs.Tables.{HaveTables};
 ghost use Rattle.msg_cost.specs.Touched.{touched_pieces, touched_cost};
 ghost use Rattle.msg_cost.specs.Views.{seated_shape, capped};
 
@@ -23,39 +24,10 @@ use host_decl::Hosts;
 use jif_tree::Checked;
 use need_labels::{Needs, Plan};
 
-/// What a move adds to the cost, less what it saves, as `delta` has it. Only those pieces are counted that depend on
-/// the moved part: the reads and writes and the definitions of a statement, the definitions of what it reads, the walk
-/// over its block and those over the blocks inside it, and the calls of its method where it is one of the statements of
-/// the body itself.
-pub fn delta_by_pieces(
-    checked: &Checked,
-    needs: &Needs,
-    hosts: &Hosts,
-    index: &Index<'_>,
-    plan: &Plan,
-    step: Step,
-) -> i64
-    requires within { IsWithinLimits (program_tree checked.now.program) }
-    requires index { IsIndex (program_tree checked.now.program) needs.now index.now }
-    ensures { result ≡ pos (plan_cost (labelled_of checked.now) needs.now hosts.now (moved plan.now step))
-        -ℤ pos (plan_cost (labelled_of checked.now) needs.now hosts.now plan.now) }
-{
-    let before = cost_before(checked, needs, hosts, index, plan, step);
-    let after = cost_after(checked, needs, hosts, index, plan, step);
-    difference(after, before)
-}
-
-/// One small cost less another.
-fn difference(after: u64, before: u64) -> i64
-    requires after { after < 2 ^ 62 }
-    requires before { before < 2 ^ 62 }
-    ensures { result ≡ pos after -ℤ pos before }
-{
-    after as i64 - before as i64
-}
-
-/// What those pieces cost under a plan that a move of a part would touch. It is the same for all moves of that part, so
-/// whoever tries many hosts for one part counts it once. Behind a move that is made, it is what `cost_after` counted
+/// What those pieces cost under a plan that a move of a part would touch: the reads and writes and the definitions of a
+/// statement, the definitions of what it reads, the walk over its block and those over the blocks inside it, and the
+/// calls of its method where it is one of the statements of the body itself. It is the same for all moves of that part,
+/// so whoever tries many hosts for one part counts it once. Behind a move that is made, it is what `cost_after` counted
 /// for that move.
 pub fn cost_before(
     checked: &Checked,
@@ -66,7 +38,7 @@ pub fn cost_before(
     step: Step,
 ) -> u64
     requires within { IsWithinLimits (program_tree checked.now.program) }
-    requires index { IsIndex (program_tree checked.now.program) needs.now index.now }
+    requires index { IsIndex (program_tree checked.now.program) needs.now hosts.now index.now }
     ensures cost { result ≡ touched_cost (labelled_of checked.now) needs.now hosts.now index.now step plan.now }
     ensures small { result < 2 ^ 62 }
 {
@@ -91,7 +63,7 @@ pub fn cost_after(
     step: Step,
 ) -> u64
     requires within { IsWithinLimits (program_tree checked.now.program) }
-    requires index { IsIndex (program_tree checked.now.program) needs.now index.now }
+    requires index { IsIndex (program_tree checked.now.program) needs.now hosts.now index.now }
     ensures cost { result
         ≡ touched_cost (labelled_of checked.now) needs.now hosts.now index.now step (moved plan.now step) }
     ensures change { plan_cost (labelled_of checked.now) needs.now hosts.now (moved plan.now step)
@@ -112,7 +84,9 @@ pub fn cost_after(
 
 /// What the pieces cost that depend on the part of a step, and all where the index has no row for it.
 fn touched_cost(planned: &Seated<'_>, index: &Index<'_>, step: Step) -> u64
-    requires { length (program_tree planned.now.program.now).methods ≤ METHODS }
+    requires methods { length (program_tree planned.now.program.now).methods ≤ METHODS }
+    requires index { IsIndex (program_tree planned.now.program.now) planned.now.needs.now planned.now.hosts.now
+        index.now }
     ensures { result ≡ capped (pieces_cost (seated_shape planned.now)
         (touched_pieces (program_tree planned.now.program.now) index.now step)) }
 {
@@ -137,6 +111,7 @@ fn all_cost(planned: &Seated<'_>) -> u64
 
 /// What these pieces cost.
 fn row_cost(planned: &Seated<'_>, row: &[Piece<'_>]) -> u64
+    requires { HaveTables planned.now.needs.now planned.now.hosts.now row.now }
     ensures { result ≡ capped (pieces_cost (seated_shape planned.now) (all_pieces row.now)) }
 {
     let mut total: u64 = 0;

@@ -37,14 +37,16 @@ pub fn method_ends(planned: &Seated<'_>) -> [HostId; METHODS]
 /// The host that holds the token behind the body of a method, the first host where there is no such method.
 pub fn called_end(planned: &Seated<'_>, ends: &[HostId], method: MethodId) -> HostId
     requires { AreEnds (seated_shape planned.now) ends.now }
-    ensures { result ≡ called_end (seated_shape planned.now) (method_at (program_tree planned.now.program.now) method) }
+    ensures { result
+        ≡ called_end (seated_shape planned.now) (method_at (program_tree planned.now.program.now) method) }
 {
     ends.get(method.0 as usize).copied().unwrap_or(HostId(0))
 }
 
 /// The same, found anew.
 pub fn found_end(planned: &Seated<'_>, method: MethodId) -> HostId
-    ensures { result ≡ called_end (seated_shape planned.now) (method_at (program_tree planned.now.program.now) method) }
+    ensures { result
+        ≡ called_end (seated_shape planned.now) (method_at (program_tree planned.now.program.now) method) }
 {
     match planned.program.methods.get(method.0 as usize) {
         Some(called) => block_end(planned, planned.host_of(called.head), &called.body),

@@ -2,16 +2,20 @@
 
 ghost use Rattle.std.specs.Prelude.{◌≡◌, ◌≢◌, ◌↔◌, ℕ, ◌<◌, [], ◌∷◌, ◌++◌, IsTrue, IfOk, OnOk, map, replicate};
 ghost use Rattle.std.specs.Prelude.{length, slice_set, slice_index, slice_index_or};
+ghost use Rattle.host_decl.specs.Hosts.{HostsShape};
 ghost use Rattle.jif_tree.specs.LabelRules.{method_at};
 ghost use Rattle.jif_tree.specs.Trees.{program_tree};
 ghost use Rattle.msg_cost.specs.Pieces.{program_pieces};
 ghost use Rattle.msg_cost.specs.PieceViews.{piece_shape, all_pieces};
 ghost use Rattle.msg_cost.specs.Rows.{numbers_of, AreRows, AreNoted, rows_of, IsIndex};
+ghost use Rattle.msg_cost.specs.Tables.{HasTable, HaveTables, RowsHaveTables};
 ghost use Rattle.msg_cost.specs.Touches.{statements_of_method};
 ghost use Rattle.msg_cost.specs.Views.{ids_of};
+ghost use Rattle.need_labels.specs.Needs.{NeedsShape};
 
 use crate::piece::Piece;
 use crate::pieces::program_pieces;
+use host_decl::Hosts;
 use jif_tree::{Checked, Program, Stmt};
 use js_base::{MethodId, OutOfMemory, StmtId};
 use need_labels::Needs;
@@ -39,11 +43,12 @@ pub fn index_of<'a>(
     alloc: Global,
     checked: &'a Checked,
     needs: &Needs,
+    hosts: &Hosts,
 ) -> Result<Index<'a>, OutOfMemory>
-    ensures { IfOk result (IsIndex (program_tree checked.now.program) needs.now) }
+    ensures { IfOk result (IsIndex (program_tree checked.now.program) needs.now hosts.now) }
 {
     let program = &checked.program;
-    let pieces = program_pieces(alloc, program)?;
+    let pieces = program_pieces(alloc, program, needs, hosts)?;
     let count = program.fields.len();
     let fields = pieces_by_part(alloc, Kind::Fields, program, needs, &pieces, count)?;
     let count = needs.need().len();
@@ -60,8 +65,10 @@ fn pieces_by_part<'a>(
     pieces: &[Piece<'a>],
     count: usize,
 ) -> Result<Vec<Vec<Piece<'a>>>, OutOfMemory>
-    ensures { IfOk result (λ rows. AreRows (numbers_of kind (program_tree program.now) needs.now)
+    ensures rows { IfOk result (λ rows. AreRows (numbers_of kind (program_tree program.now) needs.now)
         (all_pieces pieces.now) (rows_of rows.items)) }
+    ensures tables { IfOk result (λ rows. (hosts : HostsShape) →
+        HaveTables needs.now hosts pieces.now → RowsHaveTables needs.now hosts rows.items) }
 {
     let mut rows = empty_rows(alloc, count)?;
     let mut marks: Vec<usize> = vec![in alloc; 0; count]?;
@@ -83,8 +90,10 @@ fn fill_rows<'a>(
     requires empty { AreRows (numbers_of kind (program_tree program.now) needs.now) [] (rows_of rows.old.items) }
     requires long { length marks.old ≡ length (rows_of rows.old.items) }
     requires unmarked { (number : ℕ) → number < length marks.old → slice_index marks.old number ≡ 0 }
-    ensures { OnOk result (AreRows (numbers_of kind (program_tree program.now) needs.now)
+    ensures rows { OnOk result (AreRows (numbers_of kind (program_tree program.now) needs.now)
         (all_pieces pieces.now) (rows_of rows.new.items)) }
+    ensures tables { OnOk result ((hosts : HostsShape) → HaveTables needs.now hosts pieces.now →
+        RowsHaveTables needs.now hosts rows.old.items → RowsHaveTables needs.now hosts rows.new.items) }
 {
     for (place, piece) in pieces.iter().enumerate() {
         let numbers = numbers_of(alloc, kind, program, needs, piece)?;
@@ -114,8 +123,10 @@ fn note_all<'a>(
 ) -> Result<(), OutOfMemory>
     requires long { length marks.old ≡ length (rows_of rows.old.items) }
     requires fresh { (number : ℕ) → number < length marks.old → slice_index marks.old number < turn }
-    ensures { OnOk result (AreNoted turn (piece_shape piece.entry) numbers.now (rows_of rows.old.items)
+    ensures noted { OnOk result (AreNoted turn (piece_shape piece.entry) numbers.now (rows_of rows.old.items)
         (rows_of rows.new.items) marks.new) }
+    ensures tables { OnOk result ((needs : NeedsShape) (hosts : HostsShape) → HasTable needs hosts piece.entry →
+        RowsHaveTables needs hosts rows.old.items → RowsHaveTables needs hosts rows.new.items) }
 {
     for number in numbers {
         let place = *number as usize;
@@ -144,9 +155,11 @@ fn push_at<'a>(
     piece: Piece<'a>,
 ) -> Result<(), OutOfMemory>
     requires { place < length (rows_of rows.old.items) }
-    ensures { OnOk result (rows_of rows.new.items
+    ensures rows { OnOk result (rows_of rows.new.items
         ≡ slice_set (rows_of rows.old.items) place
         (slice_index_or (rows_of rows.old.items) place [] ++ piece_shape piece.entry ∷ [])) }
+    ensures tables { OnOk result ((needs : NeedsShape) (hosts : HostsShape) → HasTable needs hosts piece.entry →
+        RowsHaveTables needs hosts rows.old.items → RowsHaveTables needs hosts rows.new.items) }
 {
     Ok(rows[place].push(piece)?)
 }

@@ -17,12 +17,13 @@ mod program_cost;
 mod seated;
 mod spot;
 mod step;
+mod table;
 mod tokens;
 mod trust;
 mod values;
 mod weight;
 
-pub use change::{cost_after, cost_before, delta_by_pieces};
+pub use change::{cost_after, cost_before};
 pub use index::{Index, index_of};
 pub use laws::{cost_examples, cost_laws};
 pub use piece::Piece;

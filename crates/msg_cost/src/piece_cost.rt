@@ -8,6 +8,7 @@ ghost use Rattle.msg_cost.specs.Ends.{IsEnd};
 ghost use Rattle.msg_cost.specs.Moves.{on, end_host, called_home, called_end};
 ghost use Rattle.msg_cost.specs.Pieces.{piece_cost, walk_terms};
 ghost use Rattle.msg_cost.specs.PieceViews.{piece_shape};
+ghost use Rattle.msg_cost.specs.Tables.{IsTable, HasTable};
 ghost use Rattle.msg_cost.specs.Terms.{message, exchange};
 ghost use Rattle.msg_cost.specs.Views.{seated_shape, ids_of, capped};
 
@@ -18,6 +19,7 @@ use crate::piece::Piece;
 use crate::seated::Seated;
 use crate::spot::Spot;
 use crate::tokens::{called_home, next_spot};
+use crate::trust::Trust;
 use crate::values::{field_cost, forwards};
 use jif_tree::Stmt;
 use js_base::limits::HOSTS;
@@ -32,7 +34,8 @@ const NOTHING: Kept<'static> = Kept {
 
 /// What a piece costs. It is kept where the method ends that was called last.
 pub fn piece_cost(planned: &Seated<'_>, piece: &Piece<'_>, last: &mut Option<End>) -> u64
-    requires { IfSome last.old (IsEnd (seated_shape planned.now)) }
+    requires last { IfSome last.old (IsEnd (seated_shape planned.now)) }
+    requires table { HasTable planned.now.needs.now planned.now.hosts.now piece.now }
     ensures cost { result ≡ capped (piece_cost (seated_shape planned.now) (piece_shape piece.now)) }
     ensures last { IfSome last.new (IsEnd (seated_shape planned.now)) }
 {
@@ -65,7 +68,11 @@ pub fn piece_cost(planned: &Seated<'_>, piece: &Piece<'_>, last: &mut Option<End
             home,
             nested,
             block,
-        } => walk_cost(planned, *weight, planned.host_of(*home), *nested, block),
+            table,
+        } => {
+            let host = planned.host_of(*home);
+            walk_cost(planned, *weight, host, *nested, block, table)
+        }
         Piece::Ending { method } => {
             let end = last_end(planned, last, *method);
             message(planned.hosts, 1, end, called_home(planned, *method))
@@ -106,16 +113,23 @@ struct WholeWalk {
 }
 
 /// The walk over a block that begins on this host.
-fn walked(planned: &Seated<'_>, weight: u64, home: HostId, block: &[Stmt]) -> WholeWalk
+fn walked(
+    planned: &Seated<'_>,
+    weight: u64,
+    home: HostId,
+    block: &[Stmt],
+    table: &[u16; HOSTS],
+) -> WholeWalk
+    requires { IsTable planned.now.needs.now planned.now.hosts.now block.now table.now }
     ensures cost { result.cost ≡ capped (cost_of planned.now.hosts.now
         (walk_terms (seated_shape planned.now) weight (on home) (ids_of block.now))) }
     ensures end { result.end ≡ end_host (seated_shape planned.now) (on home) (ids_of block.now) }
 {
     let mut total: u64 = 0;
     let mut spot = Spot::on(home);
-    let mut noted = [0; HOSTS];
+    let mut trust = Trust::Table(table);
     for place in 0..block.len() {
-        let next = next_spot(planned, spot, block, place, &mut noted);
+        let next = next_spot(planned, spot, block, place, &mut trust);
         total = total.saturating_add(move_on(planned.hosts, weight, spot, next));
         spot = next;
     }
@@ -126,12 +140,20 @@ fn walked(planned: &Seated<'_>, weight: u64, home: HostId, block: &[Stmt]) -> Wh
 }
 
 /// What the walk over a block costs, with the way back behind a nested one.
-fn walk_cost(planned: &Seated<'_>, weight: u64, home: HostId, nested: bool, block: &[Stmt]) -> u64
+fn walk_cost(
+    planned: &Seated<'_>,
+    weight: u64,
+    home: HostId,
+    nested: bool,
+    block: &[Stmt],
+    table: &[u16; HOSTS],
+) -> u64
+    requires { IsTable planned.now.needs.now planned.now.hosts.now block.now table.now }
     ensures { let shape = seated_shape planned.now in
         result ≡ capped (cost_of planned.now.hosts.now (walk_terms shape weight (on home) (ids_of block.now)
         ++ (if nested then message weight (end_host shape (on home) (ids_of block.now)) home ∷ [] else []))) }
 {
-    let walked = walked(planned, weight, home, block);
+    let walked = walked(planned, weight, home, block, table);
     if nested {
         walked
             .cost

@@ -7,18 +7,51 @@ ghost use Rattle.msg_cost.specs.Pieces.{access, giving, walk, is_kept, expr_piec
 ghost use Rattle.msg_cost.specs.Pieces.{call_pieces, block_pieces, program_pieces};
 ghost use Rattle.msg_cost.specs.Moves.{own_statements};
 ghost use Rattle.msg_cost.specs.PieceViews.{all_pieces};
+ghost use Rattle.msg_cost.specs.Tables.{HaveTables};
 
 use crate::piece::Piece;
+use crate::table::with_table;
 use crate::weight::inside;
+use host_decl::Hosts;
 use jif_tree::{Expr, Program, Stmt, StmtKind, params_of, tree_laws};
+use js_base::limits::HOSTS;
 use js_base::{FieldId, MethodId, OutOfMemory, StmtId, VarId};
+use need_labels::Needs;
 use std::alloc::Global;
 
-/// The pieces of what a program costs.
+/// Stands for the table of a walk until all pieces are there.
+const NO_TABLE: [u16; HOSTS] = [0; HOSTS];
+
+/// The pieces of what a program costs, each walk with the table of its block.
 ///
 /// # Errors
 /// That memory ran out.
-pub fn program_pieces(alloc: Global, program: &Program) -> Result<Vec<Piece<'_>>, OutOfMemory>
+pub fn program_pieces<'a>(
+    alloc: Global,
+    program: &'a Program,
+    needs: &Needs,
+    hosts: &Hosts,
+) -> Result<Vec<Piece<'a>>, OutOfMemory>
+    ensures pieces { IfOk result (λ pieces. all_pieces pieces.items ≡ program_pieces (program_tree program.now)) }
+    ensures tables { IfOk result (λ pieces. HaveTables needs.now hosts.now pieces.items) }
+{
+    let mut pieces = bare_pieces(alloc, program)?;
+    add_tables(needs, hosts, &mut pieces);
+    Ok(pieces)
+}
+
+/// Gives each walk the table of its block.
+fn add_tables(needs: &Needs, hosts: &Hosts, pieces: &mut [Piece<'_>])
+    ensures pieces { all_pieces pieces.new ≡ all_pieces pieces.old }
+    ensures tables { HaveTables needs.now hosts.now pieces.new }
+{
+    for place in 0..pieces.len() {
+        pieces[place] = with_table(needs, hosts, pieces[place]);
+    }
+}
+
+/// The pieces of what a program costs, without tables.
+fn bare_pieces(alloc: Global, program: &Program) -> Result<Vec<Piece<'_>>, OutOfMemory>
     ensures { IfOk result (λ pieces. all_pieces pieces.items ≡ program_pieces (program_tree program.now)) }
 {
     let mut pieces = Vec::new(alloc);
@@ -28,6 +61,7 @@ pub fn program_pieces(alloc: Global, program: &Program) -> Result<Vec<Piece<'_>>
             home: method.head,
             nested: false,
             block: &method.body,
+            table: NO_TABLE,
         })?;
         add_block(&mut pieces, program, 1, &method.body)?;
     }
@@ -72,6 +106,7 @@ fn add_nested<'a>(
         home,
         nested: true,
         block,
+        table: NO_TABLE,
     })?;
     add_block(pieces, program, weight, block)
 }

@@ -10,6 +10,7 @@ ghost use Rattle.msg_cost.specs.Views.{shape_of, seated_shape, ids_of};
 
 use crate::seated::Seated;
 use crate::spot::Spot;
+use crate::trust::Trust;
 use crate::{tokens, values};
 use host_decl::Hosts;
 use jif_tree::{Program, Stmt};
@@ -57,7 +58,12 @@ pub fn next_spot(
         result ≡ next_spot (shape_of planned.now) spot statement others }
     ensures noted { AreTrustedTo (shape_of planned.now) block.now (place + 1) noted.new }
 {
-    tokens::next_spot(&planned.seated(), spot, block, place, noted)
+    let mut trust = Trust::Noted(*noted);
+    let next = tokens::next_spot(&planned.seated(), spot, block, place, &mut trust);
+    if let Trust::Noted(known) = trust {
+        *noted = known;
+    }
+    next
 }
 
 /// The home of a method: the host of its head.

@@ -4,15 +4,15 @@ ghost use Rattle.std.specs.Prelude.{◌≡◌, ◌+◌, ◌<◌, ◌≤◌, ◌�
 ghost use Rattle.js_base.specs.declared.ids.StmtId.{StmtId};
 ghost use Rattle.jif_tree.specs.LabelRules.{method_at};
 ghost use Rattle.jif_tree.specs.Trees.{block_tree, program_tree};
-ghost use Rattle.msg_cost.specs.Kept.{AreTrustedTo};
 ghost use Rattle.msg_cost.specs.Moves.{link_cost, host_behind, return_host, entered, next_spot, block_end};
 ghost use Rattle.msg_cost.specs.Moves.{called_home};
+ghost use Rattle.msg_cost.specs.Tables.{IsRight};
 ghost use Rattle.msg_cost.specs.Views.{seated_shape, ids_of};
 
 use crate::messages::link_cost;
 use crate::seated::Seated;
 use crate::spot::Spot;
-use crate::trust::is_trusted_from;
+use crate::trust::{Trust, is_trusted_from};
 use jif_tree::Stmt;
 use js_base::limits::HOSTS;
 use js_base::{HostId, MethodId};
@@ -47,17 +47,17 @@ fn return_host(
     host: HostId,
     block: &[Stmt],
     place: usize,
-    noted: &mut [usize; HOSTS],
+    trust: &mut Trust<'_>,
 ) -> HostId
     requires here { place ≤ length block.now }
-    requires noted { AreTrustedTo (seated_shape planned.now) block.now place noted.old }
+    requires right { IsRight (seated_shape planned.now) block.now place trust.old }
     ensures result { result ≡ return_host (seated_shape planned.now) from host (ids_of (drop place block.now)) }
-    ensures noted { AreTrustedTo (seated_shape planned.now) block.now place noted.new }
+    ensures right { IsRight (seated_shape planned.now) block.now place trust.new }
 {
     let Some(next) = host_behind(planned, host, &block[place..]) else {
         return from;
     };
-    let trusted = is_trusted_from(planned, next, block, place, noted);
+    let trusted = is_trusted_from(planned, next, block, place, trust);
     if trusted && is_shorter(planned, host, next, from) {
         next
     } else {
@@ -72,47 +72,47 @@ fn entered(
     host: HostId,
     block: &[Stmt],
     place: usize,
-    noted: &mut [usize; HOSTS],
+    trust: &mut Trust<'_>,
 ) -> Spot
     requires here { place ≤ length block.now }
-    requires noted { AreTrustedTo (seated_shape planned.now) block.now place noted.old }
+    requires right { IsRight (seated_shape planned.now) block.now place trust.old }
     ensures result { result ≡ entered (seated_shape planned.now) from host (ids_of (drop place block.now)) }
-    ensures noted { AreTrustedTo (seated_shape planned.now) block.now place noted.new }
+    ensures right { IsRight (seated_shape planned.now) block.now place trust.new }
 {
     if from.0 == host.0 {
         return Spot::on(host);
     }
-    if is_trusted_from(planned, host, block, place, noted) {
+    if is_trusted_from(planned, host, block, place, trust) {
         return Spot::on(host);
     }
-    let back = return_host(planned, from, host, block, place, noted);
+    let back = return_host(planned, from, host, block, place, trust);
     Spot {
         host,
         back: Some(back),
     }
 }
 
-/// Where the statement at a place of a block runs. The hosts' places up to which they are known to be trusted are
-/// noted.
+/// Where the statement at a place of a block runs.
+#[tactic(auto, using(crate::proofs::Between::right_on))]
 pub fn next_spot(
     planned: &Seated<'_>,
     spot: Spot,
     block: &[Stmt],
     place: usize,
-    noted: &mut [usize; HOSTS],
+    trust: &mut Trust<'_>,
 ) -> Spot
     requires here { place < length block.now }
-    requires noted { AreTrustedTo (seated_shape planned.now) block.now place noted.old }
+    requires right { IsRight (seated_shape planned.now) block.now place trust.old }
     ensures result { (statement : StmtId) (others : List StmtId) →
         ids_of (drop place block.now) ≡ statement ∷ others →
         result ≡ next_spot (seated_shape planned.now) spot statement others }
-    ensures noted { AreTrustedTo (seated_shape planned.now) block.now (place + 1) noted.new }
+    ensures right { IsRight (seated_shape planned.now) block.now (place + 1) trust.new }
 {
     let host = planned.host_of(block[place].id);
     if spot.host.0 == host.0 {
         spot
     } else {
-        entered(planned, spot.end(), host, block, place, noted)
+        entered(planned, spot.end(), host, block, place, trust)
     }
 }
 
@@ -121,9 +121,9 @@ pub fn block_end(planned: &Seated<'_>, home: HostId, block: &[Stmt]) -> HostId
     ensures { result ≡ block_end (seated_shape planned.now) home (block_tree block.now) }
 {
     let mut spot = Spot::on(home);
-    let mut noted = [0; HOSTS];
+    let mut trust = Trust::Noted([0; HOSTS]);
     for place in 0..block.len() {
-        spot = next_spot(planned, spot, block, place, &mut noted);
+        spot = next_spot(planned, spot, block, place, &mut trust);
     }
     spot.end()
 }

@@ -27,7 +27,7 @@ pub fn lowered(
     start: Costed,
 ) -> Result<Plan, OutOfMemory>
     requires within { IsWithinLimits (program_tree counted.checked.now.program) }
-    requires index { IsIndex (program_tree counted.checked.now.program) counted.needs.now index.now }
+    requires index { IsIndex (program_tree counted.checked.now.program) counted.needs.now counted.hosts.now index.now }
     requires costed { IsCosted (cost_in counted) start }
     ensures { IfOk result (IsLowered (cost_in counted.entry) (steps_in (count_in counted.entry) allowed.now)
         start.plan) }
@@ -51,7 +51,7 @@ fn pass(
     best: Costed,
 ) -> Result<Costed, OutOfMemory>
     requires within { IsWithinLimits (program_tree counted.checked.now.program) }
-    requires index { IsIndex (program_tree counted.checked.now.program) counted.needs.now index.now }
+    requires index { IsIndex (program_tree counted.checked.now.program) counted.needs.now counted.hosts.now index.now }
     requires costed { IsCosted (cost_in counted) best }
     ensures { IfOk result (IsCostedAs (cost_in counted.entry)
         (after_steps (cost_in counted.entry) best.plan (steps_in (count_in counted.entry) allowed.now))) }
@@ -69,7 +69,7 @@ fn pass_over_fields(
     best: Costed,
 ) -> Result<Costed, OutOfMemory>
     requires within { IsWithinLimits (program_tree counted.checked.now.program) }
-    requires index { IsIndex (program_tree counted.checked.now.program) counted.needs.now index.now }
+    requires index { IsIndex (program_tree counted.checked.now.program) counted.needs.now counted.hosts.now index.now }
     requires costed { IsCosted (cost_in counted) best }
     ensures { IfOk result (IsCostedAs (cost_in counted.entry)
         (after_steps (cost_in counted.entry) best.plan (steps_from field_part (count_in counted.entry) 0 words.now))) }
@@ -98,7 +98,7 @@ fn pass_over_statements(
     best: Costed,
 ) -> Result<Costed, OutOfMemory>
     requires within { IsWithinLimits (program_tree counted.checked.now.program) }
-    requires index { IsIndex (program_tree counted.checked.now.program) counted.needs.now index.now }
+    requires index { IsIndex (program_tree counted.checked.now.program) counted.needs.now counted.hosts.now index.now }
     requires costed { IsCosted (cost_in counted) best }
     ensures { IfOk result (IsCostedAs (cost_in counted.entry)
         (after_steps (cost_in counted.entry) best.plan
@@ -139,7 +139,7 @@ fn try_part(
     word: u16,
 ) -> Result<Costed, OutOfMemory>
     requires within { IsWithinLimits (program_tree counted.checked.now.program) }
-    requires index { IsIndex (program_tree counted.checked.now.program) counted.needs.now index.now }
+    requires index { IsIndex (program_tree counted.checked.now.program) counted.needs.now counted.hosts.now index.now }
     requires costed { IsCosted (cost_in counted) best }
     ensures { IfOk result (IsCostedAs (cost_in counted.entry)
         (after_steps (cost_in counted.entry) best.plan (steps_of part word (count_in counted.entry)))) }
@@ -168,7 +168,7 @@ fn try_host(
     host: HostId,
 ) -> Result<Weighed, OutOfMemory>
     requires within { IsWithinLimits (program_tree counted.checked.now.program) }
-    requires index { IsIndex (program_tree counted.checked.now.program) counted.needs.now index.now }
+    requires index { IsIndex (program_tree counted.checked.now.program) counted.needs.now counted.hosts.now index.now }
     requires costed { IsCosted (cost_in counted) tried.best }
     requires weighed { IsWeighed (touched_in counted index.now part) tried }
     ensures best { IfOk result (λ next. IsCostedAs (cost_in counted.entry)
@@ -199,7 +199,7 @@ fn try_host(
 /// What the pieces cost that moves of a part touch, as the plan stands. It is counted once for a plan.
 fn touched_before(counted: Counted<'_>, index: &Index<'_>, tried: &Weighed, part: Part) -> u64
     requires within { IsWithinLimits (program_tree counted.checked.now.program) }
-    requires index { IsIndex (program_tree counted.checked.now.program) counted.needs.now index.now }
+    requires index { IsIndex (program_tree counted.checked.now.program) counted.needs.now counted.hosts.now index.now }
     requires weighed { IsWeighed (touched_in counted index.now part) tried.now }
     ensures { result ≡ touched_in counted.entry index.now part tried.now.best.plan }
 {
@@ -224,7 +224,7 @@ fn touched_after(
     host: HostId,
 ) -> u64
     requires within { IsWithinLimits (program_tree counted.checked.now.program) }
-    requires index { IsIndex (program_tree counted.checked.now.program) counted.needs.now index.now }
+    requires index { IsIndex (program_tree counted.checked.now.program) counted.needs.now counted.hosts.now index.now }
     ensures cost { result ≡ touched_in counted.entry index.now part (moved plan.now (step_to part host.0)) }
     ensures change { cost_in counted.entry (moved plan.now (step_to part host.0))
         + touched_in counted.entry index.now part plan.now ≡ cost_in counted.entry plan.now + result }

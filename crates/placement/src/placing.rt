@@ -47,7 +47,7 @@ pub fn place(
         needs,
         hosts,
     };
-    let index = index_of(alloc, checked, needs)?;
+    let index = index_of(alloc, checked, needs, hosts)?;
     let plan = lowered(alloc, counted, &index, &allowed, start)?;
     Ok((allowed, plan))
 }

@@ -27,7 +27,7 @@ block_cost-loop-place-preserved t c =
       one_walked planned c.args.weight c.loop-place.spot c.next_spot-next.result all c.loop-place.total c.move_on.result
           c.statement_cost.result first rest (c.next_spot-next.ensures.result first.id (ids_of rest) (ap ids_of next))
           c.move_on.ensures c.statement_cost.ensures (subst P next c.loop-place.invariant.0),
-      rw add-one at c.next_spot-next.ensures.noted,
+      rw add-one at c.next_spot-next.ensures.right,
     )
 
 -- ---- branches and loops

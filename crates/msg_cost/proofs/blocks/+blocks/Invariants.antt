@@ -1,9 +1,9 @@
 use Rattle.std.proofs.Common.{drop, ◌+◌, ◌*◌}
 use Rattle.jif_tree.specs.Trees.{block_tree, done, tree_before}
 use Rattle.jif_tree.proofs.StatementCounts.{count_in}
-use Rattle.msg_cost.specs.Kept.{AreTrustedTo}
 use Rattle.msg_cost.specs.Moves.{on}
 use Rattle.msg_cost.specs.Terms.{block_terms}
+use Rattle.msg_cost.specs.Tables.{IsRight}
 use Rattle.msg_cost.specs.Views.{seated_shape}
 use Rattle.msg_cost.proofs.Sums.{CostsWith}
 use Rattle.msg_cost.proofs.blocks.+blocks.Given as goal
@@ -14,7 +14,7 @@ invariant-block_cost-loop-place l =
     CostsWith l.planned.hosts.now
     (block_terms (seated_shape l.planned) l.weight (on l.fn.home) (block_tree l.block)) l.total
     (block_terms (seated_shape l.planned) l.weight l.spot (block_tree (drop l.place l.block)))
-    × AreTrustedTo (seated_shape l.planned) l.block l.place l.noted
+    × IsRight (seated_shape l.planned) l.block l.place l.trust
 
 abbrev pub decreases-block_cost : goal.decreases-block_cost
 decreases-block_cost l = 3 * count_in (block_tree l.block.now) + 1

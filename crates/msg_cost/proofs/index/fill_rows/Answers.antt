@@ -6,6 +6,7 @@ use Rattle.msg_cost.specs.PieceViews.{piece_shape, all_pieces}
 use Rattle.msg_cost.specs.Pieces.{Piece}
 use Rattle.msg_cost.specs.Rows.{AreRows, numbers_of, rows_of}
 use Rattle.msg_cost.proofs.Noting.{rows_more, next_turn}
+use Rattle.msg_cost.proofs.TrustTables.{table_of}
 use Rattle.msg_cost.proofs.index.fill_rows.Goals as goal
 
 pub note_all-requires-clause-fresh : goal.note_all-requires-clause-fresh
@@ -22,7 +23,7 @@ loop-place-preserved c =
     let before = rows_of c.loop-place.rows.items in
     let after = rows_of c.note_all.new.rows.items in
     let numbers = touched (piece_shape piece) in
-    let noted = rw (c.deref.ensures.value, c.in_ok-numbers.ensures) at c.in_ok-note_all.ensures in
+    let noted = rw (c.deref.ensures.value, c.in_ok-numbers.ensures) at c.in_ok-note_all.ensures.noted in
     let cut : take (place + 1) pieces ≡ take place pieces ++ piece ∷ [] =
     take_more pieces place piece c.loop-place-test.true
     ∙ ap (λ (one : Kept). take place pieces ++ one ∷ []) (sym c.index-pieces-place.is) in
@@ -36,10 +37,14 @@ loop-place-preserved c =
           c.note_all.new.marks c.loop-place.invariant.rows noted);
       long = marked ∙ sym long;
       turns = next_turn (place + 1) (piece_shape piece) numbers before after c.note_all.new.marks noted;
+      tables = λ hosts have was.
+          let has = table_of c.args.needs.now hosts pieces place piece c.loop-place-test.true c.index-pieces-place.is
+          have in
+          c.in_ok-note_all.ensures.tables c.args.needs.now hosts has (c.loop-place.invariant.tables hosts have was);
     }
 
-pub returns : goal.returns
-returns c =
+pub returns-clause-rows : goal.returns-clause-rows
+returns-clause-rows c =
     let touched = numbers_of c.args.kind (program_tree c.args.program.now) c.args.needs.now in
     let P : List Kept → Type 0 = λ all. AreRows touched (all_pieces all) (rows_of c.loop-place.rows.items) in
     subst P (take_all c.loop-place.place c.args.pieces.now c.loop-place-test.false) c.loop-place.invariant.rows

@@ -23,20 +23,32 @@ loop-number-preserved c =
     AreNoted c.args.turn piece numbers before rows noted in
     let more : done ++ number ∷ [] ≡ take (i + 1) c.args.numbers.now =
     sym (take_more c.args.numbers.now i 0 c.loop-number-test.true) in
-    subst (λ (numbers : List ℕ). Noted numbers (rows_of c.if-is_unmarked.rows.items) c.if-is_unmarked.marks) more
-    (elim c.if-is_unmarked.branch [
-      | then-is_unmarked+in_ok-push_at w ↦
-          let fresh = c.is_unmarked.ensures.0 w.if-is_unmarked.true in
-          rw (w.rows-is, w.marks-is, w.in_ok-push_at.ensures)
-          (noted_here c.args.turn piece done number before after marks fresh.0 fresh.1 c.loop-number.invariant)
-      | else-is_unmarked w ↦
-          rw (w.rows-is, w.marks-is)
-          (noted_again c.args.turn piece done number before after marks
-          (λ fresh. true_not_false (sym (c.is_unmarked.ensures.1 fresh) ∙ w.if-is_unmarked.false))
-          c.loop-number.invariant)
-    ])
+    record {
+      noted = subst (λ (numbers : List ℕ).
+          Noted numbers (rows_of c.if-is_unmarked.rows.items) c.if-is_unmarked.marks) more
+          (elim c.if-is_unmarked.branch [
+            | then-is_unmarked+in_ok-push_at w ↦
+                let fresh = c.is_unmarked.ensures.0 w.if-is_unmarked.true in
+                rw (w.rows-is, w.marks-is, w.in_ok-push_at.ensures.rows)
+                (noted_here c.args.turn piece done number before after marks fresh.0 fresh.1
+                c.loop-number.invariant.noted)
+            | else-is_unmarked w ↦
+                rw (w.rows-is, w.marks-is)
+                (noted_again c.args.turn piece done number before after marks
+                (λ fresh. true_not_false (sym (c.is_unmarked.ensures.1 fresh) ∙ w.if-is_unmarked.false))
+                c.loop-number.invariant.noted)
+          ]);
+      tables = λ needs hosts has have. elim c.if-is_unmarked.branch [
+        | then-is_unmarked+in_ok-push_at w ↦
+            rw w.rows-is
+            (w.in_ok-push_at.ensures.tables needs hosts has (c.loop-number.invariant.tables needs hosts has have))
+        | else-is_unmarked w ↦ rw w.rows-is (c.loop-number.invariant.tables needs hosts has have)
+      ];
+    }
 
 pub loop-number-init : goal.loop-number-init
-loop-number-init c =
-    noted_first c.args.turn (piece_shape c.args.piece) (rows_of c.args.rows.now.items) c.args.marks.now
-    c.requires.long c.requires.fresh
+loop-number-init c = record {
+  noted = noted_first c.args.turn (piece_shape c.args.piece) (rows_of c.args.rows.now.items) c.args.marks.now
+      c.requires.long c.requires.fresh;
+  tables = λ needs hosts has have. have;
+}

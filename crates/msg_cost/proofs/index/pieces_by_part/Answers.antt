@@ -2,6 +2,7 @@ use Rattle.std.proofs.Common.{◌≡◌, ◌∙◌, [], List, ℕ, length, get_o
 use Rattle.std.proofs.lemmas.List.{length-replicate, get_or-replicate}
 use Rattle.msg_cost.specs.Pieces.{Piece}
 use Rattle.msg_cost.proofs.Noting.{no_rows}
+use Rattle.msg_cost.proofs.TrustTables.{empty_tables}
 use Rattle.msg_cost.proofs.index.pieces_by_part.Goals as goal
 
 pub fill_rows-requires-clause-empty : goal.fill_rows-requires-clause-empty
@@ -22,5 +23,10 @@ fill_rows-requires-clause-unmarked c number below =
     ap (λ (marks : List ℕ). get_or marks number 0) zeros
     ∙ get_or-replicate c.args.count number 0 0 (omega arith)
 
-pub returns : goal.returns
-returns c = c.in_ok-fill_rows.ensures
+pub returns-clause-rows : goal.returns-clause-rows
+returns-clause-rows c = c.in_ok-fill_rows.ensures.rows
+
+pub returns-clause-tables : goal.returns-clause-tables
+returns-clause-tables c hosts have =
+    c.in_ok-fill_rows.ensures.tables hosts have
+    (empty_tables c.args.needs.now hosts c.args.count c.in_ok-rows.rows.items c.in_ok-rows.ensures)

@@ -17,7 +17,7 @@ loop-place-preserved c =
       ends = c.loop-place.invariant.ends
           ∙ walked planned c.args.block.now c.loop-place.place c.loop-place.spot c.next_spot-next.result
           c.loop-place-test.true c.next_spot-next.ensures.result;
-      trusted = rw add-one at c.next_spot-next.ensures.noted;
+      right = rw add-one at c.next_spot-next.ensures.right;
     })
 
 pub returns-clause-cost : goal.returns-clause-cost

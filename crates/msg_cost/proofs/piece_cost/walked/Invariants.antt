@@ -1,7 +1,7 @@
 use Rattle.std.proofs.Common.{◌≡◌, drop}
-use Rattle.msg_cost.specs.Kept.{AreTrustedTo}
 use Rattle.msg_cost.specs.Moves.{on, end_host}
 use Rattle.msg_cost.specs.Pieces.{walk_terms}
+use Rattle.msg_cost.specs.Tables.{IsRight}
 use Rattle.msg_cost.specs.Views.{seated_shape, ids_of}
 use Rattle.msg_cost.proofs.Sums.{CostsWith}
 use Rattle.msg_cost.proofs.piece_cost.walked.Given as goal
@@ -14,5 +14,5 @@ invariant-loop-place l = record {
       (walk_terms (seated_shape l.planned) l.weight l.spot (ids_of (drop l.place l.block)));
   ends : end_host (seated_shape l.planned) (on l.fn.home) (ids_of l.block)
       ≡ end_host (seated_shape l.planned) l.spot (ids_of (drop l.place l.block));
-  trusted : AreTrustedTo (seated_shape l.planned) l.block l.place l.noted;
+  right : IsRight (seated_shape l.planned) l.block l.place l.trust;
 }

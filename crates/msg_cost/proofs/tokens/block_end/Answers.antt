@@ -15,7 +15,7 @@ loop-place-preserved c =
       c.loop-place.invariant.0
           ∙ walked planned c.args.block.now c.loop-place.place c.loop-place.spot c.next_spot-spot.result
           c.loop-place-test.true c.next_spot-spot.ensures.result,
-      rw add-one at c.next_spot-spot.ensures.noted,
+      rw add-one at c.next_spot-spot.ensures.right,
     )
 
 pub returns : goal.returns

@@ -14,7 +14,7 @@ pub loop-place-preserved : goal.loop-place-preserved
 loop-place-preserved c =
     let planned = seated_shape c.args.planned.now in
     let trusted = ap (λ (one : Stmt). is_trusted_for planned c.args.host one.id) c.index-block-place.is
-    ∙ sym c.is_trusted_for.ensures ∙ c.if-not-is_trusted_for.false in (
+    ∙ sym (c.is_trusted_for.ensures planned.program planned.plan) ∙ c.if-not-is_trusted_for.false in (
       refl,
       (
         omega (arith, c.loop-place.invariant.1.0),
@@ -32,7 +32,7 @@ returns-then-not-is_trusted_for-clause-stops c =
     not_trusted planned c.args.host c.args.block.now c.loop-place.place c.index-block-place.result
     c.loop-place-test.true c.index-block-place.is
     (ap (λ (one : Stmt). is_trusted_for planned c.args.host one.id) c.index-block-place.is
-    ∙ sym c.is_trusted_for.ensures ∙ c.if-not-is_trusted_for.true)
+    ∙ sym (c.is_trusted_for.ensures planned.program planned.plan) ∙ c.if-not-is_trusted_for.true)
 
 pub returns-clause-between : goal.returns-clause-between
 returns-clause-between c =

@@ -6,7 +6,7 @@ use Rattle.jif_tree.specs.Trees.{method_tree, program_tree}
 use Rattle.msg_cost.specs.Pieces.{method_pieces}
 use Rattle.msg_cost.specs.PieceViews.{all_pieces}
 use Rattle.msg_cost.proofs.PieceWalks.{pushed_one, walked_added, method_more}
-use Rattle.msg_cost.proofs.pieces.program_pieces.Goals as goal
+use Rattle.msg_cost.proofs.pieces.bare_pieces.Goals as goal
 
 pub loop-method-preserved : goal.loop-method-preserved
 loop-method-preserved c =

@@ -2,7 +2,7 @@ use Rattle.std.proofs.Common.{◌∙◌, ◌≤◌, ℕ, List, max, sym, subst, 
 use Rattle.msg_cost.specs.Kept.{IsTrustedBetween, AreTrustedTo}
 use Rattle.msg_cost.specs.Views.{seated_shape}
 use Rattle.msg_cost.proofs.Between.{joined, noted_too}
-use Rattle.msg_cost.proofs.trust.is_trusted_from.Goals as goal
+use Rattle.msg_cost.proofs.trust.noted_from.Goals as goal
 
 between : (c : goal.After-note) →
     IsTrustedBetween (seated_shape c.args.planned.now) c.args.host c.args.block.now c.args.place c.trusted_to-end.result

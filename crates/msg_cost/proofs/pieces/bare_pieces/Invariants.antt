@@ -3,7 +3,7 @@ use Rattle.std.specs.List.{flat_map}
 use Rattle.jif_tree.specs.Trees.{method_tree, program_tree}
 use Rattle.msg_cost.specs.Pieces.{method_pieces}
 use Rattle.msg_cost.specs.PieceViews.{all_pieces}
-use Rattle.msg_cost.proofs.pieces.program_pieces.Given as goal
+use Rattle.msg_cost.proofs.pieces.bare_pieces.Given as goal
 
 -- the pieces so far, and those of the methods that are left, are all
 abbrev pub invariant-loop-method : goal.invariant-loop-method

@@ -1,0 +1,59 @@
+-- From where on hosts are trusted in a block, as tables have it.
+use Rattle.std.specs.Prelude.{◌≡◌, ℕ, ◌<◌, List, nat_le, slice_index}
+use Rattle.std.specs.List.{All}
+use Rattle.std.specs.Global.{Vec}
+use Rattle.js_base.specs.declared.ids.HostId.{HostId}
+use Rattle.js_base.specs.declared.limits.TheConstants.{HOSTS}
+use Rattle.host_decl.specs.Hosts.{HostsShape}
+use Rattle.jif_tree.specs.declared.program.Stmt.{Stmt}
+use Rattle.jif_tree.specs.Trees.{ProgramTree}
+use Rattle.need_labels.specs.Needs.{NeedsShape}
+use Rattle.need_labels.specs.Plan.{PlanShape}
+use Rattle.msg_cost.specs.declared.piece.Piece.{Piece as Kept}
+use Rattle.msg_cost.specs.declared.piece.Piece.TheVariants as kept
+use Rattle.msg_cost.specs.declared.table.TheConstants.{FAR}
+use Rattle.msg_cost.specs.declared.trust.Trust.{Trust}
+use Rattle.msg_cost.specs.declared.trust.Trust.TheVariants as trust
+use Rattle.msg_cost.specs.Kept.{is_trusted_from, AreTrustedTo}
+use Rattle.msg_cost.specs.Moves.{PlannedShape}
+
+-- what a program needs and the hosts, with a program and a plan
+abbrev pub planned_with : NeedsShape → HostsShape → ProgramTree → PlanShape → PlannedShape
+planned_with needs hosts program plan = record {
+  program = program;
+  needs = needs;
+  hosts = hosts;
+  plan = plan;
+}
+
+-- The place is the first of a block from which the host is trusted for all statements to the end, whatever the program
+-- and the plan. Of places from `FAR` on nothing is said.
+abbrev pub IsTrustedSince : NeedsShape → HostsShape → HostId → List Stmt → ℕ → Type 0
+IsTrustedSince needs hosts host block first = (program : ProgramTree) (plan : PlanShape) (place : ℕ) →
+    place < FAR → is_trusted_from (planned_with needs hosts program plan) host block place ≡ nat_le first place
+
+-- for each host the first place of a block from which it is trusted for all statements to the end
+abbrev pub IsTable : NeedsShape → HostsShape → List Stmt → List ℕ → Type 0
+IsTable needs hosts block table = (host : HostId) → host.0 < HOSTS →
+    IsTrustedSince needs hosts host block (slice_index table host.0)
+
+-- what is known at a place of a block is right
+abbrev pub IsRight : PlannedShape → List Stmt → ℕ → Trust → Type 0
+IsRight planned block place (trust.Noted ends) = AreTrustedTo planned block place ends
+IsRight planned block place (trust.Table table) = IsTable planned.needs planned.hosts block table.now
+
+-- a walk has the table of its block
+abbrev pub HasTable : NeedsShape → HostsShape → Kept → Type 0
+HasTable needs hosts (kept.Access weight statement field) = Unit {0}
+HasTable needs hosts (kept.Giving weight statement variable) = Unit {0}
+HasTable needs hosts (kept.Calling weight statement method kept) = Unit {0}
+HasTable needs hosts (kept.Walk weight home nested block table) = IsTable needs hosts block.now table
+HasTable needs hosts (kept.Ending method) = Unit {0}
+
+-- each walk among these pieces has the table of its block
+abbrev pub HaveTables : NeedsShape → HostsShape → List Kept → Type 0
+HaveTables needs hosts pieces = All (HasTable needs hosts) pieces
+
+-- the same of each row
+abbrev pub RowsHaveTables : NeedsShape → HostsShape → List (Vec Kept) → Type 0
+RowsHaveTables needs hosts rows = All (λ row. HaveTables needs hosts row.items) rows
