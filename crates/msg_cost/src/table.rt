@@ -52,7 +52,7 @@ fn first_trusted(needs: &Needs, hosts: &Hosts, host: HostId, block: &[Stmt]) -> 
     first
 }
 
-/// The number as far as a short one tells.
+/// The number, or the largest one of 16 bits where it is larger. Of places before `FAR` that tells the same.
 fn short(number: usize) -> u16
     ensures { (place : ℕ) → place < FAR → nat_le result place ≡ nat_le number place }
 {
