@@ -1,4 +1,10 @@
 -- What a command answers and puts out, by what is due.
+--
+-- `no memory` is put where it can be. The line needs the error output to work. Whether it could be put is not looked
+-- at, and the status is 8 in either case.
+--
+-- A report that can't be put for want of memory ends with status 8. The sink may say that it had no memory to put a
+-- text. That is want of memory, and no fault of the output, so the status is 8, and not 7.
 use Rattle.std.specs.Prelude.{◌≡◌, ℕ, ◌⊎◌, List, Option}
 use Rattle.js_base.specs.Counts.{Rose}
 use Rattle.js_base.specs.Sink.{Takes, TakesFront}

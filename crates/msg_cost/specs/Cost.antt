@@ -1,4 +1,7 @@
 -- What a plan costs.
+--
+-- A cost is exact. Its inner sums stop at the largest number of 64 bits. A law says that no program within the limits
+-- comes there, so the answer is the sum itself.
 use Rattle.std.specs.Prelude.{ℕ, ◌+◌, ◌*◌, sum_by, List}
 use Rattle.js_base.specs.declared.ids.HostId.{HostId}
 use Rattle.host_decl.specs.Hosts.{HostsShape}

@@ -2,6 +2,10 @@
 -- statement on another host begins a segment, the statements in a row that stand on that host. Where that host is
 -- trusted for all that remains of the block, it is handed the token. Otherwise it is lent the token: a host that is
 -- named at the start of the segment gets it back at its end.
+--
+-- A walk over a block stands at a spot. A spot is a host, and perhaps the host to which it gives the right to go on
+-- back. So the next statement decides whether a segment goes on, and no list of statements is cut. The splitting goes
+-- over the same spots.
 use Rattle.std.specs.Prelude.{ℕ, ◌+◌, Bool, false, ◌&&◌, nat_eq, nat_lt, nat_le, if◌then◌else◌}
 use Rattle.std.specs.Prelude.{List, [], ◌∷◌, Option, Some, None, slice_get, slice_index, option_map, unwrap_or}
 use Rattle.std.specs.Int.{bit_at}

@@ -1,5 +1,8 @@
 -- The messages that a program costs under a plan, as terms: each goes one way or there and back, and has a weight that
 -- says how often it may be sent.
+--
+-- The cost is a sum of terms. A block gives a list of terms, each with a weight, two hosts, and whether an answer comes
+-- back. What moves, or which forwards ride with another message, can change the list, and not the sum.
 use Rattle.std.specs.Prelude.{ℕ, ◌*◌, ◌^◌, min, Bool, ◌&&◌, not, nat_eq, if◌then◌else◌}
 use Rattle.std.specs.Prelude.{List, [], ◌∷◌, ◌++◌, map, filter, length, Option, Some, None, slice_get, unwrap_or}
 use Rattle.std.specs.List.{flat_map, list_any, range_with_len}

@@ -1,5 +1,8 @@
 -- A node with all that it has of the outside, the parts of which its work is made, and which error may break which
 -- part.
+--
+-- A node is told by parts. Its contract names no count of units done and no ghost list: a recursion over the parts of a
+-- unit says where it broke, and a table which error may break which part.
 use Rattle.std.specs.Prelude.{◌≡◌, ◌⊎◌, ℕ, Bool, true, List, [], ◌∷◌, ◌++◌, drop, take}
 use Rattle.js_base.specs.declared.ids.HostId.{HostId}
 use Rattle.host_core.specs.Host.{HostShape}

@@ -1,4 +1,7 @@
 -- The options of a node, and the words that ask for one.
+--
+-- Options are `clap`'s. What words ask for is said over `clap`'s own definition of one simple command. It takes
+-- `--start=` with an empty word; such a name is a file that is missing.
 use Rattle.std.specs.Prelude.{◌≡◌, ℕ, List, [], Option, Some, None, true, codes}
 use Rattle.std.specs.Fmt.{decimal}
 use Rattle.clap.specs.Words.{App, Rule, Text, fault_of, first_of, matches_of, new_app, new_rule, with_rule}

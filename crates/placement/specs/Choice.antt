@@ -1,6 +1,10 @@
 -- The choice of a plan. The first plan is the cheapest starting plan. Each move that lowers the cost gives the next
 -- one. The moves are tried in passes, and behind a move a pass goes on from the new plan. So the hosts that are left of
 -- the moved part are still tried. The last plan is the one that no move of a pass makes cheaper.
+--
+-- A move is tried as soon as it comes. Passes go through parts and hosts in the order of the files, and the first move
+-- that lowers the cost is made. What is chosen is stated as the plan to which this list of moves comes, so it is one
+-- plan, and it ends since each move lowers a natural number. The best move of a pass would cost a pass for each move.
 use Rattle.std.specs.Prelude.{◌≡◌, ◌⊎◌, ℕ, zero, suc, ◌<◌, ◌≤◌, nat_lt, if◌then◌else◌, List, [], ◌∷◌}
 use Rattle.std.specs.List.{AllByRecursion}
 use Rattle.need_labels.specs.Plan.{PlanShape}

@@ -1,4 +1,7 @@
 -- How soon hosts that all obey come to an end.
+--
+-- How soon hosts come to an end is said of all lists of events. Until the end one event is possible, so no list is
+-- longer than the one that is driven, and the law needs no word on who chooses.
 use Rattle.std.specs.Prelude.{ℕ, ◌≤◌, List, length, None}
 use Rattle.event_text.specs.declared.event.Event.{Event}
 use Rattle.host_code.specs.Code.{CodeShape}

@@ -1,4 +1,7 @@
 -- What words ask for. A word is the list of its bytes.
+--
+-- A number of steps is part of the command. Words ask for `run` with a number exactly where the last word is how that
+-- number is written, so no clause reads digits.
 use Rattle.std.specs.Prelude.{◌≢◌, ℕ, ◌≤◌, List, [], ◌∷◌, codes, ⊤}
 use Rattle.std.specs.Fmt.{decimal}
 use Rattle.front_end.specs.StepCounts.{IsStepCount}

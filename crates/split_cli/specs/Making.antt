@@ -1,4 +1,8 @@
 -- What is due for a number of statements, of which a program is made and driven.
+--
+-- What is made is read as what is loaded. `make` hands its program and its host file to the stages that read files,
+-- with their test of the length. So no bound on the length of a made text has to be proved, and what is due is said by
+-- the definitions that all commands share.
 use Rattle.std.specs.Prelude.{ℕ, ◌+◌, List, [], ◌∷◌, ◌++◌, codes, Option, Some, None}
 use Rattle.std.specs.Fmt.{decimal}
 use Rattle.host_code.specs.Code.{CodeShape, CodeFieldShape}

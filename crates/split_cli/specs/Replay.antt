@@ -1,4 +1,9 @@
 -- What is due for an accepted program in its places, whose hosts make the events of a script happen.
+--
+-- A refused event is told by the cause that the world gives. What is due for a replay has one case for all four causes,
+-- and one function makes the line of it. A missing token is named by its number, which stands in the event and not in
+-- the cause. Only a sent token can be missing; for an event that presents none the function says 0, and no such event
+-- is refused for a token.
 use Rattle.std.specs.Prelude.{◌≡◌, ℕ, ◌<◌, ◌≤◌, ◌⊎◌, List, [], ◌∷◌, map, length, Some, Ok, Err, ⊤}
 use Rattle.js_base.specs.declared.limits.TheConstants.{SCRIPT_BYTES}
 use Rattle.js_base.specs.declared.status.Status.TheVariants.{Done}

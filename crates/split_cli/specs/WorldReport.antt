@@ -1,4 +1,7 @@
 -- The report of a world, as lines.
+--
+-- A report has as many elements of a field as the code gives it. A host answers elements one by one, and 0 past the
+-- end. So the report needs no fact on the length of a host's rows.
 use Rattle.std.specs.Prelude.{ℕ, ◌+◌, ℤ, pos, Bool, false, List, [], ◌∷◌, ◌++◌, length, map, codes, is_some}
 use Rattle.std.specs.Prelude.{Option, Some, None, if◌then◌else◌}
 use Rattle.std.specs.Fmt.{decimal}

@@ -1,5 +1,11 @@
 -- What the instructions of a code ask of other hosts: that these grant it, by the checks of the host table, and that an
 -- instruction tells no host more than that host may see.
+--
+-- What is asked of other hosts is judged by labels alone. A third judgement of the list of emissions says of each
+-- instruction by itself which labels its host and the hosts that it names may see, and of which entry it has the
+-- number. It has the entries so far for a state, and knows nothing of tokens. Whether a host is trusted for an entry
+-- that it pushes or goes to is read off the typed code, whose needs are exact. So no induction over blocks looks at
+-- both labels and what is due.
 use Rattle.std.specs.Prelude.{◌≡◌, ◌≢◌, ℕ, Some, IsSomeAnd, ⊤}
 use Rattle.js_base.specs.declared.ids.HostId.{HostId}
 use Rattle.js_base.specs.declared.ids.FieldId.{FieldId}

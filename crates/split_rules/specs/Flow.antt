@@ -1,5 +1,10 @@
 -- What may follow what in the emissions of a walk, as a typed assembly language says it of instructions (Morrisett,
 -- Walker, Crary and Glew). It speaks of one emission and of what came before it alone.
+--
+-- What a walk gives is judged an emission at a time. `Flow` keeps where the token is, how many temporaries there are at
+-- the least, which entries do not stand yet, and which branches lead nowhere yet. Entries and branches that are open
+-- are closed in the order of a stack, so the state is a pair of lists, and no emission looks back. One induction over
+-- blocks shows that walks obey it, and all that is promised of code follows from it.
 use Rattle.std.specs.Prelude.{◌≡◌, ◌≢◌, ℕ, ◌<◌, suc, List, [], ◌∷◌, ◌++◌, All, length, drop, Some}
 use Rattle.std.specs.Prelude.{slice_get, ⊤}
 use Rattle.js_base.specs.declared.ids.HostId.{HostId}

@@ -1,5 +1,9 @@
 -- What is asked of a program that was checked, of its needs and of a plan so that hosts may see what they are told. It
 -- speaks of confidentiality, where `IsAllowed` speaks of trust.
+--
+-- Labels of values are asked for where they stand. A walk takes the label of a value from the labels of the variables
+-- behind the whole program, and the label check takes it from those at the statement. Both are the same where each
+-- variable of the value has a label there. `IsHeld` asks for just that (`values`), of all values.
 use Rattle.std.specs.Prelude.{◌≡◌, ℕ, map, slice_get}
 use Rattle.std.specs.List.{AllZip, zip}
 use Rattle.std.specs.Option.{IsSomeAnd}

@@ -4,6 +4,14 @@
 -- is paced where each instruction leads to a place with a smaller number, but for these: what makes a step has the 512
 -- of that step beside, what puts an entry on the chain of the token pays one for it, and what takes an entry off the
 -- chain has that one beside.
+--
+-- The pace of code is judged by what is ahead. How many instructions may still come at a place is counted over the list
+-- of emissions from there on, up to the next step. So this judgement has no state and looks up no entry and no branch:
+-- behind an instruction comes the next emission, and an entry that a thread is handed to stands next in the list.
+-- Entries that are taken off the chain of a token may have 512 ahead of them, and so may the ends of blocks. Moves to
+-- another host leave 490 of these. A statement takes 256 for its expressions at most, 17 for each of 8 parameters, and
+-- 20 before its step; behind the step the 512 are there again, with 16 for the hosts that are sent a value. All of this
+-- is less than 512, and the law is stated with that one number.
 use Rattle.std.specs.Prelude.{◌≡◌, ℕ, ◌+◌, ◌<◌, ◌≤◌, suc, Bool, true, false, Option, Some, None, slice_get}
 use Rattle.js_base.specs.declared.ids.HostId.{HostId}
 use Rattle.js_base.specs.declared.ids.EntryId.{EntryId}

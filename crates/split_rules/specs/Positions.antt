@@ -1,5 +1,9 @@
 -- What is known at a place of split code, as a typed assembly language knows the types of its registers (Morrisett,
 -- Walker, Crary and Glew): whose token is held there, what is still due under it, and what was read and set on the way.
+--
+-- Positions hold the statements that are due. A position lists what is due as trees of single statements, and not by
+-- their numbers. So the law of an instruction compares it with the statement itself, and no lookup of a number comes
+-- between. The next position is given by the law, and not chosen: `typing_laws` say that it is one.
 use Rattle.std.specs.Prelude.{◌≡◌, ℕ, Bool, pos, List, [], ◌∷◌, ◌++◌, map, Option, Some, if◌then◌else◌, Any, IsSomeAnd}
 use Rattle.js_base.specs.declared.ids.HostId.{HostId}
 use Rattle.js_base.specs.declared.ids.FieldId.{FieldId}

@@ -1,4 +1,8 @@
 -- The code of a split program, read off what the walk gives.
+--
+-- Labels of a code stand in the order in which the walk first needs them. Those of fields and variables come first. An
+-- instruction has the label of the last entry of its block, so instructions bring no label that the entries have not,
+-- and one list over all emissions gives the same order as entries before instructions.
 use Rattle.std.specs.Prelude.{ℕ, suc, Bool, true, false, ◌&&◌, nat_eq, if◌then◌else◌}
 use Rattle.std.specs.Prelude.{List, [], ◌∷◌, ◌++◌, map, length, unwrap_or, codes}
 use Rattle.std.specs.List.{flat_map, list_any, range_with_len, zip}

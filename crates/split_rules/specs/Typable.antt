@@ -1,4 +1,9 @@
 -- What is asked of a program and a plan so that their split code is typed.
+--
+-- What is asked of trust is asked in the words of the splitting. `IsTypable` says of each statement that its host is
+-- trusted for what the statement starts. It follows from labels, needs and allowed places, and does not mention them.
+-- So the walk is typed with no look at labels, and the rules of labels can change without it. `trust_laws` then say it
+-- of labels, by one induction over blocks.
 use Rattle.std.specs.Prelude.{◌≡◌, true, [], ◌∷◌, ⊤}
 use Rattle.std.specs.List.{AllByRecursion}
 use Rattle.js_base.specs.declared.ids.StmtId.{StmtId}

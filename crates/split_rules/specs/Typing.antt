@@ -1,5 +1,9 @@
 -- What each instruction asks of the position at which it stands, and what it makes of it. The laws speak of one
 -- instruction, of the position behind it, and of the entries that it names.
+--
+-- Needs are exact where entries are pushed. The need of an entry that is pushed or gone to is that of what is due
+-- there, and not only as much. So whoever pushes an entry is trusted for its need, since it is trusted for all that is
+-- due.
 use Rattle.std.specs.Prelude.{◌≡◌, ℕ, suc, true, List, [], ◌∷◌, ◌++◌, length, Option, Some, None, slice_get, ◌⊎◌, ◌≤◌}
 use Rattle.std.specs.Prelude.{slice_index, ◌<◌}
 use Rattle.std.specs.Int.{bit_at}

@@ -1,6 +1,9 @@
 -- The walk that splits a program: which instruction stands where, and which entries there are, in the order of the
 -- text. Where the right to go on moves is defined with the cost of a plan (msg_cost, Moves). The rules are this
 -- project's own, in the manner of the secure program partitioning of Zdancewic, Zheng, Nystrom and Myers.
+--
+-- A result is never given back from a lent segment. Whoever is lent the token is not trusted for all that is left, so
+-- more is left than its own statements. A `return` is the last of all, and so its token is that of the method's body.
 use Rattle.std.specs.Prelude.{ℕ, ◌+◌, suc, bit_or, if◌then◌else◌}
 use Rattle.std.specs.Prelude.{List, [], ◌∷◌, ◌++◌, map, filter, length, Option, Some, None, slice_index}
 use Rattle.std.specs.List.{range_with_len}

@@ -1,4 +1,9 @@
 -- What requests, answers and results in flight bring about where they are taken, and what is left where a thread ends.
+--
+-- What was done is counted where it shows. An assignment to a field of another host is a step of the plain run when its
+-- host takes the message, and neither when it is sent nor when it is acknowledged. So is a result that is given back to
+-- another host: its step is made when the host of the caller takes the forward that brings it. All else is a step at
+-- its own instruction.
 use Rattle.std.specs.Prelude.{◌≡◌, ℕ, ◌<◌, ℤ, true, List, [], ◌∷◌, length, Some, slice_get}
 use Rattle.js_base.specs.declared.ids.HostId.{HostId}
 use Rattle.js_base.specs.declared.ids.FieldId.{FieldId}

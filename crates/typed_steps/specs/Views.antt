@@ -1,4 +1,12 @@
 -- Split programs, and what is seen of a world: the entries that are to be taken off, what is to be sent, and the calls.
+--
+-- A call has a frame before it is made. A frame is known from the instruction that makes it, and not from a request.
+-- From then on its call has a number too. So while its arguments are being set there is one more frame than calls that
+-- were made.
+--
+-- The invariant speaks of a view. A view has the chain of entries, each with the call that goes on behind it; what is
+-- still to be sent, and of which call; the frame, the caller and the method of each call by its number; the variables
+-- of calls; and the host where the result was left that is to be kept next.
 use Rattle.std.specs.Prelude.{◌≡◌, ℕ, true, List, [], ◌∷◌, length, map, Some, None}
 use Rattle.std.specs.Prelude.{◌<◌}
 use Rattle.std.specs.Prelude.{ℤ, suc, slice_get, ◌==◌, if◌then◌else◌, ⊤}
