@@ -30,13 +30,6 @@ piece_written F f cons xs i d x whole before after lt is was pushed =
     (sym (ap (F i) (left_cut xs i d x lt is) ∙ cons i x (drop (i + 1) xs))) ∙ was)
     pushed
 
--- nothing is left
-pub all_written : {X : Type 0} (F : List X → List ℕ) → F [] ≡ [] → (xs : List X) (i : ℕ) (whole text : List ℕ) →
-    length xs ≤ i → text ++ F (drop i xs) ≡ whole → text ≡ whole
-all_written {X} F nil xs i whole text end is =
-    let none : F (drop i xs) ≡ [] = ap F (drop_all i xs end) ∙ nil in
-    sym (append-nil text) ∙ ap (λ (left : List ℕ). text ++ left) (sym none) ∙ is
-
 -- a fact on a result that is `Ok`
 pub from_ok : {T E P : Type 0} (r : Result T E) → true ≡ is_ok r → OnOk r P → P
 from_ok (Ok x) ok is = is

@@ -1,4 +1,3 @@
 pub mod Columns
 pub mod TokenOrder
-pub mod Refusals
 pub mod LoadedFiles

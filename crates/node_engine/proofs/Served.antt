@@ -81,12 +81,6 @@ ServesOn code me units done first old host here =
     × ((answer : Status) (new : NodeWorld) → Serves code me (units - done) answer now new →
     Serves code me units answer world new)
 
-pub serves_from_start : (code : CodeShape) (me : HostId) (units : ℕ) (host : HostShape) (there : Outside) →
-    ServesOn code me units 0 host there host there
-serves_from_start code me units host there world told not_yet =
-    let all : units - 0 ≡ units = omega arith in
-    (world, told, not_yet, λ answer new serves. subst (λ left. Serves code me left answer world new) all serves)
-
 -- what a unit leaves, and what breaks one
 abbrev UnitDone : CodeShape → HostId → (host later : HostShape) (here there : Outside) → Bool → Type 0
 UnitDone code me host later here there ended =

@@ -218,15 +218,6 @@ parts_left cost part_of count number words plan next all within was is =
     ∙ sym (ap (λ (left : List ℕ). after_steps cost plan (steps_from part_of count number left)) cut)
     ∙ was
 
--- no parts are left
-pub parts_done : (cost : PlanShape → ℕ) (part_of : ℕ → Part) (count number : ℕ) (words : List ℕ)
-    (plan all : PlanShape) → length words ≤ number →
-    after_steps cost plan (steps_from part_of count number (drop number words)) ≡ all → plan ≡ all
-parts_done cost part_of count number words plan all past was =
-    sym (ap (λ (left : List ℕ). after_steps cost plan (steps_from part_of count number left))
-    (drop_all number words past))
-    ∙ was
-
 pub both_passes : (cost : PlanShape → ℕ) (first second : List Step) (start plan : PlanShape) (next : Costed) →
     plan ≡ after_steps cost start first → IsCostedAs cost (after_steps cost plan second) next →
     IsCostedAs cost (after_steps cost start (first ++ second)) next

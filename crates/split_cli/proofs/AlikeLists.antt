@@ -165,24 +165,3 @@ unlike_rows one other x y same first second exact =
 -- no field of so many starts unlike
 abbrev pub AlikeBelow : CodeShape → WorldShape → (one other : List (List ℤ)) → ℕ → Type 0
 AlikeBelow code world one other n = (number : ℕ) → number < n → ¬ StartsUnlike code world one other number
-
-pub alike_more : (code : CodeShape) (world : WorldShape) (one other : List (List ℤ)) (n : ℕ) →
-    AlikeBelow code world one other n → ¬ StartsUnlike code world one other n → AlikeBelow code world one other (suc n)
-alike_more code world one other n before here number within unlike = elim (cases_eq number n) [
-  | inl same ↦ here (subst (StartsUnlike code world one other) same unlike)
-  | inr apart ↦ before number (omega (arith, within, apart)) unlike
-]
-
-pub alike_in_all : (code : CodeShape) (world : WorldShape) (one other : List (List ℤ)) (n : ℕ) →
-    length code.fields ≤ n → AlikeBelow code world one other n → StartAlike code world one other
-alike_in_all code world one other n all before number unlike = elim (cases_lt number n) [
-  | inl within ↦ before number within unlike
-  | inr past ↦ by (slice_get code.fields number) refl past unlike
-]
-  where
-    by : (found : Option CodeFieldShape) → slice_get code.fields number ≡ found → n ≤ number →
-        IsSomeAnd found (λ field. IsReadable code world field.label × IsSome (state_at world field.host)
-        × (slice_get one number ≢ slice_get other number)) → ⊥
-    by None is past none = none
-    by (Some field) is past holds =
-        let within = slice_get_within code.fields number field is in absurd (omega (arith, all, past, within))

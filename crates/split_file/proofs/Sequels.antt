@@ -198,18 +198,6 @@ pub some_place : {B : Type 0} {next : ℕ → Reader B} {P : B → Type 0} {text
 unfolding sequel place
 some_place others = record { again = λ rest. (others _).again rest }
 
--- whatever value it is, the next reader reads what it has to
-pub again_some : {A B : Type 0} {first : Reader A} {next : A → Reader B} {P : A → Type 0} {y : B}
-    {text more : List ℕ} → AgainSome first P text → ((x : A) → P x → Again (next x) y more) →
-    Again (sequel first next) y (text ++ more)
-unfolding sequel
-again_some {first = first} {next = next} {text = text} {more = more} one others = record {
-  again = λ rest.
-      let found = one.again (more ++ rest) in
-      ap (λ bytes. handed_on (first bytes) next) (append_assoc text more rest)
-      ∙ ap (λ reading. handed_on reading next) found.1 ∙ (others found.0 found.2).again rest;
-}
-
 pub some_some : {A B : Type 0} {first : Reader A} {next : A → Reader B} {P : A → Type 0} {Q : B → Type 0}
     {text more : List ℕ} → AgainSome first P text → ((x : A) → P x → AgainSome (next x) Q more) →
     AgainSome (sequel first next) Q (text ++ more)

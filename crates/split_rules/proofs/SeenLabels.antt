@@ -145,17 +145,6 @@ trusted_host planned host statement trusted = by (slice_get planned.hosts.hosts 
         let P : Option HostShape → Type 0 = λ found. IsSomeAnd found (λ it. IsTrustedBy it.label need) in
         subst P (sym is) ((test_decides row.label need).0 (rw is at holds))
 
--- a host that is trusted for a need is trusted for one that is no more
-pub trusted_within : (planned : PlannedShape) (host : HostId) (need less : ℕ) →
-    IsTrustedHost planned.hosts need host →
-    ((p : ℕ) → p < READERS → bit_at less p ≡ 1 → bit_at need p ≡ 1) → IsTrustedHost planned.hosts less host
-trusted_within planned host need less trusted within = by (slice_get planned.hosts.hosts host.0) trusted
-  where
-    by : (found : Option HostShape) → IsSomeAnd found (λ row. IsTrustedBy row.label need) →
-        IsSomeAnd found (λ row. IsTrustedBy row.label less)
-    by None never = absurd never
-    by (Some row) trusts = λ p p_in set. trusts p p_in (within p p_in set)
-
 affects_one : (planned : PlannedShape) (host : HostId) (need : ℕ) (label : Label) →
     IsTrustedHost planned.hosts need host →
     ((p : ℕ) → p < READERS → Trusts label p → bit_at need p ≡ 1) → Affects planned host label
