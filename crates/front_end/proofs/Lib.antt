@@ -18,6 +18,7 @@ pub mod ReadLaws
 pub mod ReadSources
 pub mod Reading
 pub mod Refusals
+pub mod PlacedStops
 pub mod RefusedStages
 pub mod Results
 pub mod SeenItems

@@ -67,7 +67,7 @@ use Rattle.split_cli.specs.Faithful.{PutsText, Only, PutsFaithfully, PutsDriven}
 use Rattle.split_cli.proofs.OneDrive.{driven_run}
 use Rattle.split_cli.proofs.OneVerdict.{fault_verdict, one_command}
 use Rattle.split_cli.proofs.CodeNumbers.{code_has}
-use Rattle.split_cli.proofs.PlacedStops.{placed_stops}
+use Rattle.front_end.proofs.PlacedStops.{placed_stops}
 use Rattle.split_cli.proofs.ReplayDue.{OwnAtStart, own_in_first}
 use Rattle.split_cli.proofs.ReplayedEvents.{script_starts}
 use Rattle.split_cli.proofs.ScriptNumbers.{events_have, starts_have}

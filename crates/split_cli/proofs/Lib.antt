@@ -23,7 +23,6 @@ pub mod OneDrive
 pub mod OneReplay
 pub mod OneRun
 pub mod OneVerdict
-pub mod PlacedStops
 pub mod PlanLines
 pub mod PromptRuns
 pub mod ReleaseParts

@@ -4,7 +4,8 @@ use Rattle.front_end.specs.PlacedSources.{PlacedSources}
 use Rattle.split_cli.specs.Split.{SplitSources, split_of}
 use Rattle.front_end.specs.Stages.{given, stopped}
 use Rattle.front_end.specs.Verdicts.{VerdictShape}
-use Rattle.front_end.proofs.RefusedStages.{IsRefusal, placed_refuse, then_refuses}
+use Rattle.front_end.proofs.PlacedStops.{then_stops}
+use Rattle.front_end.proofs.RefusedStages.{IsRefusal, placed_refuse}
 use Rattle.front_end.proofs.SomeStages.{HasOutcome, some_then}
 use Rattle.front_end.proofs.Stages.{IsOne, one_then}
 
@@ -24,5 +25,5 @@ split_some places program hosts =
 pub split_refuses : (program hosts : List ℕ) (verdict : VerdictShape) →
     SplitSources program hosts (stopped verdict) → IsRefusal verdict
 split_refuses program hosts =
-    then_refuses (PlacedSources program hosts) (λ placed end. end ≡ given (split_of placed))
+    then_stops IsRefusal (PlacedSources program hosts) (λ placed end. end ≡ given (split_of placed))
     (placed_refuse program hosts) (λ placed verdict is. absurd (let no = is in cc))

@@ -8,19 +8,20 @@ use Rattle.front_end.specs.Stages.{Outcome, stopped, Then}
 use Rattle.front_end.specs.Verdicts.{VerdictShape, Refuse}
 use Rattle.front_end.proofs.Stages.{stop_with}
 
+-- what holds of the refusals of two stages holds of those of one after the other
+pub then_stops : (P : VerdictShape → Type 0) {X Y : Type 0} (First : Outcome X → Type 0)
+    (Next : X → Outcome Y → Type 0) → ((verdict : VerdictShape) → First (stopped verdict) → P verdict) →
+    ((x : X) (verdict : VerdictShape) → Next x (stopped verdict) → P verdict) →
+    (verdict : VerdictShape) → Then First Next (stopped verdict) → P verdict
+then_stops P {X} {Y} First Next first next verdict ends =
+    ⊎_elim (λ both. next both.0 verdict both.2)
+    (λ no. let same : stop_with {X = Y} verdict ≡ stop_with no.0 = no.2 in
+    let is : no.0 ≡ verdict = cc in
+    subst P is (first no.0 no.1))
+    ends
+
 module _ (P : VerdictShape → Type 0) (of_program : (line : List ℕ) → P (Refuse SourceRefused line))
     (of_hosts : (line : List ℕ) → P (Refuse InputRefused line)) where
-  then_stops : {X Y : Type 0} (First : Outcome X → Type 0) (Next : X → Outcome Y → Type 0) →
-      ((verdict : VerdictShape) → First (stopped verdict) → P verdict) →
-      ((x : X) (verdict : VerdictShape) → Next x (stopped verdict) → P verdict) →
-      (verdict : VerdictShape) → Then First Next (stopped verdict) → P verdict
-  then_stops {X} {Y} First Next first next verdict ends =
-      ⊎_elim (λ both. next both.0 verdict both.2)
-      (λ no. let same : stop_with {X = Y} verdict ≡ stop_with no.0 = no.2 in
-      let is : no.0 ≡ verdict = cc in
-      subst P is (first no.0 no.1))
-      ends
-
   program_refused : (line : List ℕ) (verdict : VerdictShape) → verdict ≡ Refuse SourceRefused line → P verdict
   program_refused line verdict is = subst P (sym is) (of_program line)
 
@@ -30,18 +31,18 @@ module _ (P : VerdictShape → Type 0) (of_program : (line : List ℕ) → P (Re
   sources_stop : (program hosts : List ℕ) (verdict : VerdictShape) → Sources program hosts (stopped verdict) →
       P verdict
   sources_stop program hosts =
-      then_stops (Drafted program) (AcceptedWith hosts)
-      (then_stops (Lexed program) Parsed
+      then_stops P (Drafted program) (AcceptedWith hosts)
+      (then_stops P (Lexed program) Parsed
       (λ verdict was. program_refused _ verdict was.3)
       (λ list verdict was. program_refused _ verdict was.3))
-      (λ draft. then_stops (HostsRead hosts) (λ file. Accepted file draft)
+      (λ draft. then_stops P (HostsRead hosts) (λ file. Accepted file draft)
       (λ verdict was. hosts_refused _ verdict was.3)
-      (λ file. then_stops (Resolved file draft) (Labelled file)
+      (λ file. then_stops P (Resolved file draft) (Labelled file)
       (λ verdict was. program_refused _ verdict was.3)
       (λ tree verdict was. program_refused _ verdict was.3)))
 
   pub placed_stops : (program hosts : List ℕ) (verdict : VerdictShape) → PlacedSources program hosts (stopped verdict) →
       P verdict
   placed_stops program hosts =
-      then_stops (Sources program hosts) OnHosts (sources_stop program hosts)
+      then_stops P (Sources program hosts) OnHosts (sources_stop program hosts)
       (λ source verdict was. program_refused _ verdict was.2)
