@@ -30,7 +30,7 @@ use Rattle.agreement.proofs.RunsAgree.{told_alike}
 -- ---- who misbehaves at the start
 
 -- the starting values play no part
-same_absent : (code : CodeShape) (store start : List (List ℤ)) (bad number : ℕ) (rows : List declared_hosts.HostShape)
+pub same_absent : (code : CodeShape) (store start : List (List ℤ)) (bad number : ℕ) (rows : List declared_hosts.HostShape)
     (place : ℕ) →
     is_absent (slice_get (hosts_before code start bad number rows) place)
     ≡ is_absent (slice_get (hosts_before code store bad number rows) place)

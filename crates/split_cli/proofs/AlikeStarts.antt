@@ -1,20 +1,19 @@
 -- Starting values that misbehaving hosts may not tell apart, whoever of two runs comes first.
-use Rattle.std.proofs.Common.{◌≡◌, ◌∙◌, ℕ, zero, suc, ◌+◌, ◌<◌, Bool, true, false, List, [], ◌∷◌, length}
+use Rattle.std.proofs.Common.{◌≡◌, ◌∙◌, ℕ, zero, suc, ◌+◌, ◌<◌, true, false, List, [], ◌∷◌, length}
 use Rattle.std.proofs.Common.{Option, Some, None, slice_get, refl, sym, ap, subst, ⊎_elim, arith}
-use Rattle.std.specs.Prelude.{◌≢◌, ℤ, ◌==◌, if◌then◌else◌, unwrap_or, IsSome, IsSomeAnd}
-use Rattle.std.specs.Int.{bit_at}
+use Rattle.std.specs.Prelude.{◌≢◌, ℤ, unwrap_or, IsSome, IsSomeAnd}
 use Rattle.std.proofs.lemmas.Bool.{true≢false}
 use Rattle.std.proofs.lemmas.List.{length-map}
 use Rattle.std.proofs.lemmas.Option.{slice_get_within, get_or_from_slice_get}
 use Rattle.host_code.specs.Code.{CodeShape, CodeHostShape, CodeFieldShape}
 use Rattle.host_code.specs.Sound.{IsSoundCode, FieldFits}
 use Rattle.host_core.specs.Host.{HostShape}
-use Rattle.host_core.specs.Start.{host_at_start}
 use Rattle.host_decl.specs.Hosts as declared_hosts
 use Rattle.js_base.specs.declared.ids.HostId.{HostId}
 use Rattle.net_world.specs.Secret.{IsReadable}
 use Rattle.net_world.specs.World.{given, is_absent, state_at, misbehaves, named_host, AreHostsOf}
 use Rattle.net_world.specs.World.{host_before, hosts_before, world_at_start}
+use Rattle.agreement.proofs.SplitRuns.{same_absent}
 use Rattle.agreement.specs.Alike.{AreStoresAlike}
 use Rattle.split_cli.specs.Compare.{StartsUnlike, StartAlike}
 use Rattle.split_cli.proofs.SameMessages.{same_option}
@@ -38,21 +37,6 @@ stands code store bad number (row ∷ rows) (suc place) within obeys =
     stands code store bad (number + 1) rows place (omega arith) obeys
 
 -- starting values play no part in who misbehaves
-same_absent : (code : CodeShape) (store start : List (List ℤ)) (bad number : ℕ)
-    (rows : List declared_hosts.HostShape) (place : ℕ) →
-    is_absent (slice_get (hosts_before code start bad number rows) place)
-    ≡ is_absent (slice_get (hosts_before code store bad number rows) place)
-same_absent code store start bad number [] place = refl
-same_absent code store start bad number (row ∷ rows) zero = by (bit_at bad number == 1)
-  where
-    by : (b : Bool) →
-        is_absent (Some (if b then None else Some (host_at_start code start row.key (record { 0 = number }))))
-        ≡ is_absent (Some (if b then None else Some (host_at_start code store row.key (record { 0 = number }))))
-    by true = refl
-    by false = refl
-same_absent code store start bad number (row ∷ rows) (suc place) =
-    same_absent code store start bad (number + 1) rows place
-
 same_bad : (code : CodeShape) (rows : List declared_hosts.HostShape) (bad : ℕ) (store start : List (List ℤ))
     (host : HostId) →
     misbehaves (world_at_start code rows bad start) host ≡ misbehaves (world_at_start code rows bad store) host
