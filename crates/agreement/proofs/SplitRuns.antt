@@ -3,17 +3,14 @@ use Rattle.std.proofs.Common.{◌≡◌, ◌∙◌, ℕ, zero, suc, ◌+◌, Boo
 use Rattle.std.specs.Prelude.{ℤ, ◌==◌, if◌then◌else◌, All, slice_get}
 use Rattle.std.specs.Int.{bit_at}
 use Rattle.host_decl.specs.Hosts as declared_hosts
-use Rattle.host_decl.specs.Hosts.{HostsShape}
 use Rattle.host_code.specs.Code.{CodeShape}
 use Rattle.host_core.specs.Start.{host_at_start}
 use Rattle.event_text.specs.declared.event.Event.{Event}
-use Rattle.need_labels.specs.Labelled.{Labelled}
-use Rattle.need_labels.specs.Needs.{NeedsShape}
-use Rattle.need_labels.specs.Plan.{PlanShape}
 use Rattle.net_world.specs.Fits.{HasOwnToken}
 use Rattle.net_world.specs.Secret.{IsSeenRun, IsPrompt}
 use Rattle.net_world.specs.Told.{SentMessage}
 use Rattle.net_world.specs.World.{WorldShape, is_absent, misbehaves, hosts_before, world_at_start}
+use Rattle.split_rules.specs.Placed.{PlacedProgram}
 use Rattle.split_rules.specs.Allowed.{IsAllowed}
 use Rattle.split_rules.specs.Held.{IsHeld}
 use Rattle.split_rules.specs.SplitCode.{split_code}
@@ -30,7 +27,8 @@ use Rattle.agreement.proofs.RunsAgree.{told_alike}
 -- ---- who misbehaves at the start
 
 -- the starting values play no part
-pub same_absent : (code : CodeShape) (store start : List (List ℤ)) (bad number : ℕ) (rows : List declared_hosts.HostShape)
+pub same_absent : (code : CodeShape) (store start : List (List ℤ)) (bad number : ℕ)
+    (rows : List declared_hosts.HostShape)
     (place : ℕ) →
     is_absent (slice_get (hosts_before code start bad number rows) place)
     ≡ is_absent (slice_get (hosts_before code store bad number rows) place)
@@ -58,36 +56,36 @@ stores_alike eyes world store start are watch alike field there is seen obeys =
 
 -- ---- programs
 
-pub split_tells : (labelled : Labelled) (needs : NeedsShape) (hosts : HostsShape) (plan : PlanShape) (bad : ℕ)
-    (store start : List (List ℤ)) (events others seen more : List Event) (one other : WorldShape) →
-    IsSplittable labelled hosts plan → IsAllowed labelled needs hosts plan → IsHeld labelled needs hosts plan →
-    AreResultsLabelled labelled.program → ReleasesNothing labelled.program →
-    AreStoresAlike (split_code labelled needs hosts plan)
-    (world_at_start (split_code labelled needs hosts plan) hosts.hosts bad store) store start →
-    All (HasOwnToken (world_at_start (split_code labelled needs hosts plan) hosts.hosts bad store)) seen →
-    IsSeenRun (split_code labelled needs hosts plan)
-    (world_at_start (split_code labelled needs hosts plan) hosts.hosts bad store) events (seen ++ more) one →
-    IsSeenRun (split_code labelled needs hosts plan)
-    (world_at_start (split_code labelled needs hosts plan) hosts.hosts bad start) others seen other →
-    IsPrompt (split_code labelled needs hosts plan)
-    (world_at_start (split_code labelled needs hosts plan) hosts.hosts bad store) events →
-    IsPrompt (split_code labelled needs hosts plan)
-    (world_at_start (split_code labelled needs hosts plan) hosts.hosts bad start) others →
+pub split_tells : (placed : PlacedProgram) (bad : ℕ) (store start : List (List ℤ))
+    (events others seen more : List Event) (one other : WorldShape) →
+    IsSplittable placed.labelled placed.hosts placed.plan → IsAllowed placed → IsHeld placed →
+    AreResultsLabelled placed.labelled.program → ReleasesNothing placed.labelled.program →
+    AreStoresAlike (split_code placed)
+    (world_at_start (split_code placed) placed.hosts.hosts bad store) store start →
+    All (HasOwnToken (world_at_start (split_code placed) placed.hosts.hosts bad store)) seen →
+    IsSeenRun (split_code placed)
+    (world_at_start (split_code placed) placed.hosts.hosts bad store) events (seen ++ more) one →
+    IsSeenRun (split_code placed)
+    (world_at_start (split_code placed) placed.hosts.hosts bad start) others seen other →
+    IsPrompt (split_code placed)
+    (world_at_start (split_code placed) placed.hosts.hosts bad store) events →
+    IsPrompt (split_code placed)
+    (world_at_start (split_code placed) placed.hosts.hosts bad start) others →
     (rest : List SentMessage) × (one.sent ≡ other.sent ++ rest)
-split_tells labelled needs hosts plan bad store start events others seen more one other splittable allowed held results
+split_tells placed bad store start events others seen more one other splittable allowed held results
     releases alike own ran ran_other prompt prompt_other =
-    let code = split_code labelled needs hosts plan in
-    let first = world_at_start code hosts.hosts bad store in
-    let have = split_has_eyes labelled needs hosts plan false (misbehaves first) splittable allowed held results
+    let code = split_code placed in
+    let first = world_at_start code placed.hosts.hosts bad store in
+    let have = split_has_eyes placed false (misbehaves first) splittable allowed held results
     (λ silent. releases) in
     let eyes : Eyes = record {
-      scene = scene_of labelled needs hosts plan false;
+      scene = scene_of placed false;
       code = code;
       shades = have.0;
       bad = misbehaves first;
       sees = have.1;
     } in
-    told_alike eyes hosts.hosts bad store start events others seen more one other have.2
-    (split_is_sound labelled needs hosts plan splittable) refl (silent_code eyes have.2 refl) (λ host. refl)
-    (λ host. same_absent code store start bad 0 hosts.hosts host.0)
+    told_alike eyes placed.hosts.hosts bad store start events others seen more one other have.2
+    (split_is_sound placed splittable) refl (silent_code eyes have.2 refl) (λ host. refl)
+    (λ host. same_absent code store start bad 0 placed.hosts.hosts host.0)
     (stores_alike eyes first store start have.2 (λ host. refl) alike) own ran ran_other prompt prompt_other

@@ -2,16 +2,13 @@
 
 ghost use Rattle.std.specs.Prelude.{◌≡◌, ℕ, ℤ, List, ◌++◌, All};
 ghost use Rattle.host_decl.specs.Hosts as declared_hosts;
-ghost use Rattle.host_decl.specs.Hosts.{HostsShape};
 ghost use Rattle.host_code.specs.Sound.{IsSoundCode};
 ghost use Rattle.event_text.specs.declared.event.Event.{Event};
-ghost use Rattle.need_labels.specs.Labelled.{Labelled};
-ghost use Rattle.need_labels.specs.Needs.{NeedsShape};
-ghost use Rattle.need_labels.specs.Plan.{PlanShape};
 ghost use Rattle.net_world.specs.Fits.{HasOwnToken};
 ghost use Rattle.net_world.specs.Secret.{IsQuiet, IsSeenRun, IsPrompt};
 ghost use Rattle.net_world.specs.Told.{SentMessage};
 ghost use Rattle.net_world.specs.World.{WorldShape, AreHostsOf, world_at_start, IsStep};
+ghost use Rattle.split_rules.specs.Placed.{PlacedProgram};
 ghost use Rattle.split_rules.specs.Allowed.{IsAllowed};
 ghost use Rattle.split_rules.specs.Held.{IsHeld};
 ghost use Rattle.split_rules.specs.SplitCode.{split_code};
@@ -67,13 +64,13 @@ pub fn run_laws()
     // So it is of the code of a program that releases nothing and was checked, placed and split, whichever hosts
     // misbehave: in two runs from stores with the same values in all fields on obeying hosts that misbehaving hosts may
     // read.
-    ensures split { (labelled : Labelled) (needs : NeedsShape) (hosts : HostsShape) (plan : PlanShape) (bad : ℕ)
-        (store start : List (List ℤ)) (events others seen more : List Event) (one other : WorldShape) →
-        let code = split_code labelled needs hosts plan in
-        let first = world_at_start code hosts.hosts bad store in
-        let second = world_at_start code hosts.hosts bad start in
-        IsSplittable labelled hosts plan → IsAllowed labelled needs hosts plan → IsHeld labelled needs hosts plan →
-        AreResultsLabelled labelled.program → ReleasesNothing labelled.program →
+    ensures split { (placed : PlacedProgram) (bad : ℕ) (store start : List (List ℤ))
+        (events others seen more : List Event) (one other : WorldShape) →
+        let code = split_code placed in
+        let first = world_at_start code placed.hosts.hosts bad store in
+        let second = world_at_start code placed.hosts.hosts bad start in
+        IsSplittable placed.labelled placed.hosts placed.plan → IsAllowed placed → IsHeld placed →
+        AreResultsLabelled placed.labelled.program → ReleasesNothing placed.labelled.program →
         AreStoresAlike code first store start → All (HasOwnToken first) seen →
         IsSeenRun code first events (seen ++ more) one → IsSeenRun code second others seen other →
         IsPrompt code first events → IsPrompt code second others →

@@ -4,7 +4,8 @@ use Rattle.jif_tree.specs.Trees.{BlockTree, ExprTree, method_tree}
 use Rattle.jif_tree.specs.Sizes.{expr_nodes, block_nodes}
 use Rattle.host_code.specs.declared.code_expr.TheConstants.{MOST_NODES}
 use Rattle.need_labels.specs.Labelled.{Labelled, labelled_of}
-use Rattle.msg_cost.specs.Moves.{PlannedShape, planned_of}
+use Rattle.msg_cost.specs.Moves.{PlannedShape}
+use Rattle.split_rules.specs.Placed.{PlacedProgram, planned_from}
 use Rattle.split_rules.specs.Walk.{Walked, Around, Lane, walked_in}
 use Rattle.control_split.specs.declared.walk.Split.{Split}
 use Rattle.control_split.specs.declared.walk.Walk.{Walk}
@@ -14,8 +15,16 @@ use Rattle.control_split.specs.declared.walk.Lane.{Lane as BlockLane}
 abbrev pub labelled_in : Split → Labelled
 labelled_in split = labelled_of split.checked.now
 
+abbrev pub placed_in : Split → PlacedProgram
+placed_in split = record {
+  labelled = labelled_in split;
+  needs = split.needs.now;
+  hosts = split.hosts.now;
+  plan = split.plan.now;
+}
+
 abbrev pub planned_in : Split → PlannedShape
-planned_in split = planned_of (labelled_in split) split.needs.now split.hosts.now split.plan.now
+planned_in split = planned_from (placed_in split)
 
 abbrev pub walked_of : Walk → Walked
 walked_of walk =

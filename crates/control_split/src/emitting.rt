@@ -5,7 +5,7 @@ ghost use Rattle.host_code.specs.CodeParts.{shape_of};
 ghost use Rattle.need_labels.specs.Labelled.{labelled_of};
 ghost use Rattle.split_rules.specs.SplitCode.{split_code};
 ghost use Rattle.split_rules.specs.Splittable.{IsSplittable};
-ghost use Rattle.control_split.specs.Views.{labelled_in};
+ghost use Rattle.control_split.specs.Views.{labelled_in, placed_in};
 
 use crate::calls::entry_of;
 use crate::methods::program;
@@ -25,8 +25,7 @@ use std::alloc::Global;
 /// The parts of the code of a program that is split.
 fn code_parts(split: &Split<'_>) -> Result<CodeParts, OutOfMemory>
     requires splittable { IsSplittable (labelled_in split.now) split.now.hosts.now split.now.plan.now }
-    ensures { IfOk result (λ parts. shape_of parts
-        ≡ split_code (labelled_in split.now) split.now.needs.now split.now.hosts.now split.now.plan.now) }
+    ensures { IfOk result (λ parts. shape_of parts ≡ split_code (placed_in split.now)) }
 {
     split_laws();
     let main = split.checked.program.main;
@@ -72,7 +71,12 @@ pub fn emit(
     plan: &Plan,
 ) -> Result<Code, OutOfMemory>
     requires splittable { IsSplittable (labelled_of checked.now) hosts.now plan.now }
-    ensures { IfOk result (λ code. code ≡ split_code (labelled_of checked.now) needs.now hosts.now plan.now) }
+    ensures { IfOk result (λ code. code ≡ split_code (record {
+      labelled = labelled_of checked.now;
+      needs = needs.now;
+      hosts = hosts.now;
+      plan = plan.now;
+    })) }
 {
     split_laws();
     let split = Split {

@@ -6,7 +6,6 @@ use Rattle.std.specs.Int.{bit_at}
 use Rattle.std.proofs.lemmas.Bool.{cases_Bool}
 use Rattle.std.proofs.lemmas.List.{length-map}
 use Rattle.host_decl.specs.Hosts as declared_hosts
-use Rattle.host_decl.specs.Hosts.{HostsShape}
 use Rattle.jif_tree.specs.declared.program.Program.{Program}
 use Rattle.host_code.specs.declared.code.Entry.{Entry}
 use Rattle.host_code.specs.Code.{CodeShape, entry_at}
@@ -14,9 +13,7 @@ use Rattle.host_code.specs.Sound.{IsHost, IsSoundCode, EntryFits}
 use Rattle.host_core.specs.Host.{HostShape}
 use Rattle.host_core.specs.Start.{host_at_start}
 use Rattle.event_text.specs.declared.event.Event.{Event}
-use Rattle.need_labels.specs.Labelled.{Labelled}
-use Rattle.need_labels.specs.Needs.{NeedsShape}
-use Rattle.need_labels.specs.Plan.{PlanShape}
+use Rattle.split_rules.specs.Placed.{PlacedProgram}
 use Rattle.split_rules.specs.SplitCode.{split_code}
 use Rattle.net_world.specs.World.{WorldShape, given, hosts_before, named_host, state_at, world_at_start}
 use Rattle.token_laws.specs.Numbers.{CodeHasNumbers, RowsHaveNumbers, EventHasNumbers}
@@ -53,39 +50,40 @@ obeys_before code store bad number (row ∷ rows) (suc place) at within is obeys
 
 -- ---- the law
 
-module _ (laws : AreSplitLaws) (program : Program) (labelled : Labelled) (needs : NeedsShape) (hosts : HostsShape)
-    (plan : PlanShape) (bad : ℕ) (store : List (List ℤ)) (events : List Event) (world : WorldShape)
-    (set : IsSet program labelled needs hosts plan)
-    (code_numbers : CodeHasNumbers (split_code labelled needs hosts plan)) (store_numbers : RowsHaveNumbers store)
-    (reach : IsReached (split_code labelled needs hosts plan) hosts.hosts bad store events world)
+module _ (laws : AreSplitLaws) (program : Program) (placed : PlacedProgram) (bad : ℕ) (store : List (List ℤ))
+    (events : List Event) (world : WorldShape)
+    (set : IsSet program placed)
+    (code_numbers : CodeHasNumbers (split_code placed)) (store_numbers : RowsHaveNumbers store)
+    (reach : IsReached (split_code placed) placed.hosts.hosts bad store events world)
     (said : All EventHasNumbers events) where
   where_root_obeys : (state : HostShape) →
-      state_at (world_at_start (split_code labelled needs hosts plan) hosts.hosts bad store)
-      (split_code labelled needs hosts plan).root ≡ Some state →
-      FollowsAltered program (exposure_of labelled needs hosts bad) (split_code labelled needs hosts plan) hosts.hosts
+      state_at (world_at_start (split_code placed) placed.hosts.hosts bad store)
+      (split_code placed).root ≡ Some state →
+      FollowsAltered program (exposure_of placed.labelled placed.needs placed.hosts bad)
+      (split_code placed) placed.hosts.hosts
       bad store events
   unfolding typed_split
   where_root_obeys state obeys =
       let typed =
-      laws.typed labelled needs hosts plan set.splittable (laws.typable labelled needs hosts plan set.allowed) in
+      laws.typed placed set.splittable (laws.typable placed set.allowed) in
       let split =
-      typed_split program labelled needs hosts plan set reach.sound typed.0 typed.1 (λ host at. 0)
-      (exposure_of labelled needs hosts bad) in
-      follows laws.opening split labelled needs hosts plan bad store refl set.splittable set.allowed set.held
+      typed_split program placed set reach.sound typed.0 typed.1 (λ host at. 0)
+      (exposure_of placed.labelled placed.needs placed.hosts bad) in
+      follows laws.opening split placed bad store refl set.splittable set.allowed set.held
       code_numbers store_numbers events world state reach said obeys
 
-  pub follows_always : FollowsAltered program (exposure_of labelled needs hosts bad)
-      (split_code labelled needs hosts plan) hosts.hosts bad store events
+  pub follows_always : FollowsAltered program (exposure_of placed.labelled placed.needs placed.hosts bad)
+      (split_code placed) placed.hosts.hosts bad store events
   follows_always =
-      let code = split_code labelled needs hosts plan in
+      let code = split_code placed in
       elim (cases_Bool (bit_at bad code.root.0 == 1)) [
         | inl bad_root ↦
-            follows_nothing laws program labelled needs hosts plan bad store set.splittable set.allowed
+            follows_nothing laws program placed bad store set.splittable set.allowed
             (number_same (bit_at bad code.root.0) 1 bad_root) events world reach
         | inr obeys ↦
             let there =
-            obeys_before code store bad 0 hosts.hosts code.root.0 code.root.0
-            (subst (λ n. code.root.0 < n) (sym (ap length reach.hosts) ∙ length-map hosts.hosts named_host)
+            obeys_before code store bad 0 placed.hosts.hosts code.root.0 code.root.0
+            (subst (λ n. code.root.0 < n) (sym (ap length reach.hosts) ∙ length-map placed.hosts.hosts named_host)
             (root_is_host code reach.sound)) (omega arith) obeys in
             where_root_obeys there.0 there.1
       ]

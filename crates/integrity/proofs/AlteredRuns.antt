@@ -5,7 +5,6 @@ use Rattle.std.specs.Prelude.{slice_get, slice_index, All, IsSomeAnd}
 use Rattle.std.proofs.lemmas.List.Elements.{All-push, All-nil, All-take}
 use Rattle.js_base.specs.declared.ids.HostId.{HostId}
 use Rattle.host_decl.specs.Hosts as declared_hosts
-use Rattle.host_decl.specs.Hosts.{HostsShape}
 use Rattle.jif_tree.specs.declared.program.Program.{Program}
 use Rattle.jif_tree.specs.Altered as altering
 use Rattle.jif_tree.specs.Altered.{Exposure, MayStep, AreAltered}
@@ -18,9 +17,7 @@ use Rattle.host_core.specs.Host.{HostShape}
 use Rattle.event_text.specs.declared.event.Event.{Event}
 use Rattle.event_text.specs.declared.event.Event.TheVariants.{Take, Turn, Act}
 use Rattle.event_text.specs.declared.event.BadMessage.{BadMessage}
-use Rattle.need_labels.specs.Labelled.{Labelled}
-use Rattle.need_labels.specs.Needs.{NeedsShape}
-use Rattle.need_labels.specs.Plan.{PlanShape}
+use Rattle.split_rules.specs.Placed.{PlacedProgram}
 use Rattle.split_rules.specs.Held.{IsHeld}
 use Rattle.split_rules.specs.Allowed.{IsAllowed}
 use Rattle.split_rules.specs.Splittable.{IsSplittable}
@@ -107,15 +104,14 @@ ends_with program exposure c now (next ∷ more) altered = ends_with program exp
 
 -- ---- the law
 
-module _ (laws : AreLaws) (split : Split) (labelled : Labelled) (needs : NeedsShape) (hosts : HostsShape)
-    (plan : PlanShape) (bad : ℕ) (store : List (List ℤ))
-    (same : threat_in split ≡ threat_of labelled needs hosts plan split.table bad)
-    (splittable : IsSplittable labelled hosts plan) (allowed : IsAllowed labelled needs hosts plan)
-    (held : IsHeld labelled needs hosts plan)
+module _ (laws : AreLaws) (split : Split) (placed : PlacedProgram) (bad : ℕ) (store : List (List ℤ))
+    (same : threat_in split ≡ threat_of placed split.table bad)
+    (splittable : IsSplittable placed.labelled placed.hosts placed.plan) (allowed : IsAllowed placed)
+    (held : IsHeld placed)
     (code_numbers : CodeHasNumbers split.code) (store_numbers : RowsHaveNumbers store) where
   abbrev Step : WorldShape → Event → WorldShape → Type 0
   Step world event after =
-      FollowStep split.code (world_at_start split.code hosts.hosts bad store) world event after
+      FollowStep split.code (world_at_start split.code placed.hosts.hosts bad store) world event after
 
   one_follows : (world first second : WorldShape) (event : Event) → Step world event first → Step world event second →
       first ≡ second
@@ -123,17 +119,17 @@ module _ (laws : AreLaws) (split : Split) (labelled : Labelled) (needs : NeedsSh
 
   abbrev GoesOnHere : Configuration → WorldShape → Type 0
   GoesOnHere c after =
-      tracks.GoesOn Step one_follows split.program split.exposure (Follows split hosts.hosts bad store) c after
+      tracks.GoesOn Step one_follows split.program split.exposure (Follows split placed.hosts.hosts bad store) c after
 
-  exposed : split.exposure.bad ≡ bad_labels bad 0 hosts.hosts
+  exposed : split.exposure.bad ≡ bad_labels bad 0 placed.hosts.hosts
   exposed = ap (λ (t : Threat). t.exposure.bad) same
 
   module _ (world after : WorldShape) (c : Configuration) (event : Event)
-      (it : Follows split hosts.hosts bad store world c) (step : Step world event after) where
-    next_follows : (now : Configuration) → Stands split after now → Follows split hosts.hosts bad store after now
+      (it : Follows split placed.hosts.hosts bad store world c) (step : Step world event after) where
+    next_follows : (now : Configuration) → Stands split after now → Follows split placed.hosts.hosts bad store after now
     next_follows now stands = record {
       events = it.events ++ event ∷ [];
-      reach = one_more split.code hosts.hosts bad store it.events world after event it.reach step.own step.step;
+      reach = one_more split.code placed.hosts.hosts bad store it.events world after event it.reach step.own step.step;
       said = All-push EventHasNumbers it.events event it.said step.numbers;
       stands = stands;
     }
@@ -169,11 +165,11 @@ module _ (laws : AreLaws) (split : Split) (labelled : Labelled) (needs : NeedsSh
     recovers_on (loosening.goes_on view holder free stands) = here (tight view holder stands)
 
     is : IsLawful (threat_in split) world
-    is = lawful (threat_in split) hosts.hosts bad store it.events world exposed it.reach
+    is = lawful (threat_in split) placed.hosts.hosts bad store it.events world exposed it.reach
 
     from_loose : (view : View) → StandsLoosely split c view world → GoesOnHere c after
     from_loose view stands =
-        recovers_on (recovers laws split labelled needs hosts plan bad store it.events world after event c view same
+        recovers_on (recovers laws split placed bad store it.events world after event c view same
         splittable allowed it.reach step.own step.step stands)
 
     turn_on : (host : HostId) → Goes split c after ⊎ (Stalls split c host after ⊎ Loosens split c after) →
@@ -186,14 +182,14 @@ module _ (laws : AreLaws) (split : Split) (labelled : Labelled) (needs : NeedsSh
       outside : (holder : Holder) → StandsBy split c view holder world → ¬ IsOwn holder world event → GoesOnHere c after
       outside holder stands apart =
           here (tight view holder
-          (stands_kept laws split labelled needs hosts plan bad store it.events world after event c view holder same
+          (stands_kept laws split placed bad store it.events world after event c view holder same
           splittable allowed it.reach step.own step.step stands apart))
 
       turn_own : (host : HostId) (holder : Holder) → OwnsRunning holder host → StandsBy split c view holder world →
           IsTurnStep split.code world host after → GoesOnHere c after
       turn_own host (runs other thread) own stands turns =
           turn_on host
-          (holder_goes laws split labelled needs hosts plan bad store it.events world after host thread c view same
+          (holder_goes laws split placed bad store it.events world after host thread c view same
           splittable allowed held it.reach code_numbers store_numbers it.said turns
           (subst (λ h. StandsBy split c view (runs h thread) world) (sym own) stands))
       turn_own host (asked other w m) own stands turns = absurd own
@@ -211,32 +207,33 @@ module _ (laws : AreLaws) (split : Split) (labelled : Labelled) (needs : NeedsSh
       answered_at : (host : HostId) (w : WaitingShape) (made : BadMessage) →
           IsOwn (stuck host w) world (Act w.asked host made) →
           (acts : IsActStep split.code world w.asked host made after) →
-          HasOwnToken (world_at_start split.code hosts.hosts bad store) (Act w.asked host made) →
+          HasOwnToken (world_at_start split.code placed.hosts.hosts bad store) (Act w.asked host made) →
           MessageHasNumbers acts.message → StandsBy split c view (stuck host w) world → GoesOnHere c after
       answered_at host w made own acts own_token numbers stands =
           acted_on host w
-          (holder_acted split hosts.hosts bad store it.events world after c view exposed it.reach host w stands made
+          (holder_acted split placed.hosts.hosts bad store it.events world after c view exposed it.reach host w stands
+          made
           own_token acts numbers own)
 
       answered_by : (host : HostId) (w : WaitingShape) (from to : HostId) (made : BadMessage) → w.asked ≡ from →
           host ≡ to → IsOwn (stuck host w) world (Act from to made) →
           (acts : IsActStep split.code world from to made after) →
-          HasOwnToken (world_at_start split.code hosts.hosts bad store) (Act from to made) →
+          HasOwnToken (world_at_start split.code placed.hosts.hosts bad store) (Act from to made) →
           MessageHasNumbers acts.message → StandsBy split c view (stuck host w) world → GoesOnHere c after
       answered_by host w from to made first second =
           subst (λ f. IsOwn (stuck host w) world (Act f to made) →
           (acts : IsActStep split.code world f to made after) →
-          HasOwnToken (world_at_start split.code hosts.hosts bad store) (Act f to made) →
+          HasOwnToken (world_at_start split.code placed.hosts.hosts bad store) (Act f to made) →
           MessageHasNumbers acts.message → StandsBy split c view (stuck host w) world → GoesOnHere c after) first
           (subst (λ t. IsOwn (stuck host w) world (Act w.asked t made) →
           (acts : IsActStep split.code world w.asked t made after) →
-          HasOwnToken (world_at_start split.code hosts.hosts bad store) (Act w.asked t made) →
+          HasOwnToken (world_at_start split.code placed.hosts.hosts bad store) (Act w.asked t made) →
           MessageHasNumbers acts.message → StandsBy split c view (stuck host w) world → GoesOnHere c after) second
           (answered_at host w made))
 
       act_own : (holder : Holder) (from to : HostId) (made : BadMessage) → IsOwn holder world (Act from to made) →
           (acts : IsActStep split.code world from to made after) →
-          HasOwnToken (world_at_start split.code hosts.hosts bad store) (Act from to made) →
+          HasOwnToken (world_at_start split.code placed.hosts.hosts bad store) (Act from to made) →
           EventHasNumbers (Act from to made) → StandsBy split c view holder world → GoesOnHere c after
       act_own (stuck host w) from to made own acts own_token numbers stands =
           let its = subst (λ o. IsSomeAnd o (OwnsMessage (stuck host w) from to)) acts.makes own in
@@ -256,7 +253,7 @@ module _ (laws : AreLaws) (split : Split) (labelled : Labelled) (needs : NeedsSh
           absurd (no_act split c view world is halted tt stands from to made acts.bad own)
 
   kept_tight : (world after : WorldShape) (c : Configuration) (event : Event) →
-      (it : Follows split hosts.hosts bad store world c) → (step : Step world event after) → (view : View)
+      (it : Follows split placed.hosts.hosts bad store world c) → (step : Step world event after) → (view : View)
       (holder : Holder) → StandsBy split c view holder world → GoesOnHere c after
   kept_tight world after c (Turn host) it step view holder stands =
       elim (decide_turn split c view world (is world after c (Turn host) it step) holder host) [
@@ -268,7 +265,7 @@ module _ (laws : AreLaws) (split : Split) (labelled : Labelled) (needs : NeedsSh
       place) [
         | inl own ↦
             goes_on world after c (Take from to place) it step
-            (holder_taken split hosts.hosts bad store it.events world after c view exposed it.reach code_numbers
+            (holder_taken split placed.hosts.hosts bad store it.events world after c view exposed it.reach code_numbers
             store_numbers it.said holder from to place stands step.step own)
         | inr apart ↦ outside world after c (Take from to place) it step view holder stands apart
       ]
@@ -282,19 +279,22 @@ module _ (laws : AreLaws) (split : Split) (labelled : Labelled) (needs : NeedsSh
       ]
 
   kept_by : (world after : WorldShape) (c : Configuration) (event : Event) →
-      (it : Follows split hosts.hosts bad store world c) → (step : Step world event after) → Stands split world c →
+      (it : Follows split placed.hosts.hosts bad store world c) → (step : Step world event after) →
+      Stands split world c →
       GoesOnHere c after
   kept_by world after c event it step (tight view holder stands) =
       kept_tight world after c event it step view holder stands
   kept_by world after c event it step (loose view stands) = from_loose world after c event it step view stands
 
-  kept : (world after : WorldShape) (c : Configuration) (event : Event) → Follows split hosts.hosts bad store world c →
+  kept : (world after : WorldShape) (c : Configuration) (event : Event) →
+      Follows split placed.hosts.hosts bad store world c →
       Step world event after → GoesOnHere c after
   kept world after c event it step = kept_by world after c event it step it.stands
 
   ran_of : (events : List Event) (world last : WorldShape) → IsRun split.code world events last →
-      All (HasOwnToken (world_at_start split.code hosts.hosts bad store)) events → All EventHasNumbers events →
-      tracks.Ran Step one_follows split.program split.exposure (Follows split hosts.hosts bad store) world events last
+      All (HasOwnToken (world_at_start split.code placed.hosts.hosts bad store)) events → All EventHasNumbers events →
+      tracks.Ran Step one_follows split.program split.exposure (Follows split placed.hosts.hosts bad store) world
+      events last
   ran_of [] world last ran own said = ran
   ran_of (event ∷ events) world last ran own said = (
     ran.0,
@@ -303,14 +303,14 @@ module _ (laws : AreLaws) (split : Split) (labelled : Labelled) (needs : NeedsSh
   )
 
   pub follows : (events : List Event) (last : WorldShape) (state : HostShape) →
-      IsReached split.code hosts.hosts bad store events last → All EventHasNumbers events →
-      state_at (world_at_start split.code hosts.hosts bad store) split.code.root ≡ Some state →
-      FollowsAltered split.program split.exposure split.code hosts.hosts bad store events
+      IsReached split.code placed.hosts.hosts bad store events last → All EventHasNumbers events →
+      state_at (world_at_start split.code placed.hosts.hosts bad store) split.code.root ≡ Some state →
+      FollowsAltered split.program split.exposure split.code placed.hosts.hosts bad store events
   follows events last state reach said obeys =
-      let start = world_at_start split.code hosts.hosts bad store in
+      let start = world_at_start split.code placed.hosts.hosts bad store in
       let c = configuration_at_start split.program store in
-      let begin = stands_at_start split hosts.hosts bad store state obeys in
-      let first : Follows split hosts.hosts bad store (world_at_start split.code hosts.hosts bad store)
+      let begin = stands_at_start split placed.hosts.hosts bad store state obeys in
+      let first : Follows split placed.hosts.hosts bad store (world_at_start split.code placed.hosts.hosts bad store)
       (configuration_at_start split.program store) =
       record {
         events = [];
@@ -320,7 +320,7 @@ module _ (laws : AreLaws) (split : Split) (labelled : Labelled) (needs : NeedsSh
       } in
       let it =
       tracks.along Step one_follows split.program split.exposure
-      (Follows split hosts.hosts bad store) kept events start last
+      (Follows split placed.hosts.hosts bad store) kept events start last
       c first (ran_of events start last reach.ran reach.own said) in
       record {
         run = c ∷ it.others;
@@ -330,7 +330,7 @@ module _ (laws : AreLaws) (split : Split) (labelled : Labelled) (needs : NeedsSh
         first = it.first;
         rising = it.rising;
         stands = λ moment world within ran.
-            some_each (Follows split hosts.hosts bad store world) (StandsFor split.code split.exposure world)
+            some_each (Follows split placed.hosts.hosts bad store world) (StandsFor split.code split.exposure world)
             (slice_get (c ∷ it.others) (slice_index it.places moment))
             (λ d has. stands_for split world d has.stands)
             (it.stands moment world within

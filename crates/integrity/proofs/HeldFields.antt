@@ -12,14 +12,12 @@ use Rattle.js_base.specs.declared.ids.HostId.{HostId}
 use Rattle.label_lattice.specs.declared.label.Label.{Label}
 use Rattle.label_lattice.specs.Label.{ConfFlows, IntegFlows}
 use Rattle.label_lattice.specs.Lattice.{join_of}
-use Rattle.host_decl.specs.Hosts.{HostsShape, HostShape}
+use Rattle.host_decl.specs.Hosts.{HostShape}
 use Rattle.jif_tree.specs.Trees.{FieldTree}
 use Rattle.jif_tree.specs.Altered.{IsAffected, FieldIsAffected}
 use Rattle.host_code.specs.Code.{CodeFieldShape, CodeHostShape}
-use Rattle.need_labels.specs.Labelled.{Labelled}
-use Rattle.need_labels.specs.Needs.{NeedsShape}
 use Rattle.need_labels.specs.Plan.{PlanShape, field_host, first_host}
-use Rattle.msg_cost.specs.Moves.{planned_of}
+use Rattle.split_rules.specs.Placed.{PlacedProgram, planned_from}
 use Rattle.split_rules.specs.Allowed.{IsAllowed}
 use Rattle.split_rules.specs.Held.{HoldsField, IsHeld}
 use Rattle.split_rules.specs.SplitCode.{placed_code_fields, code_labels, split_code}
@@ -43,11 +41,11 @@ pub record IsPlaced (plan : PlanShape) (number : ℕ) (fields : List FieldTree) 
   pub is : slice_get fields place ≡ Some tree
   pub on_host : there.host ≡ field_host plan (record { 0 = number + place })
 
-placed : (labels : List Label) (plan : PlanShape) (number : ℕ) (fields : List FieldTree) (place : ℕ)
+field_placed : (labels : List Label) (plan : PlanShape) (number : ℕ) (fields : List FieldTree) (place : ℕ)
     (there : CodeFieldShape) → slice_get (placed_code_fields labels plan number fields) place ≡ Some there →
     IsPlaced plan number fields place there
-placed labels plan number [] place there is = absurd (cc)
-placed labels plan number (field ∷ fields) zero there is =
+field_placed labels plan number [] place there is = absurd (cc)
+field_placed labels plan number (field ∷ fields) zero there is =
     let sum : number ≡ number + 0 = omega arith in
     record {
       tree = field;
@@ -56,8 +54,8 @@ placed labels plan number (field ∷ fields) zero there is =
           (sym is)
           ∙ ap (λ n. field_host plan (record { 0 = n })) sum;
     }
-placed labels plan number (field ∷ fields) (suc place) there is =
-    let later = placed labels plan (suc number) fields place there is in
+field_placed labels plan number (field ∷ fields) (suc place) there is =
+    let later = field_placed labels plan (suc number) fields place there is in
     let sum : suc number + place ≡ number + suc place = omega arith in
     record {
       tree = later.tree;
@@ -82,37 +80,39 @@ affected_by bad (Some other) tree is any =
     let same : other ≡ tree = cc in
     subst (λ (one : FieldTree). Any (λ host. IntegFlows host one.label) bad) (sym same) any
 
-field_open : (labelled : Labelled) (needs : NeedsShape) (hosts : HostsShape) (plan : PlanShape) (table : Table)
-    (bad : ℕ) (world : WorldShape) → IsAllowed labelled needs hosts plan → IsHeld labelled needs hosts plan →
-    AreBad (threat_of labelled needs hosts plan table bad) world → (field : FieldId) (to : HostId) →
-    IsFieldOn (split_code labelled needs hosts plan) field to → misbehaves world to ≡ true →
-    FieldIsAffected (threat_of labelled needs hosts plan table bad).exposure field
-field_open labelled needs hosts plan table bad world allowed held are_bad field to on misbehaving =
-    let threat = threat_of labelled needs hosts plan table bad in
-    let fields = labelled.program.fields in
-    let planned = planned_of labelled needs hosts plan in
-    let labels = code_labels labelled (program_emissions hosts.principals labelled planned) in
-    let at = placed labels plan 0 fields field.0 on.there on.is in
+field_open : (placed : PlacedProgram) (table : Table) (bad : ℕ) (world : WorldShape) →
+    IsAllowed placed → IsHeld placed →
+    AreBad (threat_of placed table bad) world → (field : FieldId) (to : HostId) →
+    IsFieldOn (split_code placed) field to → misbehaves world to ≡ true →
+    FieldIsAffected (threat_of placed table bad).exposure field
+field_open placed table bad world allowed held are_bad field to on misbehaving =
+    let threat = threat_of placed table bad in
+    let fields = placed.labelled.program.fields in
+    let planned = planned_from placed in
+    let labels = code_labels placed.labelled (program_emissions placed.hosts.principals placed.labelled planned) in
+    let at = field_placed labels placed.plan 0 fields field.0 on.there on.is in
     let within = slice_get_within fields field.0 at.tree at.is in
-    let long : length needs.loc ≡ length fields =
+    let long : length placed.needs.loc ≡ length fields =
     ap length allowed.needs_of.loc ∙ length-map (range_with_len 0 (length fields)) _
     ∙ length-range_with_len 0 (length fields) in
-    let told = there_within needs.loc field.0 (omega (arith, long, within)) in
+    let told = there_within placed.needs.loc field.0 (omega (arith, long, within)) in
     let holds =
-    zipped_there (HoldsField hosts) (zip fields needs.loc) plan.fields held.fields field.0 (at.tree, told.0)
-    (zip_at fields needs.loc field.0 at.tree told.0 at.is told.1) in
+    zipped_there (HoldsField placed.hosts) (zip fields placed.needs.loc) placed.plan.fields held.fields field.0
+    (at.tree, told.0)
+    (zip_at fields placed.needs.loc field.0 at.tree told.0 at.is told.1) in
     let sum : 0 + field.0 ≡ field.0 = omega arith in
     let host_is : holds.0 ≡ to =
     sym (ap (λ found. unwrap_or found first_host) holds.1)
-    ∙ ap (λ n. field_host plan (record { 0 = n })) (sym sum) ∙ sym at.on_host ∙ on.on_host in
+    ∙ ap (λ n. field_host placed.plan (record { 0 = n })) (sym sum) ∙ sym at.on_host ∙ on.on_host in
     let one = are_bad to misbehaving in
-    let row_is : option_map (λ (row : HostShape). row.label) (slice_get hosts.hosts holds.0.0) ≡ Some one.label =
-    ap (λ (h : HostId). option_map (λ (row : HostShape). row.label) (slice_get hosts.hosts h.0)) host_is
-    ∙ labels_of (slice_get hosts.hosts to.0)
+    let row_is : option_map (λ (row : HostShape). row.label) (slice_get placed.hosts.hosts holds.0.0) ≡ Some one.label =
+    ap (λ (h : HostId). option_map (λ (row : HostShape). row.label) (slice_get placed.hosts.hosts h.0)) host_is
+    ∙ labels_of (slice_get placed.hosts.hosts to.0)
     ∙ ap (option_map (λ (it : CodeHostShape). it.label))
-    (sym (slice_get-map (λ (host : HostShape). record { name = host.name; label = host.label }) hosts.hosts to.0))
+    (sym (slice_get-map (λ (host : HostShape). record { name = host.name; label = host.label }) placed.hosts.hosts
+    to.0))
     ∙ one.of_host in
-    let trusts = only_trust told.0 at.tree (slice_get hosts.hosts holds.0.0) holds.2 one.label row_is in
+    let trusts = only_trust told.0 at.tree (slice_get placed.hosts.hosts holds.0.0) holds.2 one.label row_is in
     subst (λ o. IsSomeAnd o (IsAffected threat.exposure.bad))
     (sym (slice_get-map (λ (tree : FieldTree). tree.label) fields field.0))
     (affected_by threat.exposure.bad (slice_get fields field.0) at.tree at.is
@@ -125,12 +125,12 @@ field_open labelled needs hosts plan table bad world allowed held are_bad field 
     labels_of None = refl
     labels_of (Some row) = refl
 
-pub field_on_bad : (split : Split) (labelled : Labelled) (needs : NeedsShape) (hosts : HostsShape) (plan : PlanShape)
-    (bad : ℕ) (world : WorldShape) → threat_in split ≡ threat_of labelled needs hosts plan split.table bad →
-    IsAllowed labelled needs hosts plan → IsHeld labelled needs hosts plan → AreBad (threat_in split) world →
+pub field_on_bad : (split : Split) (placed : PlacedProgram) (bad : ℕ) (world : WorldShape) →
+    threat_in split ≡ threat_of placed split.table bad →
+    IsAllowed placed → IsHeld placed → AreBad (threat_in split) world →
     (field : FieldId) (to : HostId) → IsFieldOn split.code field to → misbehaves world to ≡ true →
     FieldIsAffected split.exposure field
-field_on_bad split labelled needs hosts plan bad world same allowed held =
+field_on_bad split placed bad world same allowed held =
     subst (λ (t : Threat). AreBad t world → (field : FieldId) (to : HostId) → IsFieldOn t.code field to →
     misbehaves world to ≡ true → FieldIsAffected t.exposure field) (sym same)
-    (field_open labelled needs hosts plan split.table bad world allowed held)
+    (field_open placed split.table bad world allowed held)

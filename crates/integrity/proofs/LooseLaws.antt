@@ -5,7 +5,6 @@ use Rattle.std.specs.Prelude.{slice_get}
 use Rattle.std.proofs.lemmas.Bool.{cases_Bool, false≢true}
 use Rattle.js_base.proofs.Decisions.{Decided, as_well, both}
 use Rattle.js_base.specs.declared.ids.HostId.{HostId}
-use Rattle.host_decl.specs.Hosts.{HostsShape}
 use Rattle.jif_tree.specs.SourceRun.{Configuration}
 use Rattle.capability.specs.declared.token.Token.{Token}
 use Rattle.ics_stack.specs.Stack.{top_token}
@@ -19,12 +18,10 @@ use Rattle.host_code.specs.Thread.{ThreadShape}
 use Rattle.event_text.specs.declared.event.Event.{Event}
 use Rattle.event_text.specs.declared.event.Event.TheVariants.{Take, Turn, Act}
 use Rattle.event_text.specs.declared.event.BadMessage.{BadMessage}
-use Rattle.need_labels.specs.Labelled.{Labelled}
-use Rattle.need_labels.specs.Needs.{NeedsShape}
-use Rattle.need_labels.specs.Plan.{PlanShape}
 use Rattle.net_world.specs.Fits.{ShapeFits, HasOwnToken, OwnTokenIn}
 use Rattle.net_world.specs.Told.{message_made}
 use Rattle.net_world.specs.World.{WorldShape, IsStep, IsTakeStep, IsTurnStep, IsActStep, tokens_sent, world_at_start}
+use Rattle.split_rules.specs.Placed.{PlacedProgram}
 use Rattle.split_rules.specs.Allowed.{IsAllowed}
 use Rattle.split_rules.specs.Splittable.{IsSplittable}
 use Rattle.token_laws.specs.Reached.{IsReached}
@@ -204,19 +201,20 @@ module _ (split : Split) (known : IsKnown (threat_in split)) (c : Configuration)
 
 -- ---- the law
 
-pub recovers : AreLaws → (split : Split) (labelled : Labelled) (needs : NeedsShape) (hosts : HostsShape)
-    (plan : PlanShape) (bad : ℕ) (store : List (List ℤ)) (events : List Event) (world after : WorldShape)
+pub recovers : AreLaws → (split : Split) (placed : PlacedProgram) (bad : ℕ) (store : List (List ℤ))
+    (events : List Event) (world after : WorldShape)
     (event : Event) (c : Configuration) (view : View) →
-    threat_in split ≡ threat_of labelled needs hosts plan split.table bad → IsSplittable labelled hosts plan →
-    IsAllowed labelled needs hosts plan → IsReached split.code hosts.hosts bad store events world →
-    HasOwnToken (world_at_start split.code hosts.hosts bad store) event → IsStep split.code world event after →
+    threat_in split ≡ threat_of placed split.table bad → IsSplittable placed.labelled placed.hosts placed.plan →
+    IsAllowed placed → IsReached split.code placed.hosts.hosts bad store events world →
+    HasOwnToken (world_at_start split.code placed.hosts.hosts bad store) event → IsStep split.code world event after →
     StandsLoosely split c view world → Recovers split c after
-recovers laws split labelled needs hosts plan bad store events world after event c view same splittable allowed reach
+recovers laws split placed bad store events world after event c view same splittable allowed reach
     own step stands =
     let is =
-    lawful (threat_in split) hosts.hosts bad store events world (ap (λ (t : Threat). t.exposure.bad) same) reach in
-    let own_here = own_there split.code hosts.hosts bad store events world event reach own in
-    let next = one_more split.code hosts.hosts bad store events world after event reach own step in
-    event_recovers split (known_in laws split labelled needs hosts plan bad same splittable allowed) c view world after
-    is (fits_there split.code hosts.hosts bad store (events ++ event ∷ []) after next)
+    lawful (threat_in split) placed.hosts.hosts bad store events world (ap (λ (t : Threat). t.exposure.bad) same) reach
+    in
+    let own_here = own_there split.code placed.hosts.hosts bad store events world event reach own in
+    let next = one_more split.code placed.hosts.hosts bad store events world after event reach own step in
+    event_recovers split (known_in laws split placed bad same splittable allowed) c view world after
+    is (fits_there split.code placed.hosts.hosts bad store (events ++ event ∷ []) after next)
     (account split.code world after event reach.sound is.fits own_here step) stands event own_here step

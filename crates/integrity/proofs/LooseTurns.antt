@@ -12,7 +12,6 @@ use Rattle.js_base.specs.declared.ids.HostId.{HostId}
 use Rattle.js_base.specs.declared.ids.StmtId.{StmtId}
 use Rattle.label_lattice.specs.declared.label.Label.{Label}
 use Rattle.label_lattice.specs.Label.{IsTrustedBy}
-use Rattle.host_decl.specs.Hosts.{HostsShape}
 use Rattle.jif_tree.specs.SourceRun.{Configuration}
 use Rattle.jif_tree.specs.Trees as trees
 use Rattle.capability.specs.declared.token.Token.{Token}
@@ -34,9 +33,6 @@ use Rattle.host_core.specs.Turn.{after_operation, after_ask, after_go, after_own
 use Rattle.host_core.specs.Turn.{IsRunning}
 use Rattle.entry_check.specs.Checks.{label_of_host}
 use Rattle.event_text.specs.declared.event.Event.{Event}
-use Rattle.need_labels.specs.Labelled.{Labelled}
-use Rattle.need_labels.specs.Needs.{NeedsShape}
-use Rattle.need_labels.specs.Plan.{PlanShape}
 use Rattle.msg_cost.specs.Moves.{is_trusted_for}
 use Rattle.net_world.specs.Flying.{Flying}
 use Rattle.net_world.specs.World.{WorldShape, IsTurnStep, state_at, misbehaves}
@@ -44,6 +40,7 @@ use Rattle.net_world.specs.Told.{token_in}
 use Rattle.net_world.proofs.Fitting.{bad_differs}
 use Rattle.net_world.proofs.Moved.{Moved, moved_told}
 use Rattle.net_world.proofs.Present.{same_id}
+use Rattle.split_rules.specs.Placed.{PlacedProgram}
 use Rattle.split_rules.specs.Opening.{IsOpenTo, MayRun, MayRunAll}
 use Rattle.split_rules.specs.Allowed.{IsAllowed}
 use Rattle.split_rules.specs.Held.{IsHeld}
@@ -448,13 +445,13 @@ module _ (split : Split) (c : Configuration) (view : View) (host : HostId) (thre
 -- ---- the law
 
 -- what is known of the code of a split program
-trusting_in : AreLaws → (split : Split) (labelled : Labelled) (needs : NeedsShape) (hosts : HostsShape)
-    (plan : PlanShape) (bad : ℕ) → threat_in split ≡ threat_of labelled needs hosts plan split.table bad →
-    IsSplittable labelled hosts plan → IsAllowed labelled needs hosts plan → IsTrusting split
-trusting_in laws split labelled needs hosts plan bad same splittable allowed =
-    let own = laws.labels labelled needs hosts plan splittable in
+trusting_in : AreLaws → (split : Split) (placed : PlacedProgram) (bad : ℕ) → threat_in split
+    ≡ threat_of placed split.table bad →
+    IsSplittable placed.labelled placed.hosts placed.plan → IsAllowed placed → IsTrusting split
+trusting_in laws split placed bad same splittable allowed =
+    let own = laws.labels placed splittable in
     record {
-      known = known_in laws split labelled needs hosts plan bad same splittable allowed;
+      known = known_in laws split placed bad same splittable allowed;
       needs = ap (λ (t : Threat). t.exposure.needs) same
           ∙ sym (ap (λ (t : Threat). t.planned.needs.need) same);
       trust = subst (λ (t : Threat). (host : HostId) (label : Label) (statement : StmtId) →
@@ -463,45 +460,47 @@ trusting_in laws split labelled needs hosts plan bad same splittable allowed =
     }
 
 -- the turn hands a misbehaving host a token
-pub holder_loosens : AreLaws → (split : Split) (labelled : Labelled) (needs : NeedsShape) (hosts : HostsShape)
-    (plan : PlanShape) (bad : ℕ) (store : List (List ℤ)) (events : List Event) (world after : WorldShape)
+pub holder_loosens : AreLaws → (split : Split) (placed : PlacedProgram) (bad : ℕ) (store : List (List ℤ))
+    (events : List Event) (world after : WorldShape)
     (host : HostId) (thread : ThreadShape) (c : Configuration) (view : View) (to : HostId) (m : Message)
-    (token : Token) → threat_in split ≡ threat_of labelled needs hosts plan split.table bad →
-    IsSplittable labelled hosts plan → IsAllowed labelled needs hosts plan →
-    IsReached split.code hosts.hosts bad store events world → CodeHasNumbers split.code → RowsHaveNumbers store →
+    (token : Token) → threat_in split ≡ threat_of placed split.table bad →
+    IsSplittable placed.labelled placed.hosts placed.plan → IsAllowed placed →
+    IsReached split.code placed.hosts.hosts bad store events world → CodeHasNumbers split.code → RowsHaveNumbers store →
     All EventHasNumbers events → IsTurnStep split.code world host after → misbehaves world to ≡ true →
     after.sent ≡ world.sent ++ (host, to, m) ∷ [] → token_in m ≡ Some token →
     StandsBy split c view (runs host thread) world → Loosens split c after
-holder_loosens laws split labelled needs hosts plan bad store events world after host thread c view to m token same
+holder_loosens laws split placed bad store events world after host thread c view to m token same
     splittable allowed reach code_numbers store_numbers said step misbehaving told has stands =
     let exposed = ap (λ (t : Threat). t.exposure.bad) same in
-    let trusting = trusting_in laws split labelled needs hosts plan bad same splittable allowed in
+    let trusting = trusting_in laws split placed bad same splittable allowed in
     let turn =
-    turn_of split hosts.hosts bad store events world after host thread c view exposed reach code_numbers store_numbers
+    turn_of split placed.hosts.hosts bad store events world after host thread c view exposed reach code_numbers
+    store_numbers
     said step stands in
     let t = telling split c view host thread world after to m step turn stands misbehaving told in
     loosened split c view host thread world after to m t
     (hands_over split c view host thread world after to m t trusting token has turn.running turn.turned) trusting
 
 -- whatever the turn hands over
-pub holder_goes : AreLaws → (split : Split) (labelled : Labelled) (needs : NeedsShape) (hosts : HostsShape)
-    (plan : PlanShape) (bad : ℕ) (store : List (List ℤ)) (events : List Event) (world after : WorldShape)
+pub holder_goes : AreLaws → (split : Split) (placed : PlacedProgram) (bad : ℕ) (store : List (List ℤ))
+    (events : List Event) (world after : WorldShape)
     (host : HostId) (thread : ThreadShape) (c : Configuration) (view : View) →
-    threat_in split ≡ threat_of labelled needs hosts plan split.table bad → IsSplittable labelled hosts plan →
-    IsAllowed labelled needs hosts plan → IsHeld labelled needs hosts plan →
-    IsReached split.code hosts.hosts bad store events world → CodeHasNumbers split.code → RowsHaveNumbers store →
+    threat_in split ≡ threat_of placed split.table bad → IsSplittable placed.labelled placed.hosts placed.plan →
+    IsAllowed placed → IsHeld placed →
+    IsReached split.code placed.hosts.hosts bad store events world → CodeHasNumbers split.code → RowsHaveNumbers store →
     All EventHasNumbers events → IsTurnStep split.code world host after →
     StandsBy split c view (runs host thread) world →
     Goes split c after ⊎ (Stalls split c host after ⊎ Loosens split c after)
-holder_goes laws split labelled needs hosts plan bad store events world after host thread c view same splittable allowed
+holder_goes laws split placed bad store events world after host thread c view same splittable allowed
     held reach code_numbers store_numbers said step stands =
     let exposed = ap (λ (t : Threat). t.exposure.bad) same in
     let turn =
-    turn_of split hosts.hosts bad store events world after host thread c view exposed reach code_numbers store_numbers
+    turn_of split placed.hosts.hosts bad store events world after host thread c view exposed reach code_numbers
+    store_numbers
     said step stands in
     elim (tells split c view host thread world after step turn turn.turned) [
       | inl quiet ↦
-          inl (holder_turned split hosts.hosts bad store events world after host thread c view exposed reach
+          inl (holder_turned split placed.hosts.hosts bad store events world after host thread c view exposed reach
           code_numbers store_numbers said step quiet stands)
       | inr one ↦ inr (by_token one (token_in one.m) refl)
     ]
@@ -509,8 +508,8 @@ holder_goes laws split labelled needs hosts plan bad store events world after ho
     by_token : (one : TellsOne host world after) (token : Option Token) → token_in one.m ≡ token →
         Stalls split c host after ⊎ Loosens split c after
     by_token one None none =
-        inl (holder_sends split labelled needs hosts plan bad store events world after host thread c view one.to one.m
+        inl (holder_sends split placed bad store events world after host thread c view one.to one.m
         same allowed held reach code_numbers store_numbers said step one.bad one.told none stands)
     by_token one (Some token) some =
-        inr (holder_loosens laws split labelled needs hosts plan bad store events world after host thread c view one.to
+        inr (holder_loosens laws split placed bad store events world after host thread c view one.to
         one.m token same splittable allowed reach code_numbers store_numbers said step one.bad one.told some stands)

@@ -5,16 +5,12 @@ use Rattle.std.specs.Option.{option_map}
 use Rattle.std.proofs.lemmas.Option.{slice_get-map}
 use Rattle.label_lattice.specs.declared.label.Label.{Label}
 use Rattle.label_lattice.specs.Label.{IntegFlows}
-use Rattle.host_decl.specs.Hosts.{HostsShape}
 use Rattle.jif_tree.specs.Trees.{FieldTree}
-use Rattle.need_labels.specs.Labelled.{Labelled}
-use Rattle.need_labels.specs.Needs.{NeedsShape}
-use Rattle.need_labels.specs.Plan.{PlanShape}
-use Rattle.msg_cost.specs.Moves.{planned_of}
 use Rattle.host_code.specs.Sound.{IsSoundCode}
 use Rattle.event_text.specs.declared.event.Event.{Event}
 use Rattle.net_world.specs.Fits.{HasOwnToken}
 use Rattle.net_world.specs.World.{WorldShape, IsStep, IsRun, world_at_start}
+use Rattle.split_rules.specs.Placed.{PlacedProgram, planned_from}
 use Rattle.split_rules.specs.Allowed.{IsAllowed}
 use Rattle.split_rules.specs.Opening.{IsOpenCode, HasOwnLabels}
 use Rattle.split_rules.specs.SplitCode.{split_code}
@@ -28,59 +24,59 @@ use Rattle.integrity.proofs.OpenWorlds.{StaysOpen, bad_reached, open_step, open_
 
 -- what the laws of the splitting say of the code of a program
 pub record AreLaws : Type 0 where
-  pub opens : (labelled : Labelled) (needs : NeedsShape) (hosts : HostsShape) (plan : PlanShape) (table : Table) →
-      IsSplittable labelled hosts plan → IsAllowed labelled needs hosts plan →
-      IsTypedCode (planned_of labelled needs hosts plan) (split_code labelled needs hosts plan) table →
-      IsOpenCode (planned_of labelled needs hosts plan) (split_code labelled needs hosts plan) table
-  pub labels : (labelled : Labelled) (needs : NeedsShape) (hosts : HostsShape) (plan : PlanShape) →
-      IsSplittable labelled hosts plan →
-      HasOwnLabels labelled (planned_of labelled needs hosts plan) (split_code labelled needs hosts plan)
+  pub opens : (placed : PlacedProgram) (table : Table) →
+      IsSplittable placed.labelled placed.hosts placed.plan → IsAllowed placed →
+      IsTypedCode (planned_from placed) (split_code placed) table →
+      IsOpenCode (planned_from placed) (split_code placed) table
+  pub labels : (placed : PlacedProgram) →
+      IsSplittable placed.labelled placed.hosts placed.plan →
+      HasOwnLabels placed.labelled (planned_from placed) (split_code placed)
 
 label_flows : (label : Label) (found : Option FieldTree) → IsSomeAnd found (λ tree. IntegFlows label tree.label) →
     IsSomeAnd (option_map (λ (tree : FieldTree). tree.label) found) (IntegFlows label)
 label_flows label None flows = flows
 label_flows label (Some tree) flows = flows
 
-pub known : AreLaws → (labelled : Labelled) (needs : NeedsShape) (hosts : HostsShape) (plan : PlanShape)
-    (table : Table) (bad : ℕ) → IsSplittable labelled hosts plan → IsAllowed labelled needs hosts plan →
-    IsTypedCode (planned_of labelled needs hosts plan) (split_code labelled needs hosts plan) table →
-    IsSoundCode (split_code labelled needs hosts plan) → IsKnown (threat_of labelled needs hosts plan table bad)
-known laws labelled needs hosts plan table bad splittable allowed typed sound =
-    let own = laws.labels labelled needs hosts plan splittable in
+pub known : AreLaws → (placed : PlacedProgram) (table : Table) (bad : ℕ) →
+    IsSplittable placed.labelled placed.hosts placed.plan → IsAllowed placed →
+    IsTypedCode (planned_from placed) (split_code placed) table →
+    IsSoundCode (split_code placed) → IsKnown (threat_of placed table bad)
+known laws placed table bad splittable allowed typed sound =
+    let own = laws.labels placed splittable in
     record {
       sound = sound;
-      opens = laws.opens labelled needs hosts plan table splittable allowed typed;
+      opens = laws.opens placed table splittable allowed typed;
       fields = λ label field may.
           subst (λ (o : Option Label). IsSomeAnd o (IntegFlows label))
-          (sym (slice_get-map (λ (tree : FieldTree). tree.label) labelled.program.fields field.0))
-          (label_flows label (slice_get labelled.program.fields field.0) ((own.of_fields label field).0 may));
+          (sym (slice_get-map (λ (tree : FieldTree). tree.label) placed.labelled.program.fields field.0))
+          (label_flows label (slice_get placed.labelled.program.fields field.0) ((own.of_fields label field).0 may));
       variables = λ label x may. (own.of_variables label x).0 may;
     }
 
-pub kept : AreLaws → (labelled : Labelled) (needs : NeedsShape) (hosts : HostsShape) (plan : PlanShape) (table : Table)
-    (bad : ℕ) (store : List (List ℤ)) (events : List Event) (world after : WorldShape) (event : Event) →
-    IsSplittable labelled hosts plan → IsAllowed labelled needs hosts plan →
-    IsTypedCode (planned_of labelled needs hosts plan) (split_code labelled needs hosts plan) table →
-    IsReached (split_code labelled needs hosts plan) hosts.hosts bad store events world →
-    IsStep (split_code labelled needs hosts plan) world event after →
-    IsOutside (threat_of labelled needs hosts plan table bad) world →
-    StaysOpen (threat_of labelled needs hosts plan table bad) world after
-kept laws labelled needs hosts plan table bad store events world after event splittable allowed typed reach step =
-    let threat = threat_of labelled needs hosts plan table bad in
-    open_step threat (known laws labelled needs hosts plan table bad splittable allowed typed reach.sound) world after
-    event (fits_there threat.code hosts.hosts bad store events world reach)
-    (bad_reached threat hosts.hosts bad store events world refl reach) step
+pub kept : AreLaws → (placed : PlacedProgram) (table : Table) (bad : ℕ) (store : List (List ℤ)) (events : List Event)
+    (world after : WorldShape) (event : Event) →
+    IsSplittable placed.labelled placed.hosts placed.plan → IsAllowed placed →
+    IsTypedCode (planned_from placed) (split_code placed) table →
+    IsReached (split_code placed) placed.hosts.hosts bad store events world →
+    IsStep (split_code placed) world event after →
+    IsOutside (threat_of placed table bad) world →
+    StaysOpen (threat_of placed table bad) world after
+kept laws placed table bad store events world after event splittable allowed typed reach step =
+    let threat = threat_of placed table bad in
+    open_step threat (known laws placed table bad splittable allowed typed reach.sound) world after
+    event (fits_there threat.code placed.hosts.hosts bad store events world reach)
+    (bad_reached threat placed.hosts.hosts bad store events world refl reach) step
 
-pub along : AreLaws → (labelled : Labelled) (needs : NeedsShape) (hosts : HostsShape) (plan : PlanShape) (table : Table)
-    (bad : ℕ) (store : List (List ℤ)) (events more : List Event) (world after : WorldShape) →
-    IsSplittable labelled hosts plan → IsAllowed labelled needs hosts plan →
-    IsTypedCode (planned_of labelled needs hosts plan) (split_code labelled needs hosts plan) table →
-    IsReached (split_code labelled needs hosts plan) hosts.hosts bad store events world →
-    All (HasOwnToken (world_at_start (split_code labelled needs hosts plan) hosts.hosts bad store)) more →
-    IsRun (split_code labelled needs hosts plan) world more after →
-    IsOutside (threat_of labelled needs hosts plan table bad) world →
-    StaysOpen (threat_of labelled needs hosts plan table bad) world after
-along laws labelled needs hosts plan table bad store events more world after splittable allowed typed reach =
-    let threat = threat_of labelled needs hosts plan table bad in
-    open_run threat (known laws labelled needs hosts plan table bad splittable allowed typed reach.sound) hosts.hosts
+pub along : AreLaws → (placed : PlacedProgram) (table : Table) (bad : ℕ) (store : List (List ℤ))
+    (events more : List Event) (world after : WorldShape) →
+    IsSplittable placed.labelled placed.hosts placed.plan → IsAllowed placed →
+    IsTypedCode (planned_from placed) (split_code placed) table →
+    IsReached (split_code placed) placed.hosts.hosts bad store events world →
+    All (HasOwnToken (world_at_start (split_code placed) placed.hosts.hosts bad store)) more →
+    IsRun (split_code placed) world more after →
+    IsOutside (threat_of placed table bad) world →
+    StaysOpen (threat_of placed table bad) world after
+along laws placed table bad store events more world after splittable allowed typed reach =
+    let threat = threat_of placed table bad in
+    open_run threat (known laws placed table bad splittable allowed typed reach.sound) placed.hosts.hosts
     bad store events more world after refl reach

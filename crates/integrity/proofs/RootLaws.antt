@@ -7,20 +7,16 @@ use Rattle.std.specs.List.Sorted.{IsNonDecreasing}
 use Rattle.std.proofs.lemmas.List.{get_or-replicate, length-replicate}
 use Rattle.std.proofs.lemmas.List.Elements.{All-nil, All-take}
 use Rattle.host_decl.specs.Hosts as declared_hosts
-use Rattle.host_decl.specs.Hosts.{HostsShape}
 use Rattle.jif_tree.specs.declared.program.Program.{Program}
 use Rattle.jif_tree.specs.Altered.{Exposure, FieldIsAffected}
 use Rattle.jif_tree.specs.SourceRun.{configuration_at_start}
 use Rattle.jif_tree.specs.Store.{row_of}
-use Rattle.need_labels.specs.Labelled.{Labelled}
-use Rattle.need_labels.specs.Needs.{NeedsShape}
-use Rattle.need_labels.specs.Plan.{PlanShape}
-use Rattle.msg_cost.specs.Moves.{planned_of}
 use Rattle.host_code.specs.Code.{CodeShape}
 use Rattle.event_text.specs.declared.event.Event.{Event}
 use Rattle.host_core.specs.Host.{HostShape}
 use Rattle.net_world.specs.Fits.{HasOwnToken}
 use Rattle.net_world.specs.World.{WorldShape, IsRun, world_at_start, state_at, has_halted}
+use Rattle.split_rules.specs.Placed.{PlacedProgram, planned_from}
 use Rattle.split_rules.specs.Allowed.{IsAllowed}
 use Rattle.split_rules.specs.SplitCode.{split_code}
 use Rattle.split_rules.specs.Splittable.{IsSplittable}
@@ -97,11 +93,11 @@ none_falls count i j d le lt =
 -- besides what opens, split programs have typed code
 pub record AreSplitLaws : Type 0 where
   pub opening : AreLaws
-  pub typable : (labelled : Labelled) (needs : NeedsShape) (hosts : HostsShape) (plan : PlanShape) →
-      IsAllowed labelled needs hosts plan → IsTypable (planned_of labelled needs hosts plan)
-  pub typed : (labelled : Labelled) (needs : NeedsShape) (hosts : HostsShape) (plan : PlanShape) →
-      IsSplittable labelled hosts plan → IsTypable (planned_of labelled needs hosts plan) →
-      (table : Table) × IsTypedCode (planned_of labelled needs hosts plan) (split_code labelled needs hosts plan) table
+  pub typable : (placed : PlacedProgram) →
+      IsAllowed placed → IsTypable (planned_from placed)
+  pub typed : (placed : PlacedProgram) →
+      IsSplittable placed.labelled placed.hosts placed.plan → IsTypable (planned_from placed) →
+      (table : Table) × IsTypedCode (planned_from placed) (split_code placed) table
 
 start_reached : (code : CodeShape) (rows : List declared_hosts.HostShape) (bad : ℕ) (store : List (List ℤ))
     (events : List Event) (world : WorldShape) → IsReached code rows bad store events world →
@@ -109,44 +105,45 @@ start_reached : (code : CodeShape) (rows : List declared_hosts.HostShape) (bad :
 start_reached code rows bad store events world reach =
     record { sound = reach.sound; hosts = reach.hosts; own = All-nil _; ran = refl }
 
-module _ (laws : AreSplitLaws) (program : Program) (labelled : Labelled) (needs : NeedsShape) (hosts : HostsShape)
-    (plan : PlanShape) (bad : ℕ) (store : List (List ℤ)) (splittable : IsSplittable labelled hosts plan)
-    (allowed : IsAllowed labelled needs hosts plan)
-    (misbehaving : bit_at bad (split_code labelled needs hosts plan).root.0 ≡ 1) where
+module _ (laws : AreSplitLaws) (program : Program) (placed : PlacedProgram) (bad : ℕ) (store : List (List ℤ))
+    (splittable : IsSplittable placed.labelled placed.hosts placed.plan)
+    (allowed : IsAllowed placed)
+    (misbehaving : bit_at bad (split_code placed).root.0 ≡ 1) where
   -- at every moment
   stands_after : (events more : List Event) (world last : WorldShape) →
-      IsReached (split_code labelled needs hosts plan) hosts.hosts bad store events last →
-      All (HasOwnToken (world_at_start (split_code labelled needs hosts plan) hosts.hosts bad store)) more →
-      IsRun (split_code labelled needs hosts plan)
-      (world_at_start (split_code labelled needs hosts plan) hosts.hosts bad store) more world →
-      StandsFor (split_code labelled needs hosts plan) (exposure_of labelled needs hosts bad) world
+      IsReached (split_code placed) placed.hosts.hosts bad store events last →
+      All (HasOwnToken (world_at_start (split_code placed) placed.hosts.hosts bad store)) more →
+      IsRun (split_code placed)
+      (world_at_start (split_code placed) placed.hosts.hosts bad store) more world →
+      StandsFor (split_code placed) (exposure_of placed.labelled placed.needs placed.hosts bad) world
       (configuration_at_start program store)
   stands_after events more world last reach own ran =
-      let code = split_code labelled needs hosts plan in
-      let exposure = exposure_of labelled needs hosts bad in
-      let typed = laws.typed labelled needs hosts plan splittable (laws.typable labelled needs hosts plan allowed) in
+      let code = split_code placed in
+      let exposure = exposure_of placed.labelled placed.needs placed.hosts bad in
+      let typed = laws.typed placed splittable (laws.typable placed allowed) in
       let stays =
-      (along laws.opening labelled needs hosts plan typed.0 bad store [] more
-      (world_at_start code hosts.hosts bad store) world splittable allowed typed.1
-      (start_reached code hosts.hosts bad store events last reach) own ran
-      (outside_at_start (threat_of labelled needs hosts plan typed.0 bad) hosts.hosts bad store misbehaving)).1 in
+      (along laws.opening placed typed.0 bad store [] more
+      (world_at_start code placed.hosts.hosts bad store) world splittable allowed typed.1
+      (start_reached code placed.hosts.hosts bad store events last reach) own ran
+      (outside_at_start (threat_of placed typed.0 bad) placed.hosts.hosts bad store misbehaving)).1 in
       record {
-        fields = fields_stand code exposure hosts.hosts bad store world stays;
-        halted = λ halted. absurd (root_runs code exposure hosts.hosts bad store world misbehaving stays halted);
+        fields = fields_stand code exposure placed.hosts.hosts bad store world stays;
+        halted = λ halted. absurd (root_runs code exposure placed.hosts.hosts bad store world misbehaving stays halted);
       }
 
   pub starting : (events : List Event) (world : WorldShape) →
-      IsReached (split_code labelled needs hosts plan) hosts.hosts bad store events world →
-      StandsFor (split_code labelled needs hosts plan) (exposure_of labelled needs hosts bad) world
+      IsReached (split_code placed) placed.hosts.hosts bad store events world →
+      StandsFor (split_code placed) (exposure_of placed.labelled placed.needs placed.hosts bad) world
       (configuration_at_start program store)
   starting events world reach = stands_after events events world world reach reach.own reach.ran
 
   pub follows_nothing : (events : List Event) (world : WorldShape) →
-      IsReached (split_code labelled needs hosts plan) hosts.hosts bad store events world →
-      FollowsAltered program (exposure_of labelled needs hosts bad) (split_code labelled needs hosts plan) hosts.hosts
+      IsReached (split_code placed) placed.hosts.hosts bad store events world →
+      FollowsAltered program (exposure_of placed.labelled placed.needs placed.hosts bad)
+      (split_code placed) placed.hosts.hosts
       bad store events
   follows_nothing events world reach =
-      let start = world_at_start (split_code labelled needs hosts plan) hosts.hosts bad store in
+      let start = world_at_start (split_code placed) placed.hosts.hosts bad store in
       let c = configuration_at_start program store in
       record {
         run = c ∷ [];
@@ -157,7 +154,7 @@ module _ (laws : AreSplitLaws) (program : Program) (labelled : Labelled) (needs 
         rising = none_falls (length events + 1);
         stands = λ moment there within ran.
             subst (λ (place : ℕ). IsSomeAnd (slice_get (c ∷ []) place)
-            (StandsFor (split_code labelled needs hosts plan) (exposure_of labelled needs hosts bad) there))
+            (StandsFor (split_code placed) (exposure_of placed.labelled placed.needs placed.hosts bad) there))
             (sym (each_first (length events + 1) moment 0 (omega arith)))
             (stands_after events (take moment events) there world reach
             (All-take (HasOwnToken start) moment events reach.own) ran);

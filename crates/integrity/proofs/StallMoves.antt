@@ -7,7 +7,6 @@ use Rattle.std.specs.List.{AllByRecursion}
 use Rattle.js_base.specs.declared.ids.FieldId.{FieldId}
 use Rattle.js_base.specs.declared.ids.HostId.{HostId}
 use Rattle.host_decl.specs.Hosts as declared_hosts
-use Rattle.host_decl.specs.Hosts.{HostsShape}
 use Rattle.jif_tree.specs.Altered.{FieldIsAffected}
 use Rattle.jif_tree.specs.SourceRun.{Configuration}
 use Rattle.jif_tree.specs.Store.{row_of, element_at}
@@ -21,9 +20,7 @@ use Rattle.host_code.specs.Thread.Awaited.{acknowledgement}
 use Rattle.host_core.specs.Host.{HostShape, with_message, without_message, with_running, after_asking}
 use Rattle.host_core.specs.Turn.{label_of_turn}
 use Rattle.event_text.specs.declared.event.Event.{Event}
-use Rattle.need_labels.specs.Labelled.{Labelled}
-use Rattle.need_labels.specs.Needs.{NeedsShape}
-use Rattle.need_labels.specs.Plan.{PlanShape}
+use Rattle.split_rules.specs.Placed.{PlacedProgram}
 use Rattle.split_rules.specs.Allowed.{IsAllowed}
 use Rattle.split_rules.specs.Held.{IsHeld}
 use Rattle.net_world.specs.World.{state_at, WorldShape, IsTurnStep, misbehaves}
@@ -155,24 +152,25 @@ holder_stalls split rows bad store events world after host thread c view to m sa
     stalls_by split c view host thread world after to m
     (telling split c view host thread world after to m step turn stands misbehaving told) fresh opens turn.turned
 
-pub holder_sends : (split : Split) (labelled : Labelled) (needs : NeedsShape) (hosts : HostsShape) (plan : PlanShape)
-    (bad : ℕ) (store : List (List ℤ)) (events : List Event) (world after : WorldShape) (host : HostId)
+pub holder_sends : (split : Split) (placed : PlacedProgram) (bad : ℕ) (store : List (List ℤ)) (events : List Event)
+    (world after : WorldShape) (host : HostId)
     (thread : ThreadShape) (c : Configuration) (view : View) (to : HostId) (m : Message) →
-    threat_in split ≡ threat_of labelled needs hosts plan split.table bad → IsAllowed labelled needs hosts plan →
-    IsHeld labelled needs hosts plan → IsReached split.code hosts.hosts bad store events world →
+    threat_in split ≡ threat_of placed split.table bad → IsAllowed placed →
+    IsHeld placed → IsReached split.code placed.hosts.hosts bad store events world →
     CodeHasNumbers split.code → RowsHaveNumbers store → All EventHasNumbers events →
     IsTurnStep split.code world host after → misbehaves world to ≡ true →
     after.sent ≡ world.sent ++ (host, to, m) ∷ [] → token_in m ≡ None →
     StandsBy split c view (runs host thread) world → Stalls split c host after
-holder_sends split labelled needs hosts plan bad store events world after host thread c view to m same allowed held
+holder_sends split placed bad store events world after host thread c view to m same allowed held
     reach code_numbers store_numbers said step misbehaving told none stands =
     let exposed = ap (λ (t : Threat). t.exposure.bad) same in
-    let is = lawful (threat_in split) hosts.hosts bad store events world exposed reach in
-    holder_stalls split hosts.hosts bad store events world after host thread c view to m exposed reach code_numbers
+    let is = lawful (threat_in split) placed.hosts.hosts bad store events world exposed reach in
+    holder_stalls split placed.hosts.hosts bad store events world after host thread c view to m exposed reach
+    code_numbers
     store_numbers said step misbehaving told
     (λ token has top. absurd (let never : None ≡ Some token = sym none ∙ has in cc))
     (λ field on.
-    field_on_bad split labelled needs hosts plan bad world same allowed held is.bad field to on misbehaving) stands
+    field_on_bad split placed bad world same allowed held is.bad field to on misbehaving) stands
 
 -- ---- a turn tells a misbehaving host something, or nothing
 

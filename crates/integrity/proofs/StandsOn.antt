@@ -4,15 +4,12 @@ use Rattle.std.proofs.Common.{refl, sym, ap, subst}
 use Rattle.std.specs.Prelude.{slice_set, IsTrue}
 use Rattle.js_base.specs.declared.ids.HostId.{HostId}
 use Rattle.js_base.specs.declared.ids.FrameId.{FrameId}
-use Rattle.host_decl.specs.Hosts.{HostsShape}
 use Rattle.jif_tree.specs.SourceRun.{Configuration}
-use Rattle.need_labels.specs.Labelled.{Labelled}
-use Rattle.need_labels.specs.Needs.{NeedsShape}
-use Rattle.need_labels.specs.Plan.{PlanShape}
 use Rattle.host_core.specs.Host.{HostShape}
 use Rattle.event_text.specs.declared.event.Event.{Event}
 use Rattle.net_world.specs.Fits.{HasOwnToken}
 use Rattle.net_world.specs.World.{WorldShape, IsStep, state_at, has_halted, world_at_start}
+use Rattle.split_rules.specs.Placed.{PlacedProgram}
 use Rattle.split_rules.specs.Positions.{Forward}
 use Rattle.typed_steps.specs.Variables.{AreSent, Sends}
 use Rattle.typed_steps.specs.Views.{Split, View, entries_of}
@@ -106,37 +103,37 @@ stands_after split c view holder world after stands leaves tight =
 -- ---- the law
 
 -- what is known of the code of a split program
-pub known_in : AreLaws → (split : Split) (labelled : Labelled) (needs : NeedsShape) (hosts : HostsShape)
-    (plan : PlanShape) (bad : ℕ) → threat_in split ≡ threat_of labelled needs hosts plan split.table bad →
-    IsSplittable labelled hosts plan → IsAllowed labelled needs hosts plan → IsKnown (threat_in split)
-known_in laws split labelled needs hosts plan bad is splittable allowed =
+pub known_in : AreLaws → (split : Split) (placed : PlacedProgram) (bad : ℕ) → threat_in split
+    ≡ threat_of placed split.table bad →
+    IsSplittable placed.labelled placed.hosts placed.plan → IsAllowed placed → IsKnown (threat_in split)
+known_in laws split placed bad is splittable allowed =
     let planned = ap (λ (t : Threat). t.planned) is in
     let code = ap (λ (t : Threat). t.code) is in
     subst (λ t. IsKnown t) (sym is)
-    (known laws labelled needs hosts plan split.table bad splittable allowed
-    (subst (λ p. IsTypedCode p (split_code labelled needs hosts plan) split.table) planned
+    (known laws placed split.table bad splittable allowed
+    (subst (λ p. IsTypedCode p (split_code placed) split.table) planned
     (subst (λ k. IsTypedCode split.planned k split.table) code split.typed))
     (subst (λ k. IsSoundCode k) code split.sound))
 
-pub stands_kept : AreLaws → (split : Split) (labelled : Labelled) (needs : NeedsShape) (hosts : HostsShape)
-    (plan : PlanShape) (bad : ℕ) (store : List (List ℤ)) (events : List Event) (world after : WorldShape)
+pub stands_kept : AreLaws → (split : Split) (placed : PlacedProgram) (bad : ℕ) (store : List (List ℤ))
+    (events : List Event) (world after : WorldShape)
     (event : Event) (c : Configuration) (view : View) (holder : Holder) →
-    threat_in split ≡ threat_of labelled needs hosts plan split.table bad → IsSplittable labelled hosts plan →
-    IsAllowed labelled needs hosts plan → IsReached split.code hosts.hosts bad store events world →
-    HasOwnToken (world_at_start split.code hosts.hosts bad store) event → IsStep split.code world event after →
+    threat_in split ≡ threat_of placed split.table bad → IsSplittable placed.labelled placed.hosts placed.plan →
+    IsAllowed placed → IsReached split.code placed.hosts.hosts bad store events world →
+    HasOwnToken (world_at_start split.code placed.hosts.hosts bad store) event → IsStep split.code world event after →
     StandsBy split c view holder world → ¬ IsOwn holder world event → StandsBy split c view holder after
-stands_kept laws split labelled needs hosts plan bad store events world after event c view holder same splittable
+stands_kept laws split placed bad store events world after event c view holder same splittable
     allowed reach own step stands apart =
     let threat = threat_in split in
     let chain = entries_of view.chain in
     let is =
-    lawful threat hosts.hosts bad store events world (ap (λ (t : Threat). t.exposure.bad) same) reach in
-    let own_here = own_there split.code hosts.hosts bad store events world event reach own in
-    let next = one_more split.code hosts.hosts bad store events world after event reach own step in
+    lawful threat placed.hosts.hosts bad store events world (ap (λ (t : Threat). t.exposure.bad) same) reach in
+    let own_here = own_there split.code placed.hosts.hosts bad store events world event reach own in
+    let next = one_more split.code placed.hosts.hosts bad store events world after event reach own step in
     let leaves =
-    event_leaves threat (known_in laws split labelled needs hosts plan bad same splittable allowed) chain holder world
+    event_leaves threat (known_in laws split placed bad same splittable allowed) chain holder world
     after event is own_here step stands.tight apart in
     stands_after split c view holder world after stands leaves
     (tight_after threat chain holder world after is
-    (fits_there split.code hosts.hosts bad store (events ++ event ∷ []) after next)
+    (fits_there split.code placed.hosts.hosts bad store (events ++ event ∷ []) after next)
     (account split.code world after event reach.sound is.fits own_here step) stands.tight leaves)

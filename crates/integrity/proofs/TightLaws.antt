@@ -2,16 +2,12 @@
 use Rattle.std.proofs.Common.{◌≡◌, ℕ, ℤ, List, [], ◌∷◌, ◌++◌, refl}
 use Rattle.std.specs.List.{AllByRecursion}
 use Rattle.host_decl.specs.Hosts as declared_hosts
-use Rattle.host_decl.specs.Hosts.{HostsShape}
 use Rattle.ics_stack.specs.declared.stack.StackEntry.{StackEntry}
-use Rattle.need_labels.specs.Labelled.{Labelled}
-use Rattle.need_labels.specs.Needs.{NeedsShape}
-use Rattle.need_labels.specs.Plan.{PlanShape}
-use Rattle.msg_cost.specs.Moves.{planned_of}
 use Rattle.event_text.specs.declared.event.Event.{Event}
 use Rattle.event_text.specs.declared.event.Event.TheVariants.{Take, Turn, Act}
 use Rattle.net_world.specs.Fits.{ShapeFits, HasOwnToken}
 use Rattle.net_world.specs.World.{WorldShape, IsStep, world_at_start}
+use Rattle.split_rules.specs.Placed.{PlacedProgram, planned_from}
 use Rattle.split_rules.specs.Allowed.{IsAllowed}
 use Rattle.split_rules.specs.SplitCode.{split_code}
 use Rattle.split_rules.specs.Splittable.{IsSplittable}
@@ -99,30 +95,30 @@ abbrev pub StaysTight : Threat → List StackEntry → Holder → WorldShape →
 StaysTight threat chain holder world after =
     IsTight threat chain holder after × AreAsBefore threat.exposure world after
 
-pub kept : AreLaws → (labelled : Labelled) (needs : NeedsShape) (hosts : HostsShape) (plan : PlanShape) (table : Table)
-    (bad : ℕ) (store : List (List ℤ)) (events : List Event) (world after : WorldShape) (event : Event)
-    (chain : List StackEntry) (holder : Holder) → IsSplittable labelled hosts plan →
-    IsAllowed labelled needs hosts plan →
-    IsTypedCode (planned_of labelled needs hosts plan) (split_code labelled needs hosts plan) table →
-    IsReached (split_code labelled needs hosts plan) hosts.hosts bad store events world →
-    HasOwnToken (world_at_start (split_code labelled needs hosts plan) hosts.hosts bad store) event →
-    IsStep (split_code labelled needs hosts plan) world event after →
-    IsTight (threat_of labelled needs hosts plan table bad) chain holder world → ¬ IsOwn holder world event →
-    StaysTight (threat_of labelled needs hosts plan table bad) chain holder world after
-kept laws labelled needs hosts plan table bad store events world after event chain holder splittable allowed typed reach
+pub kept : AreLaws → (placed : PlacedProgram) (table : Table) (bad : ℕ) (store : List (List ℤ)) (events : List Event)
+    (world after : WorldShape) (event : Event)
+    (chain : List StackEntry) (holder : Holder) → IsSplittable placed.labelled placed.hosts placed.plan →
+    IsAllowed placed →
+    IsTypedCode (planned_from placed) (split_code placed) table →
+    IsReached (split_code placed) placed.hosts.hosts bad store events world →
+    HasOwnToken (world_at_start (split_code placed) placed.hosts.hosts bad store) event →
+    IsStep (split_code placed) world event after →
+    IsTight (threat_of placed table bad) chain holder world → ¬ IsOwn holder world event →
+    StaysTight (threat_of placed table bad) chain holder world after
+kept laws placed table bad store events world after event chain holder splittable allowed typed reach
     own step tight apart =
-    let threat = threat_of labelled needs hosts plan table bad in
+    let threat = threat_of placed table bad in
     let code = threat.code in
-    let is = lawful threat hosts.hosts bad store events world refl reach in
-    let own_here = own_there code hosts.hosts bad store events world event reach own in
-    let next = one_more code hosts.hosts bad store events world after event reach own step in
+    let is = lawful threat placed.hosts.hosts bad store events world refl reach in
+    let own_here = own_there code placed.hosts.hosts bad store events world event reach own in
+    let next = one_more code placed.hosts.hosts bad store events world after event reach own step in
     let leaves =
     event_leaves threat
-    (known laws labelled needs hosts plan table bad splittable allowed typed reach.sound) chain holder
+    (known laws placed table bad splittable allowed typed reach.sound) chain holder
     world after event is own_here step tight apart in
     let move = leaves.alone in (
       tight_after threat chain holder world after is
-          (fits_there code hosts.hosts bad store (events ++ event ∷ []) after next)
+          (fits_there code placed.hosts.hosts bad store (events ++ event ∷ []) after next)
           (account code world after event reach.sound is.fits own_here step) tight leaves,
       before_after threat.exposure world after move.me move.old move.new move.obeys move.puts leaves.stays,
     )

@@ -28,8 +28,12 @@ use Rattle.integrity.specs.Outside.{Threat, threat_of}
 
 abbrev pub sent_threat : ℕ → Threat
 sent_threat bad =
-    threat_of (labelled_with sent_local (trusted_by_first ∷ [])) sent_local.needs sent_local.hosts sent_local.plan
-    sent_table bad
+    threat_of (record {
+      labelled = labelled_with sent_local (trusted_by_first ∷ []);
+      needs = sent_local.needs;
+      hosts = sent_local.hosts;
+      plan = sent_local.plan;
+    }) sent_table bad
 
 -- the first host with nothing on its stack, where a thread is about to send the local
 abbrev idle : HostShape

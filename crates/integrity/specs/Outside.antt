@@ -2,18 +2,15 @@
 use Rattle.std.specs.Prelude.{◌≢◌, ⊤, ℕ, All, Any, IfSome}
 use Rattle.js_base.specs.declared.ids.HostId.{HostId}
 use Rattle.js_base.specs.declared.ids.EntryId.{EntryId}
-use Rattle.host_decl.specs.Hosts.{HostsShape}
 use Rattle.jif_tree.specs.Altered.{Exposure, FieldIsAffected, VariableIsAffected}
-use Rattle.need_labels.specs.Labelled.{Labelled}
-use Rattle.need_labels.specs.Needs.{NeedsShape}
-use Rattle.need_labels.specs.Plan.{PlanShape}
-use Rattle.msg_cost.specs.Moves.{PlannedShape, planned_of}
+use Rattle.msg_cost.specs.Moves.{PlannedShape}
 use Rattle.host_code.specs.declared.message.Message.{Message}
 use Rattle.host_code.specs.declared.message.Message.TheVariants as message
 use Rattle.host_code.specs.Code.{CodeShape, halt}
 use Rattle.host_code.specs.Thread.{ThreadShape}
 use Rattle.host_core.specs.Host.{HostShape}
 use Rattle.net_world.specs.World.{WorldShape, state_at}
+use Rattle.split_rules.specs.Placed.{PlacedProgram, planned_from}
 use Rattle.split_rules.specs.Opening.{IsOpenTo, HasNeed}
 use Rattle.split_rules.specs.SplitCode.{split_code}
 use Rattle.split_rules.specs.TypedCode.{Table}
@@ -27,12 +24,12 @@ pub record Threat : Type 0 where
   pub exposure : Exposure
 
 -- those of a program that is split by a plan, where the hosts of the word's bits misbehave
-abbrev pub threat_of : Labelled → NeedsShape → HostsShape → PlanShape → Table → ℕ → Threat
-threat_of labelled needs hosts plan table bad = record {
-  planned = planned_of labelled needs hosts plan;
-  code = split_code labelled needs hosts plan;
+abbrev pub threat_of : PlacedProgram → Table → ℕ → Threat
+threat_of placed table bad = record {
+  planned = planned_from placed;
+  code = split_code placed;
   table = table;
-  exposure = exposure_of labelled needs hosts bad;
+  exposure = exposure_of placed.labelled placed.needs placed.hosts bad;
 }
 
 -- Some misbehaving host is trusted for all that is due at a place of a host.

@@ -6,15 +6,11 @@ ghost use Rattle.js_base.specs.declared.ids.FieldId.{FieldId};
 ghost use Rattle.js_base.specs.declared.ids.FrameId.{FrameId};
 ghost use Rattle.js_base.specs.declared.ids.HostId.{HostId};
 ghost use Rattle.js_base.specs.declared.ids.RequestId.{RequestId};
-ghost use Rattle.host_decl.specs.Hosts.{HostsShape};
 ghost use Rattle.host_decl.specs.Hosts.{HostShape as HostRow};
 ghost use Rattle.jif_tree.specs.declared.program.Program.{Program};
 ghost use Rattle.jif_tree.specs.Altered.{Exposure, FieldIsAffected, StatementIsAffected, VariableIsAffected};
 ghost use Rattle.jif_tree.specs.SourceRun.{Configuration, configuration_at_start};
-ghost use Rattle.need_labels.specs.Labelled.{Labelled};
-ghost use Rattle.need_labels.specs.Needs.{NeedsShape};
-ghost use Rattle.need_labels.specs.Plan.{PlanShape};
-ghost use Rattle.msg_cost.specs.Moves.{PlannedShape, planned_of};
+ghost use Rattle.msg_cost.specs.Moves.{PlannedShape};
 ghost use Rattle.host_code.specs.declared.message.Message.{Message};
 ghost use Rattle.host_code.specs.declared.message.Message.TheVariants as message;
 ghost use Rattle.host_code.specs.Code.{halt};
@@ -30,6 +26,7 @@ ghost use Rattle.net_world.specs.Fits.{HasOwnToken};
 ghost use Rattle.net_world.specs.Told.{message_made, token_in};
 ghost use Rattle.net_world.specs.World.{WorldShape, IsStep, IsRun, has_halted, misbehaves, state_at, tokens_sent};
 ghost use Rattle.net_world.specs.World.{world_at_start};
+ghost use Rattle.split_rules.specs.Placed.{PlacedProgram, planned_from};
 ghost use Rattle.split_rules.specs.Walk.{entry_id};
 ghost use Rattle.split_rules.specs.Allowed.{IsAllowed};
 ghost use Rattle.split_rules.specs.Held.{IsHeld};
@@ -38,12 +35,11 @@ ghost use Rattle.split_rules.specs.Worked.{field_id, var_id, statement_id};
 ghost use Rattle.split_rules.specs.SplitCode.{split_code};
 ghost use Rattle.split_rules.specs.Splittable.{IsSplittable};
 ghost use Rattle.split_rules.specs.TypedCode.{Table, IsTypedCode};
-ghost use Rattle.token_laws.specs.Holders.{IsSent};
 ghost use Rattle.token_laws.specs.Numbers.{CodeHasNumbers, RowsHaveNumbers, EventHasNumbers, MessageHasNumbers};
 ghost use Rattle.token_laws.specs.Reached.{IsReached};
 ghost use Rattle.typed_steps.specs.Views.{Split, View};
 ghost use Rattle.simulation.specs.Obeying.{IsSet};
-ghost use Rattle.token_laws.specs.TokenExamples.{bad_start, first_token, given, handing, host_id, small, start};
+ghost use Rattle.token_laws.specs.TokenExamples.{first_token, given, handing, host_id, small, start};
 ghost use Rattle.integrity.specs.Altering.{FollowsAltered, StandsFor};
 ghost use Rattle.integrity.specs.Exposed.{AreAsBefore, FieldsStand, bad_labels, exposure_of};
 ghost use Rattle.integrity.specs.Holding.{AreLinked, Holder, runs, lost, IsOwn, IsOutsideBut, IsStanding, IsTight};
@@ -61,23 +57,24 @@ use token_laws::token_examples;
 /// Where all that goes on in a world could be the doing of misbehaving hosts, it is so after any event, and no field or
 /// variable has changed that they may not affect.
 pub fn outside_laws()
-    ensures kept { (labelled : Labelled) (needs : NeedsShape) (hosts : HostsShape) (plan : PlanShape) (table : Table)
-        (bad : ℕ) (store : List (List ℤ)) (events : List Event) (world after : WorldShape) (event : Event) →
-        let code = split_code labelled needs hosts plan in
-        let threat = threat_of labelled needs hosts plan table bad in
-        IsSplittable labelled hosts plan → IsAllowed labelled needs hosts plan →
-        IsTypedCode (planned_of labelled needs hosts plan) code table →
-        IsReached code hosts.hosts bad store events world → IsStep code world event after → IsOutside threat world →
+    ensures kept { (placed : PlacedProgram) (table : Table) (bad : ℕ) (store : List (List ℤ)) (events : List Event)
+        (world after : WorldShape) (event : Event) →
+        let code = split_code placed in
+        let threat = threat_of placed table bad in
+        IsSplittable placed.labelled placed.hosts placed.plan → IsAllowed placed →
+        IsTypedCode (planned_from placed) code table →
+        IsReached code placed.hosts.hosts bad store events world → IsStep code world event after →
+        IsOutside threat world →
         IsOutside threat after × AreAsBefore threat.exposure world after }
     // So it is after any list of events.
-    ensures along { (labelled : Labelled) (needs : NeedsShape) (hosts : HostsShape) (plan : PlanShape) (table : Table)
-        (bad : ℕ) (store : List (List ℤ)) (events more : List Event) (world after : WorldShape) →
-        let code = split_code labelled needs hosts plan in
-        let threat = threat_of labelled needs hosts plan table bad in
-        IsSplittable labelled hosts plan → IsAllowed labelled needs hosts plan →
-        IsTypedCode (planned_of labelled needs hosts plan) code table →
-        IsReached code hosts.hosts bad store events world →
-        All (HasOwnToken (world_at_start code hosts.hosts bad store)) more → IsRun code world more after →
+    ensures along { (placed : PlacedProgram) (table : Table) (bad : ℕ) (store : List (List ℤ))
+        (events more : List Event) (world after : WorldShape) →
+        let code = split_code placed in
+        let threat = threat_of placed table bad in
+        IsSplittable placed.labelled placed.hosts placed.plan → IsAllowed placed →
+        IsTypedCode (planned_from placed) code table →
+        IsReached code placed.hosts.hosts bad store events world →
+        All (HasOwnToken (world_at_start code placed.hosts.hosts bad store)) more → IsRun code world more after →
         IsOutside threat world → IsOutside threat after × AreAsBefore threat.exposure world after }
 {
     opening_laws();
@@ -87,23 +84,24 @@ pub fn outside_laws()
 /// obeying host, which no misbehaving host may affect, has its value at the start, and the hosts follow an altered run
 /// that makes no step.
 pub fn root_laws()
-    ensures outside { (labelled : Labelled) (needs : NeedsShape) (hosts : HostsShape) (plan : PlanShape)
-        (table : Table) (bad : ℕ) (store : List (List ℤ)) →
-        let code = split_code labelled needs hosts plan in
+    ensures outside { (placed : PlacedProgram) (table : Table) (bad : ℕ) (store : List (List ℤ)) →
+        let code = split_code placed in
         bit_at bad code.root.0 ≡ 1 →
-        IsOutside (threat_of labelled needs hosts plan table bad) (world_at_start code hosts.hosts bad store) }
-    ensures stands { (program : Program) (labelled : Labelled) (needs : NeedsShape) (hosts : HostsShape)
-        (plan : PlanShape) (bad : ℕ) (store : List (List ℤ)) (events : List Event) (world : WorldShape) →
-        let code = split_code labelled needs hosts plan in
-        IsSplittable labelled hosts plan → IsAllowed labelled needs hosts plan →
-        IsReached code hosts.hosts bad store events world → bit_at bad code.root.0 ≡ 1 →
-        StandsFor code (exposure_of labelled needs hosts bad) world (configuration_at_start program store) }
-    ensures follows { (program : Program) (labelled : Labelled) (needs : NeedsShape) (hosts : HostsShape)
-        (plan : PlanShape) (bad : ℕ) (store : List (List ℤ)) (events : List Event) (world : WorldShape) →
-        let code = split_code labelled needs hosts plan in
-        IsSplittable labelled hosts plan → IsAllowed labelled needs hosts plan →
-        IsReached code hosts.hosts bad store events world → bit_at bad code.root.0 ≡ 1 →
-        FollowsAltered program (exposure_of labelled needs hosts bad) code hosts.hosts bad store events }
+        IsOutside (threat_of placed table bad) (world_at_start code placed.hosts.hosts bad store) }
+    ensures stands { (program : Program) (placed : PlacedProgram) (bad : ℕ) (store : List (List ℤ))
+        (events : List Event) (world : WorldShape) →
+        let code = split_code placed in
+        IsSplittable placed.labelled placed.hosts placed.plan → IsAllowed placed →
+        IsReached code placed.hosts.hosts bad store events world → bit_at bad code.root.0 ≡ 1 →
+        StandsFor code (exposure_of placed.labelled placed.needs placed.hosts bad) world
+        (configuration_at_start program store) }
+    ensures follows { (program : Program) (placed : PlacedProgram) (bad : ℕ) (store : List (List ℤ))
+        (events : List Event) (world : WorldShape) →
+        let code = split_code placed in
+        IsSplittable placed.labelled placed.hosts placed.plan → IsAllowed placed →
+        IsReached code placed.hosts.hosts bad store events world → bit_at bad code.root.0 ≡ 1 →
+        FollowsAltered program (exposure_of placed.labelled placed.needs placed.hosts bad) code placed.hosts.hosts bad
+        store events }
 {
     split_laws();
     trust_laws();
@@ -121,15 +119,15 @@ pub fn chain_laws()
         state_at (world_at_start threat.code rows bad store) threat.code.root ≡ Some state →
         StartsTight threat (world_at_start threat.code rows bad store) }
     // An event that is none of the holder's leaves the chain, the holder and its token.
-    ensures kept { (labelled : Labelled) (needs : NeedsShape) (hosts : HostsShape) (plan : PlanShape) (table : Table)
-        (bad : ℕ) (store : List (List ℤ)) (events : List Event) (world after : WorldShape) (event : Event)
+    ensures kept { (placed : PlacedProgram) (table : Table) (bad : ℕ) (store : List (List ℤ)) (events : List Event)
+        (world after : WorldShape) (event : Event)
         (chain : List StackEntry) (holder : Holder) →
-        let code = split_code labelled needs hosts plan in
-        let threat = threat_of labelled needs hosts plan table bad in
-        IsSplittable labelled hosts plan → IsAllowed labelled needs hosts plan →
-        IsTypedCode (planned_of labelled needs hosts plan) code table →
-        IsReached code hosts.hosts bad store events world →
-        HasOwnToken (world_at_start code hosts.hosts bad store) event → IsStep code world event after →
+        let code = split_code placed in
+        let threat = threat_of placed table bad in
+        IsSplittable placed.labelled placed.hosts placed.plan → IsAllowed placed →
+        IsTypedCode (planned_from placed) code table →
+        IsReached code placed.hosts.hosts bad store events world →
+        HasOwnToken (world_at_start code placed.hosts.hosts bad store) event → IsStep code world event after →
         IsTight threat chain holder world → ¬ IsOwn holder world event →
         IsTight threat chain holder after × AreAsBefore threat.exposure world after }
 {
@@ -146,13 +144,14 @@ pub fn standing_laws()
         × StandsBy split (configuration_at_start split.program store) view (runs split.code.root thread)
         (world_at_start split.code rows bad store) }
     // It stands for the same configuration, by the same, after any event that is none of the holder's.
-    ensures kept { (split : Split) (labelled : Labelled) (needs : NeedsShape) (hosts : HostsShape) (plan : PlanShape)
-        (bad : ℕ) (store : List (List ℤ)) (events : List Event) (world after : WorldShape) (event : Event)
+    ensures kept { (split : Split) (placed : PlacedProgram) (bad : ℕ) (store : List (List ℤ)) (events : List Event)
+        (world after : WorldShape) (event : Event)
         (c : Configuration) (view : View) (holder : Holder) →
-        threat_in split ≡ threat_of labelled needs hosts plan split.table bad →
-        IsSplittable labelled hosts plan → IsAllowed labelled needs hosts plan →
-        IsReached split.code hosts.hosts bad store events world →
-        HasOwnToken (world_at_start split.code hosts.hosts bad store) event → IsStep split.code world event after →
+        threat_in split ≡ threat_of placed split.table bad →
+        IsSplittable placed.labelled placed.hosts placed.plan → IsAllowed placed →
+        IsReached split.code placed.hosts.hosts bad store events world →
+        HasOwnToken (world_at_start split.code placed.hosts.hosts bad store) event →
+        IsStep split.code world event after →
         StandsBy split c view holder world → ¬ IsOwn holder world event → StandsBy split c view holder after }
     // Where the holder's thread makes a turn that tells misbehaving hosts nothing, it stands for the same configuration
     // again, or for one that a step leads to.
@@ -182,34 +181,35 @@ pub fn standing_laws()
     // So the thread waits for a misbehaving host where its turn sends that anything but a token: a request for a field
     // or to set one, a variable, or a result. The world stands for the same configuration, or for one that a step leads
     // to.
-    ensures stalled { (split : Split) (labelled : Labelled) (needs : NeedsShape) (hosts : HostsShape)
-        (plan : PlanShape) (bad : ℕ) (store : List (List ℤ)) (events : List Event) (world after : WorldShape)
+    ensures stalled { (split : Split) (placed : PlacedProgram) (bad : ℕ) (store : List (List ℤ)) (events : List Event)
+        (world after : WorldShape)
         (host : HostId) (thread : ThreadShape) (c : Configuration) (view : View) (to : HostId) (sent : Message) →
-        threat_in split ≡ threat_of labelled needs hosts plan split.table bad → IsAllowed labelled needs hosts plan →
-        IsHeld labelled needs hosts plan → IsReached split.code hosts.hosts bad store events world →
+        threat_in split ≡ threat_of placed split.table bad → IsAllowed placed →
+        IsHeld placed → IsReached split.code placed.hosts.hosts bad store events world →
         CodeHasNumbers split.code → RowsHaveNumbers store → All EventHasNumbers events →
         IsStep split.code world (Turn host) after → misbehaves world to ≡ true →
         after.sent ≡ world.sent ++ (host, to, sent) ∷ [] → token_in sent ≡ None →
         StandsBy split c view (runs host thread) world → Stalls split c host after }
     // Where its turn sends a misbehaving host a token, that is the token of the first entry. What was due before that
     // entry is left out, and only what is due behind the chain is left to do.
-    ensures handed { (split : Split) (labelled : Labelled) (needs : NeedsShape) (hosts : HostsShape)
-        (plan : PlanShape) (bad : ℕ) (store : List (List ℤ)) (events : List Event) (world after : WorldShape)
+    ensures handed { (split : Split) (placed : PlacedProgram) (bad : ℕ) (store : List (List ℤ)) (events : List Event)
+        (world after : WorldShape)
         (host : HostId) (thread : ThreadShape) (c : Configuration) (view : View) (to : HostId) (sent : Message)
         (token : Token) →
-        threat_in split ≡ threat_of labelled needs hosts plan split.table bad → IsSplittable labelled hosts plan →
-        IsAllowed labelled needs hosts plan → IsReached split.code hosts.hosts bad store events world →
+        threat_in split ≡ threat_of placed split.table bad → IsSplittable placed.labelled placed.hosts placed.plan →
+        IsAllowed placed → IsReached split.code placed.hosts.hosts bad store events world →
         CodeHasNumbers split.code → RowsHaveNumbers store → All EventHasNumbers events →
         IsStep split.code world (Turn host) after → misbehaves world to ≡ true →
         after.sent ≡ world.sent ++ (host, to, sent) ∷ [] → token_in sent ≡ Some token →
         StandsBy split c view (runs host thread) world → Loosens split c after }
     // So one of these comes of every turn of the holder's thread, whatever that sends.
-    ensures loosens { (split : Split) (labelled : Labelled) (needs : NeedsShape) (hosts : HostsShape)
-        (plan : PlanShape) (bad : ℕ) (store : List (List ℤ)) (events : List Event) (world after : WorldShape)
+    ensures loosens { (split : Split) (placed : PlacedProgram) (bad : ℕ) (store : List (List ℤ)) (events : List Event)
+        (world after : WorldShape)
         (host : HostId) (thread : ThreadShape) (c : Configuration) (view : View) →
-        threat_in split ≡ threat_of labelled needs hosts plan split.table bad → IsSplittable labelled hosts plan →
-        IsAllowed labelled needs hosts plan → IsHeld labelled needs hosts plan →
-        IsReached split.code hosts.hosts bad store events world → CodeHasNumbers split.code → RowsHaveNumbers store →
+        threat_in split ≡ threat_of placed split.table bad → IsSplittable placed.labelled placed.hosts placed.plan →
+        IsAllowed placed → IsHeld placed →
+        IsReached split.code placed.hosts.hosts bad store events world → CodeHasNumbers split.code →
+        RowsHaveNumbers store →
         All EventHasNumbers events → IsStep split.code world (Turn host) after →
         StandsBy split c view (runs host thread) world →
         Goes split c after ⊎ (Stalls split c host after ⊎ Loosens split c after) }
@@ -236,13 +236,14 @@ pub fn loose_laws()
         StandsBy split c view lost world → StandsLoosely split c view world }
     // After any event the world stands for the same configuration. The chain is loose still, or the token was given
     // back and the thread of the first entry goes on, or the program is at its end.
-    ensures recovers { (split : Split) (labelled : Labelled) (needs : NeedsShape) (hosts : HostsShape)
-        (plan : PlanShape) (bad : ℕ) (store : List (List ℤ)) (events : List Event) (world after : WorldShape)
+    ensures recovers { (split : Split) (placed : PlacedProgram) (bad : ℕ) (store : List (List ℤ)) (events : List Event)
+        (world after : WorldShape)
         (event : Event) (c : Configuration) (view : View) →
-        threat_in split ≡ threat_of labelled needs hosts plan split.table bad →
-        IsSplittable labelled hosts plan → IsAllowed labelled needs hosts plan →
-        IsReached split.code hosts.hosts bad store events world →
-        HasOwnToken (world_at_start split.code hosts.hosts bad store) event → IsStep split.code world event after →
+        threat_in split ≡ threat_of placed split.table bad →
+        IsSplittable placed.labelled placed.hosts placed.plan → IsAllowed placed →
+        IsReached split.code placed.hosts.hosts bad store events world →
+        HasOwnToken (world_at_start split.code placed.hosts.hosts bad store) event →
+        IsStep split.code world event after →
         StandsLoosely split c view world → Recovers split c after }
 {
     opening_laws();
@@ -252,12 +253,13 @@ pub fn loose_laws()
 /// program: at every moment each field on an obeying host, which no misbehaving host may affect, has the value of one
 /// configuration of it, and once an obeying root has halted that is at its end.
 pub fn integrity_laws()
-    ensures follows { (program : Program) (labelled : Labelled) (needs : NeedsShape) (hosts : HostsShape)
-        (plan : PlanShape) (bad : ℕ) (store : List (List ℤ)) (events : List Event) (world : WorldShape) →
-        let code = split_code labelled needs hosts plan in
-        IsSet program labelled needs hosts plan → CodeHasNumbers code → RowsHaveNumbers store →
-        IsReached code hosts.hosts bad store events world → All EventHasNumbers events →
-        FollowsAltered program (exposure_of labelled needs hosts bad) code hosts.hosts bad store events }
+    ensures follows { (program : Program) (placed : PlacedProgram) (bad : ℕ) (store : List (List ℤ))
+        (events : List Event) (world : WorldShape) →
+        let code = split_code placed in
+        IsSet program placed → CodeHasNumbers code → RowsHaveNumbers store →
+        IsReached code placed.hosts.hosts bad store events world → All EventHasNumbers events →
+        FollowsAltered program (exposure_of placed.labelled placed.needs placed.hosts bad) code placed.hosts.hosts bad
+        store events }
 {
     split_laws();
     trust_laws();

@@ -1,10 +1,10 @@
 -- A loop over a list that writes a piece for each element: what was written, and behind it what the rest gives, is the
 -- whole.
-use Rattle.std.proofs.Common.{◌≡◌, ℕ, ◌+◌, ◌<◌, ◌≤◌, List, [], ◌∷◌, ◌++◌, length, get_or, drop, ap, sym, ◌∙◌}
+use Rattle.std.proofs.Common.{◌≡◌, ℕ, ◌+◌, ◌<◌, List, ◌∷◌, ◌++◌, length, get_or, drop, ap, sym, ◌∙◌}
 use Rattle.std.proofs.Common.{add-one}
 use Rattle.std.specs.Prelude.{true, Result, Ok, Err, OnOk, is_ok}
 use Rattle.std.proofs.Math.Seq.{drop-cons}
-use Rattle.std.proofs.lemmas.List.{append-nil, append_assoc, drop_all}
+use Rattle.std.proofs.lemmas.List.{append_assoc}
 
 -- one more piece was written
 pub written : (whole before piece left after : List ℕ) → before ++ (piece ++ left) ≡ whole → after ≡ before ++ piece →

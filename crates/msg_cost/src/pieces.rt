@@ -1,9 +1,8 @@
 //! What a program's cost is made of.
 
 ghost use Rattle.std.specs.Prelude.{◌≡◌, true, [], ◌∷◌, ◌++◌, map, IfOk, OnOk};
-ghost use Rattle.jif_tree.specs.LabelRules.{method_at};
 ghost use Rattle.jif_tree.specs.Trees.{done, expr_tree, block_tree, tree_before, program_tree};
-ghost use Rattle.msg_cost.specs.Pieces.{access, giving, walk, is_kept, expr_pieces, argument_pieces, result_pieces};
+ghost use Rattle.msg_cost.specs.Pieces.{access, giving, walk, expr_pieces, argument_pieces};
 ghost use Rattle.msg_cost.specs.Pieces.{call_pieces, block_pieces, program_pieces};
 ghost use Rattle.msg_cost.specs.Moves.{own_statements};
 ghost use Rattle.msg_cost.specs.PieceViews.{all_pieces};

@@ -4,7 +4,6 @@ use Rattle.std.specs.Prelude.{◌↔◌, IsTrue, IsSomeAnd, slice_get}
 use Rattle.std.proofs.lemmas.Bool.{cases_Bool, false≢true}
 use Rattle.js_base.specs.declared.ids.HostId.{HostId}
 use Rattle.label_lattice.specs.declared.label.Label.{Label}
-use Rattle.host_decl.specs.Hosts.{HostsShape}
 use Rattle.host_code.specs.declared.instruction.Instr.{Instr}
 use Rattle.host_code.specs.Code.{instruction_at}
 use Rattle.host_code.specs.Thread.{ThreadShape}
@@ -15,9 +14,7 @@ use Rattle.entry_check.specs.Checks.{MaySee, label_at, label_of_host}
 use Rattle.net_world.specs.Flying.{Flight}
 use Rattle.net_world.specs.Secret.{IsReadable, IsSecret}
 use Rattle.net_world.specs.World.{WorldShape, state_at}
-use Rattle.need_labels.specs.Labelled.{Labelled}
-use Rattle.need_labels.specs.Needs.{NeedsShape}
-use Rattle.need_labels.specs.Plan.{PlanShape}
+use Rattle.split_rules.specs.Placed.{PlacedProgram}
 use Rattle.split_rules.specs.Allowed.{IsAllowed}
 use Rattle.split_rules.specs.Held.{IsHeld}
 use Rattle.split_rules.specs.SplitCode.{split_code}
@@ -31,22 +28,22 @@ use Rattle.split_shades.proofs.ShadedSplit.{split_is_shaded}
 use Rattle.seen_world.specs.Eyes.{Eyes, AreEyes, Watches, sees_at, is_open}
 use Rattle.seen_world.proofs.SeeingHosts.{has_eyes}
 
-pub split_has_eyes : (labelled : Labelled) (needs : NeedsShape) (hosts : HostsShape) (plan : PlanShape)
-    (may_release : Bool) (bad : HostId → Bool) → IsSplittable labelled hosts plan →
-    IsAllowed labelled needs hosts plan → IsHeld labelled needs hosts plan → AreResultsLabelled labelled.program →
-    (may_release ≡ false → ReleasesNothing labelled.program) → (shades : Shades) × (sees : Label → Bool)
+pub split_has_eyes : (placed : PlacedProgram) (may_release : Bool) (bad : HostId → Bool) →
+    IsSplittable placed.labelled placed.hosts placed.plan →
+    IsAllowed placed → IsHeld placed → AreResultsLabelled placed.labelled.program →
+    (may_release ≡ false → ReleasesNothing placed.labelled.program) → (shades : Shades) × (sees : Label → Bool)
     × AreEyes (record {
-      scene = scene_of labelled needs hosts plan may_release;
-      code = split_code labelled needs hosts plan;
+      scene = scene_of placed may_release;
+      code = split_code placed;
       shades = shades;
       bad = bad;
       sees = sees;
     })
-split_has_eyes labelled needs hosts plan may_release bad splittable allowed held results releases =
-    let shaded = split_is_shaded labelled needs hosts plan may_release splittable allowed held results releases in
-    let eyes = has_eyes (scene_of labelled needs hosts plan may_release) (split_code labelled needs hosts plan)
-    shaded.0 bad shaded.1 (split_is_known labelled needs hosts plan splittable allowed held)
-    (split_is_granted labelled needs hosts plan splittable allowed held)
+split_has_eyes placed may_release bad splittable allowed held results releases =
+    let shaded = split_is_shaded placed may_release splittable allowed held results releases in
+    let eyes = has_eyes (scene_of placed may_release) (split_code placed)
+    shaded.0 bad shaded.1 (split_is_known placed splittable allowed held)
+    (split_is_granted placed splittable allowed held)
     (splittable.numbered.main.0, splittable.numbered.main.1, refl) in
     (shaded.0, eyes.0, eyes.1)
 

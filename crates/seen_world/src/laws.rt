@@ -4,7 +4,6 @@ ghost use Rattle.std.specs.Prelude.{◌≡◌, ◌↔◌, ℕ, Bool, ℤ, true, 
 ghost use Rattle.js_base.specs.declared.ids.HostId.{HostId};
 ghost use Rattle.js_base.specs.declared.ids.FieldId.{FieldId};
 ghost use Rattle.label_lattice.specs.declared.label.Label.{Label};
-ghost use Rattle.host_decl.specs.Hosts.{HostsShape};
 ghost use Rattle.host_decl.specs.Hosts as declared_hosts;
 ghost use Rattle.host_code.specs.declared.code.Entry.{Entry};
 ghost use Rattle.host_code.specs.declared.instruction.Instr.{Instr};
@@ -22,9 +21,7 @@ ghost use Rattle.net_world.specs.Flying.{Flight};
 ghost use Rattle.net_world.specs.Secret.{IsReadable, IsSecret};
 ghost use Rattle.net_world.specs.World.{WorldShape, state_at, world_at_start, IsStep};
 ghost use Rattle.net_world.specs.Fits.{ShapeFits};
-ghost use Rattle.need_labels.specs.Labelled.{Labelled};
-ghost use Rattle.need_labels.specs.Needs.{NeedsShape};
-ghost use Rattle.need_labels.specs.Plan.{PlanShape};
+ghost use Rattle.split_rules.specs.Placed.{PlacedProgram};
 ghost use Rattle.split_rules.specs.Allowed.{IsAllowed};
 ghost use Rattle.split_rules.specs.Asking.{AreGranted};
 ghost use Rattle.split_rules.specs.Held.{IsHeld};
@@ -51,13 +48,12 @@ pub fn eye_laws()
         (sees : Label → Bool)
         × AreEyes (record { scene = scene; code = code; shades = shades; bad = bad; sees = sees }) }
     // So has the code of each program that was checked, placed and split.
-    ensures split { (labelled : Labelled) (needs : NeedsShape) (hosts : HostsShape) (plan : PlanShape)
-        (may_release : Bool) (bad : HostId → Bool) →
-        IsSplittable labelled hosts plan → IsAllowed labelled needs hosts plan → IsHeld labelled needs hosts plan →
-        AreResultsLabelled labelled.program → (may_release ≡ false → ReleasesNothing labelled.program) →
+    ensures split { (placed : PlacedProgram) (may_release : Bool) (bad : HostId → Bool) →
+        IsSplittable placed.labelled placed.hosts placed.plan → IsAllowed placed → IsHeld placed →
+        AreResultsLabelled placed.labelled.program → (may_release ≡ false → ReleasesNothing placed.labelled.program) →
         (shades : Shades) × (sees : Label → Bool) × AreEyes (record {
-          scene = scene_of labelled needs hosts plan may_release;
-          code = split_code labelled needs hosts plan;
+          scene = scene_of placed may_release;
+          code = split_code placed;
           shades = shades;
           bad = bad;
           sees = sees;

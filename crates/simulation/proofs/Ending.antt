@@ -3,18 +3,15 @@ use Rattle.std.proofs.Common.{◌≡◌, ℕ, zero, suc, ◌+◌, ◌<◌, ◌�
 use Rattle.std.proofs.Common.{arith, None}
 use Rattle.std.specs.Prelude.{ℤ, ◌*◌, ◌-◌}
 use Rattle.js_base.proofs.Options.{some_or_none}
-use Rattle.host_decl.specs.Hosts.{HostsShape}
 use Rattle.event_text.specs.declared.event.Event.{Event}
 use Rattle.jif_tree.specs.declared.program.Program.{Program}
 use Rattle.jif_tree.specs.SourceRun.{IsAtEnd, prefix, HasLength}
-use Rattle.need_labels.specs.Labelled.{Labelled}
-use Rattle.need_labels.specs.Needs.{NeedsShape}
-use Rattle.need_labels.specs.Plan.{PlanShape}
 use Rattle.host_code.specs.Code.{CodeShape}
 use Rattle.net_world.specs.Choice.{IsNextEvent}
 use Rattle.net_world.specs.Fits.{ShapeFits}
 use Rattle.net_world.specs.World.{WorldShape, IsRun, world_at_start, has_halted}
 use Rattle.net_world.proofs.Shapes.{shape_at_start, shape_step}
+use Rattle.split_rules.specs.Placed.{PlacedProgram}
 use Rattle.split_rules.specs.Pace.{Allowance, IsPaced}
 use Rattle.split_rules.specs.SplitCode.{split_code}
 use Rattle.split_rules.specs.Splittable.{IsSplittable}
@@ -117,66 +114,66 @@ driven_runs code (event ∷ events) world after driven =
 
 -- a law of the splitting: the code of a split program is paced
 abbrev pub GivesPaces : Type 0
-GivesPaces = (labelled : Labelled) (needs : NeedsShape) (hosts : HostsShape) (plan : PlanShape) →
-    IsSplittable labelled hosts plan →
-    (left : Allowance) × IsPaced (split_code labelled needs hosts plan) left
+GivesPaces = (placed : PlacedProgram) →
+    IsSplittable placed.labelled placed.hosts placed.plan →
+    (left : Allowance) × IsPaced (split_code placed) left
 
-module _ (laws : SplitLaws) (paces : GivesPaces) (program : Program) (labelled : Labelled) (needs : NeedsShape)
-    (hosts : HostsShape) (plan : PlanShape) (store : List (List ℤ)) (steps : ℕ)
-    (set : IsSet program labelled needs hosts plan)
+module _ (laws : SplitLaws) (paces : GivesPaces) (program : Program) (placed : PlacedProgram) (store : List (List ℤ))
+    (steps : ℕ)
+    (set : IsSet program placed)
     (runs : HasLength program store steps) where
   split : Split
   split =
-      let typable = laws.trust labelled needs hosts plan set.allowed in
-      let typed = laws.tables labelled needs hosts plan set.splittable typable in
-      typed_split program labelled needs hosts plan set (laws.sound labelled needs hosts plan set.splittable) typed.0
-      typed.1 (paces labelled needs hosts plan set.splittable).0 unaffected
+      let typable = laws.trust placed set.allowed in
+      let typed = laws.tables placed set.splittable typable in
+      typed_split program placed set (laws.sound placed set.splittable) typed.0
+      typed.1 (paces placed set.splittable).0 unaffected
 
   paced : Paced split
   unfolding split typed_split
-  paced = (paces labelled needs hosts plan set.splittable).1
+  paced = (paces placed set.splittable).1
 
   start : Falls split (prefix program store 0) (STEP + 4)
-      (world_at_start (split_code labelled needs hosts plan) hosts.hosts 0 store)
+      (world_at_start (split_code placed) placed.hosts.hosts 0 store)
   unfolding split typed_split
-  start = falls_at_start split store hosts.hosts refl refl
+  start = falls_at_start split store placed.hosts.hosts refl refl
 
-  fits_there : ShapeFits (split_code labelled needs hosts plan)
-      (world_at_start (split_code labelled needs hosts plan) hosts.hosts 0 store)
+  fits_there : ShapeFits (split_code placed)
+      (world_at_start (split_code placed) placed.hosts.hosts 0 store)
   fits_there =
-      shape_at_start (split_code labelled needs hosts plan) hosts.hosts 0 store
-      (laws.sound labelled needs hosts plan set.splittable) refl
+      shape_at_start (split_code placed) placed.hosts.hosts 0 store
+      (laws.sound placed set.splittable) refl
 
   all_counted : (events : List Event) (world : WorldShape) →
-      IsRun (split_code labelled needs hosts plan)
-      (world_at_start (split_code labelled needs hosts plan) hosts.hosts 0 store) events world →
+      IsRun (split_code placed)
+      (world_at_start (split_code placed) placed.hosts.hosts 0 store) events world →
       length events ≤ start.now.fuel + STEP * steps
   unfolding split typed_split
   all_counted events world ran =
       counted laws.plain split paced store steps runs.ends events
-      (world_at_start (split_code labelled needs hosts plan) hosts.hosts 0 store) world 0 steps (omega arith) start.now
+      (world_at_start (split_code placed) placed.hosts.hosts 0 store) world 0 steps (omega arith) start.now
       fits_there ran
 
   pub ends_soon : (events : List Event) (world : WorldShape) →
-      IsRun (split_code labelled needs hosts plan)
-      (world_at_start (split_code labelled needs hosts plan) hosts.hosts 0 store) events world →
+      IsRun (split_code placed)
+      (world_at_start (split_code placed) placed.hosts.hosts 0 store) events world →
       length events ≤ EVENTS * (steps + 1)
   ends_soon events world ran =
       let less = start.less paced in
       let all = all_counted events world ran in
       omega (arith, less, all)
 
-  pub halts_soon : HaltsWithin (split_code labelled needs hosts plan) (EVENTS * (steps + 1))
-      (world_at_start (split_code labelled needs hosts plan) hosts.hosts 0 store)
+  pub halts_soon : HaltsWithin (split_code placed) (EVENTS * (steps + 1))
+      (world_at_start (split_code placed) placed.hosts.hosts 0 store)
   unfolding split typed_split
   halts_soon =
-      let first = world_at_start (split_code labelled needs hosts plan) hosts.hosts 0 store in
+      let first = world_at_start (split_code placed) placed.hosts.hosts 0 store in
       let drives = drives_on laws.plain split paced store steps runs.ends (suc (start.now.fuel + STEP * steps)) first 0
       steps (omega arith) start.now fits_there (omega arith) in
       record {
         events = drives.events;
         few = ends_soon drives.events drives.after
-            (driven_runs (split_code labelled needs hosts plan) drives.events first drives.after drives.driven);
+            (driven_runs (split_code placed) drives.events first drives.after drives.driven);
         after = drives.after;
         driven = drives.driven;
         at_rest = drives.at_rest;

@@ -18,10 +18,6 @@ use Rattle.jif_tree.specs.declared.program.Program.{Program}
 use Rattle.jif_tree.specs.SourceRun.{IsAtEnd, prefix}
 use Rattle.jif_tree.specs.Trees.{MethodTree, ProgramTree}
 use Rattle.jif_tree.specs.WellNumbered.{is_some, HasOptionalVariable, AreMethodsIn, IsMethodIn}
-use Rattle.need_labels.specs.Labelled.{Labelled}
-use Rattle.need_labels.specs.Needs.{NeedsShape}
-use Rattle.need_labels.specs.Plan.{PlanShape}
-use Rattle.msg_cost.specs.Moves.{planned_of}
 use Rattle.net_world.specs.Choice.{NoneRuns, NothingFlies, IsNextEvent}
 use Rattle.net_world.specs.Fits.{ShapeFits, HasOwnToken}
 use Rattle.net_world.proofs.Shapes.{shape_at_start, shape_step}
@@ -38,6 +34,7 @@ use Rattle.simulation.proofs.Events.{halted_at_end, idle_halted}
 use Rattle.simulation.proofs.Plainly.{GivesPlain, prefix_kept, fields_are}
 use Rattle.simulation.proofs.Tracks.{IsKept, Tracks, track, track_end}
 use Rattle.net_world.specs.World.{IsStep, named_host, WorldShape, IsRun, world_at_start, state_at, has_halted}
+use Rattle.split_rules.specs.Placed.{PlacedProgram, planned_from}
 use Rattle.split_rules.specs.Allowed.{IsAllowed}
 use Rattle.split_rules.specs.Pace.{Allowance}
 use Rattle.split_rules.specs.SplitCode.{split_code}
@@ -97,15 +94,15 @@ abbrev pub unaffected : Exposure
 unaffected = record { bad = []; fields = []; variables = []; needs = [] }
 
 -- a typed code of a program that is set, and what may be affected there
-unfoldable pub typed_split : (program : Program) (labelled : Labelled) (needs : NeedsShape) (hosts : HostsShape)
-    (plan : PlanShape) → IsSet program labelled needs hosts plan → IsSoundCode (split_code labelled needs hosts plan) →
-    (table : Table) → IsTypedCode (planned_of labelled needs hosts plan) (split_code labelled needs hosts plan) table
+unfoldable pub typed_split : (program : Program) (placed : PlacedProgram) → IsSet program placed →
+    IsSoundCode (split_code placed) →
+    (table : Table) → IsTypedCode (planned_from placed) (split_code placed) table
     → Allowance → Exposure → Split
-typed_split program labelled needs hosts plan set sound table typed pace exposure = record {
+typed_split program placed set sound table typed pace exposure = record {
   program = program;
   exposure = exposure;
-  planned = planned_of labelled needs hosts plan;
-  code = split_code labelled needs hosts plan;
+  planned = planned_from placed;
+  code = split_code placed;
   table = table;
   typed = typed;
   sound = sound;
@@ -116,16 +113,16 @@ typed_split program labelled needs hosts plan set sound table typed pace exposur
   main_gives = none_given set.splittable.numbered.main.0.result set.splittable.numbered.main.3;
   main_entry = refl;
   bodies = λ place method is.
-      body_fit hosts.principals labelled (split_code labelled needs hosts plan) (planned_of labelled needs hosts plan)
+      body_fit placed.hosts.principals placed.labelled (split_code placed) (planned_from placed)
       refl set.needs_of set.splittable.numbered.methods place method is
-      (results_seen labelled needs hosts plan set.splittable set.allowed set.held place method is);
+      (results_seen placed set.splittable set.allowed set.held place method is);
   given_back = set.given_back;
   rising = λ place method is.
       rising_params method.params (λ first second x y. set.in_order place first second method x y is);
   unread = λ place method x host is result.
-      nobody_reads hosts.principals labelled (planned_of labelled needs hosts plan) set.needs_of set.unread place method
-      x is result (result_within labelled.program place method x set.splittable.numbered.methods is result) host;
-  many = length-map hosts.hosts named_host;
+      nobody_reads placed.hosts.principals placed.labelled (planned_from placed) set.needs_of set.unread place method
+      x is result (result_within placed.labelled.program place method x set.splittable.numbered.methods is result) host;
+  many = length-map placed.hosts.hosts named_host;
   pace = pace;
 }
 
@@ -230,20 +227,20 @@ module _ (plain : GivesPlain) (split : Split) (store : List (List ℤ)) (hosts :
 
 -- the code of a program that can be split is sound
 abbrev pub GivesSound : Type 0
-GivesSound = (labelled : Labelled) (needs : NeedsShape) (hosts : HostsShape) (plan : PlanShape) →
-    IsSplittable labelled hosts plan → IsSoundCode (split_code labelled needs hosts plan)
+GivesSound = (placed : PlacedProgram) →
+    IsSplittable placed.labelled placed.hosts placed.plan → IsSoundCode (split_code placed)
 
 -- where a plan is allowed, hosts are trusted for what statements start
 abbrev pub GivesTrust : Type 0
-GivesTrust = (labelled : Labelled) (needs : NeedsShape) (hosts : HostsShape) (plan : PlanShape) →
-    IsAllowed labelled needs hosts plan → IsTypable (planned_of labelled needs hosts plan)
+GivesTrust = (placed : PlacedProgram) →
+    IsAllowed placed → IsTypable (planned_from placed)
 
 -- and then the code is typed
 abbrev pub GivesTables : Type 0
-GivesTables = (labelled : Labelled) (needs : NeedsShape) (hosts : HostsShape) (plan : PlanShape) →
-    let planned = planned_of labelled needs hosts plan in
-    IsSplittable labelled hosts plan → IsTypable planned →
-    (table : Table) × IsTypedCode planned (split_code labelled needs hosts plan) table
+GivesTables = (placed : PlacedProgram) →
+    let planned = planned_from placed in
+    IsSplittable placed.labelled placed.hosts placed.plan → IsTypable planned →
+    (table : Table) × IsTypedCode planned (split_code placed) table
 
 -- the laws of the splitting, and that of altered runs
 pub record SplitLaws : Type 0 where
@@ -255,48 +252,48 @@ pub record SplitLaws : Type 0 where
 pub laws_of : GivesSound → GivesTrust → GivesTables → GivesPlain → SplitLaws
 laws_of sound trust tables plain = record { sound = sound; trust = trust; tables = tables; plain = plain }
 
-module _ (laws : SplitLaws) (program : Program) (labelled : Labelled) (needs : NeedsShape) (hosts : HostsShape)
-    (plan : PlanShape) (store : List (List ℤ)) (events : List Event) (world : WorldShape)
-    (set : IsSet program labelled needs hosts plan)
-    (ran : IsRun (split_code labelled needs hosts plan)
-    (world_at_start (split_code labelled needs hosts plan) hosts.hosts 0 store) events world) where
+module _ (laws : SplitLaws) (program : Program) (placed : PlacedProgram) (store : List (List ℤ)) (events : List Event)
+    (world : WorldShape)
+    (set : IsSet program placed)
+    (ran : IsRun (split_code placed)
+    (world_at_start (split_code placed) placed.hosts.hosts 0 store) events world) where
   split : Split
   split =
-      let typable = laws.trust labelled needs hosts plan set.allowed in
-      let typed = laws.tables labelled needs hosts plan set.splittable typable in
-      typed_split program labelled needs hosts plan set (laws.sound labelled needs hosts plan set.splittable) typed.0
+      let typable = laws.trust placed set.allowed in
+      let typed = laws.tables placed set.splittable typable in
+      typed_split program placed set (laws.sound placed set.splittable) typed.0
       typed.1 (λ host place. 0) unaffected
 
   start : Simulates split (prefix program store 0)
-      (world_at_start (split_code labelled needs hosts plan) hosts.hosts 0 store)
+      (world_at_start (split_code placed) placed.hosts.hosts 0 store)
   unfolding split typed_split
-  start = (falls_at_start split store hosts.hosts refl refl).now
+  start = (falls_at_start split store placed.hosts.hosts refl refl).now
 
-  fits_there : ShapeFits (split_code labelled needs hosts plan)
-      (world_at_start (split_code labelled needs hosts plan) hosts.hosts 0 store)
+  fits_there : ShapeFits (split_code placed)
+      (world_at_start (split_code placed) placed.hosts.hosts 0 store)
   fits_there =
-      shape_at_start (split_code labelled needs hosts plan) hosts.hosts 0 store
-      (laws.sound labelled needs hosts plan set.splittable) refl
+      shape_at_start (split_code placed) placed.hosts.hosts 0 store
+      (laws.sound placed set.splittable) refl
 
-  pub fields_follow : Follows program (split_code labelled needs hosts plan) hosts.hosts store events
+  pub fields_follow : Follows program (split_code placed) placed.hosts.hosts store events
   unfolding split typed_split
-  fields_follow = follows laws.plain split store hosts start fits_there events world ran
+  fields_follow = follows laws.plain split store placed.hosts start fits_there events world ran
 
-  pub idle_ends : NoneRuns world → NothingFlies world → has_halted (split_code labelled needs hosts plan).root world
+  pub idle_ends : NoneRuns world → NothingFlies world → has_halted (split_code placed).root world
   unfolding split typed_split
-  idle_ends = idle laws.plain split store hosts start fits_there events world ran
+  idle_ends = idle laws.plain split store placed.hosts start fits_there events world ran
 
   pub nothing_ignored : (host : HostId) (state : HostShape) → state_at world host ≡ Some state → state.ignored ≡ 0
   unfolding split typed_split
-  nothing_ignored = none_ignored laws.plain split store hosts start fits_there events world ran
+  nothing_ignored = none_ignored laws.plain split store placed.hosts start fits_there events world ran
 
   pub next_there : (event : Event) → IsNextEvent world (Some event) →
-      (after : WorldShape) × IsStep (split_code labelled needs hosts plan) world event after
+      (after : WorldShape) × IsStep (split_code placed) world event after
   unfolding split typed_split
-  next_there = next_possible laws.plain split store hosts start fits_there events world ran
+  next_there = next_possible laws.plain split store placed.hosts start fits_there events world ran
 
   pub one_there : (first second : Event) (after other : WorldShape) →
-      IsStep (split_code labelled needs hosts plan) world first after →
-      IsStep (split_code labelled needs hosts plan) world second other → first ≡ second
+      IsStep (split_code placed) world first after →
+      IsStep (split_code placed) world second other → first ≡ second
   unfolding split typed_split
-  one_there = one_possible laws.plain split store hosts start fits_there events world ran
+  one_there = one_possible laws.plain split store placed.hosts start fits_there events world ran

@@ -3,7 +3,6 @@
 use Rattle.std.specs.Prelude.{◌≡◌, ℕ, ◌+◌, ◌<◌, ◌≤◌, ℤ, List, length, take, Some, slice_get, slice_index}
 use Rattle.std.specs.List.Sorted.{IsNonDecreasing}
 use Rattle.host_decl.specs.Hosts as declared_hosts
-use Rattle.host_decl.specs.Hosts.{HostsShape}
 use Rattle.jif_tree.specs.declared.program.Program.{Program}
 use Rattle.jif_tree.specs.Store.{row_of}
 use Rattle.jif_tree.specs.SourceRun.{prefix, HasLength}
@@ -12,9 +11,8 @@ use Rattle.jif_tree.specs.Trees.{program_tree}
 use Rattle.host_code.specs.Code.{CodeShape, CodeFieldShape}
 use Rattle.host_core.specs.Host.{HostShape}
 use Rattle.event_text.specs.declared.event.Event.{Event}
-use Rattle.need_labels.specs.Labelled.{Labelled}
-use Rattle.need_labels.specs.Needs.{NeedsShape, AreNeedsOf}
-use Rattle.need_labels.specs.Plan.{PlanShape}
+use Rattle.need_labels.specs.Needs.{AreNeedsOf}
+use Rattle.split_rules.specs.Placed.{PlacedProgram}
 use Rattle.split_rules.specs.Allowed.{IsAllowed}
 use Rattle.split_rules.specs.Asking.{AreGranted}
 use Rattle.split_rules.specs.Held.{IsHeld}
@@ -25,17 +23,17 @@ use Rattle.simulation.specs.Programs.{AreInOrder}
 
 -- A program, its needs, and a plan by which it can be split, so that hosts may hold what stands on them, are trusted
 -- for it, and grant each other's requests. Methods give their results back at their end, and nothing else reads these.
-pub record IsSet (program : Program) (labelled : Labelled) (needs : NeedsShape) (hosts : HostsShape) (plan : PlanShape)
+pub record IsSet (program : Program) (placed : PlacedProgram)
     : Type 0 where
-  pub is : program_tree program ≡ labelled.program
-  pub splittable : IsSplittable labelled hosts plan
-  pub needs_of : AreNeedsOf hosts.principals labelled needs
-  pub allowed : IsAllowed labelled needs hosts plan
-  pub held : IsHeld labelled needs hosts plan
-  pub granted : AreGranted (split_code labelled needs hosts plan)
-  pub given_back : AreGivenBack labelled.program
-  pub unread : AreUnread labelled.program
-  pub in_order : AreInOrder labelled.program
+  pub is : program_tree program ≡ placed.labelled.program
+  pub splittable : IsSplittable placed.labelled placed.hosts placed.plan
+  pub needs_of : AreNeedsOf placed.hosts.principals placed.labelled placed.needs
+  pub allowed : IsAllowed placed
+  pub held : IsHeld placed
+  pub granted : AreGranted (split_code placed)
+  pub given_back : AreGivenBack placed.labelled.program
+  pub unread : AreUnread placed.labelled.program
+  pub in_order : AreInOrder placed.labelled.program
 
 -- each field has on its host what the store has
 abbrev pub FieldsAre : CodeShape → WorldShape → List (List ℤ) → Type 0

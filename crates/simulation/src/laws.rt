@@ -3,15 +3,12 @@
 ghost use Rattle.std.specs.Prelude.{◌≡◌, ℕ, ◌+◌, ◌*◌, ◌≤◌, ℤ, Some, List, length};
 ghost use Rattle.js_base.specs.declared.ids.HostId.{HostId};
 ghost use Rattle.event_text.specs.declared.event.Event.{Event};
-ghost use Rattle.host_decl.specs.Hosts.{HostsShape};
 ghost use Rattle.host_core.specs.Host as host_state;
 ghost use Rattle.jif_tree.specs.declared.program.Program.{Program};
 ghost use Rattle.jif_tree.specs.SourceRun.{HasLength};
-ghost use Rattle.need_labels.specs.Labelled.{Labelled};
-ghost use Rattle.need_labels.specs.Needs.{NeedsShape};
-ghost use Rattle.need_labels.specs.Plan.{PlanShape};
 ghost use Rattle.net_world.specs.Choice.{NoneRuns, NothingFlies, IsNextEvent};
 ghost use Rattle.net_world.specs.World.{WorldShape, IsStep, IsRun, world_at_start, state_at, has_halted};
+ghost use Rattle.split_rules.specs.Placed.{PlacedProgram};
 ghost use Rattle.split_rules.specs.SplitCode.{split_code};
 ghost use Rattle.simulation.specs.Ending.{EVENTS, HaltsWithin};
 ghost use Rattle.simulation.specs.Obeying.{IsSet, Follows};
@@ -23,37 +20,37 @@ use split_rules::{pace_laws, split_laws, trust_laws};
 /// once it has halted. Where nothing is in flight and no thread runs, it has halted. No message is ever ignored. Before
 /// that one event is possible, which is the event that comes next.
 pub fn obeying_laws()
-    ensures follows { (program : Program) (labelled : Labelled) (needs : NeedsShape) (hosts : HostsShape)
-        (plan : PlanShape) (store : List (List ℤ)) (events : List Event) (world : WorldShape) →
-        let code = split_code labelled needs hosts plan in
-        IsSet program labelled needs hosts plan →
-        IsRun code (world_at_start code hosts.hosts 0 store) events world →
-        Follows program code hosts.hosts store events }
-    ensures idle { (program : Program) (labelled : Labelled) (needs : NeedsShape) (hosts : HostsShape)
-        (plan : PlanShape) (store : List (List ℤ)) (events : List Event) (world : WorldShape) →
-        let code = split_code labelled needs hosts plan in
-        IsSet program labelled needs hosts plan →
-        IsRun code (world_at_start code hosts.hosts 0 store) events world → NoneRuns world → NothingFlies world →
+    ensures follows { (program : Program) (placed : PlacedProgram) (store : List (List ℤ)) (events : List Event)
+        (world : WorldShape) →
+        let code = split_code placed in
+        IsSet program placed →
+        IsRun code (world_at_start code placed.hosts.hosts 0 store) events world →
+        Follows program code placed.hosts.hosts store events }
+    ensures idle { (program : Program) (placed : PlacedProgram) (store : List (List ℤ)) (events : List Event)
+        (world : WorldShape) →
+        let code = split_code placed in
+        IsSet program placed →
+        IsRun code (world_at_start code placed.hosts.hosts 0 store) events world → NoneRuns world → NothingFlies world →
         has_halted code.root world }
-    ensures ignored { (program : Program) (labelled : Labelled) (needs : NeedsShape) (hosts : HostsShape)
-        (plan : PlanShape) (store : List (List ℤ)) (events : List Event) (world : WorldShape) (host : HostId)
+    ensures ignored { (program : Program) (placed : PlacedProgram) (store : List (List ℤ)) (events : List Event)
+        (world : WorldShape) (host : HostId)
         (state : host_state.HostShape) →
-        let code = split_code labelled needs hosts plan in
-        IsSet program labelled needs hosts plan →
-        IsRun code (world_at_start code hosts.hosts 0 store) events world → state_at world host ≡ Some state →
+        let code = split_code placed in
+        IsSet program placed →
+        IsRun code (world_at_start code placed.hosts.hosts 0 store) events world → state_at world host ≡ Some state →
         state.ignored ≡ 0 }
-    ensures next { (program : Program) (labelled : Labelled) (needs : NeedsShape) (hosts : HostsShape)
-        (plan : PlanShape) (store : List (List ℤ)) (events : List Event) (world : WorldShape) (event : Event) →
-        let code = split_code labelled needs hosts plan in
-        IsSet program labelled needs hosts plan →
-        IsRun code (world_at_start code hosts.hosts 0 store) events world → IsNextEvent world (Some event) →
+    ensures next { (program : Program) (placed : PlacedProgram) (store : List (List ℤ)) (events : List Event)
+        (world : WorldShape) (event : Event) →
+        let code = split_code placed in
+        IsSet program placed →
+        IsRun code (world_at_start code placed.hosts.hosts 0 store) events world → IsNextEvent world (Some event) →
         (after : WorldShape) × IsStep code world event after }
-    ensures one { (program : Program) (labelled : Labelled) (needs : NeedsShape) (hosts : HostsShape)
-        (plan : PlanShape) (store : List (List ℤ)) (events : List Event) (world after other : WorldShape)
+    ensures one { (program : Program) (placed : PlacedProgram) (store : List (List ℤ)) (events : List Event)
+        (world after other : WorldShape)
         (first second : Event) →
-        let code = split_code labelled needs hosts plan in
-        IsSet program labelled needs hosts plan →
-        IsRun code (world_at_start code hosts.hosts 0 store) events world → IsStep code world first after →
+        let code = split_code placed in
+        IsSet program placed →
+        IsRun code (world_at_start code placed.hosts.hosts 0 store) events world → IsStep code world first after →
         IsStep code world second other → first ≡ second }
 {
     altered_laws();
@@ -65,16 +62,16 @@ pub fn obeying_laws()
 /// events are possible for each of them, and 4096 more. Where always the event that comes next happens, the program has
 /// halted after so many.
 pub fn ending_laws()
-    ensures ends { (program : Program) (labelled : Labelled) (needs : NeedsShape) (hosts : HostsShape)
-        (plan : PlanShape) (store : List (List ℤ)) (steps : ℕ) (events : List Event) (world : WorldShape) →
-        let code = split_code labelled needs hosts plan in
-        IsSet program labelled needs hosts plan → HasLength program store steps →
-        IsRun code (world_at_start code hosts.hosts 0 store) events world → length events ≤ EVENTS * (steps + 1) }
-    ensures halts { (program : Program) (labelled : Labelled) (needs : NeedsShape) (hosts : HostsShape)
-        (plan : PlanShape) (store : List (List ℤ)) (steps : ℕ) →
-        let code = split_code labelled needs hosts plan in
-        IsSet program labelled needs hosts plan → HasLength program store steps →
-        HaltsWithin code (EVENTS * (steps + 1)) (world_at_start code hosts.hosts 0 store) }
+    ensures ends { (program : Program) (placed : PlacedProgram) (store : List (List ℤ)) (steps : ℕ)
+        (events : List Event) (world : WorldShape) →
+        let code = split_code placed in
+        IsSet program placed → HasLength program store steps →
+        IsRun code (world_at_start code placed.hosts.hosts 0 store) events world → length events ≤ EVENTS *
+        (steps + 1) }
+    ensures halts { (program : Program) (placed : PlacedProgram) (store : List (List ℤ)) (steps : ℕ) →
+        let code = split_code placed in
+        IsSet program placed → HasLength program store steps →
+        HaltsWithin code (EVENTS * (steps + 1)) (world_at_start code placed.hosts.hosts 0 store) }
 {
     altered_laws();
     split_laws();

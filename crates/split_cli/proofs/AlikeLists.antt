@@ -1,19 +1,18 @@
 -- Lists that are compared place by place, and rows of starting values field by field.
 use Rattle.std.proofs.Common.{◌≡◌, ◌≢◌, ◌∙◌, ℕ, zero, suc, ◌+◌, ◌<◌, ◌≤◌, ℤ, List, [], ◌∷◌, ◌++◌, length, take, drop, map}
-use Rattle.std.proofs.Common.{Option, Some, None, slice_get, refl, sym, ap, subst, inl, inr, arith, Bor}
+use Rattle.std.proofs.Common.{Option, Some, slice_get, refl, sym, ap, subst, inl, inr, arith, Bor}
 use Rattle.std.proofs.Common.{take-append-drop, min, get_or, add-one, Bool, true, false, not, int_eq}
 use Rattle.std.specs.Option.{option_map}
-use Rattle.std.specs.Prelude.{◌↔◌, IsSome, IsSomeAnd, IsTrue, option_copied}
-use Rattle.std.proofs.lemmas.Bool.{cases_lt, cases_eq, false≢true, and_parts, and_from}
+use Rattle.std.specs.Prelude.{◌↔◌, IsTrue, option_copied}
+use Rattle.std.proofs.lemmas.Bool.{cases_lt, false≢true, and_parts, and_from}
 use Rattle.std.proofs.lemmas.Bool.Decides.{Decides-int_eq}
 use lib.Pointwise.{pointwise}
 use Rattle.std.proofs.lemmas.List.{take_all, get_or_default, length-map}
-use Rattle.std.proofs.lemmas.Option.{slice_get-map, slice_get_within, slice_get-get_or}
+use Rattle.std.proofs.lemmas.Option.{slice_get-map, slice_get-get_or}
 use Rattle.event_text.specs.declared.event.Event.{Event}
-use Rattle.host_code.specs.Code.{CodeShape, CodeFieldShape}
-use Rattle.net_world.specs.Secret.{IsReadable}
-use Rattle.net_world.specs.World.{WorldShape, state_at}
-use Rattle.split_cli.specs.Compare.{AreAlike, DifferAt, GoApart, StartsUnlike, StartAlike}
+use Rattle.host_code.specs.Code.{CodeShape}
+use Rattle.net_world.specs.World.{WorldShape}
+use Rattle.split_cli.specs.Compare.{AreAlike, DifferAt, GoApart, StartsUnlike}
 use Rattle.split_cli.specs.Replay.{events_in}
 
 -- ---- place by place

@@ -11,7 +11,6 @@ use Rattle.js_base.specs.declared.ids.StmtId.{StmtId}
 use Rattle.js_base.specs.declared.ids.VarId.{VarId}
 use Rattle.principals.specs.ActsFor.{Declared}
 use Rattle.label_lattice.specs.declared.label.Label.{Label}
-use Rattle.host_decl.specs.Hosts.{HostsShape}
 use Rattle.jif_tree.specs.LabelRules.{method_at, params_of, result_of}
 use Rattle.jif_tree.specs.Numbers.{ExprHasNumbers, BlockHasNumbers, HasNumbers}
 use Rattle.jif_tree.specs.Trees.{ExprTree, number, local, scalar, element, inverted, negated, binary, declassified}
@@ -23,10 +22,9 @@ use Rattle.host_code.specs.declared.instruction.Instr.{Instr}
 use Rattle.host_code.specs.declared.instruction.Op.{Op}
 use Rattle.host_code.specs.declared.instruction.Op.TheVariants as op
 use Rattle.need_labels.specs.Labelled.{Labelled}
-use Rattle.need_labels.specs.Needs.{NeedsShape}
-use Rattle.need_labels.specs.Plan.{PlanShape}
 use Rattle.msg_cost.specs.declared.spot.Spot.{Spot}
-use Rattle.msg_cost.specs.Moves.{PlannedShape, planned_of, is_same, end_of, next_spot, own_statements, home_of}
+use Rattle.msg_cost.specs.Moves.{PlannedShape, is_same, end_of, next_spot, own_statements, home_of}
+use Rattle.split_rules.specs.Placed.{PlacedProgram, planned_from}
 use Rattle.split_rules.specs.Emissions.{Emission, instruction, entry, stands, lands, Counts, counts_after}
 use Rattle.split_rules.specs.Expressions.{Reading, reads_in, nodes_of, readings_of, first_element}
 use Rattle.split_rules.specs.SplitCode.{emitted_on, landed, placed_instruction, part_on, code_labels, split_code}
@@ -364,32 +362,32 @@ landed_has host emissions (op.Branch guard target) small = small
 landed_has host emissions other small = small
 
 -- the code of a program whose numbers have 64 bits
-pub code_has : (labelled : Labelled) (needs : NeedsShape) (hosts : HostsShape) (plan : PlanShape) →
-    HasNumbers labelled.program → CodeHasNumbers (split_code labelled needs hosts plan)
-code_has labelled needs hosts plan small = λ host at there is. by host at there (slice_get parts host.0) refl is
+pub code_has : (placed : PlacedProgram) →
+    HasNumbers placed.labelled.program → CodeHasNumbers (split_code placed)
+code_has placed small = λ host at there is. by host at there (slice_get parts host.0) refl is
   where
     all : List Emission
-    all = program_emissions hosts.principals labelled (planned_of labelled needs hosts plan)
+    all = program_emissions placed.hosts.principals placed.labelled (planned_from placed)
 
     labels : List Label
-    labels = code_labels labelled all
+    labels = code_labels placed.labelled all
 
     part : ℕ → List Instr
     part place = part_on labels all (record { 0 = place })
 
     parts : List (List Instr)
-    parts = map part (range_with_len 0 (length hosts.hosts))
+    parts = map part (range_with_len 0 (length placed.hosts.hosts))
 
     by : (host : HostId) (at : ℕ) (there : Instr) (own : Option (List Instr)) → slice_get parts host.0 ≡ own →
         slice_get (unwrap_or own []) at ≡ Some there → OperationHasNumbers there.op
     by host at there None is has = absurd (nothing_there at there has)
     by host at there (Some own) is has =
-        let (own_place, within, made) = mapped part (range_with_len 0 (length hosts.hosts)) host.0 own is in
+        let (own_place, within, made) = mapped part (range_with_len 0 (length placed.hosts.hosts)) host.0 own is in
         let me : HostId = record { 0 = own_place } in
-        let (one, emits, placed) = mapped (placed_instruction labels all) (emitted_on me all) at there
+        let (one, emits, same) = mapped (placed_instruction labels all) (emitted_on me all) at there
         (ap (λ list. slice_get list at) made ∙ has) in
         let so = found me all at one emits in
         let numbers = subst EmitNumbers so.is
-        (program_has hosts.principals labelled (planned_of labelled needs hosts plan) small) in
-        subst (λ (it : Instr). OperationHasNumbers it.op) placed
+        (program_has placed.hosts.principals placed.labelled (planned_from placed) small) in
+        subst (λ (it : Instr). OperationHasNumbers it.op) same
         (landed_has one.host all one.op (all_second EmissionHasNumbers so.before _ numbers).0)

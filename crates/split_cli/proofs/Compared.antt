@@ -3,7 +3,6 @@ use Rattle.std.proofs.Common.{◌≡◌, ℕ, List, [], ◌∷◌, ◌++◌, Non
 use Rattle.std.specs.Prelude.{ℤ, ◌⊎◌, ⊤, All}
 use Rattle.js_base.specs.declared.status.Status.{Status}
 use Rattle.js_base.specs.declared.status.Status.TheVariants.{Done, Differ, InputRefused}
-use Rattle.host_decl.specs.Hosts.{HostsShape}
 use Rattle.jif_tree.specs.declared.program.Program.{Program}
 use Rattle.event_text.specs.declared.event.Event.{Event}
 use Rattle.event_text.specs.OwnTokens.{IsOwnEvent}
@@ -11,12 +10,11 @@ use Rattle.event_text.specs.Script.{ScriptShape}
 use Rattle.host_code.specs.Code.{CodeShape}
 use Rattle.host_code.specs.Sound.{IsSoundCode}
 use Rattle.need_labels.specs.Labelled as needs
-use Rattle.need_labels.specs.Needs.{NeedsShape}
-use Rattle.need_labels.specs.Plan.{PlanShape}
 use Rattle.net_world.specs.Fits.{HasOwnToken}
 use Rattle.net_world.specs.Secret.{IsSeenRun, IsPrompt}
 use Rattle.net_world.specs.Told.{SentMessage}
 use Rattle.net_world.specs.World.{WorldShape, world_at_start, not_bad, not_there, host_busy, no_such_token}
+use Rattle.split_rules.specs.Placed.{PlacedProgram}
 use Rattle.split_rules.specs.Allowed.{IsAllowed}
 use Rattle.split_rules.specs.Held.{IsHeld}
 use Rattle.split_rules.specs.SplitCode.{split_code}
@@ -24,8 +22,8 @@ use Rattle.split_rules.specs.Splittable.{IsSplittable}
 use Rattle.split_shades.specs.Flows.{AreResultsLabelled}
 use Rattle.split_shades.specs.Sites.{ReleasesNothing}
 use Rattle.agreement.specs.Alike.{AreStoresAlike}
-use Rattle.front_end.specs.PlacedCode.{code_of}
-use Rattle.front_end.specs.PlacedSources.{PlacedSource, PlacedSources, labelled_source}
+use Rattle.front_end.specs.PlacedCode.{code_of, program_of}
+use Rattle.front_end.specs.PlacedSources.{PlacedSource, PlacedSources}
 use Rattle.front_end.specs.Stages.{Outcome, given, stopped, DueThen}
 use Rattle.front_end.specs.Loads.{FilesChange}
 use Rattle.front_end.specs.Verdicts.{VerdictShape, Refuse, Print}
@@ -53,13 +51,13 @@ use Rattle.split_cli.proofs.SetSources.{set_there, results_there}
 
 -- two runs of a program that releases nothing tell misbehaving hosts the same
 abbrev pub ToldAlikeLaw : Type 0
-ToldAlikeLaw = (labelled : needs.Labelled) (need : NeedsShape) (hosts : HostsShape) (plan : PlanShape) (bad : ℕ)
-    (store start : List (List ℤ)) (events others seen more : List Event) (one other : WorldShape) →
-    let code = split_code labelled need hosts plan in
-    let first = world_at_start code hosts.hosts bad store in
-    let second = world_at_start code hosts.hosts bad start in
-    IsSplittable labelled hosts plan → IsAllowed labelled need hosts plan → IsHeld labelled need hosts plan →
-    AreResultsLabelled labelled.program → ReleasesNothing labelled.program →
+ToldAlikeLaw = (placed : PlacedProgram) (bad : ℕ) (store start : List (List ℤ)) (events others seen more : List Event)
+    (one other : WorldShape) →
+    let code = split_code placed in
+    let first = world_at_start code placed.hosts.hosts bad store in
+    let second = world_at_start code placed.hosts.hosts bad start in
+    IsSplittable placed.labelled placed.hosts placed.plan → IsAllowed placed → IsHeld placed →
+    AreResultsLabelled placed.labelled.program → ReleasesNothing placed.labelled.program →
     AreStoresAlike code first store start → All (HasOwnToken first) seen →
     IsSeenRun code first events (seen ++ more) one → IsSeenRun code second others seen other →
     IsPrompt code first events → IsPrompt code second others →
@@ -95,7 +93,7 @@ longer_tells sets laws program hosts placed tree bad store start events others o
     let presented : All (λ (it : ℕ × Event). Own it.1) others =
     λ k d less. sets.scripts.own_at_start code rows bad store (get_or others k d).1 (code_hosts placed code refl)
     (own k d less) in
-    laws.told_alike (labelled_source placed.source) placed.needs placed.source.file placed.plan bad store start
+    laws.told_alike (program_of placed) bad store start
     (events_in events) (events_in others) (events_in other.seen) more one.last other.last set.splittable set.allowed
     set.held (results_there sets.reading sets.plans sets.granted program hosts placed accepted) silent alike
     (all_seen Own code second others other ran_other presented)
@@ -109,7 +107,7 @@ longer_tells sets laws program hosts placed tree bad store start events others o
 sound_there : AllLaws → PrivateLaws → (program hosts : List ℕ) (placed : PlacedSource) (tree : Program) →
     IsPlacedAs program hosts placed tree → IsSoundCode (code_of placed)
 sound_there sets laws program hosts placed tree is_placed =
-    sets.scripts.sound (labelled_source placed.source) placed.needs placed.source.file placed.plan
+    sets.scripts.sound (program_of placed)
     (set_there sets.reading sets.plans sets.granted program hosts placed is_placed.accepted tree
     is_placed.tree_is).splittable
 

@@ -32,12 +32,12 @@ use Rattle.integrity.specs.Altering.{FollowsAltered}
 use Rattle.integrity.specs.Exposed.{exposure_of}
 use Rattle.label_lattice.specs.declared.label.Label.{Label}
 use Rattle.need_labels.specs.Labelled as needs
-use Rattle.need_labels.specs.Needs.{NeedsShape}
 use Rattle.need_labels.specs.Plan.{PlanShape}
 use Rattle.net_world.specs.Choice.{NoneRuns, NothingFlies, IsNextEvent}
 use Rattle.net_world.specs.World.{WorldShape, IsStep, IsRun, world_at_start, state_at, has_halted}
 use Rattle.net_world.specs.World.{not_bad, not_there, host_busy, no_such_token}
 use Rattle.net_world.specs.Fits.{HasOwnToken}
+use Rattle.split_rules.specs.Placed.{PlacedProgram}
 use Rattle.split_rules.specs.SplitCode.{split_code, placed_code_fields}
 use Rattle.split_rules.specs.Splittable.{IsSplittable}
 use Rattle.simulation.specs.Ending.{EVENTS}
@@ -49,9 +49,9 @@ use Rattle.front_end.specs.StepCounts.{IsStepCount}
 use Rattle.front_end.specs.Verdicts.{VerdictShape, Refuse, Print}
 use Rattle.front_end.specs.Loads.{FilesChange, Told}
 use Rattle.front_end.specs.Stages.{Outcome, given, stopped}
-use Rattle.front_end.specs.PlacedSources.{PlacedSource, PlacedSources, labelled_source}
+use Rattle.front_end.specs.PlacedSources.{PlacedSource, PlacedSources}
 use Rattle.split_cli.specs.Drive.{first_world, IsDriveReport, DueForDrive}
-use Rattle.front_end.specs.PlacedCode.{code_of}
+use Rattle.front_end.specs.PlacedCode.{code_of, program_of}
 use Rattle.split_cli.specs.Driven.{DrivesTo, rested, spent}
 use Rattle.split_cli.specs.Replay.{events_in, replay_text, ScriptRead, EventsHappen, DueForReplay}
 use Rattle.split_cli.specs.Replay as replay
@@ -83,42 +83,43 @@ pub record Laws (tree : Program) (code : CodeShape) (file : HostsShape) (store :
   pub ignored : (host : HostId) (state : HostShape) → state_at world host ≡ Some state → state.ignored ≡ 0
 
 abbrev pub ObeyingLaws : Type 0
-ObeyingLaws = (tree : Program) (labelled : needs.Labelled) (need : NeedsShape) (file : HostsShape) (plan : PlanShape)
-    (store : List (List ℤ)) (events : List Event) (world : WorldShape) →
-    IsSet tree labelled need file plan →
-    IsRun (split_code labelled need file plan) (world_at_start (split_code labelled need file plan) file.hosts 0 store)
-    events world → Laws tree (split_code labelled need file plan) file store events world
+ObeyingLaws = (tree : Program) (placed : PlacedProgram) (store : List (List ℤ)) (events : List Event)
+    (world : WorldShape) →
+    IsSet tree placed →
+    IsRun (split_code placed) (world_at_start (split_code placed) placed.hosts.hosts 0 store)
+    events world → Laws tree (split_code placed) placed.hosts store events world
 
 -- no list of events is longer than the plain run allows
 abbrev pub EndingLaw : Type 0
-EndingLaw = (tree : Program) (labelled : needs.Labelled) (need : NeedsShape) (file : HostsShape) (plan : PlanShape)
-    (store : List (List ℤ)) (steps : ℕ) (events : List Event) (world : WorldShape) →
-    IsSet tree labelled need file plan → HasLength tree store steps →
-    IsRun (split_code labelled need file plan) (world_at_start (split_code labelled need file plan) file.hosts 0 store)
+EndingLaw = (tree : Program) (placed : PlacedProgram) (store : List (List ℤ)) (steps : ℕ) (events : List Event)
+    (world : WorldShape) →
+    IsSet tree placed → HasLength tree store steps →
+    IsRun (split_code placed) (world_at_start (split_code placed) placed.hosts.hosts 0 store)
     events world → length events ≤ EVENTS * (steps + 1)
 
 -- the event that comes next happens
 abbrev pub NextLaw : Type 0
-NextLaw = (tree : Program) (labelled : needs.Labelled) (need : NeedsShape) (file : HostsShape) (plan : PlanShape)
-    (store : List (List ℤ)) (events : List Event) (world : WorldShape) (event : Event) →
-    IsSet tree labelled need file plan →
-    IsRun (split_code labelled need file plan) (world_at_start (split_code labelled need file plan) file.hosts 0 store)
+NextLaw = (tree : Program) (placed : PlacedProgram) (store : List (List ℤ)) (events : List Event) (world : WorldShape)
+    (event : Event) →
+    IsSet tree placed →
+    IsRun (split_code placed) (world_at_start (split_code placed) placed.hosts.hosts 0 store)
     events world → IsNextEvent world (Some event) →
-    (after : WorldShape) × IsStep (split_code labelled need file plan) world event after
+    (after : WorldShape) × IsStep (split_code placed) world event after
 
 -- whoever misbehaves, the others follow an altered run
 abbrev pub AlteredLaw : Type 0
-AlteredLaw = (tree : Program) (labelled : needs.Labelled) (need : NeedsShape) (file : HostsShape) (plan : PlanShape)
-    (bad : ℕ) (store : List (List ℤ)) (events : List Event) (world : WorldShape) →
-    IsSet tree labelled need file plan → CodeHasNumbers (split_code labelled need file plan) → RowsHaveNumbers store →
-    IsReached (split_code labelled need file plan) file.hosts bad store events world → All EventHasNumbers events →
-    FollowsAltered tree (exposure_of labelled need file bad) (split_code labelled need file plan) file.hosts bad store
+AlteredLaw = (tree : Program) (placed : PlacedProgram) (bad : ℕ) (store : List (List ℤ)) (events : List Event)
+    (world : WorldShape) →
+    IsSet tree placed → CodeHasNumbers (split_code placed) → RowsHaveNumbers store →
+    IsReached (split_code placed) placed.hosts.hosts bad store events world → All EventHasNumbers events →
+    FollowsAltered tree (exposure_of placed.labelled placed.needs placed.hosts bad)
+    (split_code placed) placed.hosts.hosts bad store
     events
 
 -- what emitted code and scripts are
 pub record ScriptLaws : Type 0 where
-  pub sound : (labelled : needs.Labelled) (need : NeedsShape) (file : HostsShape) (plan : PlanShape) →
-      IsSplittable labelled file plan → IsSoundCode (split_code labelled need file plan)
+  pub sound : (placed : PlacedProgram) →
+      IsSplittable placed.labelled placed.hosts placed.plan → IsSoundCode (split_code placed)
   pub said_own : (code : CodeShape) (bytes : List ℕ) (said : ScriptShape) → script_of code bytes ≡ Ok said →
       All (λ one. IsOwnEvent code.hosts said.bad one.1) said.events
   pub own_at_start : OwnAtStart
@@ -144,7 +145,7 @@ obeying_run : AllLaws → (program hosts : List ℕ) (placed : PlacedSource) (tr
     (events : List Event) (last : WorldShape) → IsPlacedAs program hosts placed tree →
     IsRun (code_of placed) (first_world placed 0 start) events last → IsObeyingRun placed tree start events last
 obeying_run laws program hosts placed tree start events last is_placed ran =
-    let law = laws.obeying tree (labelled_source placed.source) placed.needs placed.source.file placed.plan start events
+    let law = laws.obeying tree (program_of placed) start events
     last
     (set_there laws.reading laws.plans laws.granted program hosts placed is_placed.accepted tree is_placed.tree_is)
     ran in
@@ -207,7 +208,7 @@ reached_there laws program hosts script placed tree said last is_placed read ran
     let set = set_there laws.reading laws.plans laws.granted program hosts placed is_placed.accepted tree
     is_placed.tree_is in
     record {
-      sound = laws.scripts.sound (labelled_source placed.source) placed.needs placed.source.file placed.plan
+      sound = laws.scripts.sound (program_of placed)
           set.splittable;
       hosts = refl;
       own = All-map (HasOwnToken first) (λ (one : ℕ × Event). one.1) said.events
@@ -222,13 +223,12 @@ faithful_run : AllLaws → (program hosts script : List ℕ) (placed : PlacedSou
     IsRun (code_of placed) (first_world placed said.bad said.start) (events_in said.events) last →
     IsFaithfulRun placed tree said.bad said.start (events_in said.events) last
 faithful_run laws program hosts script placed tree said last is_placed read ran =
-    let labelled = labelled_source placed.source in
     let file = placed.source.file in
     let code = code_of placed in
     let events = events_in said.events in
-    let follows = laws.altered tree labelled placed.needs file placed.plan said.bad said.start events last
+    let follows = laws.altered tree (program_of placed) said.bad said.start events last
     (set_there laws.reading laws.plans laws.granted program hosts placed is_placed.accepted tree is_placed.tree_is)
-    (code_has labelled placed.needs file placed.plan
+    (code_has (program_of placed)
     (has_numbers laws.reading laws.plans laws.granted program hosts placed is_placed.accepted))
     (said_numbers laws program hosts script placed said is_placed.accepted read)
     (reached_there laws program hosts script placed tree said last is_placed read ran)
@@ -310,15 +310,13 @@ is_faithful_drive laws program hosts start most status text driven =
           let rest = ends_rested code first most driven.events driven.last status driven.ends done in
           run.idle rest.0 rest.1;
       in_time = λ steps ends enough.
-          let placed = driven.placed in
-          let labelled = labelled_source placed.source in
-          let set = set_there laws.reading laws.plans laws.granted program hosts placed driven.is_placed.accepted
-          driven.tree driven.is_placed.tree_is in
+          let placed = program_of driven.placed in
+          let set = set_there laws.reading laws.plans laws.granted program hosts driven.placed
+          driven.is_placed.accepted driven.tree driven.is_placed.tree_is in
           ends_in_time code first most driven.events driven.last status driven.ends (EVENTS * (steps + 1))
-          (λ more after ran. laws.ending driven.tree labelled placed.needs placed.source.file placed.plan driven.values steps
-          more after set ends ran)
-          (λ event ran comes. laws.next driven.tree labelled placed.needs placed.source.file placed.plan driven.values
-          driven.events driven.last event set ran comes) enough;
+          (λ more after ran. laws.ending driven.tree placed driven.values steps more after set ends ran)
+          (λ event ran comes. laws.next driven.tree placed driven.values driven.events driven.last event set ran comes)
+          enough;
     }
 
 -- ---- what a verdict says

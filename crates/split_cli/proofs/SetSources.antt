@@ -35,6 +35,7 @@ use Rattle.need_labels.specs.Plan.{PlanShape}
 use Rattle.place_rules.specs.Allowed.{AllowedShape}
 use Rattle.place_rules.specs.PlaceRules.{HoldsOn, MayHoldStatement}
 use Rattle.placement.specs.Placing.{IsPlaced, IsAllowedPlan, HasHosts}
+use Rattle.split_rules.specs.Placed.{PlacedProgram}
 use Rattle.split_rules.specs.Allowed.{IsTrustedHost, IsAllowed}
 use Rattle.split_rules.specs.Asking.{AreGranted}
 use Rattle.split_rules.specs.Held.{IsHeld}
@@ -43,6 +44,7 @@ use Rattle.split_rules.specs.Splittable.{IsSplittable}
 use Rattle.split_shades.specs.Flows.{AreResultsLabelled}
 use Rattle.simulation.specs.Obeying.{IsSet}
 use Rattle.simulation.specs.Programs.{AreInOrder}
+use Rattle.front_end.specs.PlacedCode.{program_of}
 use Rattle.front_end.specs.PlacedSources.{PlacedSource, AreChosen, PlacedSources, labelled_source}
 use Rattle.front_end.specs.ReadPrograms.{AreShort}
 use Rattle.front_end.specs.Stages.{given}
@@ -98,9 +100,9 @@ pub record PlanLaws : Type 0 where
       (plan : PlanShape) → IsPlaced labelled need hosts allowed plan → HasHosts hosts plan
 
 abbrev pub GrantedLaw : Type 0
-GrantedLaw = (labelled : needs.Labelled) (need : NeedsShape) (hosts : HostsShape) (plan : PlanShape) →
-    IsSplittable labelled hosts plan → IsAllowed labelled need hosts plan → IsHeld labelled need hosts plan →
-    AreGranted (split_code labelled need hosts plan)
+GrantedLaw = (placed : PlacedProgram) →
+    IsSplittable placed.labelled placed.hosts placed.plan → IsAllowed placed → IsHeld placed →
+    AreGranted (split_code placed)
 
 -- ---- the plan
 
@@ -177,7 +179,7 @@ module _ (sources : ReadingLaws) (plans : PlanLaws) (granted : GrantedLaw) (prog
       trusted_from placed.source.file placed.needs.used placed.needs.need placed.plan.statements
       (counts.0 ∙ sym counts.1) held.statements
 
-  allowed : IsAllowed (labelled_source placed.source) placed.needs placed.source.file placed.plan
+  allowed : IsAllowed (program_of placed)
   allowed = record {
     numbered = numbered;
     statements = statements;
@@ -189,7 +191,7 @@ module _ (sources : ReadingLaws) (plans : PlanLaws) (granted : GrantedLaw) (prog
     trusted = trusted;
   }
 
-  seen : IsHeld (labelled_source placed.source) placed.needs placed.source.file placed.plan
+  seen : IsHeld (program_of placed)
   seen = record {
     pc = refl;
     values = sources.values placed.source.file.principals read.draft placed.source.tree read.resolved;
@@ -203,14 +205,14 @@ module _ (sources : ReadingLaws) (plans : PlanLaws) (granted : GrantedLaw) (prog
 
   -- hosts that all obey follow the plain run of the program
   pub set_there : (tree : Program) → program_tree tree ≡ placed.source.tree →
-      IsSet tree (labelled_source placed.source) placed.needs placed.source.file placed.plan
+      IsSet tree (program_of placed)
   set_there tree is = record {
     is = is;
     splittable = splits_there;
     needs_of = choice.needs;
     allowed = allowed;
     held = seen;
-    granted = granted (labelled_source placed.source) placed.needs placed.source.file placed.plan splits_there
+    granted = granted (program_of placed) splits_there
         allowed seen;
     given_back = sources.given_back placed.source.file.principals read.draft placed.source.tree
         returned read.resolved;

@@ -19,10 +19,11 @@ use Rattle.net_world.specs.Fits.{ShapeFits}
 use Rattle.net_world.specs.World.{WorldShape, AreHostsOf, world_at_start}
 use Rattle.place_rules.specs.Allowed.{AllowedShape}
 use Rattle.placement.specs.Placing.{IsPlaced, HasHosts}
+use Rattle.split_rules.specs.Placed.{PlacedProgram}
 use Rattle.split_rules.specs.SplitCode.{split_code}
 use Rattle.split_rules.specs.Splittable.{IsSplittable}
 use Rattle.split_cli.specs.Drive.{first_world, TellsDrive, DueForDriven}
-use Rattle.front_end.specs.PlacedCode.{code_of}
+use Rattle.front_end.specs.PlacedCode.{code_of, program_of}
 use Rattle.front_end.specs.PlacedSources.{PlacedSource, PlacedSources, labelled_source}
 use Rattle.front_end.specs.Stages.{given}
 use Rattle.front_end.specs.Starting.{StartingValues}
@@ -47,8 +48,8 @@ pub record CodeLaws : Type 0 where
       All (λ host. length host.name ≤ HOSTS_BYTES) file.hosts
   pub places : (labelled : needs.Labelled) (need : NeedsShape) (hosts : HostsShape) (allowed : AllowedShape)
       (plan : PlanShape) → IsPlaced labelled need hosts allowed plan → HasHosts hosts plan
-  pub sound : (labelled : needs.Labelled) (need : NeedsShape) (hosts : HostsShape) (plan : PlanShape) →
-      IsSplittable labelled hosts plan → IsSoundCode (split_code labelled need hosts plan)
+  pub sound : (placed : PlacedProgram) →
+      IsSplittable placed.labelled placed.hosts placed.plan → IsSoundCode (split_code placed)
   pub start : (code : CodeShape) (rows : List declared_hosts.HostShape) (bad : ℕ) (store : List (List ℤ)) →
       IsSoundCode code → AreHostsOf code rows → ShapeFits code (world_at_start code rows bad store)
 
@@ -68,7 +69,7 @@ splits laws program hosts placed accepted =
 pub sound_code : CodeLaws → (program hosts : List ℕ) (placed : PlacedSource) →
     PlacedSources program hosts (given placed) → IsSoundCode (code_of placed)
 sound_code laws program hosts placed accepted =
-    laws.sound (labelled_source placed.source) placed.needs placed.source.file placed.plan
+    laws.sound (program_of placed)
     (splits laws program hosts placed accepted)
 
 report_some : StepCauses → (text : CodeShape → ℕ → WorldShape → List ℕ) (placed : PlacedSource)

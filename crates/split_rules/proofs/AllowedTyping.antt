@@ -18,7 +18,7 @@ use Rattle.js_base.proofs.BitLemmas.{is_bit, bits_in_order}
 use Rattle.principals.specs.ActsFor.{Declared}
 use Rattle.label_lattice.specs.declared.label.TheConstants.{READERS}
 use Rattle.label_lattice.specs.Label.{IsTrustedBy}
-use Rattle.host_decl.specs.Hosts.{HostShape, HostsShape}
+use Rattle.host_decl.specs.Hosts.{HostShape}
 use Rattle.jif_tree.specs.Trees.{BlockTree, done, set_local, set_field, set_element, branch, loop, call, give_back}
 use Rattle.jif_tree.specs.Trees.{MethodTree, ProgramTree}
 use Rattle.jif_tree.specs.LabelRules.{MethodSetting, setting_of, VariableLabels, StatementLabels, block_labels, Meets}
@@ -29,14 +29,15 @@ use Rattle.jif_tree.specs.WellNumbered.{AreMethodsIn, is_some}
 use Rattle.jif_tree.specs.Labelling.{AreLabelledMethods}
 use Rattle.jif_tree.proofs.LabelsKept.{Stay, stay_same, stay_then, block_stays}
 use Rattle.need_labels.specs.Labelled.{Labelled}
-use Rattle.need_labels.specs.Needs.{NeedsShape, Backing, for_label, Backs, StatementUse, all_backing, block_uses}
+use Rattle.need_labels.specs.Needs.{Backing, for_label, Backs, StatementUse, all_backing, block_uses}
 use Rattle.need_labels.specs.Needs.{method_uses, statement_uses, IsNeed, statement_use, label_of, labels_of}
 use Rattle.need_labels.specs.Needs.{kept_result, for_releases}
-use Rattle.need_labels.specs.Plan.{PlanShape, statement_host}
+use Rattle.need_labels.specs.Plan.{statement_host}
 use Rattle.need_labels.proofs.Somewhere.{any_here, any_later, any_left, any_right}
 use Rattle.need_labels.proofs.Ordered.{use_numbered}
-use Rattle.msg_cost.specs.Moves.{PlannedShape, planned_of, is_trusted_for}
+use Rattle.msg_cost.specs.Moves.{PlannedShape, is_trusted_for}
 use Rattle.msg_cost.proofs.Trusted.{test_decides}
+use Rattle.split_rules.specs.Placed.{PlacedProgram, planned_from}
 use Rattle.split_rules.specs.Positions.{statements_of, number_of, run, all_due, all_statements, IsIn, IsOf}
 use Rattle.split_rules.specs.Allowed.{IsTrustedHost, IsAllowed}
 use Rattle.split_rules.specs.Typable.{IsTrustedThere, IsTrustedInside, AreTrusted, IsTypableMethod, IsTypable}
@@ -116,41 +117,42 @@ pub record IsNeeded (planned : PlannedShape) (principals : Declared) (one : Stat
   pub need : IsNeed principals one.backing (slice_index planned.needs.need one.id.0)
   pub trusted : IsTrustedThere planned one.id
 
-at_host : (labelled : Labelled) (needs : NeedsShape) (hosts : HostsShape) (plan : PlanShape) (id : StmtId)
-    (host : HostId) → slice_get plan.statements id.0 ≡ Some host →
-    IsTrustedHost hosts (slice_index needs.need id.0) host →
-    IsTrustedThere (planned_of labelled needs hosts plan) id
-at_host labelled needs hosts plan id host stands trusted = by (slice_get hosts.hosts host.0) refl trusted
+at_host : (placed : PlacedProgram) (id : StmtId) (host : HostId) →
+    slice_get placed.plan.statements id.0 ≡ Some host →
+    IsTrustedHost placed.hosts (slice_index placed.needs.need id.0) host →
+    IsTrustedThere (planned_from placed) id
+at_host placed id host stands trusted = by (slice_get placed.hosts.hosts host.0) refl trusted
   where
     planned : PlannedShape
-    planned = planned_of labelled needs hosts plan
+    planned = planned_from placed
 
-    by : (found : Option HostShape) → slice_get hosts.hosts host.0 ≡ found →
-        IsSomeAnd found (λ row. IsTrustedBy row.label (slice_index needs.need id.0)) → IsTrustedThere planned id
+    by : (found : Option HostShape) → slice_get placed.hosts.hosts host.0 ≡ found →
+        IsSomeAnd found (λ row. IsTrustedBy row.label (slice_index placed.needs.need id.0)) → IsTrustedThere planned id
     by None is holds = absurd holds
-    by (Some row) is holds = rw (stands, is) ((test_decides row.label (slice_index needs.need id.0)).1 holds)
+    by (Some row) is holds = rw (stands, is) ((test_decides row.label (slice_index placed.needs.need id.0)).1 holds)
 
-pub use_needed : (labelled : Labelled) (needs : NeedsShape) (hosts : HostsShape) (plan : PlanShape) →
-    IsAllowed labelled needs hosts plan → (place : ℕ) (one : StatementUse) →
-    slice_get (statement_uses hosts.principals labelled) place ≡ Some one →
-    IsNeeded (planned_of labelled needs hosts plan) hosts.principals one
-use_needed labelled needs hosts plan allowed place one there =
-    let planned = planned_of labelled needs hosts plan in
-    let principals = hosts.principals in
-    let number : one.id.0 ≡ place = use_numbered principals labelled place one allowed.statements there in
-    let word = zipped_there (λ it word. IsNeed principals it.backing word) (statement_uses principals labelled)
-    needs.need allowed.needs_of.need place one there in
-    let host = zipped_there (IsTrustedHost hosts) needs.need plan.statements allowed.trusted place word.0 word.1 in
-    let need_is : slice_index needs.need place ≡ word.0 =
-    get_or_from_slice_get needs.need place word.0 _ word.1 in
-    let P : ℕ → Type 0 = λ at. IsNeed principals one.backing (slice_index needs.need at) in
+pub use_needed : (placed : PlacedProgram) →
+    IsAllowed placed → (place : ℕ) (one : StatementUse) →
+    slice_get (statement_uses placed.hosts.principals placed.labelled) place ≡ Some one →
+    IsNeeded (planned_from placed) placed.hosts.principals one
+use_needed placed allowed place one there =
+    let planned = planned_from placed in
+    let principals = placed.hosts.principals in
+    let number : one.id.0 ≡ place = use_numbered principals placed.labelled place one allowed.statements there in
+    let word = zipped_there (λ it word. IsNeed principals it.backing word) (statement_uses principals placed.labelled)
+    placed.needs.need allowed.needs_of.need place one there in
+    let host = zipped_there (IsTrustedHost placed.hosts) placed.needs.need placed.plan.statements allowed.trusted place
+    word.0 word.1 in
+    let need_is : slice_index placed.needs.need place ≡ word.0 =
+    get_or_from_slice_get placed.needs.need place word.0 _ word.1 in
+    let P : ℕ → Type 0 = λ at. IsNeed principals one.backing (slice_index placed.needs.need at) in
     let Q : ℕ → Type 0 = λ need. IsNeed principals one.backing need in
     record {
       need = subst P (sym number) (subst Q (sym need_is) word.2);
-      trusted = at_host labelled needs hosts plan one.id host.0
-          (ap (slice_get plan.statements) number ∙ host.1)
-          (let R : ℕ → Type 0 = λ need. IsTrustedHost hosts need host.0 in
-          let S : ℕ → Type 0 = λ at. IsTrustedHost hosts (slice_index needs.need at) host.0 in
+      trusted = at_host placed one.id host.0
+          (ap (slice_get placed.plan.statements) number ∙ host.1)
+          (let R : ℕ → Type 0 = λ need. IsTrustedHost placed.hosts need host.0 in
+          let S : ℕ → Type 0 = λ at. IsTrustedHost placed.hosts (slice_index placed.needs.need at) host.0 in
           subst S (sym number) (subst R (sym need_is) host.2));
     }
 
@@ -533,35 +535,36 @@ methods_typable labelled planned principals same bodies labels (method ∷ metho
 
 -- ---- programs
 
-pub allowed_needed : (labelled : Labelled) (needs : NeedsShape) (hosts : HostsShape) (plan : PlanShape) →
-    IsAllowed labelled needs hosts plan →
-    AreNeeded (planned_of labelled needs hosts plan) hosts.principals (statement_uses hosts.principals labelled)
-allowed_needed labelled needs hosts plan allowed =
-    each_there (IsNeeded (planned_of labelled needs hosts plan) hosts.principals)
-    (statement_uses hosts.principals labelled) (use_needed labelled needs hosts plan allowed)
+pub allowed_needed : (placed : PlacedProgram) →
+    IsAllowed placed →
+    AreNeeded (planned_from placed) placed.hosts.principals (statement_uses placed.hosts.principals placed.labelled)
+allowed_needed placed allowed =
+    each_there (IsNeeded (planned_from placed) placed.hosts.principals)
+    (statement_uses placed.hosts.principals placed.labelled) (use_needed placed allowed)
 
-pub allowed_bodies : (labelled : Labelled) (needs : NeedsShape) (hosts : HostsShape) (plan : PlanShape) →
-    IsAllowed labelled needs hosts plan →
-    AreBodiesBacked (planned_of labelled needs hosts plan) hosts.principals labelled
-allowed_bodies labelled needs hosts plan allowed =
-    let principals = hosts.principals in
-    let program = labelled.program in
+pub allowed_bodies : (placed : PlacedProgram) →
+    IsAllowed placed →
+    AreBodiesBacked (planned_from placed) placed.hosts.principals placed.labelled
+allowed_bodies placed allowed =
+    let principals = placed.hosts.principals in
+    let program = placed.labelled.program in
     let declared = declared_labels program in
     let final = labels_after_methods principals program declared program.methods in
     let met = met_from principals (program_labels principals program)
     (by_recursion (Meets principals) (obligations_of (program_labels principals program)) allowed.well_labelled) in
-    bodies_backed labelled (planned_of labelled needs hosts plan) principals final allowed.var_labels 0 program.methods
+    bodies_backed placed.labelled (planned_from placed) principals final allowed.var_labels 0 program.methods
     declared (length-map program.vars (λ variable. variable.label)) refl allowed.numbered.methods allowed.methods met
-    (allowed_needed labelled needs hosts plan allowed)
+    (allowed_needed placed allowed)
 
-pub allowed_typable : (labelled : Labelled) (needs : NeedsShape) (hosts : HostsShape) (plan : PlanShape) →
-    IsAllowed labelled needs hosts plan → IsTypable (planned_of labelled needs hosts plan)
-allowed_typable labelled needs hosts plan allowed =
-    let planned = planned_of labelled needs hosts plan in
-    let program = labelled.program in
-    let bodies = allowed_bodies labelled needs hosts plan allowed in
+pub allowed_typable : (placed : PlacedProgram) →
+    IsAllowed placed → IsTypable (planned_from placed)
+allowed_typable placed allowed =
+    let planned = planned_from placed in
+    let program = placed.labelled.program in
+    let bodies = allowed_bodies placed allowed in
     record {
-      methods = methods_typable labelled planned hosts.principals refl bodies (declared_labels program) program.methods
-          allowed.methods (allowed_needed labelled needs hosts plan allowed) bodies
+      methods = methods_typable placed.labelled planned placed.hosts.principals refl bodies (declared_labels program)
+          program.methods
+          allowed.methods (allowed_needed placed allowed) bodies
           (λ place method is. body_of_program program (record { 0 = place }) method is);
     }

@@ -8,17 +8,16 @@ use Rattle.js_base.specs.declared.ids.FieldId.{FieldId}
 use Rattle.js_base.specs.declared.ids.EntryId.{EntryId}
 use Rattle.label_lattice.specs.declared.label.Label.{Label}
 use Rattle.label_lattice.specs.Label.{ConfFlows, IsTrustedBy}
-use Rattle.host_decl.specs.Hosts.{HostShape, HostsShape}
+use Rattle.host_decl.specs.Hosts.{HostShape}
 use Rattle.jif_tree.specs.Trees.{FieldTree}
 use Rattle.host_code.specs.declared.instruction.Instr.{Instr}
 use Rattle.host_code.specs.declared.instruction.Op.{Op}
 use Rattle.host_code.specs.declared.instruction.Op.TheVariants as op
 use Rattle.host_code.specs.Code.{CodeShape}
 use Rattle.entry_check.specs.Checks.{MaySee, label_at, label_of_host}
-use Rattle.need_labels.specs.Labelled.{Labelled}
-use Rattle.need_labels.specs.Needs.{NeedsShape}
-use Rattle.need_labels.specs.Plan.{PlanShape, field_host}
-use Rattle.msg_cost.specs.Moves.{PlannedShape, planned_of, is_trusted_for}
+use Rattle.need_labels.specs.Plan.{field_host}
+use Rattle.msg_cost.specs.Moves.{PlannedShape, is_trusted_for}
+use Rattle.split_rules.specs.Placed.{PlacedProgram, planned_from}
 use Rattle.split_rules.specs.Emissions.{Emission, instruction, Named}
 use Rattle.split_rules.specs.Allowed.{IsTrustedHost, IsAllowed}
 use Rattle.split_rules.specs.Held.{IsHeld}
@@ -81,24 +80,24 @@ record IsDueAt (planned : PlannedShape) (table : Table) (host : HostId) (number 
   is : EntryIs table.entries number position (need_due planned due)
   trusted : AreDueOn planned host due
 
-named_need : (labelled : Labelled) (needs : NeedsShape) (hosts : HostsShape) (plan : PlanShape)
-    (emissions : List Emission) (table : Table) →
-    let planned = planned_of labelled needs hosts plan in
-    IsTypedCode planned (code_of_emissions labelled hosts planned emissions) table → (host : HostId) (label : Label) →
+named_need : (placed : PlacedProgram) (emissions : List Emission) (table : Table) →
+    let planned = planned_from placed in
+    IsTypedCode planned (code_of_emissions placed.labelled placed.hosts planned emissions) table →
+    (host : HostId) (label : Label) →
     Sees planned host label → (number : ℕ) → 0 < number → (named : Named) →
     slice_get (entries_in emissions) number ≡ Some named → IsDueAt planned table host number →
-    IsTrustedHost hosts named.need host
-named_need labelled needs hosts plan emissions table typed host label sees zero some named is due_at =
+    IsTrustedHost placed.hosts named.need host
+named_need placed emissions table typed host label sees zero some named is due_at =
     absurd (omega (arith, some))
-named_need labelled needs hosts plan emissions table typed host label sees (suc number) some named is due_at =
-    let planned = planned_of labelled needs hosts plan in
-    let needed = code_labels labelled emissions in
+named_need placed emissions table typed host label sees (suc number) some named is due_at =
+    let planned = planned_from placed in
+    let needed = code_labels placed.labelled emissions in
     let in_code = typed.entries number (code_entry needed emissions (suc number) named)
     (entry_there needed emissions (suc number) named is) in
     let one : Entrance = record { position = in_code.position; need = named.need } in
     let other : Entrance = record { position = due_at.position; need = need_due planned due_at.due } in
     let same : other ≡ one = same_there table.entries (suc number) other one due_at.is in_code.is in
-    let P : ℕ → Type 0 = λ need. IsTrustedHost hosts need host in
+    let P : ℕ → Type 0 = λ need. IsTrustedHost placed.hosts need host in
     subst P (ap (λ (it : Entrance). it.need) same) (need_held planned host label sees due_at.due due_at.trusted)
 
 go_due : (planned : PlannedShape) (table : Table) (me : HostId) (place : ℕ) (there : EntryId) (on : HostId) →
@@ -128,97 +127,97 @@ ask_due planned table me place there on trusted typed =
 
 -- ---- instructions
 
-record IsAsking (labelled : Labelled) (needs : NeedsShape) (hosts : HostsShape) (plan : PlanShape)
-    (emissions : List Emission) (table : Table) : Type 0 where
-  many : length labelled.var_labels ≡ length labelled.program.vars
-  typed : IsTypedCode (planned_of labelled needs hosts plan)
-      (code_of_emissions labelled hosts (planned_of labelled needs hosts plan) emissions) table
+record IsAsking (placed : PlacedProgram) (emissions : List Emission) (table : Table)
+    : Type 0 where
+  many : length placed.labelled.var_labels ≡ length placed.labelled.program.vars
+  typed : IsTypedCode (planned_from placed)
+      (code_of_emissions placed.labelled placed.hosts (planned_from placed) emissions) table
 
-op_granted : (labelled : Labelled) (needs : NeedsShape) (hosts : HostsShape) (plan : PlanShape)
-    (emissions : List Emission) (table : Table) → IsAsking labelled needs hosts plan emissions table →
+op_granted : (placed : PlacedProgram) (emissions : List Emission) (table : Table) →
+    IsAsking placed emissions table →
     (me : HostId) (place : ℕ) (pc : Label) (what : Op) →
-    let planned = planned_of labelled needs hosts plan in
-    TellsWell labelled planned (entries_in emissions) me pc what → AreDueOn planned me (table.at me.0 place).due →
+    let planned = planned_from placed in
+    TellsWell placed.labelled planned (entries_in emissions) me pc what → AreDueOn planned me (table.at me.0 place).due
+    →
     IsTypedOp planned table me place (landed me emissions what) →
-    IsGranted (code_of_emissions labelled hosts planned emissions) me (landed me emissions what)
-op_granted labelled needs hosts plan emissions table asks me place pc (op.Read field index) well due typed =
-    read_granted labelled needs hosts plan emissions me pc field well
-op_granted labelled needs hosts plan emissions table asks me place pc (op.Put field index value) well due typed =
-    put_granted labelled needs hosts plan emissions me pc field well
-op_granted labelled needs hosts plan emissions table asks me place pc (op.Send x to) well due typed =
-    variable_granted labelled needs hosts plan emissions me to x asks.many well.0
-op_granted labelled needs hosts plan emissions table asks me place pc (op.Pass x to) well due typed =
-    variable_granted labelled needs hosts plan emissions me to x asks.many well.0
-op_granted labelled needs hosts plan emissions table asks me place pc (op.Ask there on) well due typed =
-    let planned = planned_of labelled needs hosts plan in
+    IsGranted (code_of_emissions placed.labelled placed.hosts planned emissions) me (landed me emissions what)
+op_granted placed emissions table asks me place pc (op.Read field index) well due typed =
+    read_granted placed emissions me pc field well
+op_granted placed emissions table asks me place pc (op.Put field index value) well due typed =
+    put_granted placed emissions me pc field well
+op_granted placed emissions table asks me place pc (op.Send x to) well due typed =
+    variable_granted placed emissions me to x asks.many well.0
+op_granted placed emissions table asks me place pc (op.Pass x to) well due typed =
+    variable_granted placed emissions me to x asks.many well.0
+op_granted placed emissions table asks me place pc (op.Ask there on) well due typed =
+    let planned = planned_from placed in
     let P : Label → Type 0 = λ label. Sees planned me label in
-    enters_granted labelled needs hosts plan emissions me on there well.one well.no_halt well.is well.on_host
-    (named_need labelled needs hosts plan emissions table asks.typed me pc well.sender there.0 well.no_halt well.one
+    enters_granted placed emissions me on there well.one well.no_halt well.is well.on_host
+    (named_need placed emissions table asks.typed me pc well.sender there.0 well.no_halt well.one
     well.is (ask_due planned table me place there on due typed)) (subst P (sym well.label_is) well.sender)
-op_granted labelled needs hosts plan emissions table asks me place pc (op.Go there on) well due typed =
-    let planned = planned_of labelled needs hosts plan in
+op_granted placed emissions table asks me place pc (op.Go there on) well due typed =
+    let planned = planned_from placed in
     let P : Label → Type 0 = λ label. Sees planned me label in
-    enters_granted labelled needs hosts plan emissions me on there well.one well.no_halt well.is well.on_host
-    (named_need labelled needs hosts plan emissions table asks.typed me pc well.sender there.0 well.no_halt well.one
+    enters_granted placed emissions me on there well.one well.no_halt well.is well.on_host
+    (named_need placed emissions table asks.typed me pc well.sender there.0 well.no_halt well.one
     well.is (go_due planned table me place there on due typed)) (subst P (sym well.label_is) well.sender)
-op_granted labelled needs hosts plan emissions table asks me place pc (op.Call there on) well due typed =
-    λ apart. enters_granted labelled needs hosts plan emissions me on there well.one well.no_halt well.is well.on_host
+op_granted placed emissions table asks me place pc (op.Call there on) well due typed =
+    λ apart. enters_granted placed emissions me on there well.one well.no_halt well.is well.on_host
     well.trusted well.sender
-op_granted labelled needs hosts plan emissions table asks me place pc (op.Ret x value) well due typed =
-    λ to. variable_granted labelled needs hosts plan emissions me to x asks.many well
-op_granted labelled needs hosts plan emissions table asks me place pc (op.Let x value) well due typed = tt
-op_granted labelled needs hosts plan emissions table asks me place pc (op.Frame site) well due typed = tt
-op_granted labelled needs hosts plan emissions table asks me place pc (op.Arg x value) well due typed = tt
-op_granted labelled needs hosts plan emissions table asks me place pc (op.Push there) well due typed = tt
-op_granted labelled needs hosts plan emissions table asks me place pc op.Back well due typed = tt
-op_granted labelled needs hosts plan emissions table asks me place pc (op.Branch guard target) well due typed = tt
+op_granted placed emissions table asks me place pc (op.Ret x value) well due typed =
+    λ to. variable_granted placed emissions me to x asks.many well
+op_granted placed emissions table asks me place pc (op.Let x value) well due typed = tt
+op_granted placed emissions table asks me place pc (op.Frame site) well due typed = tt
+op_granted placed emissions table asks me place pc (op.Arg x value) well due typed = tt
+op_granted placed emissions table asks me place pc (op.Push there) well due typed = tt
+op_granted placed emissions table asks me place pc op.Back well due typed = tt
+op_granted placed emissions table asks me place pc (op.Branch guard target) well due typed = tt
 
 -- the host of a field that is read or set is told
-field_seen : (labelled : Labelled) (needs : NeedsShape) (hosts : HostsShape) (plan : PlanShape)
-    (emissions : List Emission) (me : HostId) (label : ℕ) (field : FieldId) (Holds : FieldTree → Type 0) →
-    let planned = planned_of labelled needs hosts plan in
-    let code = code_of_emissions labelled hosts planned emissions in
-    IsSomeAnd (slice_get labelled.program.fields field.0) Holds →
-    ((tree : FieldTree) → Holds tree → IsSeenBy code label (field_host plan field)) →
+field_seen : (placed : PlacedProgram) (emissions : List Emission) (me : HostId) (label : ℕ) (field : FieldId)
+    (Holds : FieldTree → Type 0) →
+    let planned = planned_from placed in
+    let code = code_of_emissions placed.labelled placed.hosts planned emissions in
+    IsSomeAnd (slice_get placed.labelled.program.fields field.0) Holds →
+    ((tree : FieldTree) → Holds tree → IsSeenBy code label (field_host placed.plan field)) →
     asking.IfElsewhere code me field (IsSeenBy code label)
-field_seen labelled needs hosts plan emissions me label field Holds well seen =
-    by (slice_get labelled.program.fields field.0) refl well
+field_seen placed emissions me label field Holds well seen =
+    by (slice_get placed.labelled.program.fields field.0) refl well
   where
     code : CodeShape
-    code = code_of_emissions labelled hosts (planned_of labelled needs hosts plan) emissions
+    code = code_of_emissions placed.labelled placed.hosts (planned_from placed) emissions
 
-    by : (found : Option FieldTree) → slice_get labelled.program.fields field.0 ≡ found → IsSomeAnd found Holds →
+    by : (found : Option FieldTree) → slice_get placed.labelled.program.fields field.0 ≡ found → IsSomeAnd found Holds →
         asking.IfElsewhere code me field (IsSeenBy code label)
     by None is never = absurd never
     by (Some tree) is holds =
-        field_told labelled needs hosts plan emissions me label field tree is (seen tree holds)
+        field_told placed emissions me label field tree is (seen tree holds)
 
-op_tells : (labelled : Labelled) (needs : NeedsShape) (hosts : HostsShape) (plan : PlanShape)
-    (emissions : List Emission) (me : HostId) (label : ℕ) (pc : Label) →
-    let planned = planned_of labelled needs hosts plan in
-    let code = code_of_emissions labelled hosts planned emissions in
-    label_at code label ≡ Some pc → (what : Op) → TellsWell labelled planned (entries_in emissions) me pc what →
+op_tells : (placed : PlacedProgram) (emissions : List Emission) (me : HostId) (label : ℕ) (pc : Label) →
+    let planned = planned_from placed in
+    let code = code_of_emissions placed.labelled placed.hosts planned emissions in
+    label_at code label ≡ Some pc → (what : Op) → TellsWell placed.labelled planned (entries_in emissions) me pc what →
     asking.TellsWell code me label (landed me emissions what)
-op_tells labelled needs hosts plan emissions me label pc is what well = by what well
+op_tells placed emissions me label pc is what well = by what well
   where
     planned : PlannedShape
-    planned = planned_of labelled needs hosts plan
+    planned = planned_from placed
 
     code : CodeShape
-    code = code_of_emissions labelled hosts (planned_of labelled needs hosts plan) emissions
+    code = code_of_emissions placed.labelled placed.hosts (planned_from placed) emissions
 
-    seen : (host : HostId) → Sees (planned_of labelled needs hosts plan) host pc → IsSeenBy code label host
+    seen : (host : HostId) → Sees (planned_from placed) host pc → IsSeenBy code label host
     seen host sees =
         let P : Option Label → Type 0 = λ found. MaySee found (label_of_host code host) in
-        subst P (sym is) (sees_in_code labelled needs hosts plan emissions host pc sees)
+        subst P (sym is) (sees_in_code placed emissions host pc sees)
 
-    by : (it : Op) → TellsWell labelled planned (entries_in emissions) me pc it →
+    by : (it : Op) → TellsWell placed.labelled planned (entries_in emissions) me pc it →
         asking.TellsWell code me label (landed me emissions it)
-    by (op.Read field index) own = field_seen labelled needs hosts plan emissions me label field
-        (λ tree. Sees planned me tree.label × Sees planned (field_host plan field) pc) own
-        (λ tree both. seen (field_host plan field) both.1)
-    by (op.Put field index value) own = field_seen labelled needs hosts plan emissions me label field _ own
-        (λ tree both. seen (field_host plan field) both.1)
+    by (op.Read field index) own = field_seen placed emissions me label field
+        (λ tree. Sees planned me tree.label × Sees planned (field_host placed.plan field) pc) own
+        (λ tree both. seen (field_host placed.plan field) both.1)
+    by (op.Put field index value) own = field_seen placed emissions me label field _ own
+        (λ tree both. seen (field_host placed.plan field) both.1)
     by (op.Send x to) own = seen to own.1
     by (op.Pass x to) own = seen to own.1
     by (op.Ask there on) own = seen on own.receiver
@@ -234,48 +233,49 @@ op_tells labelled needs hosts plan emissions me label pc is what well = by what 
 
 -- ---- the laws
 
-told : (labelled : Labelled) (needs : NeedsShape) (hosts : HostsShape) (plan : PlanShape) →
-    IsSplittable labelled hosts plan → IsAllowed labelled needs hosts plan → IsHeld labelled needs hosts plan →
-    let planned = planned_of labelled needs hosts plan in
-    AreTold labelled planned [] (program_emissions hosts.principals labelled planned)
-told labelled needs hosts plan splittable allowed held =
-    program_told labelled needs hosts plan splittable.numbered.main.0 splittable.numbered.main.1
-    (program_tells_well labelled needs hosts plan splittable allowed held)
+told : (placed : PlacedProgram) →
+    IsSplittable placed.labelled placed.hosts placed.plan → IsAllowed placed → IsHeld placed →
+    let planned = planned_from placed in
+    AreTold placed.labelled planned [] (program_emissions placed.hosts.principals placed.labelled planned)
+told placed splittable allowed held =
+    program_told placed splittable.numbered.main.0 splittable.numbered.main.1
+    (program_tells_well placed splittable allowed held)
 
 -- Each request between hosts is granted.
-pub split_is_granted : (labelled : Labelled) (needs : NeedsShape) (hosts : HostsShape) (plan : PlanShape) →
-    IsSplittable labelled hosts plan → IsAllowed labelled needs hosts plan → IsHeld labelled needs hosts plan →
-    AreGranted (split_code labelled needs hosts plan)
-split_is_granted labelled needs hosts plan splittable allowed held me place there is =
-    let planned = planned_of labelled needs hosts plan in
-    let emissions = program_emissions hosts.principals labelled planned in
-    let code = code_of_emissions labelled hosts planned emissions in
-    let typed = split_is_typed labelled needs hosts plan splittable
-    (allowed_typable labelled needs hosts plan allowed) in
-    let made = made_of labelled hosts planned emissions (told labelled needs hosts plan splittable allowed held) me place
+pub split_is_granted : (placed : PlacedProgram) →
+    IsSplittable placed.labelled placed.hosts placed.plan → IsAllowed placed → IsHeld placed →
+    AreGranted (split_code placed)
+split_is_granted placed splittable allowed held me place there is =
+    let planned = planned_from placed in
+    let emissions = program_emissions placed.hosts.principals placed.labelled planned in
+    let code = code_of_emissions placed.labelled placed.hosts planned emissions in
+    let typed = split_is_typed placed splittable
+    (allowed_typable placed allowed) in
+    let made = made_of placed.labelled placed.hosts planned emissions (told placed splittable allowed held) me place
     there is in
     let own = typed.1.instructions me place there is in
     let what_is : landed me emissions made.one.op ≡ there.op = ap (λ (it : Instr). it.op) made.made in
     let P : Op → Type 0 = λ what. IsTypedOp planned typed.0 me place what in
     let Q : Op → Type 0 = λ what. IsGranted code me what in
-    subst Q what_is (op_granted labelled needs hosts plan emissions typed.0
+    subst Q what_is (op_granted placed emissions typed.0
     (record { many = splittable.var_labels; typed = typed.1 }) me place made.one.label made.one.op made.tells own.0.0
     (subst P (sym what_is) own.1))
 
 -- No instruction tells another host what it may not see.
-pub split_tells_no_more : (labelled : Labelled) (needs : NeedsShape) (hosts : HostsShape) (plan : PlanShape) →
-    IsSplittable labelled hosts plan → IsAllowed labelled needs hosts plan → IsHeld labelled needs hosts plan →
-    TellsNoMore (split_code labelled needs hosts plan)
-split_tells_no_more labelled needs hosts plan splittable allowed held me place there is =
-    let planned = planned_of labelled needs hosts plan in
-    let emissions = program_emissions hosts.principals labelled planned in
-    let code = code_of_emissions labelled hosts planned emissions in
-    let needed = code_labels labelled emissions in
-    let made = made_of labelled hosts planned emissions (told labelled needs hosts plan splittable allowed held) me place
+pub split_tells_no_more : (placed : PlacedProgram) →
+    IsSplittable placed.labelled placed.hosts placed.plan → IsAllowed placed → IsHeld placed →
+    TellsNoMore (split_code placed)
+split_tells_no_more placed splittable allowed held me place there is =
+    let planned = planned_from placed in
+    let emissions = program_emissions placed.hosts.principals placed.labelled planned in
+    let code = code_of_emissions placed.labelled placed.hosts planned emissions in
+    let needed = code_labels placed.labelled emissions in
+    let made = made_of placed.labelled placed.hosts planned emissions (told placed splittable allowed held) me place
     there is in
     let label_is : label_at code (label_place 0 made.one.label needed) ≡ Some made.one.label =
-    emission_labelled labelled hosts planned emissions made.before (instruction made.one) made.behind made.is
+    emission_labelled placed.labelled placed.hosts planned emissions made.before (instruction made.one) made.behind
+    made.is
     made.one.label (inl refl) in
     let P : Instr → Type 0 = λ it. asking.TellsWell code me it.label it.op in
-    subst P made.made (op_tells labelled needs hosts plan emissions me (label_place 0 made.one.label needed)
+    subst P made.made (op_tells placed emissions me (label_place 0 made.one.label needed)
     made.one.label label_is made.one.op made.tells)

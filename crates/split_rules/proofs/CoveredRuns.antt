@@ -8,16 +8,13 @@ use Rattle.js_base.specs.declared.ids.EntryId.{EntryId}
 use Rattle.js_base.proofs.BitLemmas.{is_bit, bits_in_order}
 use Rattle.label_lattice.specs.declared.label.Label.{Label}
 use Rattle.label_lattice.specs.Label.{IsTrustedBy}
-use Rattle.host_decl.specs.Hosts.{HostsShape}
 use Rattle.host_code.specs.declared.code.Entry.{Entry}
 use Rattle.host_code.specs.declared.instruction.Op.{Op}
 use Rattle.host_code.specs.declared.instruction.Op.TheVariants as op
 use Rattle.host_code.specs.Code.{CodeShape, halt, part_of}
 use Rattle.host_code.specs.Sound.{IsSoundCode, OperationFits, temporaries_at}
-use Rattle.need_labels.specs.Labelled.{Labelled}
-use Rattle.need_labels.specs.Needs.{NeedsShape}
-use Rattle.need_labels.specs.Plan.{PlanShape}
-use Rattle.msg_cost.specs.Moves.{PlannedShape, planned_of}
+use Rattle.msg_cost.specs.Moves.{PlannedShape}
+use Rattle.split_rules.specs.Placed.{PlacedProgram, planned_from}
 use Rattle.split_rules.specs.Allowed.{IsAllowed}
 use Rattle.split_rules.specs.Opening.{MayRunAll, IsOpenTo, HasNeed, OpensOp, IsOpenCode, HasAllOf, NamesWithin}
 use Rattle.split_rules.specs.Opening.{CoversRuns}
@@ -139,20 +136,20 @@ module _ (planned : PlannedShape) (code : CodeShape) (table : Table) (need : ℕ
 
 -- ---- the law
 
-pub split_covers_runs : (labelled : Labelled) (needs : NeedsShape) (hosts : HostsShape) (plan : PlanShape)
-    (table : Table) → IsSplittable labelled hosts plan → IsAllowed labelled needs hosts plan →
-    IsTypedCode (planned_of labelled needs hosts plan) (split_code labelled needs hosts plan) table →
-    CoversRuns (planned_of labelled needs hosts plan) (split_code labelled needs hosts plan) table
-split_covers_runs labelled needs hosts plan table splittable allowed typed there start not_halt is count steps first
+pub split_covers_runs : (placed : PlacedProgram) (table : Table) →
+    IsSplittable placed.labelled placed.hosts placed.plan → IsAllowed placed →
+    IsTypedCode (planned_from placed) (split_code placed) table →
+    CoversRuns (planned_from placed) (split_code placed) table
+split_covers_runs placed table splittable allowed typed there start not_halt is count steps first
     last begins runs =
-    let planned = planned_of labelled needs hosts plan in
-    let code = split_code labelled needs hosts plan in
-    let opens = split_is_open labelled needs hosts plan table splittable allowed typed in
+    let planned = planned_from placed in
+    let code = split_code placed in
+    let opens = split_is_open placed table splittable allowed typed in
     let need = start.need in
     let P : Option Entry → Type 0 = λ found. IsSomeAnd found (λ it. IsTrustedBy (of_need need) it.need) in
     let own : IsTrustedBy (of_need need) need = λ p p_in set. set in
     let has : HasNeed code (of_need need) there = subst P (sym is) own in
-    let sound = split_is_sound labelled needs hosts plan splittable in
+    let sound = split_is_sound placed splittable in
     let end = run_stays planned code table sound opens (of_need need) count steps first last
     (at_entry planned code table sound opens (of_need need) there [] first not_halt has tt begins) runs in
     record {

@@ -23,10 +23,9 @@ use Rattle.jif_tree.specs.Numbering.{block_statements}
 use Rattle.jif_tree.specs.Sizes.{results_in}
 use Rattle.host_code.specs.declared.code.TheConstants.{MOST_ITEMS}
 use Rattle.host_code.specs.Code.{CodeHostShape, CodeFieldShape, CodeVariableShape}
-use Rattle.need_labels.specs.Labelled.{Labelled}
-use Rattle.need_labels.specs.Needs.{NeedsShape}
 use Rattle.need_labels.specs.Plan.{PlanShape}
-use Rattle.msg_cost.specs.Moves.{PlannedShape, planned_of}
+use Rattle.msg_cost.specs.Moves.{PlannedShape}
+use Rattle.split_rules.specs.Placed.{PlacedProgram, planned_from}
 use Rattle.split_rules.specs.Emissions.{Emission, instruction, entry, stands, lands, counts_after}
 use Rattle.split_rules.specs.SplitCode.{same_label, with_labels, label_of_emission, code_labels, site_hosts}
 use Rattle.split_rules.specs.SplitCode.{placed_code_fields, method_name, code_variable, split_code}
@@ -242,21 +241,21 @@ few_first : (planned : PlannedShape) (main : Option MethodTree) → length (halt
 few_first planned None = omega arith
 few_first planned (Some main) = omega arith
 
-few_emissions : (labelled : Labelled) (needs : NeedsShape) (hosts : HostsShape) (plan : PlanShape) →
-    IsSplittable labelled hosts plan →
-    length (program_emissions hosts.principals labelled (planned_of labelled needs hosts plan)) ≤ 4100000
-few_emissions labelled needs hosts plan splittable =
-    let planned = planned_of labelled needs hosts plan in
-    let program = labelled.program in
+few_emissions : (placed : PlacedProgram) →
+    IsSplittable placed.labelled placed.hosts placed.plan →
+    length (program_emissions placed.hosts.principals placed.labelled (planned_from placed)) ≤ 4100000
+few_emissions placed splittable =
+    let planned = planned_from placed in
+    let program = placed.labelled.program in
     let within = splittable.within in
     let halts = halt_entries planned (method_at program program.main) in
     let entries = map (method_entry planned) program.methods in
-    let front = front_emissions labelled planned in
+    let front = front_emissions placed.labelled planned in
     let counts = counts_after (record { entries = 0; branches = 0 }) front in
-    let bodies = methods_emissions hosts.principals labelled planned counts 0 program.methods in
-    let host_names = length-map hosts.hosts (λ (host : HostShape). host.name) in
+    let bodies = methods_emissions placed.hosts.principals placed.labelled planned counts 0 program.methods in
+    let host_names = length-map placed.hosts.hosts (λ (host : HostShape). host.name) in
     let hosts_few = splittable.are_hosts.names.few in
-    let few = (methods_few hosts.principals labelled planned (omega (arith, host_names, hosts_few))
+    let few = (methods_few placed.hosts.principals placed.labelled planned (omega (arith, host_names, hosts_few))
     (few_params program within.params) 0 program.methods within.nodes counts).few in
     let first = few_first planned (method_at program program.main) in
     let as_many = length-map program.methods (method_entry planned) in
@@ -266,41 +265,41 @@ few_emissions labelled needs hosts plan splittable =
     let statements = within.statements in
     omega (arith, few, first, as_many, fronts, whole, methods, statements)
 
-pub split_is_few : (labelled : Labelled) (needs : NeedsShape) (hosts : HostsShape) (plan : PlanShape) →
-    IsSplittable labelled hosts plan →
-    HasFew (split_code labelled needs hosts plan)
-    (program_emissions hosts.principals labelled (planned_of labelled needs hosts plan))
-split_is_few labelled needs hosts plan splittable =
-    let planned = planned_of labelled needs hosts plan in
-    let program = labelled.program in
+pub split_is_few : (placed : PlacedProgram) →
+    IsSplittable placed.labelled placed.hosts placed.plan →
+    HasFew (split_code placed)
+    (program_emissions placed.hosts.principals placed.labelled (planned_from placed))
+split_is_few placed splittable =
+    let planned = planned_from placed in
+    let program = placed.labelled.program in
     let within = splittable.within in
-    let emissions = program_emissions hosts.principals labelled planned in
-    let labels = code_labels labelled emissions in
-    let few = few_emissions labelled needs hosts plan splittable in
+    let emissions = program_emissions placed.hosts.principals placed.labelled planned in
+    let labels = code_labels placed.labelled emissions in
+    let few = few_emissions placed splittable in
     let fields = within.fields in
     let methods = within.methods in
     let statements = within.statements in
     let variables = few_variables program splittable.named within in
     let own = map (λ (field : FieldTree). field.label) program.fields in
     let given = flat_map label_of_emission emissions in
-    let named = few_labels [] (own ++ labelled.var_labels ++ given) in
+    let named = few_labels [] (own ++ placed.labelled.var_labels ++ given) in
     let own_many = length-map program.fields (λ (field : FieldTree). field.label) in
-    let before = length-append own labelled.var_labels in
-    let all = length-append (own ++ labelled.var_labels) given in
+    let before = length-append own placed.labelled.var_labels in
+    let all = length-append (own ++ placed.labelled.var_labels) given in
     let needed = few_needed emissions in
     let as_many = splittable.var_labels in
-    let long_fields = ap length (fields_numbered labels plan 0 program.fields)
-    ∙ length-numbered (code_field labels plan) 0 program.fields in
-    let long_variables = length-map (zip program.vars labelled.var_labels) (code_variable program labels)
-    ∙ length-zip program.vars labelled.var_labels as_many in
-    let sites = few_sites plan program.methods in
+    let long_fields = ap length (fields_numbered labels placed.plan 0 program.fields)
+    ∙ length-numbered (code_field labels placed.plan) 0 program.fields in
+    let long_variables = length-map (zip program.vars placed.labelled.var_labels) (code_variable program labels)
+    ∙ length-zip program.vars placed.labelled.var_labels as_many in
+    let sites = few_sites placed.plan program.methods in
     record {
       few_emissions = omega (arith, few);
-      host_names = short_hosts hosts splittable.host_names;
+      host_names = short_hosts placed.hosts splittable.host_names;
       labels = omega (arith, few, fields, methods, variables, named, own_many, before, all, needed, as_many);
       fields = omega (arith, long_fields, fields);
-      field_names = short_fields labels plan program.fields splittable.named.fields;
+      field_names = short_fields labels placed.plan program.fields splittable.named.fields;
       variables = omega (arith, long_variables, variables, methods);
-      variable_names = short_variables program labels labelled.var_labels splittable.named;
+      variable_names = short_variables program labels placed.labelled.var_labels splittable.named;
       sites = omega (arith, sites, statements);
     }

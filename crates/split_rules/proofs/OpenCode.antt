@@ -7,7 +7,6 @@ use Rattle.js_base.specs.declared.ids.EntryId.{EntryId}
 use Rattle.js_base.proofs.BitLemmas.{is_bit}
 use Rattle.label_lattice.specs.declared.label.Label.{Label}
 use Rattle.label_lattice.specs.Label.{IsTrustedBy}
-use Rattle.host_decl.specs.Hosts.{HostsShape}
 use Rattle.jif_tree.specs.LabelRules.{method_at, result_of}
 use Rattle.host_code.specs.declared.code.Entry.{Entry}
 use Rattle.host_code.specs.declared.instruction.Instr.{Instr}
@@ -16,10 +15,8 @@ use Rattle.host_code.specs.declared.instruction.Op.TheVariants as op
 use Rattle.host_code.specs.Code.{CodeShape, halt, part_of, entry_at, instruction_at}
 use Rattle.entry_check.specs.Checks.{label_of_host}
 use Rattle.host_code.specs.Sound.{IsSoundCode, OperationFits, temporaries_at}
-use Rattle.need_labels.specs.Labelled.{Labelled}
-use Rattle.need_labels.specs.Needs.{NeedsShape}
-use Rattle.need_labels.specs.Plan.{PlanShape}
-use Rattle.msg_cost.specs.Moves.{PlannedShape, planned_of}
+use Rattle.msg_cost.specs.Moves.{PlannedShape}
+use Rattle.split_rules.specs.Placed.{PlacedProgram, planned_from}
 use Rattle.split_rules.specs.Allowed.{IsAllowed}
 use Rattle.split_rules.specs.Opening.{MayRunAll, IsOpenTo, HasNeed, OpensOp, IsOpenCode, HasOwnLabels}
 use Rattle.split_rules.specs.Positions.{number_of, statement_due, Due, Calling, no_call, arguing, entering, Entrance}
@@ -65,16 +62,16 @@ covered planned label need host (item ∷ due) trusted covers are = (
   covered planned label need host due trusted covers.1 are.1,
 )
 
-module _ (labelled : Labelled) (needs : NeedsShape) (hosts : HostsShape) (plan : PlanShape) (table : Table)
-    (known : IsKnown labelled (planned_of labelled needs hosts plan) hosts.principals)
-    (own : HasOwnLabels labelled (planned_of labelled needs hosts plan) (split_code labelled needs hosts plan))
-    (typed : IsTypedCode (planned_of labelled needs hosts plan) (split_code labelled needs hosts plan) table)
+module _ (placed : PlacedProgram) (table : Table)
+    (known : IsKnown placed.labelled (planned_from placed) placed.hosts.principals)
+    (own : HasOwnLabels placed.labelled (planned_from placed) (split_code placed))
+    (typed : IsTypedCode (planned_from placed) (split_code placed) table)
     (label : Label) where
   abbrev planned : PlannedShape
-  planned = planned_of labelled needs hosts plan
+  planned = planned_from placed
 
   abbrev code : CodeShape
-  code = split_code labelled needs hosts plan
+  code = split_code placed
 
   calm_there : (number : ℕ) (entry : Entry) → (is : slice_get code.entries (suc number) ≡ Some entry) →
       MayRunAll planned label (typed.entries number entry is).position.due →
@@ -82,7 +79,7 @@ module _ (labelled : Labelled) (needs : NeedsShape) (hosts : HostsShape) (plan :
   calm_there number entry is may =
       let there = typed.entries number entry is in
       subst (IsOpenTo planned label) (sym there.stands) (subst (IsOpenTo planned label) (sym there.is_calm)
-      (calm_open labelled needs hosts plan label known table.entries entry.host there.position.level there.position.due
+      (calm_open placed label known table.entries entry.host there.position.level there.position.due
       may))
 
   -- a host that is trusted for the need of an entry
@@ -138,8 +135,8 @@ module _ (labelled : Labelled) (needs : NeedsShape) (hosts : HostsShape) (plan :
       let at = table.at me.0 place in
       let next = table.at me.0 (suc place) in (
         entry_needed on there not_halt found
-            (cut_held labelled needs hosts plan label known table.entries me at next there.0 open_here law),
-        cut_open labelled needs hosts plan label known table.entries me at next there.0 open_here law,
+            (cut_held placed label known table.entries me at next there.0 open_here law),
+        cut_open placed label known table.entries me at next there.0 open_here law,
       )
 
   push_opens : (me : HostId) (place : ℕ) (there : EntryId) (calling : Calling) → there ≢ halt →
@@ -151,9 +148,9 @@ module _ (labelled : Labelled) (needs : NeedsShape) (hosts : HostsShape) (plan :
   push_opens me place there (arguing statement set left) not_halt found open_here law =
       let at = table.at me.0 place in
       let next = table.at me.0 (suc place) in (
-        entry_needed me there not_halt found (call_held labelled needs hosts plan label known table.entries me at next
+        entry_needed me there not_halt found (call_held placed label known table.entries me at next
             statement set left there.0 open_here law),
-        call_open labelled needs hosts plan label known table.entries me at next statement set left there.0 open_here
+        call_open placed label known table.entries me at next statement set left there.0 open_here
             law,
       )
   push_opens me place there (entering statement) not_halt found open_here law = absurd law
@@ -162,30 +159,30 @@ module _ (labelled : Labelled) (needs : NeedsShape) (hosts : HostsShape) (plan :
       IsTypedOp planned table me place what → IsOpenTo planned label (table.at me.0 place) →
       OpensOp planned code table label me place what
   op_opens me place count (op.Read field index) fits law open_here =
-      read_open labelled needs hosts plan label known table.entries me (table.at me.0 place)
+      read_open placed label known table.entries me (table.at me.0 place)
       (table.at me.0 (suc place)) field index open_here law
   op_opens me place count (op.Let x value) fits law open_here =
-      let so = let_open labelled needs hosts plan label known table.entries me (table.at me.0 place)
+      let so = let_open placed label known table.entries me (table.at me.0 place)
       (table.at me.0 (suc place)) x value open_here law in
       ((own.of_variables label x).1 so.0, so.1)
   op_opens me place count (op.Put field index value) fits law open_here =
-      let so = put_open labelled needs hosts plan label known table.entries me (table.at me.0 place)
+      let so = put_open placed label known table.entries me (table.at me.0 place)
       (table.at me.0 (suc place)) field index value open_here law in
       ((own.of_fields label field).1 so.0, so.1)
   op_opens me place count (op.Send x to) fits law open_here =
-      let so = send_open labelled needs hosts plan label known table.entries me (table.at me.0 place)
+      let so = send_open placed label known table.entries me (table.at me.0 place)
       (table.at me.0 (suc place)) x to open_here law.1 in
       ((own.of_variables label x).1 so.0, so.1)
   op_opens me place count (op.Frame site) fits law open_here =
-      frame_open labelled needs hosts plan label known table.entries me (table.at me.0 place)
+      frame_open placed label known table.entries me (table.at me.0 place)
       (table.at me.0 (suc place)) site law.0 law.1 law.2.due open_here law.4
   op_opens me place count (op.Arg x value) fits law open_here =
       let at = table.at me.0 place in
-      let so = arg_open labelled needs hosts plan label known table.entries me at (table.at me.0 (suc place)) x value
+      let so = arg_open placed label known table.entries me at (table.at me.0 (suc place)) x value
       at.calling refl open_here law in
       ((own.of_variables label x).1 so.0, so.1)
   op_opens me place count (op.Pass x to) fits law open_here =
-      let so = send_open labelled needs hosts plan label known table.entries me (table.at me.0 place)
+      let so = send_open placed label known table.entries me (table.at me.0 place)
       (table.at me.0 (suc place)) x to open_here law.4 in
       ((own.of_variables label x).1 so.0, so.1)
   op_opens me place count (op.Push there) fits law open_here =
@@ -193,60 +190,60 @@ module _ (labelled : Labelled) (needs : NeedsShape) (hosts : HostsShape) (plan :
   op_opens me place count (op.Ask there on) fits law open_here =
       cut_opens me on place there fits.0.0 fits.0.1 open_here law.0
   op_opens me place count (op.Go there on) fits law open_here =
-      entry_needed on there fits.0.0 fits.0.1 (go_held labelled needs hosts plan label known table.entries me
+      entry_needed on there fits.0.0 fits.0.1 (go_held placed label known table.entries me
       (table.at me.0 place) there.0 open_here law.1)
   op_opens me place count (op.Call there on) fits law open_here =
       let at = table.at me.0 place in
-      entry_needed on there fits.0.0 fits.0.1 (method_held labelled needs hosts plan label known table.entries me at
+      entry_needed on there fits.0.0 fits.0.1 (method_held placed label known table.entries me at
       at.calling there.0 refl open_here law)
   op_opens me place count (op.Ret x value) fits law open_here =
-      let so = ret_open labelled needs hosts plan label known table.entries me (table.at me.0 place)
+      let so = ret_open placed label known table.entries me (table.at me.0 place)
       (table.at me.0 (suc place)) x value open_here law in
       ((own.of_variables label x).1 so.0, so.1)
   op_opens me place count op.Back fits law open_here = tt
   op_opens me place count (op.Branch guard target) fits law open_here =
-      branch_open labelled needs hosts plan label known table.entries me (table.at me.0 place)
+      branch_open placed label known table.entries me (table.at me.0 place)
       (table.at me.0 (suc place)) (table.at me.0 target) guard law.0 law.1 law.2.due open_here law.4
 
 -- ---- the laws
 
-pub split_has_own_labels : (labelled : Labelled) (needs : NeedsShape) (hosts : HostsShape) (plan : PlanShape) →
-    IsSplittable labelled hosts plan →
-    HasOwnLabels labelled (planned_of labelled needs hosts plan) (split_code labelled needs hosts plan)
-split_has_own_labels labelled needs hosts plan splittable =
-    let planned = planned_of labelled needs hosts plan in
-    own_labels labelled needs hosts plan (program_emissions hosts.principals labelled planned) splittable.var_labels
+pub split_has_own_labels : (placed : PlacedProgram) →
+    IsSplittable placed.labelled placed.hosts placed.plan →
+    HasOwnLabels placed.labelled (planned_from placed) (split_code placed)
+split_has_own_labels placed splittable =
+    let planned = planned_from placed in
+    own_labels placed (program_emissions placed.hosts.principals placed.labelled planned) splittable.var_labels
 
-pub split_is_open : (labelled : Labelled) (needs : NeedsShape) (hosts : HostsShape) (plan : PlanShape) (table : Table) →
-    IsSplittable labelled hosts plan → IsAllowed labelled needs hosts plan →
-    IsTypedCode (planned_of labelled needs hosts plan) (split_code labelled needs hosts plan) table →
-    IsOpenCode (planned_of labelled needs hosts plan) (split_code labelled needs hosts plan) table
-split_is_open labelled needs hosts plan table splittable allowed typed = record {
+pub split_is_open : (placed : PlacedProgram) (table : Table) →
+    IsSplittable placed.labelled placed.hosts placed.plan → IsAllowed placed →
+    IsTypedCode (planned_from placed) (split_code placed) table →
+    IsOpenCode (planned_from placed) (split_code placed) table
+split_is_open placed table splittable allowed typed = record {
   statements = λ label method statement is_in trusted.
-      let planned = planned_of labelled needs hosts plan in
-      let result = result_of (method_at labelled.program method) in
-      let brings = statement_brings labelled needs hosts plan label known method statement is_in trusted in
+      let planned = planned_from placed in
+      let result = result_of (method_at placed.labelled.program method) in
+      let brings = statement_brings placed label known method statement is_in trusted in
       record {
         gives = λ x is. (own.of_variables label x).1
-            (given_affected labelled planned label method statement x brings is);
+            (given_affected placed.labelled planned label method statement x brings is);
         stores = λ field is. (own.of_fields label field).1
-            (stored_affected labelled planned label result statement field brings is);
-        starts = started_open labelled planned label result statement brings;
+            (stored_affected placed.labelled planned label result statement field brings is);
+        starts = started_open placed.labelled planned label result statement brings;
       };
-  entries = entry_open labelled needs hosts plan table known own typed;
-  own_entries = own_open labelled needs hosts plan table known own typed;
+  entries = entry_open placed table known own typed;
+  own_entries = own_open placed table known own typed;
   instructions = λ label me place there is open_here.
-      op_opens labelled needs hosts plan table known own typed label me place
+      op_opens placed table known own typed label me place
       (temporaries_at code.entries me (part_of code me) place) there.op
-      (operation_fits code (split_is_sound labelled needs hosts plan splittable) me place there is)
+      (operation_fits code (split_is_sound placed splittable) me place there is)
       (typed.instructions me place there is).1 open_here;
 }
   where
     code : CodeShape
-    code = split_code labelled needs hosts plan
+    code = split_code placed
 
-    known : IsKnown labelled (planned_of labelled needs hosts plan) hosts.principals
-    known = program_known labelled needs hosts plan splittable allowed
+    known : IsKnown placed.labelled (planned_from placed) placed.hosts.principals
+    known = program_known placed splittable allowed
 
-    own : HasOwnLabels labelled (planned_of labelled needs hosts plan) (split_code labelled needs hosts plan)
-    own = split_has_own_labels labelled needs hosts plan splittable
+    own : HasOwnLabels placed.labelled (planned_from placed) (split_code placed)
+    own = split_has_own_labels placed splittable

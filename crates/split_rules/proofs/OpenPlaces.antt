@@ -10,15 +10,12 @@ use Rattle.js_base.specs.declared.ids.MethodId.{MethodId}
 use Rattle.js_base.specs.declared.ids.SiteId.{SiteId}
 use Rattle.label_lattice.specs.declared.label.Label.{Label}
 use Rattle.label_lattice.specs.Label.{IsTrustedBy}
-use Rattle.host_decl.specs.Hosts.{HostsShape}
 use Rattle.jif_tree.specs.Trees.{ExprTree, BlockTree, set_local, set_field, set_element, branch, loop, call, give_back}
 use Rattle.jif_tree.specs.LabelRules.{method_at, params_of, result_of}
 use Rattle.host_code.specs.declared.code_expr.Node.{Node}
 use Rattle.host_code.specs.declared.instruction.Op.TheVariants as op
-use Rattle.need_labels.specs.Labelled.{Labelled}
-use Rattle.need_labels.specs.Needs.{NeedsShape}
-use Rattle.need_labels.specs.Plan.{PlanShape}
-use Rattle.msg_cost.specs.Moves.{PlannedShape, planned_of}
+use Rattle.msg_cost.specs.Moves.{PlannedShape}
+use Rattle.split_rules.specs.Placed.{PlacedProgram, planned_from}
 use Rattle.split_rules.specs.Opening.{MayRun, MayRunAll, StoresTo, GivesIn, call_made, AreParams}
 use Rattle.split_rules.specs.Opening.{PassesParams, AreSentFrom, IsOpenTo}
 use Rattle.split_rules.specs.Positions.{number_of, Due, Level, run, keep, statement_due, all_due, Argument}
@@ -38,15 +35,15 @@ pub record IsHeldEntry (label : Label) (entries : List Entrance) (number : ℕ) 
   pub is : EntryIs entries number position need
   pub trusted : IsTrustedBy label need
 
-module _ (labelled : Labelled) (needs : NeedsShape) (hosts : HostsShape) (plan : PlanShape) (label : Label)
-    (known : IsKnown labelled (planned_of labelled needs hosts plan) hosts.principals) (entries : List Entrance)
+module _ (placed : PlacedProgram) (label : Label)
+    (known : IsKnown placed.labelled (planned_from placed) placed.hosts.principals) (entries : List Entrance)
     (me : HostId) where
   abbrev planned : PlannedShape
-  planned = planned_of labelled needs hosts plan
+  planned = planned_from placed
 
   brought : (statement : BlockTree) → (may : MayRun planned label statement) →
-      Brings labelled planned label (result_of (method_at labelled.program may.1.0)) statement
-  brought statement may = statement_brings labelled needs hosts plan label known may.1.0 statement may.1.1 may.0
+      Brings placed.labelled planned label (result_of (method_at placed.labelled.program may.1.0)) statement
+  brought statement may = statement_brings placed label known may.1.0 statement may.1.1 may.0
 
   given_in : (method : MethodId) (statement : BlockTree) (x : VarId) → Gives planned statement x →
       GivesIn planned method statement x
@@ -54,9 +51,9 @@ module _ (labelled : Labelled) (needs : NeedsShape) (hosts : HostsShape) (plan :
   given_in method _ x is = is
 
   affected : (statement : BlockTree) (x : VarId) → MayRun planned label statement → Gives planned statement x →
-      AffectsVariable labelled label x
+      AffectsVariable placed.labelled label x
   affected statement x may is =
-      given_affected labelled planned label may.1.0 statement x (brought statement may)
+      given_affected placed.labelled planned label may.1.0 statement x (brought statement may)
       (given_in may.1.0 statement x is)
 
   -- ---- positions
@@ -80,7 +77,7 @@ module _ (labelled : Labelled) (needs : NeedsShape) (hosts : HostsShape) (plan :
 
   pub let_open : (here next : Position) (x : VarId) (nodes : List Node) → IsOpenTo planned label here →
       Follows planned entries me here (op.Let x nodes) next →
-      AffectsVariable labelled label x × IsOpenTo planned label next
+      AffectsVariable placed.labelled label x × IsOpenTo planned label next
   let_open here next x nodes open_here law =
       let due = subst (MayRunAll planned label) law.2.due open_here.due in
       let gives = set_gives here law.0 x nodes law.4 in (
@@ -102,10 +99,11 @@ module _ (labelled : Labelled) (needs : NeedsShape) (hosts : HostsShape) (plan :
 
   pub put_open : (here next : Position) (field : FieldId) (index nodes : List Node) → IsOpenTo planned label here →
       Follows planned entries me here (op.Put field index nodes) next →
-      AffectsField labelled label field × IsOpenTo planned label next
+      AffectsField placed.labelled label field × IsOpenTo planned label next
   put_open here next field index nodes open_here law =
       let due = subst (MayRunAll planned label) law.2.due open_here.due in (
-        stored_affected labelled planned label _ (statement_due law.0) field (brought (statement_due law.0) due.0)
+        stored_affected placed.labelled planned label _ (statement_due law.0) field
+            (brought (statement_due law.0) due.0)
             (put_stores here law.0 field index nodes law.4),
         subst (IsOpenTo planned label) (sym law.5) (calm_open here.level law.1 due.1),
       )
@@ -120,7 +118,7 @@ module _ (labelled : Labelled) (needs : NeedsShape) (hosts : HostsShape) (plan :
   })
 
   pub send_open : (here next : Position) (x : VarId) (to : HostId) → IsOpenTo planned label here →
-      Sends here x to next → AffectsVariable labelled label x × IsOpenTo planned label next
+      Sends here x to next → AffectsVariable placed.labelled label x × IsOpenTo planned label next
   send_open here next x to open_here law =
       let sent = subst (AreSentFrom planned label) law.3 open_here.sent in (
         affected law.0 x sent.0.0 sent.0.1,
@@ -150,7 +148,7 @@ module _ (labelled : Labelled) (needs : NeedsShape) (hosts : HostsShape) (plan :
       IsOpenTo planned label next
   frame_open here next site (run (call heading own method arguments into rest)) others due_is open_here law =
       let due = subst (MayRunAll planned label) due_is open_here.due in
-      let params = params_of (method_at labelled.program method) in
+      let params = params_of (method_at placed.labelled.program method) in
       subst (IsOpenTo planned label) (sym law.1) (record {
         due = open_here.due;
         sent = tt;
@@ -171,7 +169,7 @@ module _ (labelled : Labelled) (needs : NeedsShape) (hosts : HostsShape) (plan :
 
   pub arg_open : (here next : Position) (x : VarId) (nodes : List Node) (calling : Calling) →
       here.calling ≡ calling → IsOpenTo planned label here → Argues planned me here calling x nodes next →
-      AffectsVariable labelled label x × IsOpenTo planned label next
+      AffectsVariable placed.labelled label x × IsOpenTo planned label next
   arg_open here next x nodes (arguing statement set left) is open_here law =
       let calls = subst (λ it. AllByRecursion (MayRun planned label) (call_made it)) is open_here.calls in
       let params = subst (AreParams planned statement) law.is_next (subst (PassesParams planned) is open_here.params) in
@@ -201,7 +199,7 @@ module _ (labelled : Labelled) (needs : NeedsShape) (hosts : HostsShape) (plan :
       IsOpenTo planned label next
   call_open here next (call heading site method arguments into rest) set left number open_here law =
       let due = subst (MayRunAll planned label) law.due open_here.due in
-      let own : BringsCall labelled planned label (method_at labelled.program method) into =
+      let own : BringsCall placed.labelled planned label (method_at placed.labelled.program method) into =
       brought (call heading site method arguments into rest) due.0 in
       subst (IsOpenTo planned label) (sym law.goes) (record {
         due = own.body;
@@ -216,7 +214,8 @@ module _ (labelled : Labelled) (needs : NeedsShape) (hosts : HostsShape) (plan :
   needed_all : (due : List Due) → MayRunAll planned label due → IsTrustedBy label (need_due planned due)
   needed_all [] may = none_needed label
   needed_all (item ∷ due) may =
-      both_needed label (slice_index needs.need (number_of (statement_due item)).0) (need_due planned due) may.0.0
+      both_needed label (slice_index placed.needs.need (number_of (statement_due item)).0) (need_due planned due)
+      may.0.0
       (needed_all due may.1)
 
   pub cut_held : (here next : Position) (number : ℕ) → IsOpenTo planned label here →
@@ -247,7 +246,7 @@ module _ (labelled : Labelled) (needs : NeedsShape) (hosts : HostsShape) (plan :
       IsOpenTo planned label here → Enters planned entries here calling number → IsHeldEntry label entries number
   method_held here (entering (call heading site method arguments into rest)) number is open_here law =
       let calls = subst (λ it. AllByRecursion (MayRun planned label) (call_made it)) is open_here.calls in
-      let own : BringsCall labelled planned label (method_at labelled.program method) into =
+      let own : BringsCall placed.labelled planned label (method_at placed.labelled.program method) into =
       brought (call heading site method arguments into rest) calls.0 in
       record { position = _; need = _; is = law.4; trusted = own.head }
   method_held here _ number is open_here law = absurd law
@@ -275,18 +274,18 @@ module _ (labelled : Labelled) (needs : NeedsShape) (hosts : HostsShape) (plan :
   branch_open here next target nodes _ others due_is open_here law = absurd law
 
   result_given : (here : Position) (first : Due) (nodes : List Node) (method : MethodId) (x : VarId) →
-      GivesBack here first nodes → result_of (method_at labelled.program method) ≡ Some x →
+      GivesBack here first nodes → result_of (method_at placed.labelled.program method) ≡ Some x →
       GivesIn planned method (statement_due first) x
   result_given here (run (give_back heading value rest)) nodes method x gives is = is
   result_given here _ nodes method x gives is = absurd gives
 
   pub ret_open : (here next : Position) (x : VarId) (nodes : List Node) → IsOpenTo planned label here →
       Follows planned entries me here (op.Ret x nodes) next →
-      AffectsVariable labelled label x × IsOpenTo planned label next
+      AffectsVariable placed.labelled label x × IsOpenTo planned label next
   ret_open here next x nodes open_here law =
       let due = subst (MayRunAll planned label) law.2.due open_here.due in (
-        given_affected labelled planned label law.1 (statement_due law.0) x
-            (statement_brings labelled needs hosts plan label known law.1 (statement_due law.0) law.8 due.0.0)
+        given_affected placed.labelled planned label law.1 (statement_due law.0) x
+            (statement_brings placed label known law.1 (statement_due law.0) law.8 due.0.0)
             (result_given here law.0 nodes law.1 x law.4 law.6),
         subst (IsOpenTo planned label) (sym law.7) (calm_open here.level [] tt),
       )

@@ -15,17 +15,16 @@ use Rattle.principals.specs.ActsFor.{Declared}
 use Rattle.label_lattice.specs.declared.label.Label.{Label}
 use Rattle.label_lattice.specs.declared.label.TheConstants.{READERS}
 use Rattle.label_lattice.specs.Label.{IntegFlows, IsTrustedBy, Trusts}
-use Rattle.host_decl.specs.Hosts.{HostsShape}
 use Rattle.jif_tree.specs.Trees.{BlockTree, done, set_local, set_field, set_element, branch, loop, call, give_back}
 use Rattle.jif_tree.specs.Trees.{FieldTree, MethodTree}
 use Rattle.jif_tree.specs.LabelRules.{setting_of, method_at, begin_label, params_of, result_of, field_label}
 use Rattle.jif_tree.specs.WellNumbered.{HasField, HasVariable, HasOptionalVariable, IsBlockIn, IsMethodIn, is_some}
 use Rattle.need_labels.specs.Labelled.{Labelled}
-use Rattle.need_labels.specs.Needs.{NeedsShape, Backing, for_label, Backs, IsNeed, StatementUse, block_uses}
+use Rattle.need_labels.specs.Needs.{Backing, for_label, Backs, IsNeed, StatementUse, block_uses}
 use Rattle.need_labels.specs.Needs.{method_uses, all_backing, for_releases, label_of, labels_of}
-use Rattle.need_labels.specs.Plan.{PlanShape}
 use Rattle.need_labels.proofs.Somewhere.{any_first, any_none, any_left, any_right}
-use Rattle.msg_cost.specs.Moves.{PlannedShape, planned_of}
+use Rattle.msg_cost.specs.Moves.{PlannedShape}
+use Rattle.split_rules.specs.Placed.{PlacedProgram, planned_from}
 use Rattle.split_rules.specs.Positions.{statements_of, all_statements, IsIn, IsOf, number_of, statement_due, run}
 use Rattle.split_rules.specs.Positions.{all_due}
 use Rattle.split_rules.specs.Allowed.{IsAllowed}
@@ -174,40 +173,42 @@ pub record IsKnown (labelled : Labelled) (planned : PlannedShape) (principals : 
   pub methods : (place : ℕ) (tree : MethodTree) → slice_get labelled.program.methods place ≡ Some tree →
       IsMethodKnown labelled planned principals place tree
 
-pub program_known : (labelled : Labelled) (needs : NeedsShape) (hosts : HostsShape) (plan : PlanShape) →
-    IsSplittable labelled hosts plan → IsAllowed labelled needs hosts plan →
-    IsKnown labelled (planned_of labelled needs hosts plan) hosts.principals
-program_known labelled needs hosts plan splittable allowed = record {
+pub program_known : (placed : PlacedProgram) →
+    IsSplittable placed.labelled placed.hosts placed.plan → IsAllowed placed →
+    IsKnown placed.labelled (planned_from placed) placed.hosts.principals
+program_known placed splittable allowed = record {
   many = splittable.var_labels;
   methods = λ place tree is. record {
-    numbered = method_there labelled.program labelled.program.methods 0 allowed.numbered.methods place place tree
+    numbered = method_there placed.labelled.program placed.labelled.program.methods 0 allowed.numbered.methods place
+        place tree
         (omega arith) is;
-    needed = part_of_all (IsNeeded planned hosts.principals) (method_uses hosts.principals labelled)
-        labelled.program.methods (allowed_needed labelled needs hosts plan allowed) place tree is;
-    backed = allowed_bodies labelled needs hosts plan allowed place tree is;
-    in_it = body_of_program labelled.program (record { 0 = place }) tree is;
+    needed = part_of_all (IsNeeded planned placed.hosts.principals)
+        (method_uses placed.hosts.principals placed.labelled)
+        placed.labelled.program.methods (allowed_needed placed allowed) place tree is;
+    backed = allowed_bodies placed allowed place tree is;
+    in_it = body_of_program placed.labelled.program (record { 0 = place }) tree is;
   };
 }
   where
     planned : PlannedShape
-    planned = planned_of labelled needs hosts plan
+    planned = planned_from placed
 
 -- ---- blocks
 
-module _ (labelled : Labelled) (needs : NeedsShape) (hosts : HostsShape) (plan : PlanShape) (label : Label) where
+module _ (placed : PlacedProgram) (label : Label) where
   abbrev planned : PlannedShape
-  planned = planned_of labelled needs hosts plan
+  planned = planned_from placed
 
   abbrev principals : Declared
-  principals = hosts.principals
+  principals = placed.hosts.principals
 
   abbrev need_at : StmtId → ℕ
-  need_at id = slice_index needs.need id.0
+  need_at id = slice_index placed.needs.need id.0
 
   -- what asks for no more than those who trust the label
   run_where : (backing : List Backing) →
       ((p : ℕ) → p < READERS → Any (Backs principals p) backing → Trusts label p) → (trees : List BlockTree) →
-      AllByRecursion (IsOf labelled.program) trees → AreBackedBy planned principals backing trees →
+      AllByRecursion (IsOf placed.labelled.program) trees → AreBackedBy planned principals backing trees →
       MayRunAll planned label (map run trees)
   run_where backing trusts [] in_it backed = tt
   run_where backing trusts (tree ∷ trees) in_it backed = (
@@ -223,77 +224,78 @@ module _ (labelled : Labelled) (needs : NeedsShape) (hosts : HostsShape) (plan :
   inside_open id own inner inside need trusted within p p_in some =
       trusted p p_in ((need.members p p_in).1 (any_right (Backs principals p) own inside (within p some)))
 
-  call_brings : IsKnown labelled planned principals → (method called : MethodId) (found : Option MethodTree)
-      (into : Option VarId) → method_at labelled.program called ≡ found →
-      HasOptionalVariable labelled.program method into →
+  call_brings : IsKnown placed.labelled planned principals → (method called : MethodId) (found : Option MethodTree)
+      (into : Option VarId) → method_at placed.labelled.program called ≡ found →
+      HasOptionalVariable placed.labelled.program method into →
       AllByRecursion (IntegFlows label)
-      (begin_label found ∷ map (label_of labelled) (params_of found) ++ labels_of labelled into) →
-      BringsCall labelled planned label found into
+      (begin_label found ∷ map (label_of placed.labelled) (params_of found) ++ labels_of placed.labelled into) →
+      BringsCall placed.labelled planned label found into
   call_brings known method called None into is into_there flows = record {
     params = tt;
-    kept = any_affected labelled label method into known.many into_there flows.1;
+    kept = any_affected placed.labelled label method into known.many into_there flows.1;
     head = none_needed label;
     body = tt;
   }
   call_brings known method called (Some tree) into is into_there flows =
       let own = known.methods called.0 tree is in
-      let params = map (label_of labelled) tree.params in
+      let params = map (label_of placed.labelled) tree.params in
       record {
-        params = variables_affected labelled label called tree.params known.many own.numbered.params
-            (all_first (IntegFlows label) params (labels_of labelled into) flows.1);
-        kept = any_affected labelled label method into known.many into_there
-            (all_second (IntegFlows label) params (labels_of labelled into) flows.1);
+        params = variables_affected placed.labelled label called tree.params known.many own.numbered.params
+            (all_first (IntegFlows label) params (labels_of placed.labelled into) flows.1);
+        kept = any_affected placed.labelled label method into known.many into_there
+            (all_second (IntegFlows label) params (labels_of placed.labelled into) flows.1);
         head = head_needed planned principals label tree.head tree.begin own.needed.0.need flows.0;
         body = run_where (for_label tree.begin ∷ [])
             (λ p p_in some. elim (any_first (Backs principals p) (for_label tree.begin) [] some) [
               | inl trusts ↦ flows.0 p p_in trusts
               | inr nobody ↦ absurd (any_none (Backs principals p) nobody)
             ])
-            (statements_of tree.body) (of_block (IsOf labelled.program) tree.body own.in_it) own.backed;
+            (statements_of tree.body) (of_block (IsOf placed.labelled.program) tree.body own.in_it) own.backed;
       }
 
   abbrev IsBrought : Option VarId → BlockTree → Type 0
   IsBrought result statement =
-      IsTrustedBy label (need_at (number_of statement)) → Brings labelled planned label result statement
+      IsTrustedBy label (need_at (number_of statement)) → Brings placed.labelled planned label result statement
 
-  block_brings : IsKnown labelled planned principals → (method : MethodId) (gives : Bool) (tree : MethodTree) →
-      HasOptionalVariable labelled.program method tree.result → (block : BlockTree) →
-      IsBlockIn labelled.program method gives block →
-      AllByRecursion (IsOf labelled.program) (all_statements block) →
-      AreNeeded planned principals (block_uses labelled (setting_of principals labelled.program tree) block) →
+  block_brings : IsKnown placed.labelled planned principals → (method : MethodId) (gives : Bool) (tree : MethodTree) →
+      HasOptionalVariable placed.labelled.program method tree.result → (block : BlockTree) →
+      IsBlockIn placed.labelled.program method gives block →
+      AllByRecursion (IsOf placed.labelled.program) (all_statements block) →
+      AreNeeded planned principals (block_uses placed.labelled (setting_of principals placed.labelled.program tree)
+      block) →
       AllByRecursion (IsBrought tree.result) (all_statements block)
   block_brings known method gives tree result_there done there in_it needed = tt
   block_brings known method gives tree result_there (set_local heading x value rest) there in_it needed =
-      let setting = setting_of principals labelled.program tree in (
-        λ trusted. variable_affected labelled label method x known.many there.0
-            (changes_all principals label (need_at heading.id) trusted (label_of labelled x ∷ [])
+      let setting = setting_of principals placed.labelled.program tree in (
+        λ trusted. variable_affected placed.labelled label method x known.many there.0
+            (changes_all principals label (need_at heading.id) trusted (label_of placed.labelled x ∷ [])
             (for_releases setting (value ∷ [])) [] needed.0.need).0,
         block_brings known method gives tree result_there rest there.2 in_it.1 needed.1,
       )
   block_brings known method gives tree result_there (set_field heading field value rest) there in_it needed =
-      let setting = setting_of principals labelled.program tree in (
-        λ trusted. field_affected labelled label _ field there.0
-            (changes_all principals label (need_at heading.id) trusted (field_label labelled.program field ∷ [])
+      let setting = setting_of principals placed.labelled.program tree in (
+        λ trusted. field_affected placed.labelled label _ field there.0
+            (changes_all principals label (need_at heading.id) trusted (field_label placed.labelled.program field ∷ [])
             (for_releases setting (value ∷ [])) [] needed.0.need).0,
         block_brings known method gives tree result_there rest there.2 in_it.1 needed.1,
       )
   block_brings known method gives tree result_there (set_element heading field index value rest) there in_it needed =
-      let setting = setting_of principals labelled.program tree in (
-        λ trusted. field_affected labelled label _ field there.0
-            (changes_all principals label (need_at heading.id) trusted (field_label labelled.program field ∷ [])
+      let setting = setting_of principals placed.labelled.program tree in (
+        λ trusted. field_affected placed.labelled label _ field there.0
+            (changes_all principals label (need_at heading.id) trusted (field_label placed.labelled.program field ∷ [])
             (for_releases setting (index ∷ value ∷ [])) [] needed.0.need).0,
         block_brings known method gives tree result_there rest there.3 in_it.1 needed.1,
       )
   block_brings known method gives tree result_there (branch heading guard first second rest) there in_it needed =
-      let setting = setting_of principals labelled.program tree in
-      let Q = IsOf labelled.program in
+      let setting = setting_of principals placed.labelled.program tree in
+      let Q = IsOf placed.labelled.program in
       let in_first = all_first Q (all_statements first) (all_statements second ++ all_statements rest) in_it.1 in
       let after = all_second Q (all_statements first) (all_statements second ++ all_statements rest) in_it.1 in
       let in_second = all_first Q (all_statements second) (all_statements rest) after in
       let in_rest = all_second Q (all_statements second) (all_statements rest) after in
-      let one = block_uses labelled setting first in
-      let two = block_uses labelled setting second in
-      let others = block_uses labelled setting rest in
+      let one = block_uses placed.labelled setting first in
+      let two = block_uses placed.labelled setting second in
+      let others = block_uses placed.labelled setting rest in
       let inside = all_first (IsNeeded planned principals) (one ++ two) others needed.1 in
       let one_needed = all_first (IsNeeded planned principals) one two inside in
       let two_needed = all_second (IsNeeded planned principals) one two inside in
@@ -308,12 +310,12 @@ module _ (labelled : Labelled) (needs : NeedsShape) (hosts : HostsShape) (plan :
               needed.0.need trusted (λ p some. subst (P p) (sym split)
               (any_left (Backs principals p) (all_backing one) (all_backing two) some)))
               (statements_of first) (of_block Q first in_first)
-              (own_backed planned principals labelled setting first one_needed),
+              (own_backed planned principals placed.labelled setting first one_needed),
           run_where (all_backing two) (inside_open heading.id own (all_backing two) (all_backing (one ++ two))
               needed.0.need trusted (λ p some. subst (P p) (sym split)
               (any_right (Backs principals p) (all_backing one) (all_backing two) some)))
               (statements_of second) (of_block Q second in_second)
-              (own_backed planned principals labelled setting second two_needed),
+              (own_backed planned principals placed.labelled setting second two_needed),
         ),
         all_both R (all_statements first) (all_statements second ++ all_statements rest)
             (block_brings known method gives tree result_there first there.1 in_first one_needed)
@@ -322,37 +324,37 @@ module _ (labelled : Labelled) (needs : NeedsShape) (hosts : HostsShape) (plan :
             (block_brings known method gives tree result_there rest there.3 in_rest rest_needed)),
       )
   block_brings known method gives tree result_there (loop heading guard inner rest) there in_it needed =
-      let setting = setting_of principals labelled.program tree in
-      let Q = IsOf labelled.program in
+      let setting = setting_of principals placed.labelled.program tree in
+      let Q = IsOf placed.labelled.program in
       let in_inner = all_first Q (all_statements inner) (all_statements rest) in_it.1 in
       let in_rest = all_second Q (all_statements inner) (all_statements rest) in_it.1 in
-      let one = block_uses labelled setting inner in
-      let others = block_uses labelled setting rest in
+      let one = block_uses placed.labelled setting inner in
+      let others = block_uses placed.labelled setting rest in
       let one_needed = all_first (IsNeeded planned principals) one others needed.1 in
       let own = for_releases setting (guard ∷ []) in
       let R = IsBrought tree.result in (
         λ trusted. run_where (all_backing one)
             (inside_open heading.id own (all_backing one) (all_backing one) needed.0.need trusted (λ p some. some))
             (statements_of inner) (of_block Q inner in_inner)
-            (own_backed planned principals labelled setting inner one_needed),
+            (own_backed planned principals placed.labelled setting inner one_needed),
         all_both R (all_statements inner) (all_statements rest)
             (block_brings known method gives tree result_there inner there.1 in_inner one_needed)
             (block_brings known method gives tree result_there rest there.2 in_rest
             (all_second (IsNeeded planned principals) one others needed.1)),
       )
   block_brings known method gives tree result_there (call heading site called arguments into rest) there in_it needed =
-      let setting = setting_of principals labelled.program tree in
-      let found = method_at labelled.program called in (
+      let setting = setting_of principals placed.labelled.program tree in
+      let found = method_at placed.labelled.program called in (
         λ trusted. call_brings known method called found into refl there.2
             (changes_all principals label (need_at heading.id) trusted
-            (begin_label found ∷ map (label_of labelled) (params_of found) ++ labels_of labelled into)
+            (begin_label found ∷ map (label_of placed.labelled) (params_of found) ++ labels_of placed.labelled into)
             (for_releases setting arguments) [] needed.0.need),
         block_brings known method gives tree result_there rest there.3 in_it.1 needed.1,
       )
   block_brings known method gives tree result_there (give_back heading value rest) there in_it needed =
-      let setting = setting_of principals labelled.program tree in (
-        λ trusted. any_affected labelled label method tree.result known.many result_there
-            (changes_all principals label (need_at heading.id) trusted (labels_of labelled tree.result)
+      let setting = setting_of principals placed.labelled.program tree in (
+        λ trusted. any_affected placed.labelled label method tree.result known.many result_there
+            (changes_all principals label (need_at heading.id) trusted (labels_of placed.labelled tree.result)
             (for_releases setting (value ∷ [])) [] needed.0.need),
         block_brings known method gives tree result_there rest there.2 in_it.1 needed.1,
       )
@@ -369,14 +371,14 @@ module _ (labelled : Labelled) (needs : NeedsShape) (hosts : HostsShape) (plan :
   ]
 
   -- a host that is trusted for a statement of a method
-  pub statement_brings : IsKnown labelled planned principals → (method : MethodId) (statement : BlockTree) →
-      IsIn labelled.program method statement → IsTrustedBy label (need_at (number_of statement)) →
-      Brings labelled planned label (result_of (method_at labelled.program method)) statement
-  statement_brings known method statement is_in trusted = by (method_at labelled.program method) refl is_in
+  pub statement_brings : IsKnown placed.labelled planned principals → (method : MethodId) (statement : BlockTree) →
+      IsIn placed.labelled.program method statement → IsTrustedBy label (need_at (number_of statement)) →
+      Brings placed.labelled planned label (result_of (method_at placed.labelled.program method)) statement
+  statement_brings known method statement is_in trusted = by (method_at placed.labelled.program method) refl is_in
     where
-      by : (found : Option MethodTree) → method_at labelled.program method ≡ found →
+      by : (found : Option MethodTree) → method_at placed.labelled.program method ≡ found →
           IsSomeAnd found (λ tree. Any (λ one. one ≡ statement) (all_statements tree.body)) →
-          Brings labelled planned label (result_of found) statement
+          Brings placed.labelled planned label (result_of found) statement
       by None is never = absurd never
       by (Some tree) is some =
           let own = known.methods method.0 tree is in

@@ -16,10 +16,9 @@ use Rattle.jif_tree.specs.Trees.{FieldTree, VarTree}
 use Rattle.host_code.specs.Code.{CodeShape, CodeFieldShape, CodeVariableShape, field_at, variable_at}
 use Rattle.entry_check.specs.Checks.{MayAffect, label_at}
 use Rattle.need_labels.specs.Labelled.{Labelled}
-use Rattle.need_labels.specs.Needs.{NeedsShape}
-use Rattle.need_labels.specs.Plan.{PlanShape}
-use Rattle.msg_cost.specs.Moves.{PlannedShape, planned_of, is_trusted_for}
+use Rattle.msg_cost.specs.Moves.{PlannedShape, is_trusted_for}
 use Rattle.msg_cost.proofs.Trusted.{test_decides}
+use Rattle.split_rules.specs.Placed.{PlacedProgram, planned_from}
 use Rattle.split_rules.specs.Emissions.{Emission}
 use Rattle.split_rules.specs.Opening.{MayChange, MayChangeField, HasOwnLabels}
 use Rattle.split_rules.specs.SplitCode.{code_labels, code_of_emissions, code_variable}
@@ -124,22 +123,22 @@ host_trusted planned host label statement label_is = by (slice_get planned.hosts
         let P : Label → Type 0 = λ it. Decides (is_trusted_for planned host statement) (IsTrustedBy it need) in
         subst P same (rw is (test_decides row.label need))
 
-pub own_labels : (labelled : Labelled) (needs : NeedsShape) (hosts : HostsShape) (plan : PlanShape)
-    (emissions : List Emission) → length labelled.var_labels ≡ length labelled.program.vars →
-    let planned = planned_of labelled needs hosts plan in
-    HasOwnLabels labelled planned (code_of_emissions labelled hosts planned emissions)
-own_labels labelled needs hosts plan emissions many =
-    let planned = planned_of labelled needs hosts plan in
-    let of_host = host_label labelled hosts planned emissions in
+pub own_labels : (placed : PlacedProgram) (emissions : List Emission) →
+    length placed.labelled.var_labels ≡ length placed.labelled.program.vars →
+    let planned = planned_from placed in
+    HasOwnLabels placed.labelled planned (code_of_emissions placed.labelled placed.hosts planned emissions)
+own_labels placed emissions many =
+    let planned = planned_from placed in
+    let of_host = host_label placed.labelled placed.hosts planned emissions in
     record {
       of_hosts = of_host;
       of_fields = λ label field. (
-        field_affected labelled hosts planned emissions label field,
-        field_changed labelled hosts planned emissions label field,
+        field_affected placed.labelled placed.hosts planned emissions label field,
+        field_changed placed.labelled placed.hosts planned emissions label field,
       );
       of_variables = λ label x. (
-        variable_affected labelled hosts planned emissions label x,
-        variable_changed labelled hosts planned emissions label x many,
+        variable_affected placed.labelled placed.hosts planned emissions label x,
+        variable_changed placed.labelled placed.hosts planned emissions label x many,
       );
       of_trust = λ host label statement label_is.
           host_trusted planned host label statement (sym (of_host host) ∙ label_is);

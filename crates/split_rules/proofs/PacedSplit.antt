@@ -21,9 +21,8 @@ use Rattle.host_code.specs.declared.instruction.Op.{Op}
 use Rattle.host_code.specs.declared.instruction.Op.TheVariants as op
 use Rattle.host_code.specs.Code.{CodeShape, instruction_at, halt}
 use Rattle.need_labels.specs.Labelled.{Labelled}
-use Rattle.need_labels.specs.Needs.{NeedsShape}
-use Rattle.need_labels.specs.Plan.{PlanShape}
-use Rattle.msg_cost.specs.Moves.{PlannedShape, planned_of}
+use Rattle.msg_cost.specs.Moves.{PlannedShape}
+use Rattle.split_rules.specs.Placed.{PlacedProgram, planned_from}
 use Rattle.split_rules.specs.Emissions.{Emission, instruction, entry, stands, lands, Emitted, Counts, counts_after}
 use Rattle.split_rules.specs.Flow.{Scope, State, Goes}
 use Rattle.split_rules.specs.Pace.{PACE, Allowance, is_call, is_call_there, calls_at, Pushes, EntersLower, IsPacedOp}
@@ -344,53 +343,55 @@ few_params program all method = by (slice_get program.methods method.0) refl
         at_all (λ (one : MethodTree). length one.params ≤ PARAMETERS) program.methods method.0 tree all is
 
 -- The code that a program is split into is paced, since the program is within the limits.
-pub split_is_paced : (labelled : Labelled) (needs : NeedsShape) (hosts : HostsShape) (plan : PlanShape) →
-    IsSplittable labelled hosts plan →
-    (left : Allowance) × IsPaced (split_code labelled needs hosts plan) left
-split_is_paced labelled needs hosts plan splittable =
-    subst P (sym (front_is labelled planned main splittable.numbered.main.1))
-    (left_in emissions, code_paced labelled hosts planned main emissions walk)
+pub split_is_paced : (placed : PlacedProgram) →
+    IsSplittable placed.labelled placed.hosts placed.plan →
+    (left : Allowance) × IsPaced (split_code placed) left
+split_is_paced placed splittable =
+    subst P (sym (front_is placed.labelled planned main splittable.numbered.main.1))
+    (left_in emissions, code_paced placed.labelled placed.hosts planned main emissions walk)
   where
     planned : PlannedShape
-    planned = planned_of labelled needs hosts plan
+    planned = planned_from placed
 
     main : MethodTree
     main = splittable.numbered.main.0
 
     counts : Counts
     counts = counts_after (record { entries = 0; branches = 0 })
-        (front_emissions labelled (planned_of labelled needs hosts plan))
+        (front_emissions placed.labelled (planned_from placed))
 
     emissions : List Emission
-    emissions = methods_emissions hosts.principals labelled planned counts 0 labelled.program.methods
+    emissions = methods_emissions placed.hosts.principals placed.labelled planned counts 0
+        placed.labelled.program.methods
 
-    few_hosts : HasFewHosts (planned_of labelled needs hosts plan)
+    few_hosts : HasFewHosts (planned_from placed)
     few_hosts =
-        let named = length-map hosts.hosts (λ (one : HostShape). one.name) in
+        let named = length-map placed.hosts.hosts (λ (one : HostShape). one.name) in
         let few = splittable.are_hosts.names.few in
         omega arith
 
-    walk : Walk labelled hosts planned main emissions
+    walk : Walk placed.labelled placed.hosts planned main emissions
     walk =
-        let goes = program_goes labelled needs hosts plan splittable in
+        let goes = program_goes placed splittable in
         record {
           end = goes.0;
-          walk = walk_there labelled hosts planned emissions goes.0 splittable goes.1 goes.2;
-          paces = (methods_paced hosts.principals labelled planned few_hosts
-              (few_params labelled.program splittable.within.params) 0 labelled.program.methods
+          walk = walk_there placed.labelled placed.hosts planned emissions goes.0 splittable goes.1 goes.2;
+          paces = (methods_paced placed.hosts.principals placed.labelled planned few_hosts
+              (few_params placed.labelled.program splittable.within.params) 0 placed.labelled.program.methods
               splittable.numbered.methods splittable.within.nodes counts).0;
         }
 
     P : List Emission → Type 0
-    P front = (left : Allowance) × IsPaced (code_of_emissions labelled hosts planned (front ++ emissions)) left
+    P front = (left : Allowance) × IsPaced (code_of_emissions placed.labelled placed.hosts planned (front
+        ++ emissions)) left
 
 -- So its threads run few instructions.
-pub split_runs_few : (labelled : Labelled) (needs : NeedsShape) (hosts : HostsShape) (plan : PlanShape) →
-    IsSplittable labelled hosts plan → (count steps : ℕ) (first last : Thread) →
-    IsAtMain (split_code labelled needs hosts plan) first →
-    Runs (split_code labelled needs hosts plan) count steps first last → count ≤ PACE * (steps + 1)
-split_runs_few labelled needs hosts plan splittable count steps first last begun runs =
-    let paced = split_is_paced labelled needs hosts plan splittable in
+pub split_runs_few : (placed : PlacedProgram) →
+    IsSplittable placed.labelled placed.hosts placed.plan → (count steps : ℕ) (first last : Thread) →
+    IsAtMain (split_code placed) first →
+    Runs (split_code placed) count steps first last → count ≤ PACE * (steps + 1)
+split_runs_few placed splittable count steps first last begun runs =
+    let paced = split_is_paced placed splittable in
     let number_of : EntryId → ℕ = λ there. there.0 in
-    begun_few (split_code labelled needs hosts plan) paced.0 paced.1
+    begun_few (split_code placed) paced.0 paced.1
     (λ is. let same = ap number_of is in omega arith) count steps first last begun runs

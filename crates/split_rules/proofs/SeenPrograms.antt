@@ -17,7 +17,7 @@ use Rattle.principals.specs.ActsFor.{Declared}
 use Rattle.label_lattice.specs.declared.label.Label.{Label}
 use Rattle.label_lattice.specs.Label.{ConfFlows, IntegFlows, IsTrustedBy}
 use Rattle.label_lattice.specs.Lattice.{join_of, bottom_of, empty_label}
-use Rattle.host_decl.specs.Hosts.{HostShape, HostsShape}
+use Rattle.host_decl.specs.Hosts.{HostShape}
 use Rattle.jif_tree.specs.Trees.{ExprTree, BlockTree, done, set_local, set_field, set_element, branch, loop, call}
 use Rattle.jif_tree.specs.Trees.{give_back, FieldTree, MethodTree, ProgramTree}
 use Rattle.jif_tree.specs.LabelRules.{MethodSetting, VariableLabels, StatementLabels, setting_of, part_labels, guarded}
@@ -27,15 +27,16 @@ use Rattle.jif_tree.specs.LabelRules.{obligations_of, begin_label, params_of, me
 use Rattle.jif_tree.specs.Numbering.{block_statements, statement_numbers, CountsFrom}
 use Rattle.jif_tree.specs.WellNumbered.{AreMethodsIn, is_some}
 use Rattle.need_labels.specs.Labelled.{Labelled, pc_of, all_labels}
-use Rattle.need_labels.specs.Needs.{NeedsShape, StatementUse, Telling, statement_use, block_uses, method_uses}
+use Rattle.need_labels.specs.Needs.{StatementUse, Telling, statement_use, block_uses, method_uses}
 use Rattle.need_labels.specs.Needs.{statement_uses, told_of, readers_of, variables_in, label_of, labels_of, kept_result}
 use Rattle.need_labels.specs.Needs.{Backing, for_label, IsNeed, all_backing}
-use Rattle.need_labels.specs.Plan.{PlanShape, first_host, statement_host, field_host}
+use Rattle.need_labels.specs.Plan.{first_host, statement_host, field_host}
 use Rattle.need_labels.proofs.Ordered.{use_numbered}
-use Rattle.msg_cost.specs.Moves.{PlannedShape, planned_of}
+use Rattle.msg_cost.specs.Moves.{PlannedShape}
 use Rattle.jif_tree.specs.Labelling.{AreLabelledMethods}
 use Rattle.jif_tree.specs.ValueLabels.{AreAllValuesLabelled}
 use Rattle.jif_tree.proofs.LabelsKept.{block_stays, Stay}
+use Rattle.split_rules.specs.Placed.{PlacedProgram, planned_from}
 use Rattle.split_rules.specs.Allowed.{IsAllowed, IsTrustedHost}
 use Rattle.split_rules.specs.Held.{HoldsField, HoldsStatement, IsHeld}
 use Rattle.split_rules.specs.Splittable.{IsSplittable}
@@ -318,32 +319,33 @@ told_flow field to (telling ∷ tellings) flow =
 -- ---- programs
 
 -- the premises of the laws, and what follows from them of each part of a program
-pub record Premises (labelled : Labelled) (needs : NeedsShape) (hosts : HostsShape) (plan : PlanShape) : Type 0 where
-  pub splittable : IsSplittable labelled hosts plan
-  pub allowed : IsAllowed labelled needs hosts plan
-  pub held : IsHeld labelled needs hosts plan
+pub record Premises (placed : PlacedProgram) : Type 0 where
+  pub splittable : IsSplittable placed.labelled placed.hosts placed.plan
+  pub allowed : IsAllowed placed
+  pub held : IsHeld placed
 
 -- the host of a field may see it, and what its reads tell
-pub field_held : (labelled : Labelled) (needs : NeedsShape) (hosts : HostsShape) (plan : PlanShape) →
-    Premises labelled needs hosts plan → (field : FieldId) (tree : FieldTree) →
-    slice_get labelled.program.fields field.0 ≡ Some tree →
-    Sees (planned_of labelled needs hosts plan) (field_host plan field)
-    (join_of tree.label (told_of hosts.principals
-    (flat_map (λ one. one.tellings) (statement_uses hosts.principals labelled)) field.0))
-field_held labelled needs hosts plan premises field tree is =
-    let fields = labelled.program.fields in
-    let told = told_of hosts.principals
-    (flat_map (λ (one : StatementUse). one.tellings) (statement_uses hosts.principals labelled)) in
+pub field_held : (placed : PlacedProgram) →
+    Premises placed → (field : FieldId) (tree : FieldTree) →
+    slice_get placed.labelled.program.fields field.0 ≡ Some tree →
+    Sees (planned_from placed) (field_host placed.plan field)
+    (join_of tree.label (told_of placed.hosts.principals
+    (flat_map (λ one. one.tellings) (statement_uses placed.hosts.principals placed.labelled)) field.0))
+field_held placed premises field tree is =
+    let fields = placed.labelled.program.fields in
+    let told = told_of placed.hosts.principals
+    (flat_map (λ (one : StatementUse). one.tellings) (statement_uses placed.hosts.principals placed.labelled)) in
     let within = slice_get_within fields field.0 tree is in
-    let loc : slice_get needs.loc field.0 ≡ Some (told field.0) =
+    let loc : slice_get placed.needs.loc field.0 ≡ Some (told field.0) =
     ap (λ list. slice_get list field.0) premises.allowed.needs_of.loc
     ∙ slice_get-map told (range_with_len 0 (length fields)) field.0
     ∙ ap (option_map told) (number_there (length fields) field.0 within) in
-    let holds = zipped_there (HoldsField hosts) (zip fields needs.loc) plan.fields premises.held.fields field.0
-    (tree, told field.0) (zip_at fields needs.loc field.0 tree (told field.0) is loc) in
-    let P : HostId → Type 0 = λ host. Sees (planned_of labelled needs hosts plan) host (join_of tree.label (told field.0)) in
-    let host_is : holds.0 ≡ field_host plan field = sym (ap (λ found. unwrap_or found first_host) holds.1) in
-    subst P host_is (seen (told field.0) (slice_get hosts.hosts holds.0.0) holds.2)
+    let holds = zipped_there (HoldsField placed.hosts) (zip fields placed.needs.loc) placed.plan.fields
+    premises.held.fields field.0
+    (tree, told field.0) (zip_at fields placed.needs.loc field.0 tree (told field.0) is loc) in
+    let P : HostId → Type 0 = λ host. Sees (planned_from placed) host (join_of tree.label (told field.0)) in
+    let host_is : holds.0 ≡ field_host placed.plan field = sym (ap (λ found. unwrap_or found first_host) holds.1) in
+    subst P host_is (seen (told field.0) (slice_get placed.hosts.hosts holds.0.0) holds.2)
   where
     seen : (told : Label) (found : Option HostShape) → IsSomeAnd found (λ row.
         ConfFlows (join_of tree.label told) row.label × IntegFlows row.label tree.label) →
@@ -351,49 +353,52 @@ field_held labelled needs hosts plan premises field tree is =
     seen told None never = absurd never
     seen told (Some row) both = both.0
 
-pub all_told : (labelled : Labelled) (needs : NeedsShape) (hosts : HostsShape) (plan : PlanShape) →
-    Premises labelled needs hosts plan →
-    AllByRecursion (IsToldWell labelled (planned_of labelled needs hosts plan))
-    (flat_map (λ one. one.tellings) (statement_uses hosts.principals labelled))
-all_told labelled needs hosts plan premises =
-    let planned = planned_of labelled needs hosts plan in
-    let all = flat_map (λ (one : StatementUse). one.tellings) (statement_uses hosts.principals labelled) in
-    each_there (IsToldWell labelled planned) all (λ place telling is tree there.
+pub all_told : (placed : PlacedProgram) →
+    Premises placed →
+    AllByRecursion (IsToldWell placed.labelled (planned_from placed))
+    (flat_map (λ one. one.tellings) (statement_uses placed.hosts.principals placed.labelled))
+all_told placed premises =
+    let planned = planned_from placed in
+    let all = flat_map (λ (one : StatementUse). one.tellings) (statement_uses placed.hosts.principals placed.labelled)
+    in
+    each_there (IsToldWell placed.labelled planned) all (λ place telling is tree there.
     let field = telling.field.0 in
-    let to = told_of hosts.principals all field in
+    let to = told_of placed.hosts.principals all field in
     let chosen = map (λ (it : Telling). it.label) (filter (λ (it : Telling). nat_eq it.field.0 field) all) in
-    let flow = told_flow field to all (flows_folded (bottom_of hosts.principals) chosen).1 in
-    let host = field_host plan telling.field in
+    let flow = told_flow field to all (flows_folded (bottom_of placed.hosts.principals) chosen).1 in
+    let host = field_host placed.plan telling.field in
     let own = all_there (λ (it : Telling). it.field.0 ≡ field → ConfFlows it.label to) all flow place telling is refl in
     sees_less planned host telling.label to own (sees_less planned host to (join_of tree.label to)
-    (flows_second tree.label to) (field_held labelled needs hosts plan premises telling.field tree there)))
+    (flows_second tree.label to) (field_held placed premises telling.field tree there)))
 
 -- each statement
-pub use_well : (labelled : Labelled) (needs : NeedsShape) (hosts : HostsShape) (plan : PlanShape) →
-    Premises labelled needs hosts plan → (place : ℕ) (one : StatementUse) →
-    slice_get (statement_uses hosts.principals labelled) place ≡ Some one →
-    IsUseWell labelled (planned_of labelled needs hosts plan) hosts.principals one
-use_well labelled needs hosts plan premises place one is =
-    let planned = planned_of labelled needs hosts plan in
-    let principals = hosts.principals in
+pub use_well : (placed : PlacedProgram) →
+    Premises placed → (place : ℕ) (one : StatementUse) →
+    slice_get (statement_uses placed.hosts.principals placed.labelled) place ≡ Some one →
+    IsUseWell placed.labelled (planned_from placed) placed.hosts.principals one
+use_well placed premises place one is =
+    let planned = planned_from placed in
+    let principals = placed.hosts.principals in
     let allowed = premises.allowed in
-    let uses = statement_uses principals labelled in
+    let uses = statement_uses principals placed.labelled in
     let own : StatementUse → Label = λ it. it.used in
-    let number : one.id.0 ≡ place = use_numbered principals labelled place one allowed.statements is in
-    let word = zipped_there (λ it word. IsNeed principals it.backing word) uses needs.need allowed.needs_of.need place
+    let number : one.id.0 ≡ place = use_numbered principals placed.labelled place one allowed.statements is in
+    let word = zipped_there (λ it word. IsNeed principals it.backing word) uses placed.needs.need allowed.needs_of.need
+    place
     one is in
-    let used : slice_get needs.used place ≡ Some one.used =
+    let used : slice_get placed.needs.used place ≡ Some one.used =
     ap (λ list. slice_get list place) allowed.needs_of.used ∙ slice_get-map own uses place ∙ ap (option_map own) is in
-    let holds = zipped_there (HoldsStatement hosts) (zip needs.used needs.need) plan.statements premises.held.statements
-    place (one.used, word.0) (zip_at needs.used needs.need place one.used word.0 used word.1) in
-    let host_is : holds.0 ≡ statement_host plan one.id =
-    sym (ap (λ found. unwrap_or found first_host) (ap (slice_get plan.statements) number ∙ holds.1)) in
+    let holds = zipped_there (HoldsStatement placed.hosts) (zip placed.needs.used placed.needs.need)
+    placed.plan.statements premises.held.statements
+    place (one.used, word.0) (zip_at placed.needs.used placed.needs.need place one.used word.0 used word.1) in
+    let host_is : holds.0 ≡ statement_host placed.plan one.id =
+    sym (ap (λ found. unwrap_or found first_host) (ap (slice_get placed.plan.statements) number ∙ holds.1)) in
     let P : HostId → Type 0 = λ host. Sees planned host one.used in
     record {
-      needed = use_needed labelled needs hosts plan allowed place one is;
-      sees = subst P host_is (seen word.0 (slice_get hosts.hosts holds.0.0) holds.2);
-      tellings = part_of_all (IsToldWell labelled planned) (λ (it : StatementUse). it.tellings) uses
-          (all_told labelled needs hosts plan premises) place one is;
+      needed = use_needed placed allowed place one is;
+      sees = subst P host_is (seen word.0 (slice_get placed.hosts.hosts holds.0.0) holds.2);
+      tellings = part_of_all (IsToldWell placed.labelled planned) (λ (it : StatementUse). it.tellings) uses
+          (all_told placed premises) place one is;
     }
   where
     seen : (need : ℕ) (found : Option HostShape) → IsSomeAnd found (λ row.
@@ -413,74 +418,77 @@ head_trusted planned principals host head begin need affects = by (slice_get pla
     by None never = absurd never
     by (Some row) flows = head_needed planned principals row.label head begin need flows
 
-pub readers_there : (labelled : Labelled) (needs : NeedsShape) (hosts : HostsShape) (plan : PlanShape) →
-    Premises labelled needs hosts plan → AllReadersSee labelled (planned_of labelled needs hosts plan)
-readers_there labelled needs hosts plan premises x to reads =
-    by (slice_get needs.readers x.0) refl reads
+pub readers_there : (placed : PlacedProgram) →
+    Premises placed → AllReadersSee placed.labelled (planned_from placed)
+readers_there placed premises x to reads =
+    by (slice_get placed.needs.readers x.0) refl reads
   where
     planned : PlannedShape
-    planned = planned_of labelled needs hosts plan
+    planned = planned_from placed
 
     uses : List StatementUse
-    uses = statement_uses hosts.principals labelled
+    uses = statement_uses placed.hosts.principals placed.labelled
 
     numbers : List ℕ
-    numbers = range_with_len 0 (length labelled.program.vars)
+    numbers = range_with_len 0 (length placed.labelled.program.vars)
 
-    by : (found : Option (List StmtId)) → slice_get needs.readers x.0 ≡ found →
-        list_any (stands_at planned to) (unwrap_or found []) ≡ true → Sees planned to (label_of labelled x)
+    by : (found : Option (List StmtId)) → slice_get placed.needs.readers x.0 ≡ found →
+        list_any (stands_at planned to) (unwrap_or found []) ≡ true → Sees planned to (label_of placed.labelled x)
     by None is some = absurd (true≢false (sym some))
     by (Some readers) is some =
         let made = mapped (readers_of uses) numbers x.0 readers
         (ap (λ list. slice_get list x.0) (sym premises.allowed.needs_of.readers) ∙ is) in
         let within = slice_get_within numbers x.0 made.0 made.1 in
-        let many = length-range_with_len 0 (length labelled.program.vars) in
+        let many = length-range_with_len 0 (length placed.labelled.program.vars) in
         let own : made.0 ≡ x.0 =
-        some_same made.0 x.0 (sym made.1 ∙ number_there (length labelled.program.vars) x.0 (omega arith)) in
+        some_same made.0 x.0 (sym made.1 ∙ number_there (length placed.labelled.program.vars) x.0 (omega arith)) in
         let P : List StmtId → Type 0 = λ list. list_any (stands_at planned to) list ≡ true in
-        reader_sees labelled planned hosts.principals x to uses
-        (each_there (IsUseWell labelled planned hosts.principals) uses (use_well labelled needs hosts plan premises))
-        (methods_flow hosts.principals labelled labelled.program.methods)
+        reader_sees placed.labelled planned placed.hosts.principals x to uses
+        (each_there (IsUseWell placed.labelled planned placed.hosts.principals) uses (use_well placed premises))
+        (methods_flow placed.hosts.principals placed.labelled placed.labelled.program.methods)
         (subst P (sym made.2 ∙ ap (readers_of uses) own) some)
       where
         some_same : (one other : ℕ) → Some one ≡ Some other → one ≡ other
         some_same one other same = cc
 
-pub program_well : (labelled : Labelled) (needs : NeedsShape) (hosts : HostsShape) (plan : PlanShape) →
-    Premises labelled needs hosts plan →
-    ProgramWell labelled (planned_of labelled needs hosts plan) hosts.principals
-program_well labelled needs hosts plan premises = record {
+pub program_well : (placed : PlacedProgram) →
+    Premises placed →
+    ProgramWell placed.labelled (planned_from placed) placed.hosts.principals
+program_well placed premises = record {
   many = premises.splittable.var_labels;
-  readers = readers_there labelled needs hosts plan premises;
+  readers = readers_there placed premises;
   fields = λ field tree is.
-      let to = told_of hosts.principals (flat_map (λ (one : StatementUse). one.tellings) uses) field.0 in
-      let P : Label → Type 0 = λ label. Sees planned (field_host plan field) label in
-      let own : field_label labelled.program field ≡ tree.label =
+      let to = told_of placed.hosts.principals (flat_map (λ (one : StatementUse). one.tellings) uses) field.0 in
+      let P : Label → Type 0 = λ label. Sees planned (field_host placed.plan field) label in
+      let own : field_label placed.labelled.program field ≡ tree.label =
       ap (λ found. unwrap_or (option_map (λ (it : FieldTree). it.label) found) empty_label) is in
-      subst P (sym own) (sees_less planned (field_host plan field) tree.label (join_of tree.label to)
-      (flows_first tree.label to) (field_held labelled needs hosts plan premises field tree is));
+      subst P (sym own) (sees_less planned (field_host placed.plan field) tree.label (join_of tree.label to)
+      (flows_first tree.label to) (field_held placed premises field tree is));
   methods = λ place tree is.
-      let head = (part_of_all (IsUseWell labelled planned hosts.principals) (method_uses hosts.principals labelled)
-      labelled.program.methods all_well place tree is).0 in
+      let head = (part_of_all (IsUseWell placed.labelled planned placed.hosts.principals)
+      (method_uses placed.hosts.principals placed.labelled)
+      placed.labelled.program.methods all_well place tree is).0 in
       record {
         home = head.sees;
-        numbered = method_there labelled.program labelled.program.methods 0 premises.allowed.numbered.methods place
+        numbered = method_there placed.labelled.program placed.labelled.program.methods 0
+            premises.allowed.numbered.methods place
             place tree (omega arith) is;
-        trusted = λ host affects. head_trusted planned hosts.principals host tree.head tree.begin head.needed.need
+        trusted = λ host affects. head_trusted planned placed.hosts.principals host tree.head tree.begin
+            head.needed.need
             affects;
       };
 }
   where
     planned : PlannedShape
-    planned = planned_of labelled needs hosts plan
+    planned = planned_from placed
 
     uses : List StatementUse
-    uses = statement_uses hosts.principals labelled
+    uses = statement_uses placed.hosts.principals placed.labelled
 
-    all_well : AllByRecursion (IsUseWell labelled (planned_of labelled needs hosts plan) hosts.principals)
-        (statement_uses hosts.principals labelled)
-    all_well = each_there (IsUseWell labelled planned hosts.principals) uses
-        (use_well labelled needs hosts plan premises)
+    all_well : AllByRecursion (IsUseWell placed.labelled (planned_from placed) placed.hosts.principals)
+        (statement_uses placed.hosts.principals placed.labelled)
+    all_well = each_there (IsUseWell placed.labelled planned placed.hosts.principals) uses
+        (use_well placed premises)
 
 methods_well : (principals : Declared) (labelled : Labelled) (planned : PlannedShape) →
     ProgramWell labelled planned principals → (final : VariableLabels) → AreFinal labelled final → (place : ℕ)
@@ -514,23 +522,23 @@ methods_well principals labelled planned program final are place (method ∷ met
           (all_second (IsUseWell labelled planned principals) own_uses _ uses.1),
     )
 
-pub program_tells_well : (labelled : Labelled) (needs : NeedsShape) (hosts : HostsShape) (plan : PlanShape) →
-    IsSplittable labelled hosts plan → IsAllowed labelled needs hosts plan → IsHeld labelled needs hosts plan →
-    AllByRecursion (MethodTellsWell hosts.principals labelled (planned_of labelled needs hosts plan))
-    labelled.program.methods
-program_tells_well labelled needs hosts plan splittable allowed held =
-    let planned = planned_of labelled needs hosts plan in
-    let principals = hosts.principals in
-    let program = labelled.program in
+pub program_tells_well : (placed : PlacedProgram) →
+    IsSplittable placed.labelled placed.hosts placed.plan → IsAllowed placed → IsHeld placed →
+    AllByRecursion (MethodTellsWell placed.hosts.principals placed.labelled (planned_from placed))
+    placed.labelled.program.methods
+program_tells_well placed splittable allowed held =
+    let planned = planned_from placed in
+    let principals = placed.hosts.principals in
+    let program = placed.labelled.program in
     let declared = declared_labels program in
     let final = labels_after_methods principals program declared program.methods in
-    let premises : Premises labelled needs hosts plan =
+    let premises : Premises placed =
     record { splittable = splittable; allowed = allowed; held = held } in
     let met = met_from principals (program_labels principals program)
     (by_recursion (Meets principals) (obligations_of (program_labels principals program)) allowed.well_labelled) in
-    methods_well principals labelled planned (program_well labelled needs hosts plan premises) final
+    methods_well principals placed.labelled planned (program_well placed premises) final
     allowed.var_labels 0 program.methods declared (length-map program.vars (λ variable. variable.label)) refl
     allowed.numbered.methods allowed.methods held.values met
-    (labels_kept labelled principals allowed.statements held.pc)
-    (each_there (IsUseWell labelled planned principals) (statement_uses principals labelled)
-    (use_well labelled needs hosts plan premises))
+    (labels_kept placed.labelled principals allowed.statements held.pc)
+    (each_there (IsUseWell placed.labelled planned principals) (statement_uses principals placed.labelled)
+    (use_well placed premises))

@@ -11,9 +11,8 @@ use Rattle.jif_tree.specs.LabelRules.{method_at}
 use Rattle.host_code.specs.declared.instruction.Op.{Op}
 use Rattle.host_code.specs.declared.instruction.Op.TheVariants as op
 use Rattle.need_labels.specs.Labelled.{Labelled}
-use Rattle.need_labels.specs.Needs.{NeedsShape}
-use Rattle.need_labels.specs.Plan.{PlanShape}
-use Rattle.msg_cost.specs.Moves.{PlannedShape, planned_of, home_of}
+use Rattle.msg_cost.specs.Moves.{PlannedShape, home_of}
+use Rattle.split_rules.specs.Placed.{PlacedProgram, planned_from}
 use Rattle.split_rules.specs.Emissions.{Emission, instruction, entry, stands, lands, Emitted, Counts, counts_after}
 use Rattle.split_rules.specs.SplitCode.{emitted_on}
 use Rattle.split_rules.specs.Walk.{method_entry, methods_emissions, program_emissions}
@@ -258,27 +257,30 @@ given_settled labelled hosts planned main emissions last walk =
     }
 
 -- all that a walk over a program gives
-pub program_settled : (labelled : Labelled) (needs : NeedsShape) (hosts : HostsShape) (plan : PlanShape) →
-    IsSplittable labelled hosts plan →
-    let emissions = program_emissions hosts.principals labelled (planned_of labelled needs hosts plan) in
-    AreSettled (length hosts.hosts) (counts_after (record { entries = 0; branches = 0 }) emissions).branches emissions
-program_settled labelled needs hosts plan splittable =
-    let planned = planned_of labelled needs hosts plan in
+pub program_settled : (placed : PlacedProgram) →
+    IsSplittable placed.labelled placed.hosts placed.plan →
+    let emissions = program_emissions placed.hosts.principals placed.labelled (planned_from placed) in
+    AreSettled (length placed.hosts.hosts) (counts_after (record { entries = 0; branches = 0 }) emissions).branches
+    emissions
+program_settled placed splittable =
+    let planned = planned_from placed in
     let none : Counts = record { entries = 0; branches = 0 } in
-    let front = front_emissions labelled planned in
-    let bodies = methods_emissions hosts.principals labelled planned (counts_after none front) 0
-    labelled.program.methods in
-    let goes = program_goes labelled needs hosts plan splittable in
+    let front = front_emissions placed.labelled planned in
+    let bodies = methods_emissions placed.hosts.principals placed.labelled planned (counts_after none front) 0
+    placed.labelled.program.methods in
+    let goes = program_goes placed splittable in
     let last = goes.0 in
     let main = splittable.numbered.main.0 in
-    let main_is : method_at labelled.program labelled.program.main ≡ Some main = splittable.numbered.main.1 in
+    let main_is : method_at placed.labelled.program placed.labelled.program.main ≡ Some main =
+    splittable.numbered.main.1 in
     let counted : counts_after none (front ++ bodies) ≡ counts_of last =
     counts_more none front bodies
-    ∙ ap (λ counts. counts_after counts bodies) (front_counted labelled planned main main_is)
-    ∙ sym (counts_behind (scope_of labelled hosts plan) (walk_start labelled planned) bodies last goes.1) in
-    let settled = given_settled labelled hosts planned main bodies last
-    (walk_there labelled hosts planned bodies last splittable goes.1 goes.2) in
-    let P : ℕ → Type 0 = λ count. AreSettled (length hosts.hosts) count (front ++ bodies) in
-    let Q : List Emission → Type 0 = λ list. AreSettled (length hosts.hosts) last.branches (list ++ bodies) in
+    ∙ ap (λ counts. counts_after counts bodies) (front_counted placed.labelled planned main main_is)
+    ∙ sym (counts_behind (scope_of placed.labelled placed.hosts placed.plan) (walk_start placed.labelled planned)
+    bodies last goes.1) in
+    let settled = given_settled placed.labelled placed.hosts planned main bodies last
+    (walk_there placed.labelled placed.hosts planned bodies last splittable goes.1 goes.2) in
+    let P : ℕ → Type 0 = λ count. AreSettled (length placed.hosts.hosts) count (front ++ bodies) in
+    let Q : List Emission → Type 0 = λ list. AreSettled (length placed.hosts.hosts) last.branches (list ++ bodies) in
     subst P (ap (λ counts. counts.branches) (sym counted))
-    (subst Q (sym (front_is labelled planned main main_is)) settled)
+    (subst Q (sym (front_is placed.labelled planned main main_is)) settled)

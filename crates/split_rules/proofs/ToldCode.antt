@@ -25,9 +25,9 @@ use Rattle.host_code.specs.Code.{variable_at}
 use Rattle.entry_check.specs.declared.ask.Ask.TheVariants as ask
 use Rattle.entry_check.specs.Checks.{May, MaySee, MayAffect, IsTrustedFor, label_at, label_of_host}
 use Rattle.need_labels.specs.Labelled.{Labelled}
-use Rattle.need_labels.specs.Needs.{NeedsShape}
-use Rattle.need_labels.specs.Plan.{PlanShape, field_host}
-use Rattle.msg_cost.specs.Moves.{PlannedShape, planned_of}
+use Rattle.need_labels.specs.Plan.{field_host}
+use Rattle.msg_cost.specs.Moves.{PlannedShape}
+use Rattle.split_rules.specs.Placed.{PlacedProgram, planned_from}
 use Rattle.split_rules.specs.Emissions.{Emission, instruction, entry, stands, lands, Emitted, Named, Counts, counts_after}
 use Rattle.split_rules.specs.Allowed.{IsTrustedHost}
 use Rattle.split_rules.specs.Asking.{IfElsewhere, IsSeenBy}
@@ -66,33 +66,35 @@ method_named planned (method ∷ methods) zero tree is =
     ap (λ one. Some (entry_of planned one)) same
 method_named planned (method ∷ methods) (suc place) tree is = method_named planned methods place tree is
 
-pub program_told : (labelled : Labelled) (needs : NeedsShape) (hosts : HostsShape) (plan : PlanShape) →
-    let planned = planned_of labelled needs hosts plan in
-    (main : MethodTree) → method_at labelled.program labelled.program.main ≡ Some main →
-    AllByRecursion (MethodTellsWell hosts.principals labelled planned) labelled.program.methods →
-    AreTold labelled planned [] (program_emissions hosts.principals labelled planned)
-program_told labelled needs hosts plan main main_is well = subst P (sym (front_is labelled planned main main_is)) whole
+pub program_told : (placed : PlacedProgram) →
+    let planned = planned_from placed in
+    (main : MethodTree) → method_at placed.labelled.program placed.labelled.program.main ≡ Some main →
+    AllByRecursion (MethodTellsWell placed.hosts.principals placed.labelled planned) placed.labelled.program.methods →
+    AreTold placed.labelled planned [] (program_emissions placed.hosts.principals placed.labelled planned)
+program_told placed main main_is well = subst P (sym (front_is placed.labelled planned main main_is)) whole
   where
     planned : PlannedShape
-    planned = planned_of labelled needs hosts plan
+    planned = planned_from placed
 
     none : Counts
     none = record { entries = 0; branches = 0 }
 
     front : List Emission
-    front = front_of (planned_of labelled needs hosts plan) main labelled.program.methods
+    front = front_of (planned_from placed) main placed.labelled.program.methods
 
     P : List Emission → Type 0
-    P list = AreTold labelled planned [] (list ++ methods_emissions hosts.principals labelled planned
-        (counts_after none list) 0 labelled.program.methods)
+    P list = AreTold placed.labelled planned [] (list ++ methods_emissions placed.hosts.principals placed.labelled
+        planned
+        (counts_after none list) 0 placed.labelled.program.methods)
 
-    begun : IsBegun labelled planned (entries_in front)
-    begun = record { some = omega arith; methods = method_named planned labelled.program.methods }
+    begun : IsBegun placed.labelled planned (entries_in front)
+    begun = record { some = omega arith; methods = method_named planned placed.labelled.program.methods }
 
     whole : P front
-    whole = told_on labelled planned [] front _
-        (entries_told labelled planned (entry_of planned main ∷ []) labelled.program.methods)
-        (methods_told hosts.principals labelled planned 0 labelled.program.methods well (counts_after none front)
+    whole = told_on placed.labelled planned [] front _
+        (entries_told placed.labelled planned (entry_of planned main ∷ []) placed.labelled.program.methods)
+        (methods_told placed.hosts.principals placed.labelled planned 0 placed.labelled.program.methods well
+        (counts_after none front)
         (entries_in front) (counted_after none [] front refl) begun)
 
 -- ---- an instruction of a walk
@@ -238,44 +240,42 @@ host_label labelled hosts planned emissions host =
     by None = refl
     by (Some row) = refl
 
-pub sees_in_code : (labelled : Labelled) (needs : NeedsShape) (hosts : HostsShape) (plan : PlanShape)
-    (emissions : List Emission) (host : HostId) (label : Label) →
-    let planned = planned_of labelled needs hosts plan in
+pub sees_in_code : (placed : PlacedProgram) (emissions : List Emission) (host : HostId) (label : Label) →
+    let planned = planned_from placed in
     Sees planned host label →
-    MaySee (Some label) (label_of_host (code_of_emissions labelled hosts planned emissions) host)
-sees_in_code labelled needs hosts plan emissions host label sees =
+    MaySee (Some label) (label_of_host (code_of_emissions placed.labelled placed.hosts planned emissions) host)
+sees_in_code placed emissions host label sees =
     let P : Option Label → Type 0 = λ found. MaySee (Some label) found in
-    subst P (sym (host_label labelled hosts (planned_of labelled needs hosts plan) emissions host))
-    (by (slice_get hosts.hosts host.0) sees)
+    subst P (sym (host_label placed.labelled placed.hosts (planned_from placed) emissions host))
+    (by (slice_get placed.hosts.hosts host.0) sees)
   where
     by : (found : Option HostShape) → IsSomeAnd found (λ row. ConfFlows label row.label) →
         MaySee (Some label) (option_map (λ row. row.label) found)
     by None never = absurd never
     by (Some row) flows = flows
 
-pub affects_in_code : (labelled : Labelled) (needs : NeedsShape) (hosts : HostsShape) (plan : PlanShape)
-    (emissions : List Emission) (host : HostId) (label : Label) →
-    let planned = planned_of labelled needs hosts plan in
+pub affects_in_code : (placed : PlacedProgram) (emissions : List Emission) (host : HostId) (label : Label) →
+    let planned = planned_from placed in
     Affects planned host label →
-    MayAffect (label_of_host (code_of_emissions labelled hosts planned emissions) host) (Some label)
-affects_in_code labelled needs hosts plan emissions host label affects =
+    MayAffect (label_of_host (code_of_emissions placed.labelled placed.hosts planned emissions) host) (Some label)
+affects_in_code placed emissions host label affects =
     let P : Option Label → Type 0 = λ found. MayAffect found (Some label) in
-    subst P (sym (host_label labelled hosts (planned_of labelled needs hosts plan) emissions host))
-    (by (slice_get hosts.hosts host.0) affects)
+    subst P (sym (host_label placed.labelled placed.hosts (planned_from placed) emissions host))
+    (by (slice_get placed.hosts.hosts host.0) affects)
   where
     by : (found : Option HostShape) → IsSomeAnd found (λ row. IntegFlows row.label label) →
         MayAffect (option_map (λ row. row.label) found) (Some label)
     by None never = absurd never
     by (Some row) flows = flows
 
-trusted_in_code : (labelled : Labelled) (needs : NeedsShape) (hosts : HostsShape) (plan : PlanShape)
-    (emissions : List Emission) (host : HostId) (need : ℕ) → IsTrustedHost hosts need host →
-    IsTrustedFor (label_of_host (code_of_emissions labelled hosts (planned_of labelled needs hosts plan) emissions) host)
+trusted_in_code : (placed : PlacedProgram) (emissions : List Emission) (host : HostId) (need : ℕ) →
+    IsTrustedHost placed.hosts need host →
+    IsTrustedFor (label_of_host (code_of_emissions placed.labelled placed.hosts (planned_from placed) emissions) host)
     need
-trusted_in_code labelled needs hosts plan emissions host need trusted =
+trusted_in_code placed emissions host need trusted =
     let P : Option Label → Type 0 = λ found. IsTrustedFor found need in
-    subst P (sym (host_label labelled hosts (planned_of labelled needs hosts plan) emissions host))
-    (by (slice_get hosts.hosts host.0) trusted)
+    subst P (sym (host_label placed.labelled placed.hosts (planned_from placed) emissions host))
+    (by (slice_get placed.hosts.hosts host.0) trusted)
   where
     by : (found : Option HostShape) → IsSomeAnd found (λ row. IsTrustedBy row.label need) →
         IsTrustedFor (option_map (λ row. row.label) found) need
@@ -347,37 +347,38 @@ emission_labelled labelled hosts planned emissions before one behind is label am
     (subst P (sym is) (label_of_one label before one behind among)))
 
 -- the variable has a label that the host may affect
-pub variable_granted : (labelled : Labelled) (needs : NeedsShape) (hosts : HostsShape) (plan : PlanShape)
-    (emissions : List Emission) (me owner : HostId) (x : VarId) →
-    length labelled.var_labels ≡ length labelled.program.vars →
-    let planned = planned_of labelled needs hosts plan in
-    AffectsVariable labelled planned me x →
-    May (code_of_emissions labelled hosts planned emissions) owner (ask.Forward x) me
-variable_granted labelled needs hosts plan emissions me owner x many affects =
-    by (slice_get labelled.var_labels x.0) refl affects
+pub variable_granted : (placed : PlacedProgram) (emissions : List Emission) (me owner : HostId) (x : VarId) →
+    length placed.labelled.var_labels ≡ length placed.labelled.program.vars →
+    let planned = planned_from placed in
+    AffectsVariable placed.labelled planned me x →
+    May (code_of_emissions placed.labelled placed.hosts planned emissions) owner (ask.Forward x) me
+variable_granted placed emissions me owner x many affects =
+    by (slice_get placed.labelled.var_labels x.0) refl affects
   where
     planned : PlannedShape
-    planned = planned_of labelled needs hosts plan
+    planned = planned_from placed
 
     code : CodeShape
-    code = code_of_emissions labelled hosts (planned_of labelled needs hosts plan) emissions
+    code = code_of_emissions placed.labelled placed.hosts (planned_from placed) emissions
 
-    with_variable : (label : Label) → slice_get labelled.var_labels x.0 ≡ Some label → Affects planned me label →
-        (variable : VarTree) → slice_get labelled.program.vars x.0 ≡ Some variable → May code owner (ask.Forward x) me
+    with_variable : (label : Label) → slice_get placed.labelled.var_labels x.0 ≡ Some label → Affects planned me label →
+        (variable : VarTree) → slice_get placed.labelled.program.vars x.0 ≡ Some variable →
+        May code owner (ask.Forward x) me
     with_variable label is own variable there =
-        let in_code = variable_in_code labelled hosts planned emissions x variable label there is in
-        let label_is = variable_labelled labelled hosts planned emissions x label is in
+        let in_code = variable_in_code placed.labelled placed.hosts planned emissions x variable label there is in
+        let label_is = variable_labelled placed.labelled placed.hosts planned emissions x label is in
         let P : Option Label → Type 0 = λ it. MayAffect (label_of_host code me) it in
         let Q : Option CodeVariableShape → Type 0 = λ it. IsSomeAnd it
         (λ one. MayAffect (label_of_host code me) (label_at code one.label)) in
-        subst Q (sym in_code) (subst P (sym label_is) (affects_in_code labelled needs hosts plan emissions me label own))
+        subst Q (sym in_code) (subst P (sym label_is) (affects_in_code placed emissions me label own))
 
-    by : (found : Option Label) → slice_get labelled.var_labels x.0 ≡ found → IsSomeAnd found (Affects planned me) →
+    by : (found : Option Label) → slice_get placed.labelled.var_labels x.0 ≡ found →
+        IsSomeAnd found (Affects planned me) →
         May code owner (ask.Forward x) me
     by None is never = absurd never
     by (Some label) is own =
-        let within = slice_get_within labelled.var_labels x.0 label is in
-        elim ((slice_get_cases labelled.program.vars x.0).1) [
+        let within = slice_get_within placed.labelled.var_labels x.0 label is in
+        elim ((slice_get_cases placed.labelled.program.vars x.0).1) [
           | inl there ↦ with_variable label is own there.0 there.2
           | inr past ↦ absurd (let over = past.0 in omega arith)
         ]
@@ -385,22 +386,22 @@ variable_granted labelled needs hosts plan emissions me owner x many affects =
 -- ---- what each kind of instruction asks and tells
 
 -- a field of another host is read
-pub read_granted : (labelled : Labelled) (needs : NeedsShape) (hosts : HostsShape) (plan : PlanShape)
-    (emissions : List Emission) (me : HostId) (pc : Label) (field : FieldId) →
-    let planned = planned_of labelled needs hosts plan in
-    let code = code_of_emissions labelled hosts planned emissions in
-    ReadsWell labelled planned me pc field → IfElsewhere code me field (λ owner. May code owner (ask.Get field) me)
-read_granted labelled needs hosts plan emissions me pc field well =
-    by (slice_get labelled.program.fields field.0) refl well
+pub read_granted : (placed : PlacedProgram) (emissions : List Emission) (me : HostId) (pc : Label) (field : FieldId) →
+    let planned = planned_from placed in
+    let code = code_of_emissions placed.labelled placed.hosts planned emissions in
+    ReadsWell placed.labelled planned me pc field → IfElsewhere code me field (λ owner. May code owner
+    (ask.Get field) me)
+read_granted placed emissions me pc field well =
+    by (slice_get placed.labelled.program.fields field.0) refl well
   where
     planned : PlannedShape
-    planned = planned_of labelled needs hosts plan
+    planned = planned_from placed
 
     code : CodeShape
-    code = code_of_emissions labelled hosts (planned_of labelled needs hosts plan) emissions
+    code = code_of_emissions placed.labelled placed.hosts (planned_from placed) emissions
 
-    by : (found : Option FieldTree) → slice_get labelled.program.fields field.0 ≡ found →
-        IsSomeAnd found (λ tree. Sees planned me tree.label × Sees planned (field_host plan field) pc) →
+    by : (found : Option FieldTree) → slice_get placed.labelled.program.fields field.0 ≡ found →
+        IsSomeAnd found (λ tree. Sees planned me tree.label × Sees planned (field_host placed.plan field) pc) →
         IfElsewhere code me field (λ owner. May code owner (ask.Get field) me)
     by None is never = absurd never
     by (Some tree) is own =
@@ -408,30 +409,30 @@ read_granted labelled needs hosts plan emissions me pc field well =
         IsSomeAnd found (λ again. (again.host ≡ there.host) × MaySee (label_at code again.label)
         (label_of_host code me))) in
         let Q : Option Label → Type 0 = λ label. MaySee label (label_of_host code me) in
-        subst P (sym (field_in_code labelled hosts planned emissions field tree is))
+        subst P (sym (field_in_code placed.labelled placed.hosts planned emissions field tree is))
         (λ apart. (
           refl,
-          subst Q (sym (field_labelled labelled hosts planned emissions field tree is))
-              (sees_in_code labelled needs hosts plan emissions me tree.label own.0),
+          subst Q (sym (field_labelled placed.labelled placed.hosts planned emissions field tree is))
+              (sees_in_code placed emissions me tree.label own.0),
         ))
 
 -- or set
-pub put_granted : (labelled : Labelled) (needs : NeedsShape) (hosts : HostsShape) (plan : PlanShape)
-    (emissions : List Emission) (me : HostId) (pc : Label) (field : FieldId) →
-    let planned = planned_of labelled needs hosts plan in
-    let code = code_of_emissions labelled hosts planned emissions in
-    PutsWell labelled planned me pc field → IfElsewhere code me field (λ owner. May code owner (ask.Set field) me)
-put_granted labelled needs hosts plan emissions me pc field well =
-    by (slice_get labelled.program.fields field.0) refl well
+pub put_granted : (placed : PlacedProgram) (emissions : List Emission) (me : HostId) (pc : Label) (field : FieldId) →
+    let planned = planned_from placed in
+    let code = code_of_emissions placed.labelled placed.hosts planned emissions in
+    PutsWell placed.labelled planned me pc field → IfElsewhere code me field (λ owner. May code owner
+    (ask.Set field) me)
+put_granted placed emissions me pc field well =
+    by (slice_get placed.labelled.program.fields field.0) refl well
   where
     planned : PlannedShape
-    planned = planned_of labelled needs hosts plan
+    planned = planned_from placed
 
     code : CodeShape
-    code = code_of_emissions labelled hosts (planned_of labelled needs hosts plan) emissions
+    code = code_of_emissions placed.labelled placed.hosts (planned_from placed) emissions
 
-    by : (found : Option FieldTree) → slice_get labelled.program.fields field.0 ≡ found →
-        IsSomeAnd found (λ tree. Affects planned me tree.label × Sees planned (field_host plan field) pc) →
+    by : (found : Option FieldTree) → slice_get placed.labelled.program.fields field.0 ≡ found →
+        IsSomeAnd found (λ tree. Affects planned me tree.label × Sees planned (field_host placed.plan field) pc) →
         IfElsewhere code me field (λ owner. May code owner (ask.Set field) me)
     by None is never = absurd never
     by (Some tree) is own =
@@ -439,48 +440,49 @@ put_granted labelled needs hosts plan emissions me pc field well =
         IsSomeAnd found (λ again. (again.host ≡ there.host) × MayAffect (label_of_host code me)
         (label_at code again.label))) in
         let Q : Option Label → Type 0 = λ label. MayAffect (label_of_host code me) label in
-        subst P (sym (field_in_code labelled hosts planned emissions field tree is))
+        subst P (sym (field_in_code placed.labelled placed.hosts planned emissions field tree is))
         (λ apart. (
           refl,
-          subst Q (sym (field_labelled labelled hosts planned emissions field tree is))
-              (affects_in_code labelled needs hosts plan emissions me tree.label own.0),
+          subst Q (sym (field_labelled placed.labelled placed.hosts planned emissions field tree is))
+              (affects_in_code placed emissions me tree.label own.0),
         ))
 
 -- the host of a field is told a label of the code
-pub field_told : (labelled : Labelled) (needs : NeedsShape) (hosts : HostsShape) (plan : PlanShape)
-    (emissions : List Emission) (me : HostId) (label : ℕ) (field : FieldId) (tree : FieldTree) →
-    let planned = planned_of labelled needs hosts plan in
-    let code = code_of_emissions labelled hosts planned emissions in
-    slice_get labelled.program.fields field.0 ≡ Some tree → IsSeenBy code label (field_host plan field) →
+pub field_told : (placed : PlacedProgram) (emissions : List Emission) (me : HostId) (label : ℕ) (field : FieldId)
+    (tree : FieldTree) →
+    let planned = planned_from placed in
+    let code = code_of_emissions placed.labelled placed.hosts planned emissions in
+    slice_get placed.labelled.program.fields field.0 ≡ Some tree → IsSeenBy code label (field_host placed.plan field) →
     IfElsewhere code me field (IsSeenBy code label)
-field_told labelled needs hosts plan emissions me label field tree is seen =
-    let planned = planned_of labelled needs hosts plan in
-    let code = code_of_emissions labelled hosts planned emissions in
+field_told placed emissions me label field tree is seen =
+    let planned = planned_from placed in
+    let code = code_of_emissions placed.labelled placed.hosts planned emissions in
     let P : Option CodeFieldShape → Type 0 = λ found.
     IsSomeAnd found (λ there. there.host ≢ me → IsSeenBy code label there.host) in
-    subst P (sym (field_in_code labelled hosts planned emissions field tree is)) (λ apart. seen)
+    subst P (sym (field_in_code placed.labelled placed.hosts planned emissions field tree is)) (λ apart. seen)
 
 -- an entry is entered by a host that has its need and may see its label
-pub enters_granted : (labelled : Labelled) (needs : NeedsShape) (hosts : HostsShape) (plan : PlanShape)
-    (emissions : List Emission) (me on : HostId) (there : EntryId) (named : Named) → 0 < there.0 →
-    slice_get (entries_in emissions) there.0 ≡ Some named → named.host ≡ on → IsTrustedHost hosts named.need me →
-    let planned = planned_of labelled needs hosts plan in
-    let code = code_of_emissions labelled hosts planned emissions in
+pub enters_granted : (placed : PlacedProgram) (emissions : List Emission) (me on : HostId) (there : EntryId)
+    (named : Named) → 0 < there.0 →
+    slice_get (entries_in emissions) there.0 ≡ Some named → named.host ≡ on → IsTrustedHost placed.hosts named.need me →
+    let planned = planned_from placed in
+    let code = code_of_emissions placed.labelled placed.hosts planned emissions in
     Sees planned me named.label → May code on (ask.Enter there) me
-enters_granted labelled needs hosts plan emissions me on there named some is on_host trusted sees =
-    let planned = planned_of labelled needs hosts plan in
-    let code = code_of_emissions labelled hosts planned emissions in
-    let needed = code_labels labelled emissions in
+enters_granted placed emissions me on there named some is on_host trusted sees =
+    let planned = planned_from placed in
+    let code = code_of_emissions placed.labelled placed.hosts planned emissions in
+    let needed = code_labels placed.labelled emissions in
     let so = found_entry emissions there.0 named is in
     let label_is : label_at code (label_place 0 named.label needed) ≡ Some named.label =
-    emission_labelled labelled hosts planned emissions so.before (entry named) so.behind so.is named.label (inl refl) in
+    emission_labelled placed.labelled placed.hosts planned emissions so.before (entry named) so.behind so.is
+    named.label (inl refl) in
     let P : Option Entry → Type 0 = λ found. IsSomeAnd found (λ it. (it.host ≡ on)
     × IsTrustedFor (label_of_host code me) it.need × MaySee (label_at code it.label) (label_of_host code me)) in
     let Q : Option Label → Type 0 = λ label. MaySee label (label_of_host code me) in (
       no_halt there.0 some,
       subst P (sym (entry_there needed emissions there.0 named is)) (
         on_host,
-        trusted_in_code labelled needs hosts plan emissions me named.need trusted,
-        subst Q (sym label_is) (sees_in_code labelled needs hosts plan emissions me named.label sees),
+        trusted_in_code placed emissions me named.need trusted,
+        subst Q (sym label_is) (sees_in_code placed emissions me named.label sees),
       ),
     )

@@ -5,14 +5,12 @@ use Rattle.std.specs.Prelude.{Some, slice_get}
 use Rattle.std.specs.List.{AllByRecursion}
 use Rattle.js_base.specs.declared.ids.HostId.{HostId}
 use Rattle.principals.specs.ActsFor.{Declared}
-use Rattle.host_decl.specs.Hosts.{HostsShape}
 use Rattle.jif_tree.specs.Trees.{MethodTree, ProgramTree}
 use Rattle.jif_tree.specs.LabelRules.{method_at, result_of}
 use Rattle.jif_tree.specs.WellNumbered.{AreMethodsIn, IsWellNumbered, is_some}
 use Rattle.need_labels.specs.Labelled.{Labelled}
-use Rattle.need_labels.specs.Needs.{NeedsShape}
-use Rattle.need_labels.specs.Plan.{PlanShape}
-use Rattle.msg_cost.specs.Moves.{PlannedShape, planned_of, home_of}
+use Rattle.msg_cost.specs.Moves.{PlannedShape, home_of}
+use Rattle.split_rules.specs.Placed.{PlacedProgram, planned_from}
 use Rattle.split_rules.specs.Emissions.{Emission, stands, Counts, counts_after}
 use Rattle.split_rules.specs.SplitCode.{entries_in}
 use Rattle.split_rules.specs.Walk.{method_entry, lane_on, walked_in, block_emissions, methods_emissions, need_of}
@@ -136,44 +134,46 @@ entrances_many planned number [] = refl
 entrances_many planned number (method ∷ methods) = ap suc (entrances_many planned (suc number) methods)
 
 -- All bodies are typed, and nothing goes on behind them.
-pub program_typed : (labelled : Labelled) (needs : NeedsShape) (hosts : HostsShape) (plan : PlanShape) →
-    let planned = planned_of labelled needs hosts plan in
-    let counts = counts_after (record { entries = 0; branches = 0 }) (front_emissions labelled planned) in
-    IsWellNumbered labelled.program → IsTypable planned →
+pub program_typed : (placed : PlacedProgram) →
+    let planned = planned_from placed in
+    let counts = counts_after (record { entries = 0; branches = 0 }) (front_emissions placed.labelled planned) in
+    IsWellNumbered placed.labelled.program → IsTypable planned →
     (last : Known) × (last.place ≡ nowhere) × AreTyped planned (known_start planned)
-    (methods_emissions hosts.principals labelled planned counts 0 labelled.program.methods) last
-program_typed labelled needs hosts plan numbered typable = (_, refl, subst P (sym same) leads.typed)
+    (methods_emissions placed.hosts.principals placed.labelled planned counts 0 placed.labelled.program.methods) last
+program_typed placed numbered typable = (_, refl, subst P (sym same) leads.typed)
   where
     planned : PlannedShape
-    planned = planned_of labelled needs hosts plan
+    planned = planned_from placed
 
     entries : List Entrance
-    entries = (known_start (planned_of labelled needs hosts plan)).entries
+    entries = (known_start (planned_from placed)).entries
 
     counts : Counts
     counts = counts_after (record { entries = 0; branches = 0 })
-        (front_emissions labelled (planned_of labelled needs hosts plan))
+        (front_emissions placed.labelled (planned_from placed))
 
     same : counts ≡ counts_in entries []
     same =
         let main = numbered.main in
         let counted : ℕ → Counts = λ many. record { entries = suc many; branches = 0 } in
-        front_counted labelled planned main.0 main.1
-        ∙ ap counted (sym (entrances_many planned 0 labelled.program.methods))
+        front_counted placed.labelled planned main.0 main.1
+        ∙ ap counted (sym (entrances_many planned 0 placed.labelled.program.methods))
 
-    from_zero : (place : ℕ) (tree : MethodTree) → slice_get labelled.program.methods place ≡ Some tree →
-        slice_get labelled.program.methods (0 + place) ≡ Some tree
+    from_zero : (place : ℕ) (tree : MethodTree) → slice_get placed.labelled.program.methods place ≡ Some tree →
+        slice_get placed.labelled.program.methods (0 + place) ≡ Some tree
     from_zero place tree is =
         let none : place ≡ 0 + place = omega arith in
-        let P : ℕ → Type 0 = λ one. slice_get labelled.program.methods one ≡ Some tree in
+        let P : ℕ → Type 0 = λ one. slice_get placed.labelled.program.methods one ≡ Some tree in
         subst P none is
 
     leads : Leads planned (known_start planned)
-        (methods_emissions hosts.principals labelled planned (counts_in entries []) 0 labelled.program.methods) nowhere
-    leads = methods_typed hosts.principals labelled planned refl 0 labelled.program.methods from_zero
+        (methods_emissions placed.hosts.principals placed.labelled planned (counts_in entries []) 0
+        placed.labelled.program.methods) nowhere
+    leads = methods_typed placed.hosts.principals placed.labelled planned refl 0 placed.labelled.program.methods
+        from_zero
         numbered.methods typable.methods entries [] (start_methods planned)
 
     P : Counts → Type 0
     P one = AreTyped planned (known_start planned)
-        (methods_emissions hosts.principals labelled planned one 0 labelled.program.methods)
+        (methods_emissions placed.hosts.principals placed.labelled planned one 0 placed.labelled.program.methods)
         (known_at nowhere (entries ++ leads.more) ([] ++ leads.ahead))

@@ -16,9 +16,8 @@ use Rattle.host_code.specs.declared.instruction.Op.{Op}
 use Rattle.host_code.specs.declared.instruction.Op.TheVariants as op
 use Rattle.host_code.specs.Code.{CodeShape, instruction_at}
 use Rattle.need_labels.specs.Labelled.{Labelled}
-use Rattle.need_labels.specs.Needs.{NeedsShape}
-use Rattle.need_labels.specs.Plan.{PlanShape}
-use Rattle.msg_cost.specs.Moves.{PlannedShape, planned_of, home_of}
+use Rattle.msg_cost.specs.Moves.{PlannedShape, home_of}
+use Rattle.split_rules.specs.Placed.{PlacedProgram, planned_from}
 use Rattle.split_rules.specs.Emissions.{Emission, instruction, stands, lands, Emitted, counts_after, Named, entry}
 use Rattle.split_rules.specs.Positions.{body, Calling, no_call, arguing, entering, Position, calm, all_due, Entrance}
 use Rattle.split_rules.specs.SplitCode.{emitted_on, entries_in, before_entry, before_landing, landed, code_labels}
@@ -592,34 +591,36 @@ code_typed labelled hosts planned main emissions same typable walk =
     }
 
 -- The code of a split program has a table with which it is typed.
-pub split_is_typed : (labelled : Labelled) (needs : NeedsShape) (hosts : HostsShape) (plan : PlanShape) →
-    IsSplittable labelled hosts plan → IsTypable (planned_of labelled needs hosts plan) →
-    (table : Table) × IsTypedCode (planned_of labelled needs hosts plan) (split_code labelled needs hosts plan) table
-split_is_typed labelled needs hosts plan splittable typable =
-    subst P (sym (front_is labelled planned main splittable.numbered.main.1))
-    (table_in walk, code_typed labelled hosts planned main emissions refl typable walk)
+pub split_is_typed : (placed : PlacedProgram) →
+    IsSplittable placed.labelled placed.hosts placed.plan → IsTypable (planned_from placed) →
+    (table : Table) × IsTypedCode (planned_from placed) (split_code placed) table
+split_is_typed placed splittable typable =
+    subst P (sym (front_is placed.labelled planned main splittable.numbered.main.1))
+    (table_in walk, code_typed placed.labelled placed.hosts planned main emissions refl typable walk)
   where
     planned : PlannedShape
-    planned = planned_of labelled needs hosts plan
+    planned = planned_from placed
 
     main : MethodTree
     main = splittable.numbered.main.0
 
     emissions : List Emission
-    emissions = methods_emissions hosts.principals labelled planned
-        (counts_after (record { entries = 0; branches = 0 }) (front_emissions labelled planned)) 0 labelled.program.methods
+    emissions = methods_emissions placed.hosts.principals placed.labelled planned
+        (counts_after (record { entries = 0; branches = 0 }) (front_emissions placed.labelled planned)) 0
+        placed.labelled.program.methods
 
-    walk : Walk labelled hosts planned main emissions
+    walk : Walk placed.labelled placed.hosts planned main emissions
     walk =
-        let goes = program_goes labelled needs hosts plan splittable in
-        let typed = program_typed labelled needs hosts plan splittable.numbered typable in
+        let goes = program_goes placed splittable in
+        let typed = program_typed placed splittable.numbered typable in
         record {
           end = goes.0;
-          walk = walk_there labelled hosts planned emissions goes.0 splittable goes.1 goes.2;
+          walk = walk_there placed.labelled placed.hosts planned emissions goes.0 splittable goes.1 goes.2;
           last = typed.0;
           typed = typed.2;
           ends = typed.1;
         }
 
     P : List Emission → Type 0
-    P front = (table : Table) × IsTypedCode planned (code_of_emissions labelled hosts planned (front ++ emissions)) table
+    P front = (table : Table) × IsTypedCode planned (code_of_emissions placed.labelled placed.hosts planned (front
+        ++ emissions)) table

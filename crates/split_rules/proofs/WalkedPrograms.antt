@@ -8,14 +8,12 @@ use Rattle.std.specs.List.{AllByRecursion}
 use Rattle.std.specs.Option.{option_map}
 use Rattle.js_base.specs.declared.ids.HostId.{HostId}
 use Rattle.principals.specs.ActsFor.{Declared}
-use Rattle.host_decl.specs.Hosts.{HostsShape}
 use Rattle.jif_tree.specs.LabelRules.{method_at}
 use Rattle.jif_tree.specs.Trees.{MethodTree, ProgramTree}
 use Rattle.jif_tree.specs.WellNumbered.{AreMethodsIn, HasMethod, IsMethodIn, is_some}
 use Rattle.need_labels.specs.Labelled.{Labelled}
-use Rattle.need_labels.specs.Needs.{NeedsShape}
-use Rattle.need_labels.specs.Plan.{PlanShape}
-use Rattle.msg_cost.specs.Moves.{PlannedShape, planned_of, home_of}
+use Rattle.msg_cost.specs.Moves.{PlannedShape, home_of}
+use Rattle.split_rules.specs.Placed.{PlacedProgram, planned_from}
 use Rattle.split_rules.specs.Emissions.{stands, Counts, counts_after}
 use Rattle.split_rules.specs.Flow.{Scope, stopped, State, counts_of, Goes}
 use Rattle.split_rules.specs.Splittable.{IsSplittable}
@@ -32,17 +30,17 @@ use Rattle.split_rules.proofs.WalkedSites.{sites_there}
 
 -- ---- what a splittable program has
 
-scope_there : (labelled : Labelled) (needs : NeedsShape) (hosts : HostsShape) (plan : PlanShape) →
-    IsSplittable labelled hosts plan →
-    IsScopeOf (scope_of labelled hosts plan) labelled.program (planned_of labelled needs hosts plan)
-scope_there labelled needs hosts plan splittable = record {
+scope_there : (placed : PlacedProgram) →
+    IsSplittable placed.labelled placed.hosts placed.plan →
+    IsScopeOf (scope_of placed.labelled placed.hosts placed.plan) placed.labelled.program (planned_from placed)
+scope_there placed splittable = record {
   fields = refl;
   variables = refl;
   hosts = refl;
-  statements = statement_known (length hosts.hosts) plan splittable.stands some;
+  statements = statement_known (length placed.hosts.hosts) placed.plan splittable.stands some;
 }
   where
-    some : 0 < length hosts.hosts
+    some : 0 < length placed.hosts.hosts
     some = rw length-map at splittable.are_hosts.names.some
 
 pub method_there : (program : ProgramTree) (methods : List MethodTree) (first : ℕ) → AreMethodsIn program first methods →
@@ -58,12 +56,13 @@ method_there program (method ∷ methods) first are zero number tree is there =
 method_there program (method ∷ methods) first are (suc place) number tree is there =
     method_there program methods (suc first) are.1 place number tree (omega arith) there
 
-walkable_there : (labelled : Labelled) (needs : NeedsShape) (hosts : HostsShape) (plan : PlanShape) →
-    IsSplittable labelled hosts plan →
-    IsWalkable (scope_of labelled hosts plan) labelled.program (planned_of labelled needs hosts plan)
-walkable_there labelled needs hosts plan splittable = record {
-  scoped = scope_there labelled needs hosts plan splittable;
-  methods = λ place tree is. method_there labelled.program labelled.program.methods 0 splittable.numbered.methods place
+walkable_there : (placed : PlacedProgram) →
+    IsSplittable placed.labelled placed.hosts placed.plan →
+    IsWalkable (scope_of placed.labelled placed.hosts placed.plan) placed.labelled.program (planned_from placed)
+walkable_there placed splittable = record {
+  scoped = scope_there placed splittable;
+  methods = λ place tree is. method_there placed.labelled.program placed.labelled.program.methods 0
+      splittable.numbered.methods place
       place tree (omega arith) is;
 }
 
@@ -130,34 +129,38 @@ front_counted labelled planned main is =
 -- ---- the program
 
 -- The bodies of all methods are walked from the start to an end.
-pub program_goes : (labelled : Labelled) (needs : NeedsShape) (hosts : HostsShape) (plan : PlanShape) →
-    IsSplittable labelled hosts plan →
-    let planned = planned_of labelled needs hosts plan in
-    let counts = counts_after (record { entries = 0; branches = 0 }) (front_emissions labelled planned) in
-    (last : State) × Goes (scope_of labelled hosts plan) (walk_start labelled planned)
-    (methods_emissions hosts.principals labelled planned counts 0 labelled.program.methods) last × IsEnd last
-program_goes labelled needs hosts plan splittable = (
+pub program_goes : (placed : PlacedProgram) →
+    IsSplittable placed.labelled placed.hosts placed.plan →
+    let planned = planned_from placed in
+    let counts = counts_after (record { entries = 0; branches = 0 }) (front_emissions placed.labelled planned) in
+    (last : State) × Goes (scope_of placed.labelled placed.hosts placed.plan) (walk_start placed.labelled planned)
+    (methods_emissions placed.hosts.principals placed.labelled planned counts 0 placed.labelled.program.methods) last
+    × IsEnd last
+program_goes placed splittable = (
   state_of stopped (start.named ++ reached.more) reached.branches [] [],
-  subst P (sym (front_counted labelled planned main.0 main.1)) reached.goes,
+  subst P (sym (front_counted placed.labelled planned main.0 main.1)) reached.goes,
   record { stopped = refl; owed = refl; opened = refl },
 )
   where
     planned : PlannedShape
-    planned = planned_of labelled needs hosts plan
+    planned = planned_from placed
 
     start : State
-    start = walk_start labelled (planned_of labelled needs hosts plan)
+    start = walk_start placed.labelled (planned_from placed)
 
-    main : HasMethod labelled.program 0 false labelled.program.main
+    main : HasMethod placed.labelled.program 0 false placed.labelled.program.main
     main = splittable.numbered.main
 
-    reached : Reaches (scope_of labelled hosts plan) start
-        (methods_emissions hosts.principals labelled planned (counts_of start) 0 labelled.program.methods) stopped [] []
-    reached = methods_go (scope_of labelled hosts plan) hosts.principals labelled planned
-        (walkable_there labelled needs hosts plan splittable) 0 labelled.program.methods splittable.numbered.methods
-        (sites_there labelled.program plan splittable.sites) start.named 0 (start_named labelled planned)
+    reached : Reaches (scope_of placed.labelled placed.hosts placed.plan) start
+        (methods_emissions placed.hosts.principals placed.labelled planned
+        (counts_of start) 0 placed.labelled.program.methods) stopped [] []
+    reached = methods_go (scope_of placed.labelled placed.hosts placed.plan) placed.hosts.principals placed.labelled
+        planned
+        (walkable_there placed splittable) 0 placed.labelled.program.methods splittable.numbered.methods
+        (sites_there placed.labelled.program placed.plan splittable.sites) start.named 0
+        (start_named placed.labelled planned)
 
     P : Counts → Type 0
-    P counts = Goes (scope_of labelled hosts plan) start
-        (methods_emissions hosts.principals labelled planned counts 0 labelled.program.methods)
+    P counts = Goes (scope_of placed.labelled placed.hosts placed.plan) start
+        (methods_emissions placed.hosts.principals placed.labelled planned counts 0 placed.labelled.program.methods)
         (state_of stopped (start.named ++ reached.more) reached.branches [] [])

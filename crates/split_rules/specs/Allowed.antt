@@ -10,21 +10,21 @@ use Rattle.jif_tree.specs.LabelRules.{declared_labels, IsWellLabelled, variable_
 use Rattle.jif_tree.specs.Labelling.{AreLabelledMethods}
 use Rattle.jif_tree.specs.Numbering.{CountsFrom, statement_numbers}
 use Rattle.jif_tree.specs.WellNumbered.{IsWellNumbered}
-use Rattle.need_labels.specs.Labelled.{Labelled}
-use Rattle.need_labels.specs.Needs.{NeedsShape, AreNeedsOf}
-use Rattle.need_labels.specs.Plan.{PlanShape}
+use Rattle.need_labels.specs.Needs.{AreNeedsOf}
+use Rattle.split_rules.specs.Placed.{PlacedProgram}
 
 -- a host is trusted for a need
 abbrev pub IsTrustedHost : HostsShape → ℕ → HostId → Type 0
 IsTrustedHost hosts need host = IsSomeAnd (slice_get hosts.hosts host.0) (λ row. IsTrustedBy row.label need)
 
 -- The program passes the label check, and each statement's host is trusted for the statement's own need.
-pub record IsAllowed (labelled : Labelled) (needs : NeedsShape) (hosts : HostsShape) (plan : PlanShape) : Type 0 where
-  pub numbered : IsWellNumbered labelled.program
-  pub statements : CountsFrom 0 (statement_numbers labelled.program)
-  pub well_labelled : IsWellLabelled hosts.principals labelled.program
-  pub var_labels : labelled.var_labels ≡ variable_labels hosts.principals labelled.program
-  pub methods : AreLabelledMethods hosts.principals labelled.program (declared_labels labelled.program)
-      labelled.program.methods
-  pub needs_of : AreNeedsOf hosts.principals labelled needs
-  pub trusted : AllZip (IsTrustedHost hosts) needs.need plan.statements
+pub record IsAllowed (placed : PlacedProgram) : Type 0 where
+  pub numbered : IsWellNumbered placed.labelled.program
+  pub statements : CountsFrom 0 (statement_numbers placed.labelled.program)
+  pub well_labelled : IsWellLabelled placed.hosts.principals placed.labelled.program
+  pub var_labels : placed.labelled.var_labels ≡ variable_labels placed.hosts.principals placed.labelled.program
+  pub methods : AreLabelledMethods placed.hosts.principals placed.labelled.program
+      (declared_labels placed.labelled.program)
+      placed.labelled.program.methods
+  pub needs_of : AreNeedsOf placed.hosts.principals placed.labelled placed.needs
+  pub trusted : AllZip (IsTrustedHost placed.hosts) placed.needs.need placed.plan.statements

@@ -15,9 +15,7 @@ use Rattle.host_decl.specs.Hosts.{HostsShape}
 use Rattle.jif_tree.specs.Trees.{FieldTree}
 use Rattle.jif_tree.specs.LabelRules.{declared_labels, program_labels}
 use Rattle.jif_tree.specs.ValueLabels.{AreAllValuesLabelled}
-use Rattle.need_labels.specs.Labelled.{Labelled}
-use Rattle.need_labels.specs.Needs.{NeedsShape}
-use Rattle.need_labels.specs.Plan.{PlanShape}
+use Rattle.split_rules.specs.Placed.{PlacedProgram}
 
 -- ---- places
 
@@ -32,9 +30,10 @@ HoldsStatement hosts (used, need) host = IsSomeAnd (slice_get hosts.hosts host.0
     ConfFlows used row.label × IsTrustedBy row.label need)
 
 -- The program labels are those of the label check, and each field and each statement stands on a host that may hold it.
-pub record IsHeld (labelled : Labelled) (needs : NeedsShape) (hosts : HostsShape) (plan : PlanShape) : Type 0 where
-  pub pc : labelled.pc ≡ map (λ one. one.pc) (program_labels hosts.principals labelled.program)
-  pub values : AreAllValuesLabelled hosts.principals labelled.program (declared_labels labelled.program)
-      labelled.program.methods
-  pub fields : AllZip (HoldsField hosts) (zip labelled.program.fields needs.loc) plan.fields
-  pub statements : AllZip (HoldsStatement hosts) (zip needs.used needs.need) plan.statements
+pub record IsHeld (placed : PlacedProgram) : Type 0 where
+  pub pc : placed.labelled.pc ≡ map (λ one. one.pc) (program_labels placed.hosts.principals placed.labelled.program)
+  pub values : AreAllValuesLabelled placed.hosts.principals placed.labelled.program
+      (declared_labels placed.labelled.program)
+      placed.labelled.program.methods
+  pub fields : AllZip (HoldsField placed.hosts) (zip placed.labelled.program.fields placed.needs.loc) placed.plan.fields
+  pub statements : AllZip (HoldsStatement placed.hosts) (zip placed.needs.used placed.needs.need) placed.plan.statements

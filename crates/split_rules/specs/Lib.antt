@@ -1,3 +1,4 @@
+pub mod Placed
 pub mod Emissions
 pub mod Expressions
 pub mod Walk

@@ -23,8 +23,12 @@ trusted_by_first = trusted_by 1
 -- its code, where the first principal trusts each variable
 abbrev pub code_of : PlannedShape → CodeShape
 code_of planned =
-    split_code (labelled_with planned (map (λ x. trusted_by_first) planned.program.vars)) planned.needs planned.hosts
-    planned.plan
+    split_code (record {
+      labelled = labelled_with planned (map (λ x. trusted_by_first) planned.program.vars);
+      needs = planned.needs;
+      hosts = planned.hosts;
+      plan = planned.plan;
+    })
 
 -- the token with which `main` was entered
 abbrev pub main_level : Level

@@ -20,9 +20,9 @@ use Rattle.host_code.specs.declared.instruction.Op.{Op}
 use Rattle.host_code.specs.declared.instruction.Op.TheVariants as op
 use Rattle.host_code.specs.Code.{CodeFieldShape, CodeVariableShape, CodeShape}
 use Rattle.need_labels.specs.Labelled.{Labelled}
-use Rattle.need_labels.specs.Needs.{NeedsShape}
 use Rattle.need_labels.specs.Plan.{PlanShape, field_host, statement_host}
-use Rattle.msg_cost.specs.Moves.{PlannedShape, planned_of, called_home}
+use Rattle.msg_cost.specs.Moves.{PlannedShape, called_home}
+use Rattle.split_rules.specs.Placed.{PlacedProgram, planned_from}
 use Rattle.split_rules.specs.Emissions.{Emission, instruction, entry, stands, lands, Emitted, Named}
 use Rattle.split_rules.specs.Walk.{program_emissions, entry_id}
 
@@ -175,7 +175,8 @@ code_of_emissions labelled hosts planned emissions =
     }
 
 -- the code of a program that is split by a plan
-abbrev pub split_code : Labelled → NeedsShape → HostsShape → PlanShape → CodeShape
-split_code labelled needs hosts plan =
-    let planned = planned_of labelled needs hosts plan in
-    code_of_emissions labelled hosts planned (program_emissions hosts.principals labelled planned)
+abbrev pub split_code : PlacedProgram → CodeShape
+split_code placed =
+    let planned = planned_from placed in
+    code_of_emissions placed.labelled placed.hosts planned (program_emissions placed.hosts.principals placed.labelled
+    planned)

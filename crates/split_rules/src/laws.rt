@@ -1,11 +1,8 @@
 //! Laws of the splitting. The calls do nothing.
 
-ghost use Rattle.host_decl.specs.Hosts.{HostsShape};
-ghost use Rattle.need_labels.specs.Labelled.{Labelled};
-ghost use Rattle.need_labels.specs.Needs.{NeedsShape};
-ghost use Rattle.need_labels.specs.Plan.{PlanShape};
-ghost use Rattle.msg_cost.specs.Moves.{PlannedShape, planned_of};
+ghost use Rattle.msg_cost.specs.Moves.{PlannedShape};
 ghost use Rattle.host_code.specs.Sound.{IsSoundCode};
+ghost use Rattle.split_rules.specs.Placed.{PlacedProgram, planned_from};
 ghost use Rattle.split_rules.specs.SplitCode.{split_code};
 ghost use Rattle.split_rules.specs.Splittable.{IsSplittable};
 ghost use Rattle.split_rules.specs.Typable.{IsTypable};
@@ -44,35 +41,35 @@ ghost use Rattle.split_rules.specs.Worked.{field_id, var_id, site_id, host_id, t
 /// instruction it is known under whose token a thread runs there and what is still due, and the instruction does what
 /// is due next.
 pub fn split_laws()
-    ensures sound { (labelled : Labelled) (needs : NeedsShape) (hosts : HostsShape) (plan : PlanShape) →
-        IsSplittable labelled hosts plan → IsSoundCode (split_code labelled needs hosts plan) }
-    ensures settled { (labelled : Labelled) (needs : NeedsShape) (hosts : HostsShape) (plan : PlanShape) →
-        IsSplittable labelled hosts plan →
-        let emissions = program_emissions hosts.principals labelled (planned_of labelled needs hosts plan) in
-        AreSettled (length hosts.hosts) (counts_after (record { entries = 0; branches = 0 }) emissions).branches
+    ensures sound { (placed : PlacedProgram) →
+        IsSplittable placed.labelled placed.hosts placed.plan → IsSoundCode (split_code placed) }
+    ensures settled { (placed : PlacedProgram) →
+        IsSplittable placed.labelled placed.hosts placed.plan →
+        let emissions = program_emissions placed.hosts.principals placed.labelled (planned_from placed) in
+        AreSettled (length placed.hosts.hosts) (counts_after (record { entries = 0; branches = 0 }) emissions).branches
         emissions }
-    ensures typed { (labelled : Labelled) (needs : NeedsShape) (hosts : HostsShape) (plan : PlanShape) →
-        let planned = planned_of labelled needs hosts plan in
-        IsSplittable labelled hosts plan → IsTypable planned →
-        (table : Table) × IsTypedCode planned (split_code labelled needs hosts plan) table }
+    ensures typed { (placed : PlacedProgram) →
+        let planned = planned_from placed in
+        IsSplittable placed.labelled placed.hosts placed.plan → IsTypable planned →
+        (table : Table) × IsTypedCode planned (split_code placed) table }
 {}
 
 /// Where a program passes the label check, and each statement's host is trusted for what the statement itself needs,
 /// hosts are trusted for all that statements start, as typed code asks.
 pub fn trust_laws()
-    ensures typable { (labelled : Labelled) (needs : NeedsShape) (hosts : HostsShape) (plan : PlanShape) →
-        IsAllowed labelled needs hosts plan → IsTypable (planned_of labelled needs hosts plan) }
+    ensures typable { (placed : PlacedProgram) →
+        IsAllowed placed → IsTypable (planned_from placed) }
 {}
 
 /// Where besides each field and each statement stands on a host that may hold it, other hosts grant what the code of a
 /// host asks of them, by the checks of the host table, and no instruction tells another host what it may not see.
 pub fn asking_laws()
-    ensures granted { (labelled : Labelled) (needs : NeedsShape) (hosts : HostsShape) (plan : PlanShape) →
-        IsSplittable labelled hosts plan → IsAllowed labelled needs hosts plan → IsHeld labelled needs hosts plan →
-        AreGranted (split_code labelled needs hosts plan) }
-    ensures tells { (labelled : Labelled) (needs : NeedsShape) (hosts : HostsShape) (plan : PlanShape) →
-        IsSplittable labelled hosts plan → IsAllowed labelled needs hosts plan → IsHeld labelled needs hosts plan →
-        TellsNoMore (split_code labelled needs hosts plan) }
+    ensures granted { (placed : PlacedProgram) →
+        IsSplittable placed.labelled placed.hosts placed.plan → IsAllowed placed → IsHeld placed →
+        AreGranted (split_code placed) }
+    ensures tells { (placed : PlacedProgram) →
+        IsSplittable placed.labelled placed.hosts placed.plan → IsAllowed placed → IsHeld placed →
+        TellsNoMore (split_code placed) }
 {}
 
 /// Where a program is split that passes the label check, a host that is trusted for all that is due at a place of its
@@ -82,19 +79,18 @@ pub fn asking_laws()
 /// with which it entered, the need of the entry has the needs of all that is due there, and of the entry that the
 /// instruction there names.
 pub fn opening_laws()
-    ensures opens { (labelled : Labelled) (needs : NeedsShape) (hosts : HostsShape) (plan : PlanShape) (table : Table) →
-        let planned = planned_of labelled needs hosts plan in
-        let code = split_code labelled needs hosts plan in
-        IsSplittable labelled hosts plan → IsAllowed labelled needs hosts plan → IsTypedCode planned code table →
+    ensures opens { (placed : PlacedProgram) (table : Table) →
+        let planned = planned_from placed in
+        let code = split_code placed in
+        IsSplittable placed.labelled placed.hosts placed.plan → IsAllowed placed → IsTypedCode planned code table →
         IsOpenCode planned code table }
-    ensures labels { (labelled : Labelled) (needs : NeedsShape) (hosts : HostsShape) (plan : PlanShape) →
-        IsSplittable labelled hosts plan →
-        HasOwnLabels labelled (planned_of labelled needs hosts plan) (split_code labelled needs hosts plan) }
-    ensures covers { (labelled : Labelled) (needs : NeedsShape) (hosts : HostsShape) (plan : PlanShape)
-        (table : Table) →
-        let planned = planned_of labelled needs hosts plan in
-        let code = split_code labelled needs hosts plan in
-        IsSplittable labelled hosts plan → IsAllowed labelled needs hosts plan → IsTypedCode planned code table →
+    ensures labels { (placed : PlacedProgram) →
+        IsSplittable placed.labelled placed.hosts placed.plan →
+        HasOwnLabels placed.labelled (planned_from placed) (split_code placed) }
+    ensures covers { (placed : PlacedProgram) (table : Table) →
+        let planned = planned_from placed in
+        let code = split_code placed in
+        IsSplittable placed.labelled placed.hosts placed.plan → IsAllowed placed → IsTypedCode planned code table →
         CoversRuns planned code table }
 {}
 
@@ -102,13 +98,13 @@ pub fn opening_laws()
 /// which it is paced, and so from where the program begins a thread runs at most 512 for each step that it makes, and
 /// 512 more.
 pub fn pace_laws()
-    ensures paced { (labelled : Labelled) (needs : NeedsShape) (hosts : HostsShape) (plan : PlanShape) →
-        IsSplittable labelled hosts plan →
-        (left : Allowance) × IsPaced (split_code labelled needs hosts plan) left }
-    ensures runs_few { (labelled : Labelled) (needs : NeedsShape) (hosts : HostsShape) (plan : PlanShape) →
-        IsSplittable labelled hosts plan → (count steps : ℕ) (first last : Thread) →
-        IsAtMain (split_code labelled needs hosts plan) first →
-        Runs (split_code labelled needs hosts plan) count steps first last → count ≤ PACE * (steps + 1) }
+    ensures paced { (placed : PlacedProgram) →
+        IsSplittable placed.labelled placed.hosts placed.plan →
+        (left : Allowance) × IsPaced (split_code placed) left }
+    ensures runs_few { (placed : PlacedProgram) →
+        IsSplittable placed.labelled placed.hosts placed.plan → (count steps : ℕ) (first last : Thread) →
+        IsAtMain (split_code placed) first →
+        Runs (split_code placed) count steps first last → count ≤ PACE * (steps + 1) }
 {}
 
 /// The laws of positions leave one outcome: behind an instruction there is one position, and where a branch leads

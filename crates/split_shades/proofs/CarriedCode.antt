@@ -24,9 +24,8 @@ use Rattle.host_code.specs.declared.instruction.Op.TheVariants as op
 use Rattle.host_code.specs.Code.{CodeShape, instruction_at}
 use Rattle.entry_check.specs.Checks.{label_at}
 use Rattle.need_labels.specs.Labelled.{Labelled}
-use Rattle.need_labels.specs.Needs.{NeedsShape}
-use Rattle.need_labels.specs.Plan.{PlanShape}
-use Rattle.msg_cost.specs.Moves.{PlannedShape, planned_of, home_of}
+use Rattle.msg_cost.specs.Moves.{PlannedShape, home_of}
+use Rattle.split_rules.specs.Placed.{PlacedProgram, planned_from}
 use Rattle.split_rules.specs.Allowed.{IsAllowed}
 use Rattle.split_rules.specs.Emissions.{Emission, instruction, entry, Counts, counts_after}
 use Rattle.split_rules.specs.Held.{IsHeld}
@@ -126,16 +125,17 @@ entries_carried basis planned number (method ∷ methods) there =
 
 -- ---- programs
 
-pub program_carried : (labelled : Labelled) (needs : NeedsShape) (hosts : HostsShape) (plan : PlanShape) →
-    IsSplittable labelled hosts plan → IsAllowed labelled needs hosts plan → IsHeld labelled needs hosts plan →
-    let planned = planned_of labelled needs hosts plan in
-    AllCarried (basis_of hosts.principals labelled) planned (program_emissions hosts.principals labelled planned)
-program_carried labelled needs hosts plan splittable allowed held =
-    let planned = planned_of labelled needs hosts plan in
-    let basis = basis_of hosts.principals labelled in
-    let program = labelled.program in
+pub program_carried : (placed : PlacedProgram) →
+    IsSplittable placed.labelled placed.hosts placed.plan → IsAllowed placed → IsHeld placed →
+    let planned = planned_from placed in
+    AllCarried (basis_of placed.hosts.principals placed.labelled) planned (program_emissions placed.hosts.principals
+    placed.labelled planned)
+program_carried placed splittable allowed held =
+    let planned = planned_from placed in
+    let basis = basis_of placed.hosts.principals placed.labelled in
+    let program = placed.labelled.program in
     let declared = declared_labels program in
-    let final = labels_after_methods hosts.principals program declared program.methods in
+    let final = labels_after_methods placed.hosts.principals program declared program.methods in
     let main = splittable.numbered.main in
     let from_zero : (place : ℕ) (tree : MethodTree) → slice_get program.methods place ≡ Some tree →
     slice_get program.methods (0 + place) ≡ Some tree =
@@ -143,8 +143,9 @@ program_carried labelled needs hosts plan splittable allowed held =
     let none : place ≡ 0 + place = omega arith in
     let P : ℕ → Type 0 = λ one. slice_get program.methods one ≡ Some tree in
     subst P none is in
-    let kept = methods_kept hosts.principals labelled final allowed.var_labels program.methods declared refl held.values
-    (labels_kept labelled hosts.principals allowed.statements held.pc) in
+    let kept = methods_kept placed.hosts.principals placed.labelled final allowed.var_labels program.methods declared
+    refl held.values
+    (labels_kept placed.labelled placed.hosts.principals allowed.statements held.pc) in
     let front = front_of planned main.0 program.methods in
     let begun : AllCarried basis planned front = (
       (main.0.head, inl (program.main.0, main.0, main.1, refl, refl)),
@@ -152,8 +153,9 @@ program_carried labelled needs hosts plan splittable allowed held =
     ) in
     let none : Counts = record { entries = 0; branches = 0 } in
     let P : List Emission → Type 0 = λ list. AllCarried basis planned
-    (list ++ methods_emissions hosts.principals labelled planned (counts_after none list) 0 program.methods) in
-    subst P (sym (front_is labelled planned main.0 main.1))
+    (list ++ methods_emissions placed.hosts.principals placed.labelled planned (counts_after none list) 0
+    program.methods) in
+    subst P (sym (front_is placed.labelled planned main.0 main.1))
     (then_carried basis planned front _ begun
     (methods_carried basis planned (counts_after none front) 0 program.methods from_zero kept))
 

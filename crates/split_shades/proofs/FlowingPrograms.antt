@@ -3,7 +3,6 @@ use Rattle.std.proofs.Common.{◌≡◌, ◌∙◌, ℕ, suc, List, [], ◌∷�
 use Rattle.std.specs.List.{AllByRecursion, flat_map}
 use Rattle.std.proofs.lemmas.List.{length-map}
 use Rattle.principals.specs.ActsFor.{Declared}
-use Rattle.host_decl.specs.Hosts.{HostsShape}
 use Rattle.jif_tree.specs.Trees.{MethodTree}
 use Rattle.jif_tree.specs.LabelRules.{VariableLabels, setting_of, labels_after, labels_after_methods, block_labels}
 use Rattle.jif_tree.specs.LabelRules.{methods_labels, program_labels, declared_labels, Meets, obligations_of}
@@ -12,9 +11,9 @@ use Rattle.jif_tree.specs.ValueLabels.{AreAllValuesLabelled}
 use Rattle.jif_tree.specs.WellNumbered.{AreMethodsIn, is_some}
 use Rattle.jif_tree.proofs.LabelsKept.{Stay, stay_same, stay_then, block_stays}
 use Rattle.need_labels.specs.Labelled.{Labelled}
-use Rattle.need_labels.specs.Needs.{NeedsShape, block_uses, method_uses, statement_uses}
-use Rattle.need_labels.specs.Plan.{PlanShape}
-use Rattle.msg_cost.specs.Moves.{PlannedShape, planned_of}
+use Rattle.need_labels.specs.Needs.{block_uses, method_uses, statement_uses}
+use Rattle.msg_cost.specs.Moves.{PlannedShape}
+use Rattle.split_rules.specs.Placed.{PlacedProgram, planned_from}
 use Rattle.split_rules.specs.Allowed.{IsAllowed}
 use Rattle.split_rules.specs.Held.{IsHeld}
 use Rattle.split_rules.specs.Splittable.{IsSplittable}
@@ -60,27 +59,28 @@ methods_flow principals labelled planned results final are place (method ∷ met
           (all_second (IsUseWell labelled planned principals) own_uses _ uses.1),
     )
 
-pub program_flows : (labelled : Labelled) (needs : NeedsShape) (hosts : HostsShape) (plan : PlanShape) →
-    IsSplittable labelled hosts plan → IsAllowed labelled needs hosts plan → IsHeld labelled needs hosts plan →
-    AreResultsLabelled labelled.program →
-    AllFlow (record { principals = hosts.principals; labelled = labelled }) (planned_of labelled needs hosts plan)
-program_flows labelled needs hosts plan splittable allowed held results =
-    let planned = planned_of labelled needs hosts plan in
-    let principals = hosts.principals in
-    let program = labelled.program in
+pub program_flows : (placed : PlacedProgram) →
+    IsSplittable placed.labelled placed.hosts placed.plan → IsAllowed placed → IsHeld placed →
+    AreResultsLabelled placed.labelled.program →
+    AllFlow (record { principals = placed.hosts.principals; labelled = placed.labelled }) (planned_from placed)
+program_flows placed splittable allowed held results =
+    let planned = planned_from placed in
+    let principals = placed.hosts.principals in
+    let program = placed.labelled.program in
     let declared = declared_labels program in
     let final = labels_after_methods principals program declared program.methods in
-    let premises : Premises labelled needs hosts plan =
+    let premises : Premises placed =
     record { splittable = splittable; allowed = allowed; held = held } in
-    let well = program_well labelled needs hosts plan premises in
+    let well = program_well placed premises in
     let met = met_from principals (program_labels principals program)
     (by_recursion (Meets principals) (obligations_of (program_labels principals program)) allowed.well_labelled) in
     record {
-      methods = methods_flow principals labelled planned results final allowed.var_labels 0 program.methods declared
+      methods = methods_flow principals placed.labelled planned results final allowed.var_labels 0 program.methods
+          declared
           (length-map program.vars (λ variable. variable.label)) (stay_same declared) refl allowed.numbered.methods
-          allowed.methods held.values met (labels_kept labelled principals allowed.statements held.pc)
-          (each_there (IsUseWell labelled planned principals) (statement_uses principals labelled)
-          (use_well labelled needs hosts plan premises));
+          allowed.methods held.values met (labels_kept placed.labelled principals allowed.statements held.pc)
+          (each_there (IsUseWell placed.labelled planned principals) (statement_uses principals placed.labelled)
+          (use_well placed premises));
       fields = well.fields;
       readers = well.readers;
     }

@@ -15,9 +15,10 @@ use Rattle.jif_tree.specs.LabelRules.{field_label}
 use Rattle.host_code.specs.Code.{CodeFieldShape, CodeVariableShape, field_at, variable_at}
 use Rattle.entry_check.specs.Checks.{MaySee, label_at, label_of_host}
 use Rattle.need_labels.specs.Labelled.{Labelled}
-use Rattle.need_labels.specs.Needs.{NeedsShape, label_of}
-use Rattle.need_labels.specs.Plan.{PlanShape, field_host}
-use Rattle.msg_cost.specs.Moves.{PlannedShape, planned_of}
+use Rattle.need_labels.specs.Needs.{label_of}
+use Rattle.need_labels.specs.Plan.{field_host}
+use Rattle.msg_cost.specs.Moves.{PlannedShape}
+use Rattle.split_rules.specs.Placed.{PlacedProgram, planned_from}
 use Rattle.split_rules.specs.Allowed.{IsAllowed}
 use Rattle.split_rules.specs.Emissions.{Emission}
 use Rattle.split_rules.specs.Held.{IsHeld}
@@ -48,42 +49,44 @@ variable_known labelled hosts planned emissions x there is =
     ap (λ (one : CodeVariableShape). label_at code one.label) (sym so.2)
     ∙ variable_labelled labelled hosts planned emissions x label own ∙ ap Some (sym same)
 
-field_known : (labelled : Labelled) (needs : NeedsShape) (hosts : HostsShape) (plan : PlanShape)
-    (emissions : List Emission) → Premises labelled needs hosts plan → (field : FieldId) (there : CodeFieldShape) →
-    let code = code_of_emissions labelled hosts (planned_of labelled needs hosts plan) emissions in
+field_known : (placed : PlacedProgram) (emissions : List Emission) →
+    Premises placed → (field : FieldId) (there : CodeFieldShape) →
+    let code = code_of_emissions placed.labelled placed.hosts (planned_from placed) emissions in
     field_at code field ≡ Some there →
-    (label_at code there.label ≡ Some (field_label labelled.program field)) × (there.host ≡ field_host plan field)
+    (label_at code there.label ≡ Some (field_label placed.labelled.program field))
+    × (there.host ≡ field_host placed.plan field)
     × MaySee (label_at code there.label) (label_of_host code there.host)
-field_known labelled needs hosts plan emissions premises field there is =
-    let planned = planned_of labelled needs hosts plan in
-    let code = code_of_emissions labelled hosts planned emissions in
-    let needed = code_labels labelled emissions in
-    let so = made (code_field needed plan) labelled.program.fields field.0 there
-    (ap (λ list. slice_get list field.0) (sym (fields_numbered needed plan 0 labelled.program.fields)) ∙ is) in
-    let own : field_label labelled.program field ≡ so.of.label =
+field_known placed emissions premises field there is =
+    let planned = planned_from placed in
+    let code = code_of_emissions placed.labelled placed.hosts planned emissions in
+    let needed = code_labels placed.labelled emissions in
+    let so = made (code_field needed placed.plan) placed.labelled.program.fields field.0 there
+    (ap (λ list. slice_get list field.0) (sym (fields_numbered needed placed.plan 0 placed.labelled.program.fields))
+    ∙ is) in
+    let own : field_label placed.labelled.program field ≡ so.of.label =
     ap (λ found. unwrap_or (option_map (λ (it : FieldTree). it.label) found) empty_label) so.there in
-    let label_is : label_at code there.label ≡ Some (field_label labelled.program field) =
+    let label_is : label_at code there.label ≡ Some (field_label placed.labelled.program field) =
     ap (λ (one : CodeFieldShape). label_at code one.label) so.is
-    ∙ field_labelled labelled hosts planned emissions field so.of so.there ∙ ap Some (sym own) in
-    let host_is : there.host ≡ field_host plan field = ap (λ (one : CodeFieldShape). one.host) so.is in
-    let sees = sees_in_code labelled needs hosts plan emissions (field_host plan field)
-    (field_label labelled.program field)
-    ((program_well labelled needs hosts plan premises).fields field so.of so.there) in
-    let P : Option Label → Type 0 = λ found. MaySee found (label_of_host code (field_host plan field)) in
+    ∙ field_labelled placed.labelled placed.hosts planned emissions field so.of so.there ∙ ap Some (sym own) in
+    let host_is : there.host ≡ field_host placed.plan field = ap (λ (one : CodeFieldShape). one.host) so.is in
+    let sees = sees_in_code placed emissions (field_host placed.plan field)
+    (field_label placed.labelled.program field)
+    ((program_well placed premises).fields field so.of so.there) in
+    let P : Option Label → Type 0 = λ found. MaySee found (label_of_host code (field_host placed.plan field)) in
     let Q : HostId → Type 0 = λ host. MaySee (label_at code there.label) (label_of_host code host) in
     (label_is, host_is, subst Q (sym host_is) (subst P (sym label_is) sees))
 
-pub split_is_known : (labelled : Labelled) (needs : NeedsShape) (hosts : HostsShape) (plan : PlanShape) →
-    IsSplittable labelled hosts plan → IsAllowed labelled needs hosts plan → IsHeld labelled needs hosts plan →
-    AreKnownInCode (record { principals = hosts.principals; labelled = labelled })
-    (planned_of labelled needs hosts plan) (split_code labelled needs hosts plan)
-split_is_known labelled needs hosts plan splittable allowed held =
-    let planned = planned_of labelled needs hosts plan in
-    let emissions = program_emissions hosts.principals labelled planned in
-    let premises : Premises labelled needs hosts plan =
+pub split_is_known : (placed : PlacedProgram) →
+    IsSplittable placed.labelled placed.hosts placed.plan → IsAllowed placed → IsHeld placed →
+    AreKnownInCode (record { principals = placed.hosts.principals; labelled = placed.labelled })
+    (planned_from placed) (split_code placed)
+split_is_known placed splittable allowed held =
+    let planned = planned_from placed in
+    let emissions = program_emissions placed.hosts.principals placed.labelled planned in
+    let premises : Premises placed =
     record { splittable = splittable; allowed = allowed; held = held } in
     record {
-      fields = field_known labelled needs hosts plan emissions premises;
-      variables = variable_known labelled hosts planned emissions;
-      hosts = sees_in_code labelled needs hosts plan emissions;
+      fields = field_known placed emissions premises;
+      variables = variable_known placed.labelled placed.hosts planned emissions;
+      hosts = sees_in_code placed emissions;
     }

@@ -20,9 +20,8 @@ use Rattle.host_code.specs.declared.instruction.Op.TheVariants as op
 use Rattle.host_code.specs.Code.{CodeShape, instruction_at}
 use Rattle.entry_check.specs.Checks.{label_at}
 use Rattle.need_labels.specs.Labelled.{Labelled}
-use Rattle.need_labels.specs.Needs.{NeedsShape}
-use Rattle.need_labels.specs.Plan.{PlanShape}
-use Rattle.msg_cost.specs.Moves.{PlannedShape, planned_of, home_of}
+use Rattle.msg_cost.specs.Moves.{PlannedShape, home_of}
+use Rattle.split_rules.specs.Placed.{PlacedProgram, planned_from}
 use Rattle.split_rules.specs.Allowed.{IsAllowed}
 use Rattle.split_rules.specs.Emissions.{Emission, instruction, entry, Counts, counts_after, counts_with}
 use Rattle.split_rules.specs.Emissions.{one_more_branch, stands, lands, Named}
@@ -89,18 +88,17 @@ entries_named has basis planned (method ∷ methods) = (tt, entries_named has ba
 
 -- ---- programs
 
-program_named : (has : ℕ → Label → Type 0) (labelled : Labelled) (needs : NeedsShape) (hosts : HostsShape)
-    (plan : PlanShape) →
-    IsSplittable labelled hosts plan → IsAllowed labelled needs hosts plan → IsHeld labelled needs hosts plan →
-    let planned = planned_of labelled needs hosts plan in
-    AreNamed has (basis_of hosts.principals labelled) (record { entries = 0; branches = 0 })
-    (program_emissions hosts.principals labelled planned)
-program_named has labelled needs hosts plan splittable allowed held =
-    let planned = planned_of labelled needs hosts plan in
-    let basis = basis_of hosts.principals labelled in
-    let program = labelled.program in
+program_named : (has : ℕ → Label → Type 0) (placed : PlacedProgram) →
+    IsSplittable placed.labelled placed.hosts placed.plan → IsAllowed placed → IsHeld placed →
+    let planned = planned_from placed in
+    AreNamed has (basis_of placed.hosts.principals placed.labelled) (record { entries = 0; branches = 0 })
+    (program_emissions placed.hosts.principals placed.labelled planned)
+program_named has placed splittable allowed held =
+    let planned = planned_from placed in
+    let basis = basis_of placed.hosts.principals placed.labelled in
+    let program = placed.labelled.program in
     let declared = declared_labels program in
-    let final = labels_after_methods hosts.principals program declared program.methods in
+    let final = labels_after_methods placed.hosts.principals program declared program.methods in
     let main = splittable.numbered.main in
     let from_zero : (place : ℕ) (tree : MethodTree) → slice_get program.methods place ≡ Some tree →
     slice_get program.methods (0 + place) ≡ Some tree =
@@ -108,14 +106,16 @@ program_named has labelled needs hosts plan splittable allowed held =
     let none : place ≡ 0 + place = omega arith in
     let P : ℕ → Type 0 = λ one. slice_get program.methods one ≡ Some tree in
     subst P none is in
-    let kept = methods_kept hosts.principals labelled final allowed.var_labels program.methods declared refl held.values
-    (labels_kept labelled hosts.principals allowed.statements held.pc) in
+    let kept = methods_kept placed.hosts.principals placed.labelled final allowed.var_labels program.methods declared
+    refl held.values
+    (labels_kept placed.labelled placed.hosts.principals allowed.statements held.pc) in
     let front = front_of planned main.0 program.methods in
     let begun : AllNamed has basis front = (tt, (tt, entries_named has basis planned program.methods)) in
     let none : Counts = record { entries = 0; branches = 0 } in
     let P : List Emission → Type 0 = λ list. AreNamed has basis none
-    (list ++ methods_emissions hosts.principals labelled planned (counts_after none list) 0 program.methods) in
-    subst P (sym (front_is labelled planned main.0 main.1))
+    (list ++ methods_emissions placed.hosts.principals placed.labelled planned (counts_after none list) 0
+    program.methods) in
+    subst P (sym (front_is placed.labelled planned main.0 main.1))
     (then_named has basis none front _ (λ told. begun)
     (methods_named has basis planned (counts_after none front) 0 program.methods from_zero kept))
 
@@ -220,17 +220,17 @@ instructions_named basis hosts planned emissions named me place there is = by (s
         let as_many = length-range_with_len 0 (length hosts.hosts) in
         within_hosts (omega arith)
 
-pub split_named : (labelled : Labelled) (needs : NeedsShape) (hosts : HostsShape) (plan : PlanShape) →
-    IsSplittable labelled hosts plan → IsAllowed labelled needs hosts plan → IsHeld labelled needs hosts plan →
-    let code = split_code labelled needs hosts plan in
+pub split_named : (placed : PlacedProgram) →
+    IsSplittable placed.labelled placed.hosts placed.plan → IsAllowed placed → IsHeld placed →
+    let code = split_code placed in
     (me : HostId) (place : ℕ) (there : Instr) → instruction_at code me place ≡ Some there →
     (label : Label) × (label_at code there.label ≡ Some label)
-    × NamesWell (HasLabel code) (basis_of hosts.principals labelled) label there.statement there.op
-split_named labelled needs hosts plan splittable allowed held =
-    let planned = planned_of labelled needs hosts plan in
-    instructions_named (basis_of hosts.principals labelled) hosts planned
-    (program_emissions hosts.principals labelled planned)
-    (program_named (HasLabel (split_code labelled needs hosts plan)) labelled needs hosts plan splittable allowed held)
+    × NamesWell (HasLabel code) (basis_of placed.hosts.principals placed.labelled) label there.statement there.op
+split_named placed splittable allowed held =
+    let planned = planned_from placed in
+    instructions_named (basis_of placed.hosts.principals placed.labelled) placed.hosts planned
+    (program_emissions placed.hosts.principals placed.labelled planned)
+    (program_named (HasLabel (split_code placed)) placed splittable allowed held)
 
 -- ---- the entries of methods
 
@@ -247,67 +247,69 @@ method_label planned (method ∷ methods) zero tree is =
     )
 method_label planned (method ∷ methods) (suc place) tree is = method_label planned methods place tree is
 
-front_labelled : (labelled : Labelled) (needs : NeedsShape) (hosts : HostsShape) (plan : PlanShape) →
-    IsSplittable labelled hosts plan → (number : ℕ) (named : Named) →
-    let planned = planned_of labelled needs hosts plan in
-    (main : MethodTree) → method_at labelled.program labelled.program.main ≡ Some main →
-    slice_get (entries_in (front_of planned main labelled.program.methods)) number ≡ Some named →
-    HasLabel (split_code labelled needs hosts plan) number named.label
-front_labelled labelled needs hosts plan splittable number named main main_is is =
-    let planned = planned_of labelled needs hosts plan in
-    let front = front_of planned main labelled.program.methods in
+front_labelled : (placed : PlacedProgram) →
+    IsSplittable placed.labelled placed.hosts placed.plan → (number : ℕ) (named : Named) →
+    let planned = planned_from placed in
+    (main : MethodTree) → method_at placed.labelled.program placed.labelled.program.main ≡ Some main →
+    slice_get (entries_in (front_of planned main placed.labelled.program.methods)) number ≡ Some named →
+    HasLabel (split_code placed) number named.label
+front_labelled placed splittable number named main main_is is =
+    let planned = planned_from placed in
+    let front = front_of planned main placed.labelled.program.methods in
     let none : Counts = record { entries = 0; branches = 0 } in
     let Q : List Emission → Type 0 = λ list. slice_get (entries_in
-    (list ++ methods_emissions hosts.principals labelled planned (counts_after none list) 0 labelled.program.methods))
+    (list ++ methods_emissions placed.hosts.principals placed.labelled planned (counts_after none list) 0
+    placed.labelled.program.methods))
     number ≡ Some named in
-    let rest = methods_emissions hosts.principals labelled planned (counts_after none front) 0
-    labelled.program.methods in
-    has_label labelled hosts planned (program_emissions hosts.principals labelled planned) number named
-    (subst Q (sym (front_is labelled planned main main_is))
+    let rest = methods_emissions placed.hosts.principals placed.labelled planned (counts_after none front) 0
+    placed.labelled.program.methods in
+    has_label placed.labelled placed.hosts planned (program_emissions placed.hosts.principals placed.labelled planned)
+    number named
+    (subst Q (sym (front_is placed.labelled planned main main_is))
     (ap (λ list. slice_get list number) (entries_append front rest)
     ∙ still_there (entries_in front) (entries_in rest) number named is))
 
-pub method_named : (labelled : Labelled) (needs : NeedsShape) (hosts : HostsShape) (plan : PlanShape) →
-    IsSplittable labelled hosts plan → (place : ℕ) (tree : MethodTree) →
-    slice_get labelled.program.methods place ≡ Some tree →
-    HasLabel (split_code labelled needs hosts plan) (suc place) tree.begin
-method_named labelled needs hosts plan splittable place tree is =
-    let planned = planned_of labelled needs hosts plan in
+pub method_named : (placed : PlacedProgram) →
+    IsSplittable placed.labelled placed.hosts placed.plan → (place : ℕ) (tree : MethodTree) →
+    slice_get placed.labelled.program.methods place ≡ Some tree →
+    HasLabel (split_code placed) (suc place) tree.begin
+method_named placed splittable place tree is =
+    let planned = planned_from placed in
     let main = splittable.numbered.main in
-    let own = method_label planned labelled.program.methods place tree is in
-    let P : Label → Type 0 = λ label. HasLabel (split_code labelled needs hosts plan) (suc place) label in
-    subst P own.2 (front_labelled labelled needs hosts plan splittable (suc place) own.0 main.0 main.1 own.1)
+    let own = method_label planned placed.labelled.program.methods place tree is in
+    let P : Label → Type 0 = λ label. HasLabel (split_code placed) (suc place) label in
+    subst P own.2 (front_labelled placed splittable (suc place) own.0 main.0 main.1 own.1)
 
-pub halt_named : (labelled : Labelled) (needs : NeedsShape) (hosts : HostsShape) (plan : PlanShape) →
-    IsSplittable labelled hosts plan →
-    HasLabel (split_code labelled needs hosts plan) 0 (begin_label (method_at labelled.program labelled.program.main))
-halt_named labelled needs hosts plan splittable =
-    let planned = planned_of labelled needs hosts plan in
+pub halt_named : (placed : PlacedProgram) →
+    IsSplittable placed.labelled placed.hosts placed.plan →
+    HasLabel (split_code placed) 0 (begin_label (method_at placed.labelled.program placed.labelled.program.main))
+halt_named placed splittable =
+    let planned = planned_from placed in
     let main = splittable.numbered.main in
     let named : Named = record {
       host = home_of planned main.0;
       label = main.0.begin;
       need = need_of planned (main.0.head ∷ []);
     } in
-    let P : Label → Type 0 = λ label. HasLabel (split_code labelled needs hosts plan) 0 label in
-    subst P (sym (ap begin_label main.1)) (front_labelled labelled needs hosts plan splittable 0 named main.0 main.1
+    let P : Label → Type 0 = λ label. HasLabel (split_code placed) 0 label in
+    subst P (sym (ap begin_label main.1)) (front_labelled placed splittable 0 named main.0 main.1
     refl)
 
 -- ---- all of it
 
-pub split_is_carried : (labelled : Labelled) (needs : NeedsShape) (hosts : HostsShape) (plan : PlanShape) →
-    IsSplittable labelled hosts plan → IsAllowed labelled needs hosts plan → IsHeld labelled needs hosts plan →
-    AreCarried (record { principals = hosts.principals; labelled = labelled }) (planned_of labelled needs hosts plan)
-    (split_code labelled needs hosts plan)
-split_is_carried labelled needs hosts plan splittable allowed held =
-    let planned = planned_of labelled needs hosts plan in
-    let basis = basis_of hosts.principals labelled in
-    let emissions = program_emissions hosts.principals labelled planned in
-    let all = program_carried labelled needs hosts plan splittable allowed held in
+pub split_is_carried : (placed : PlacedProgram) →
+    IsSplittable placed.labelled placed.hosts placed.plan → IsAllowed placed → IsHeld placed →
+    AreCarried (record { principals = placed.hosts.principals; labelled = placed.labelled }) (planned_from placed)
+    (split_code placed)
+split_is_carried placed splittable allowed held =
+    let planned = planned_from placed in
+    let basis = basis_of placed.hosts.principals placed.labelled in
+    let emissions = program_emissions placed.hosts.principals placed.labelled planned in
+    let all = program_carried placed splittable allowed held in
     record {
-      instructions = instructions_carried basis hosts planned emissions all;
-      entries = entries_there basis hosts planned emissions all;
-      halts = halt_named labelled needs hosts plan splittable;
-      methods = method_named labelled needs hosts plan splittable;
-      named = split_named labelled needs hosts plan splittable allowed held;
+      instructions = instructions_carried basis placed.hosts planned emissions all;
+      entries = entries_there basis placed.hosts planned emissions all;
+      halts = halt_named placed splittable;
+      methods = method_named placed splittable;
+      named = split_named placed splittable allowed held;
     }

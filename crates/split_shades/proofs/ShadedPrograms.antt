@@ -4,12 +4,9 @@ use Rattle.std.proofs.Common.{sym, subst, arith}
 use Rattle.std.specs.Prelude.{Some, slice_get}
 use Rattle.std.specs.List.{AllByRecursion}
 use Rattle.js_base.specs.declared.ids.HostId.{HostId}
-use Rattle.host_decl.specs.Hosts.{HostsShape}
 use Rattle.jif_tree.specs.Trees.{MethodTree}
-use Rattle.need_labels.specs.Labelled.{Labelled}
-use Rattle.need_labels.specs.Needs.{NeedsShape}
-use Rattle.need_labels.specs.Plan.{PlanShape}
-use Rattle.msg_cost.specs.Moves.{PlannedShape, planned_of, home_of}
+use Rattle.msg_cost.specs.Moves.{PlannedShape, home_of}
+use Rattle.split_rules.specs.Placed.{PlacedProgram, planned_from}
 use Rattle.split_rules.specs.Allowed.{IsAllowed}
 use Rattle.split_rules.specs.Emissions.{Emission, stands, Counts, counts_after}
 use Rattle.split_rules.specs.Held.{IsHeld}
@@ -113,56 +110,58 @@ methods_shaded scene all number (method ∷ methods) there well flows sites sile
 
 -- ---- programs
 
-pub program_shaded : (labelled : Labelled) (needs : NeedsShape) (hosts : HostsShape) (plan : PlanShape)
-    (may_release : Bool) → IsSplittable labelled hosts plan → IsAllowed labelled needs hosts plan →
-    IsHeld labelled needs hosts plan → AreResultsLabelled labelled.program →
-    (may_release ≡ false → ReleasesNothing labelled.program) →
-    let planned = planned_of labelled needs hosts plan in
-    let counts = counts_after (record { entries = 0; branches = 0 }) (front_emissions labelled planned) in
-    (last : Known) × (last.place ≡ nowhere) × AreShaded (scene_of labelled needs hosts plan may_release)
-    (shades_start labelled.program)
-    (methods_emissions hosts.principals labelled planned counts 0 labelled.program.methods) last
-program_shaded labelled needs hosts plan may_release splittable allowed held results silent =
+pub program_shaded : (placed : PlacedProgram) (may_release : Bool) →
+    IsSplittable placed.labelled placed.hosts placed.plan → IsAllowed placed →
+    IsHeld placed → AreResultsLabelled placed.labelled.program →
+    (may_release ≡ false → ReleasesNothing placed.labelled.program) →
+    let planned = planned_from placed in
+    let counts = counts_after (record { entries = 0; branches = 0 }) (front_emissions placed.labelled planned) in
+    (last : Known) × (last.place ≡ nowhere) × AreShaded (scene_of placed may_release)
+    (shades_start placed.labelled.program)
+    (methods_emissions placed.hosts.principals placed.labelled planned counts 0 placed.labelled.program.methods) last
+program_shaded placed may_release splittable allowed held results silent =
     (_, refl, subst P (sym same) leads.shaded)
   where
     planned : PlannedShape
-    planned = planned_of labelled needs hosts plan
+    planned = planned_from placed
 
     scene : Scene
-    scene = scene_of labelled needs hosts plan may_release
+    scene = scene_of placed may_release
 
     entries : List EntryShade
-    entries = (shades_start labelled.program).entries
+    entries = (shades_start placed.labelled.program).entries
 
     counts : Counts
     counts = counts_after (record { entries = 0; branches = 0 })
-        (front_emissions labelled (planned_of labelled needs hosts plan))
+        (front_emissions placed.labelled (planned_from placed))
 
     same : counts ≡ counts_in entries []
     same =
         let main = splittable.numbered.main in
         let counted : ℕ → Counts = λ many. record { entries = suc many; branches = 0 } in
-        front_counted labelled planned main.0 main.1
-        ∙ ap counted (sym (shades_many planned 0 labelled.program.methods))
+        front_counted placed.labelled planned main.0 main.1
+        ∙ ap counted (sym (shades_many planned 0 placed.labelled.program.methods))
 
-    from_zero : (place : ℕ) (tree : MethodTree) → slice_get labelled.program.methods place ≡ Some tree →
-        slice_get labelled.program.methods (0 + place) ≡ Some tree
+    from_zero : (place : ℕ) (tree : MethodTree) → slice_get placed.labelled.program.methods place ≡ Some tree →
+        slice_get placed.labelled.program.methods (0 + place) ≡ Some tree
     from_zero place tree is =
         let none : place ≡ 0 + place = omega arith in
-        let P : ℕ → Type 0 = λ one. slice_get labelled.program.methods one ≡ Some tree in
+        let P : ℕ → Type 0 = λ one. slice_get placed.labelled.program.methods one ≡ Some tree in
         subst P none is
 
-    all : AllFlow (record { principals = hosts.principals; labelled = labelled }) planned
-    all = program_flows labelled needs hosts plan splittable allowed held results
+    all : AllFlow (record { principals = placed.hosts.principals; labelled = placed.labelled }) planned
+    all = program_flows placed splittable allowed held results
 
-    leads : Leads scene (shades_start labelled.program)
-        (methods_emissions hosts.principals labelled planned (counts_in entries []) 0 labelled.program.methods) nowhere
-    leads = methods_shaded scene all 0 labelled.program.methods from_zero
-        (program_tells_well labelled needs hosts plan splittable allowed held) all.methods
-        (sites_labelled (record { principals = hosts.principals; labelled = labelled }) splittable.sites) silent entries
+    leads : Leads scene (shades_start placed.labelled.program)
+        (methods_emissions placed.hosts.principals placed.labelled planned (counts_in entries []) 0
+        placed.labelled.program.methods) nowhere
+    leads = methods_shaded scene all 0 placed.labelled.program.methods from_zero
+        (program_tells_well placed splittable allowed held) all.methods
+        (sites_labelled (record { principals = placed.hosts.principals; labelled = placed.labelled }) splittable.sites)
+        silent entries
         [] (start_named scene)
 
     P : Counts → Type 0
-    P one = AreShaded scene (shades_start labelled.program)
-        (methods_emissions hosts.principals labelled planned one 0 labelled.program.methods)
+    P one = AreShaded scene (shades_start placed.labelled.program)
+        (methods_emissions placed.hosts.principals placed.labelled planned one 0 placed.labelled.program.methods)
         (known_at nowhere (entries ++ leads.more) ([] ++ leads.ahead))

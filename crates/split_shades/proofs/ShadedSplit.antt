@@ -17,10 +17,8 @@ use Rattle.host_code.specs.declared.instruction.Instr.{Instr}
 use Rattle.host_code.specs.declared.instruction.Op.{Op}
 use Rattle.host_code.specs.declared.instruction.Op.TheVariants as op
 use Rattle.host_code.specs.Code.{CodeShape, instruction_at}
-use Rattle.need_labels.specs.Labelled.{Labelled}
-use Rattle.need_labels.specs.Needs.{NeedsShape}
-use Rattle.need_labels.specs.Plan.{PlanShape}
-use Rattle.msg_cost.specs.Moves.{PlannedShape, planned_of, home_of}
+use Rattle.msg_cost.specs.Moves.{PlannedShape, home_of}
+use Rattle.split_rules.specs.Placed.{PlacedProgram, planned_from}
 use Rattle.split_rules.specs.Allowed.{IsAllowed}
 use Rattle.split_rules.specs.Emissions.{Emission, instruction, stands, lands, Emitted, counts_after, Named, entry}
 use Rattle.split_rules.specs.Flow.{State}
@@ -525,37 +523,37 @@ code_shaded scene hosts main emissions walk homes = record {
 }
 
 -- The code of a split program has a table of shades.
-pub split_is_shaded : (labelled : Labelled) (needs : NeedsShape) (hosts : HostsShape) (plan : PlanShape)
-    (may_release : Bool) → IsSplittable labelled hosts plan → IsAllowed labelled needs hosts plan →
-    IsHeld labelled needs hosts plan → AreResultsLabelled labelled.program →
-    (may_release ≡ false → ReleasesNothing labelled.program) →
-    (shades : Shades) × IsShadedCode (scene_of labelled needs hosts plan may_release)
-    (split_code labelled needs hosts plan) shades
-split_is_shaded labelled needs hosts plan may_release splittable allowed held results silent =
-    subst P (sym (front_is labelled planned main splittable.numbered.main.1))
-    (table_in walk, code_shaded scene hosts main emissions walk homes)
+pub split_is_shaded : (placed : PlacedProgram) (may_release : Bool) →
+    IsSplittable placed.labelled placed.hosts placed.plan → IsAllowed placed →
+    IsHeld placed → AreResultsLabelled placed.labelled.program →
+    (may_release ≡ false → ReleasesNothing placed.labelled.program) →
+    (shades : Shades) × IsShadedCode (scene_of placed may_release)
+    (split_code placed) shades
+split_is_shaded placed may_release splittable allowed held results silent =
+    subst P (sym (front_is placed.labelled planned main splittable.numbered.main.1))
+    (table_in walk, code_shaded scene placed.hosts main emissions walk homes)
   where
     planned : PlannedShape
-    planned = planned_of labelled needs hosts plan
+    planned = planned_from placed
 
     scene : Scene
-    scene = scene_of labelled needs hosts plan may_release
+    scene = scene_of placed may_release
 
     main : MethodTree
     main = splittable.numbered.main.0
 
     emissions : List Emission
-    emissions = methods_emissions hosts.principals labelled planned
-        (counts_after (record { entries = 0; branches = 0 }) (front_emissions labelled planned)) 0
-        labelled.program.methods
+    emissions = methods_emissions placed.hosts.principals placed.labelled planned
+        (counts_after (record { entries = 0; branches = 0 }) (front_emissions placed.labelled planned)) 0
+        placed.labelled.program.methods
 
-    walk : Walk scene hosts main emissions
+    walk : Walk scene placed.hosts main emissions
     walk =
-        let goes = program_goes labelled needs hosts plan splittable in
-        let so = program_shaded labelled needs hosts plan may_release splittable allowed held results silent in
+        let goes = program_goes placed splittable in
+        let so = program_shaded placed may_release splittable allowed held results silent in
         record {
           end = goes.0;
-          walk = walk_there labelled hosts planned emissions goes.0 splittable goes.1 goes.2;
+          walk = walk_there placed.labelled placed.hosts planned emissions goes.0 splittable goes.1 goes.2;
           last = so.0;
           shaded = so.2;
           ends = so.1;
@@ -564,20 +562,22 @@ split_is_shaded labelled needs hosts plan may_release splittable allowed held re
     homes : Homes scene main
     homes = record {
       main_is = splittable.numbered.main.1;
-      see = λ place tree is. (all_there (MethodTellsWell hosts.principals labelled planned) labelled.program.methods
-          (program_tells_well labelled needs hosts plan splittable allowed held) place tree is).home;
+      see = λ place tree is. (all_there (MethodTellsWell placed.hosts.principals placed.labelled planned)
+          placed.labelled.program.methods
+          (program_tells_well placed splittable allowed held) place tree is).home;
     }
 
     P : List Emission → Type 0
-    P front = (shades : Shades) × IsShadedCode scene (code_of_emissions labelled hosts planned (front ++ emissions))
+    P front = (shades : Shades) × IsShadedCode scene (code_of_emissions placed.labelled placed.hosts planned (front
+        ++ emissions))
         shades
 
 -- Where the program releases nothing, no instruction does.
-pub split_is_silent : (labelled : Labelled) (needs : NeedsShape) (hosts : HostsShape) (plan : PlanShape) →
-    IsSplittable labelled hosts plan → IsAllowed labelled needs hosts plan → IsHeld labelled needs hosts plan →
-    AreResultsLabelled labelled.program → ReleasesNothing labelled.program →
-    (shades : Shades) × IsShadedCode (scene_of labelled needs hosts plan false)
-    (split_code labelled needs hosts plan) shades × ReleaseNothing (split_code labelled needs hosts plan) shades
-split_is_silent labelled needs hosts plan splittable allowed held results silent =
-    let so = split_is_shaded labelled needs hosts plan false splittable allowed held results (λ none. silent) in
+pub split_is_silent : (placed : PlacedProgram) →
+    IsSplittable placed.labelled placed.hosts placed.plan → IsAllowed placed → IsHeld placed →
+    AreResultsLabelled placed.labelled.program → ReleasesNothing placed.labelled.program →
+    (shades : Shades) × IsShadedCode (scene_of placed false)
+    (split_code placed) shades × ReleaseNothing (split_code placed) shades
+split_is_silent placed splittable allowed held results silent =
+    let so = split_is_shaded placed false splittable allowed held results (λ none. silent) in
     (so.0, so.1, λ host place there is. (so.1.instructions host place there is).is_shade.silent refl)

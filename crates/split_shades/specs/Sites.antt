@@ -4,16 +4,14 @@ use Rattle.std.specs.Prelude.{◌≡◌, Bool, false, List, [], ◌∷◌, ◌++
 use Rattle.std.specs.List.{AllByRecursion, flat_map}
 use Rattle.label_lattice.specs.declared.label.Label.{Label}
 use Rattle.label_lattice.specs.Lattice.{empty_label}
-use Rattle.host_decl.specs.Hosts.{HostsShape}
 use Rattle.jif_tree.specs.Trees.{ExprTree, BlockTree, done, set_local, set_field, set_element, branch, loop, call}
 use Rattle.jif_tree.specs.Trees.{give_back, ProgramTree}
 use Rattle.jif_tree.specs.LabelRules.{MethodSetting, setting_of, guarded}
 use Rattle.need_labels.specs.Labelled.{Labelled, all_labels}
-use Rattle.need_labels.specs.Needs.{NeedsShape, releases}
-use Rattle.need_labels.specs.Plan.{PlanShape}
-use Rattle.msg_cost.specs.Moves.{planned_of}
+use Rattle.need_labels.specs.Needs.{releases}
 use Rattle.split_shades.specs.Basis.{Basis}
 use Rattle.split_shades.specs.Shading.{Scene}
+use Rattle.split_rules.specs.Placed.{PlacedProgram, planned_from}
 
 -- ---- sites
 
@@ -65,12 +63,12 @@ ReleasesNothing program = AllByRecursion (λ method. IsSilentBlock method.body) 
 -- ---- programs
 
 -- a program that is split by a plan, and whether it may release anything
-abbrev pub scene_of : Labelled → NeedsShape → HostsShape → PlanShape → Bool → Scene
-scene_of labelled needs hosts plan may_release =
-    let basis : Basis = record { principals = hosts.principals; labelled = labelled } in
+abbrev pub scene_of : PlacedProgram → Bool → Scene
+scene_of placed may_release =
+    let basis : Basis = record { principals = placed.hosts.principals; labelled = placed.labelled } in
     record {
       basis = basis;
-      planned = planned_of labelled needs hosts plan;
+      planned = planned_from placed;
       sites = program_sites basis;
       may_release = may_release;
     }

@@ -1,10 +1,6 @@
 //! Laws of what may be seen at the places of a split program. The calls do nothing.
 
-ghost use Rattle.host_decl.specs.Hosts.{HostsShape};
-ghost use Rattle.need_labels.specs.Labelled.{Labelled};
-ghost use Rattle.need_labels.specs.Needs.{NeedsShape};
-ghost use Rattle.need_labels.specs.Plan.{PlanShape};
-ghost use Rattle.msg_cost.specs.Moves.{planned_of};
+ghost use Rattle.split_rules.specs.Placed.{PlacedProgram, planned_from};
 ghost use Rattle.split_rules.specs.Splittable.{IsSplittable};
 ghost use Rattle.split_rules.specs.Allowed.{IsAllowed};
 ghost use Rattle.split_rules.specs.Held.{IsHeld};
@@ -30,55 +26,54 @@ ghost use Rattle.std.specs.Prelude.{◌≡◌, Bool, false, [], ◌∷◌, Some,
 /// In a program that was checked and placed, each value flows to where its statement keeps it, and so does the program
 /// label under which it is evaluated. Whoever answers a read may see which element is asked for.
 pub fn flow_laws()
-    ensures flows { (labelled : Labelled) (needs : NeedsShape) (hosts : HostsShape) (plan : PlanShape) →
-        IsSplittable labelled hosts plan → IsAllowed labelled needs hosts plan → IsHeld labelled needs hosts plan →
-        AreResultsLabelled labelled.program →
-        AllFlow (record { principals = hosts.principals; labelled = labelled }) (planned_of labelled needs hosts plan) }
+    ensures flows { (placed : PlacedProgram) →
+        IsSplittable placed.labelled placed.hosts placed.plan → IsAllowed placed → IsHeld placed →
+        AreResultsLabelled placed.labelled.program →
+        AllFlow (record { principals = placed.hosts.principals; labelled = placed.labelled }) (planned_from placed) }
 {}
 
 /// What the walk over such a program gives is shaded: each instruction runs under the program label of its block, or of
 /// the loop whose guard it evaluates, what the temporaries tell is what was read, and each entry stands in a block and
 /// under a token whose labels flow to its own. Where the program releases nothing, no instruction does.
 pub fn walk_laws()
-    ensures shaded { (labelled : Labelled) (needs : NeedsShape) (hosts : HostsShape) (plan : PlanShape)
-        (may_release : Bool) →
-        IsSplittable labelled hosts plan → IsAllowed labelled needs hosts plan → IsHeld labelled needs hosts plan →
-        AreResultsLabelled labelled.program → (may_release ≡ false → ReleasesNothing labelled.program) →
-        let planned = planned_of labelled needs hosts plan in
-        let counts = counts_after (record { entries = 0; branches = 0 }) (front_emissions labelled planned) in
-        (last : Known) × (last.place ≡ nowhere) × AreShaded (scene_of labelled needs hosts plan may_release)
-        (shades_start labelled.program)
-        (methods_emissions hosts.principals labelled planned counts 0 labelled.program.methods) last }
+    ensures shaded { (placed : PlacedProgram) (may_release : Bool) →
+        IsSplittable placed.labelled placed.hosts placed.plan → IsAllowed placed → IsHeld placed →
+        AreResultsLabelled placed.labelled.program → (may_release ≡ false → ReleasesNothing placed.labelled.program) →
+        let planned = planned_from placed in
+        let counts = counts_after (record { entries = 0; branches = 0 }) (front_emissions placed.labelled planned) in
+        (last : Known) × (last.place ≡ nowhere) × AreShaded (scene_of placed may_release)
+        (shades_start placed.labelled.program)
+        (methods_emissions placed.hosts.principals placed.labelled planned counts 0 placed.labelled.program.methods)
+        last }
 {}
 
 /// The code of such a program has a table of shades: for each instruction the program label under which it runs, that
 /// of its block, what its temporaries tell and what it releases, and for each entry the labels that flow to its own.
 /// Each instruction keeps the law of its kind, and where the program releases nothing, no instruction does.
 pub fn shade_laws()
-    ensures shaded { (labelled : Labelled) (needs : NeedsShape) (hosts : HostsShape) (plan : PlanShape)
-        (may_release : Bool) →
-        IsSplittable labelled hosts plan → IsAllowed labelled needs hosts plan → IsHeld labelled needs hosts plan →
-        AreResultsLabelled labelled.program → (may_release ≡ false → ReleasesNothing labelled.program) →
-        (shades : Shades) × IsShadedCode (scene_of labelled needs hosts plan may_release)
-        (split_code labelled needs hosts plan) shades }
-    ensures silent { (labelled : Labelled) (needs : NeedsShape) (hosts : HostsShape) (plan : PlanShape) →
-        IsSplittable labelled hosts plan → IsAllowed labelled needs hosts plan → IsHeld labelled needs hosts plan →
-        AreResultsLabelled labelled.program → ReleasesNothing labelled.program →
-        (shades : Shades) × IsShadedCode (scene_of labelled needs hosts plan false)
-        (split_code labelled needs hosts plan) shades × ReleaseNothing (split_code labelled needs hosts plan) shades }
+    ensures shaded { (placed : PlacedProgram) (may_release : Bool) →
+        IsSplittable placed.labelled placed.hosts placed.plan → IsAllowed placed → IsHeld placed →
+        AreResultsLabelled placed.labelled.program → (may_release ≡ false → ReleasesNothing placed.labelled.program) →
+        (shades : Shades) × IsShadedCode (scene_of placed may_release)
+        (split_code placed) shades }
+    ensures silent { (placed : PlacedProgram) →
+        IsSplittable placed.labelled placed.hosts placed.plan → IsAllowed placed → IsHeld placed →
+        AreResultsLabelled placed.labelled.program → ReleasesNothing placed.labelled.program →
+        (shades : Shades) × IsShadedCode (scene_of placed false)
+        (split_code placed) shades × ReleaseNothing (split_code placed) shades }
     // Each instruction carries the program label of the statement that it is for, which stands on its host, or that of
     // a block where the right to go on moves. Each entry carries the label of what it is named for: its method, its
     // block, the blocks inside its branch or loop, or its call. A call enters its method.
-    ensures carried { (labelled : Labelled) (needs : NeedsShape) (hosts : HostsShape) (plan : PlanShape) →
-        IsSplittable labelled hosts plan → IsAllowed labelled needs hosts plan → IsHeld labelled needs hosts plan →
-        AreCarried (record { principals = hosts.principals; labelled = labelled })
-        (planned_of labelled needs hosts plan) (split_code labelled needs hosts plan) }
+    ensures carried { (placed : PlacedProgram) →
+        IsSplittable placed.labelled placed.hosts placed.plan → IsAllowed placed → IsHeld placed →
+        AreCarried (record { principals = placed.hosts.principals; labelled = placed.labelled })
+        (planned_from placed) (split_code placed) }
     // The code has the labels of fields and variables that shades speak of, each field stands on a host that may see
     // it, and a host may see by the code what it may see by the plan.
-    ensures known { (labelled : Labelled) (needs : NeedsShape) (hosts : HostsShape) (plan : PlanShape) →
-        IsSplittable labelled hosts plan → IsAllowed labelled needs hosts plan → IsHeld labelled needs hosts plan →
-        AreKnownInCode (record { principals = hosts.principals; labelled = labelled })
-        (planned_of labelled needs hosts plan) (split_code labelled needs hosts plan) }
+    ensures known { (placed : PlacedProgram) →
+        IsSplittable placed.labelled placed.hosts placed.plan → IsAllowed placed → IsHeld placed →
+        AreKnownInCode (record { principals = placed.hosts.principals; labelled = placed.labelled })
+        (planned_from placed) (split_code placed) }
 {}
 
 /// The shades of some small programs, which deny other rules.

@@ -10,7 +10,7 @@ use Rattle.control_split.specs.declared.parts.TheConstants.{HOST_NUMBERS}
 use Rattle.control_split.specs.Assembly.{AssemblyShape, first_assembly, assembled, settled_entries, settled_parts}
 use Rattle.control_split.specs.Tables.{naming, code_hosts}
 use Rattle.control_split.specs.Trace.{TraceShape, traced}
-use Rattle.control_split.specs.Views.{labelled_in, planned_in}
+use Rattle.control_split.specs.Views.{labelled_in, placed_in, planned_in}
 use Rattle.control_split.proofs.SizedMethods.{sized_methods}
 use Rattle.control_split.proofs.WholeCode.{field_trace, variable_trace, code_is}
 use Rattle.control_split.proofs.emitting.code_parts.Goals as goal
@@ -57,7 +57,7 @@ returns c =
     let R : PlannedShape → Type 0 = λ there.
     c.called_home-root.result ≡ called_home there (method_at there.program program.main) in
     let root = subst R c.planned.ensures c.called_home-root.ensures in
-    let settled = c.split_laws.ensures.settled labelled split.needs.now hosts split.plan.now c.requires.splittable in
+    let settled = c.split_laws.ensures.settled (placed_in split) c.requires.splittable in
     let few : length hosts.hosts ≤ HOST_NUMBERS =
     omega (
       arith,

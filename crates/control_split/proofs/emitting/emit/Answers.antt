@@ -6,5 +6,9 @@ use Rattle.control_split.proofs.emitting.emit.Goals as goal
 pub new-requires : goal.new-requires
 new-requires c =
     subst IsSoundCode (sym c.in_ok-parts.ensures)
-    (c.split_laws.ensures.sound (labelled_of c.args.checked.now) c.args.needs.now c.args.hosts.now c.args.plan.now
-    c.requires.splittable)
+    (c.split_laws.ensures.sound (record {
+      labelled = labelled_of c.args.checked.now;
+      needs = c.args.needs.now;
+      hosts = c.args.hosts.now;
+      plan = c.args.plan.now;
+    }) c.requires.splittable)

@@ -3,8 +3,8 @@ use Rattle.integrity.proofs.Starts.{outside_at_start}
 use Rattle.integrity.proofs.laws.root_laws.Goals as goal
 
 pub returns-clause-outside : goal.returns-clause-outside
-returns-clause-outside c = λ labelled needs hosts plan table bad store misbehaves.
-    outside_at_start _ hosts.hosts bad store misbehaves
+returns-clause-outside c = λ placed table bad store misbehaves.
+    outside_at_start _ placed.hosts.hosts bad store misbehaves
 
 pub returns-clause-stands : goal.returns-clause-stands
 returns-clause-stands c =
@@ -14,8 +14,8 @@ returns-clause-stands c =
       typable = c.trust_laws.ensures.typable;
       typed = c.split_laws.ensures.typed;
     } in
-    λ program labelled needs hosts plan bad store events world splittable allowed reach misbehaves.
-    starting laws program labelled needs hosts plan bad store splittable allowed misbehaves events world reach
+    λ program placed bad store events world splittable allowed reach misbehaves.
+    starting laws program placed bad store splittable allowed misbehaves events world reach
 
 pub returns-clause-follows : goal.returns-clause-follows
 returns-clause-follows c =
@@ -25,5 +25,5 @@ returns-clause-follows c =
       typable = c.trust_laws.ensures.typable;
       typed = c.split_laws.ensures.typed;
     } in
-    λ program labelled needs hosts plan bad store events world splittable allowed reach misbehaves.
-    follows_nothing laws program labelled needs hosts plan bad store splittable allowed misbehaves events world reach
+    λ program placed bad store events world splittable allowed reach misbehaves.
+    follows_nothing laws program placed bad store splittable allowed misbehaves events world reach

@@ -31,11 +31,11 @@ all_laws g c = record {
     hosts = c.placement_laws.ensures.hosts;
   };
   granted = c.asking_laws.ensures.granted;
-  obeying = λ tree labelled need file plan store events world set ran. record {
-    follows = c.obeying_laws.ensures.follows tree labelled need file plan store events world set ran;
-    idle = c.obeying_laws.ensures.idle tree labelled need file plan store events world set ran;
+  obeying = λ tree placed store events world set ran. record {
+    follows = c.obeying_laws.ensures.follows tree placed store events world set ran;
+    idle = c.obeying_laws.ensures.idle tree placed store events world set ran;
     ignored = λ host state is.
-        c.obeying_laws.ensures.ignored tree labelled need file plan store events world host state set ran is;
+        c.obeying_laws.ensures.ignored tree placed store events world host state set ran is;
   };
   next = c.obeying_laws.ensures.next;
   ending = c.ending_laws.ensures.ends;
