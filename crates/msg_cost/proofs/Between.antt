@@ -67,7 +67,8 @@ none_more planned host block place p from to = ap (is_trusted_from planned host 
 
 pub not_trusted : (planned : PlannedShape) (host : HostId) (block : List Stmt) (place : ℕ) (statement : Stmt) →
     place < length block → statement ≡ get_or block place statement →
-    is_trusted_for planned host statement.id ≡ false → is_trusted_from planned host block place ≡ nat_le (length block) place
+    is_trusted_for planned host statement.id ≡ false →
+    is_trusted_from planned host block place ≡ nat_le (length block) place
 not_trusted planned host block place statement within is trusted =
     left planned host block place statement within is
     ∙ first_false (is_trusted_for planned host statement.id) (is_trusted_from planned host block (suc place)) trusted

@@ -13,7 +13,8 @@ use Rattle.jif_tree.specs.Trees.{call, give_back, MethodTree}
 use Rattle.need_labels.specs.Plan.{statement_host}
 use Rattle.msg_cost.specs.declared.spot.Spot.{Spot}
 use Rattle.msg_cost.specs.Cost.{cost_of}
-use Rattle.msg_cost.specs.Moves.{PlannedShape, on, next_spot, own_statements, block_end, home_of, called_home, called_end}
+use Rattle.msg_cost.specs.Moves.{PlannedShape, on, next_spot, own_statements, block_end, home_of, called_home}
+use Rattle.msg_cost.specs.Moves.{called_end}
 use Rattle.msg_cost.specs.Terms.{Term, message, exchange, inside, move_terms, expr_terms, forwards, argument_terms}
 use Rattle.msg_cost.specs.Terms.{call_terms, block_terms, method_terms, program_terms}
 use Rattle.msg_cost.specs.Pieces.{Piece, access, giving, calling, walk, ending, walk_terms, piece_cost, pieces_cost}

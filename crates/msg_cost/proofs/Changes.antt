@@ -1,5 +1,6 @@
 -- What a move changes: the cost of the pieces that depend on the moved part, and of no others.
-use Rattle.std.proofs.Common.{◌≡◌, ◌≢◌, ℕ, ◌+◌, ◌<◌, ◌≤◌, ◌^◌, Bool, true, false, ◌||◌, cond, nat_eq, List, [], ◌∷◌, map, filter}
+use Rattle.std.proofs.Common.{◌≡◌, ◌≢◌, ℕ, ◌+◌, ◌<◌, ◌≤◌, ◌^◌, Bool, true, false, ◌||◌, cond, nat_eq, List, [], ◌∷◌}
+use Rattle.std.proofs.Common.{map, filter}
 use Rattle.std.proofs.Common.{refl, ap, sym, arith, inl, inr}
 use Rattle.std.proofs.lemmas.Bool.{cases_Bool, eqb-false}
 use Rattle.host_decl.specs.Hosts.{AreHosts}
@@ -21,7 +22,8 @@ use Rattle.msg_cost.specs.Views.{capped}
 use Rattle.msg_cost.specs.Touches.{statements_of, fields_of}
 use Rattle.msg_cost.proofs.Bounds.{program_small}
 use Rattle.msg_cost.proofs.ByPieces.{pieces-cons, by_pieces}
-use Rattle.msg_cost.proofs.Independent.{under, SameHosts, piece_same}
+use Rattle.msg_cost.specs.Walks.{under, SameHosts}
+use Rattle.msg_cost.proofs.Independent.{piece_same}
 use Rattle.msg_cost.proofs.Seats.{set_other}
 
 -- ---- sums
@@ -94,7 +96,7 @@ all_stay planned moves statement host (one ∷ others) not =
       all_stay planned moves statement host others parts.1,
     )
 
-statements_stay : (planned : PlannedShape) (field : FieldId) (host : HostId) (statements : List StmtId) →
+pub statements_stay : (planned : PlannedShape) (field : FieldId) (host : HostId) (statements : List StmtId) →
     SameHosts planned (moved planned.plan (step.Field field host)) statements
 statements_stay planned field host [] = tt
 statements_stay planned field host (one ∷ others) = (refl, statements_stay planned field host others)

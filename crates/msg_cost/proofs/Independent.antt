@@ -15,16 +15,8 @@ use Rattle.msg_cost.specs.Moves.{end_of, entered, next_spot, end_host, own_state
 use Rattle.msg_cost.specs.Moves.{called_end}
 use Rattle.msg_cost.specs.Terms.{Term, message, exchange, move_terms, is_other_reader, forwards}
 use Rattle.msg_cost.specs.Pieces.{Piece, access, giving, calling, walk, ending, walk_terms, piece_terms}
+use Rattle.msg_cost.specs.Walks.{under, SameHosts}
 use Rattle.msg_cost.specs.Touches.{statements_of_method, statements_of, fields_of}
-
--- the same, under another plan
-abbrev pub under : PlannedShape → PlanShape → PlannedShape
-under planned plan = record planned { plan = plan }
-
--- the statements stand on the same hosts
-abbrev pub SameHosts : PlannedShape → PlanShape → List StmtId → Type 0
-SameHosts planned plan statements =
-    AllByRecursion (λ statement. statement_host planned.plan statement ≡ statement_host plan statement) statements
 
 behind_same : (planned : PlannedShape) (plan : PlanShape) (host : HostId) (statements : List StmtId) →
     SameHosts planned plan statements →
@@ -60,7 +52,7 @@ next_same planned plan spot statement others same =
     ∙ ap (λ (one : Spot). if is_same spot.host (statement_host plan statement) then spot else one)
     (entered_same planned plan (end_of spot) (statement_host plan statement) (statement ∷ others) same)
 
-walk_same : (planned : PlannedShape) (plan : PlanShape) (weight : ℕ) (spot : Spot) (statements : List StmtId) →
+pub walk_same : (planned : PlannedShape) (plan : PlanShape) (weight : ℕ) (spot : Spot) (statements : List StmtId) →
     SameHosts planned plan statements →
     walk_terms planned weight spot statements ≡ walk_terms (under planned plan) weight spot statements
 walk_same planned plan weight spot [] same = refl

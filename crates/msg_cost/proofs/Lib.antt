@@ -14,6 +14,10 @@ pub mod Seats
 pub mod PieceWalks
 pub mod PieceSums
 pub mod Independent
+pub mod Spots
+pub mod WalkChanges
+pub mod Ascending
+pub mod SettledSpots
 pub mod Noting
 pub mod Changes
 pub mod Touched

@@ -4,7 +4,8 @@ use Rattle.std.proofs.Common.{map, length, get_or, set, replicate, refl, ap, sym
 use Rattle.std.proofs.Common.{append-nil, append_assoc, eq-eqb, ne_eqb}
 use Rattle.std.proofs.Math.Bool.{or-true}
 use Rattle.std.proofs.lemmas.Bool.{cases_eq, cases_Bool}
-use Rattle.std.proofs.lemmas.List.{get_or-set_same, get_or-set_other, length-set, length-map, length-replicate, get_or-replicate, map-append, map-set, get_or-map}
+use Rattle.std.proofs.lemmas.List.{get_or-set_same, get_or-set_other, length-set, length-map, length-replicate}
+use Rattle.std.proofs.lemmas.List.{get_or-replicate, map-append, map-set, get_or-map}
 use Rattle.std.proofs.lemmas.List.Elements.{filter-append}
 use Rattle.std.proofs.lemmas.Option.{slice_get-map}
 use Rattle.std.specs.Prelude.{if◌then◌else◌, Option, Some, None, slice_get}

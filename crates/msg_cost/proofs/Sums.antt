@@ -5,6 +5,7 @@ use Rattle.host_decl.specs.Hosts.{HostsShape}
 use Rattle.msg_cost.specs.Cost.{cost_of, term_cost}
 use Rattle.msg_cost.specs.Terms.{Term}
 use Rattle.msg_cost.specs.Views.{capped}
+use Rattle.msg_cost.specs.Walks.{CostsWith}
 
 pub cost-append : (hosts : HostsShape) (first second : List Term) →
     cost_of hosts (first ++ second) ≡ cost_of hosts first + cost_of hosts second
@@ -25,11 +26,6 @@ costs_both hosts first second total other one two = record {
   is = capped_sum (cost_of hosts first) (cost_of hosts second) total other one.is two
       ∙ ap capped (sym (cost-append hosts first second));
 }
-
--- the total so far, and the terms that are left, cost what all terms do
-pub record CostsWith (hosts : HostsShape) (all : List Term) (total : ℕ) (left : List Term) : Type 0 where
-  pub fits : total < 2 ^ 64
-  pub is : capped (cost_of hosts all) ≡ capped (total + cost_of hosts left)
 
 capped_step : (all total other first rest : ℕ) → all ≡ capped (total + (first + rest)) → other ≡ capped first →
     all ≡ capped (min (total + other) (2 ^ 64 - 1) + rest)

@@ -5,9 +5,11 @@ use Rattle.std.specs.Global.{Vec}
 use Rattle.std.proofs.lemmas.Bool.{cases_lt, le-leb}
 use Rattle.std.proofs.lemmas.List.{drop_all, get_or-set_same, get_or-set_other, get_or-map, map-set, set-get_or}
 use Rattle.std.proofs.lemmas.List.{length-map, length-replicate, get_or-replicate, nil_from_length}
+use Rattle.std.proofs.lemmas.List.{length_push, get_or_push, get_or_append_left, get_or_default}
 use Rattle.std.proofs.lemmas.List.Elements.{All-nil, All-set, All-same, All-push}
 use Rattle.js_base.specs.declared.ids.HostId.{HostId}
 use Rattle.host_decl.specs.Hosts.{HostsShape}
+use Rattle.jif_tree.specs.declared.program.Method.{Method}
 use Rattle.jif_tree.specs.declared.program.Stmt.{Stmt}
 use Rattle.need_labels.specs.Needs.{NeedsShape}
 use Rattle.msg_cost.specs.declared.piece.Piece.{Piece as Kept}
@@ -16,7 +18,7 @@ use Rattle.msg_cost.specs.Moves.{PlannedShape, is_trusted_for, is_trusted_for_al
 use Rattle.msg_cost.specs.PieceViews.{piece_shape, all_pieces}
 use Rattle.msg_cost.specs.Pieces.{Piece}
 use Rattle.msg_cost.specs.Rows.{rows_of}
-use Rattle.msg_cost.specs.Tables.{IsTrustedSince, HasTable, HaveTables, RowsHaveTables}
+use Rattle.msg_cost.specs.Tables.{IsTrustedSince, IsTable, HasTable, HaveTables, RowsHaveTables, AreBodies}
 use Rattle.msg_cost.specs.Views.{ids_of}
 use Rattle.msg_cost.proofs.Between.{left, both_true, first_false, too_far}
 
@@ -171,3 +173,54 @@ empty_tables needs hosts count rows is k d within =
     ∙ get_or-replicate count k [] [] (omega arith) in
     All-same (HasTable needs hosts) (get_or rows k d).items [] (no_pieces (get_or rows k d).items none)
     (All-nil (HasTable needs hosts))
+
+-- ---- the tables of the bodies of methods
+
+-- the tables of the bodies of the first methods, so many
+pub record BodiesTo (needs : NeedsShape) (hosts : HostsShape) (methods : List Method) (count : ℕ)
+    (tables : List (List ℕ)) : Type 0 where
+  pub long : length tables ≡ count
+  pub are : (number : ℕ) (method : Method) → number < count → number < length methods →
+      method ≡ get_or methods number method → IsTable needs hosts method.body.items (get_or tables number [])
+
+pub no_bodies : (needs : NeedsShape) (hosts : HostsShape) (methods : List Method) (tables : List (List ℕ)) →
+    tables ≡ [] → BodiesTo needs hosts methods 0 tables
+no_bodies needs hosts methods tables none = record {
+  long = ap length none;
+  are = λ number method below within is. absurd (omega arith);
+}
+
+pub more_bodies : (needs : NeedsShape) (hosts : HostsShape) (methods : List Method) (count : ℕ)
+    (tables next : List (List ℕ)) (last : Method) (table : List ℕ) → count < length methods →
+    last ≡ get_or methods count last → IsTable needs hosts last.body.items table → next ≡ tables ++ table ∷ [] →
+    BodiesTo needs hosts methods count tables → BodiesTo needs hosts methods (count + 1) next
+more_bodies needs hosts methods count tables next last table within is has pushed so = record {
+  long = ap length pushed ∙ length_push tables table ∙ ap (λ (n : ℕ). n + 1) so.long;
+  are = λ number method below inside there. elim (cases_lt number count) [
+    | inl before ↦ subst (IsTable needs hosts method.body.items)
+        (sym (ap (λ (all : List (List ℕ)). get_or all number []) pushed
+        ∙ get_or_append_left tables (table ∷ []) [] number (let long = so.long in omega arith)))
+        (so.are number method before inside there)
+    | inr from ↦ here number method inside there (omega arith)
+  ];
+}
+  where
+    here : (number : ℕ) (method : Method) → number < length methods → method ≡ get_or methods number method →
+        number ≡ count → IsTable needs hosts method.body.items (get_or next number [])
+    here number method inside there same =
+        let one : last ≡ method =
+        is ∙ get_or_default methods count last method within
+        ∙ ap (λ (n : ℕ). get_or methods n method) (sym same) ∙ sym there in
+        let kept : table ≡ get_or next number [] =
+        sym (ap (λ (all : List (List ℕ)). get_or all number []) pushed
+        ∙ get_or_push tables table [] number (so.long ∙ sym same)) in
+        subst (IsTable needs hosts method.body.items) kept
+        (subst (λ (m : Method). IsTable needs hosts m.body.items table) one has)
+
+pub all_bodies : (needs : NeedsShape) (hosts : HostsShape) (methods : List Method) (count : ℕ)
+    (tables : List (List ℕ)) → length methods ≡ count → BodiesTo needs hosts methods count tables →
+    AreBodies needs hosts methods tables
+all_bodies needs hosts methods count tables all so = record {
+  long = so.long ∙ sym all;
+  are = λ number method within is. so.are number method (omega arith) within is;
+}

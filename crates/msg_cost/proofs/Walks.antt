@@ -15,7 +15,8 @@ use Rattle.msg_cost.specs.Moves.{PlannedShape, on, next_spot, own_statements, bl
 use Rattle.msg_cost.specs.Terms.{Term, message, inside, leave_terms, move_terms, expr_terms, block_terms}
 use Rattle.msg_cost.specs.Views.{capped, ids_of}
 use Rattle.msg_cost.proofs.Statements.{own_ids}
-use Rattle.msg_cost.proofs.Sums.{CostsWith, with_less, sum_of_two}
+use Rattle.msg_cost.specs.Walks.{CostsWith}
+use Rattle.msg_cost.proofs.Sums.{with_less, sum_of_two}
 
 -- a statement runs where it stands, and nothing comes of going from a spot to itself
 pub stays : (planned : PlannedShape) (id : StmtId) (others : List StmtId) →

@@ -6,10 +6,10 @@ pub mod Kept
 pub mod CostExamples
 pub mod CostLaws
 pub mod Steps
+pub mod Walks
 pub mod Pieces
 pub mod PieceViews
 pub mod Touches
 pub mod Tables
 pub mod Rows
 pub mod Touched
-pub mod Ends

@@ -61,6 +61,28 @@ piece_cost planned piece = cost_of planned.hosts (piece_terms planned piece)
 abbrev pub pieces_cost : PlannedShape → List Piece → ℕ
 pieces_cost planned pieces = sum_by (piece_cost planned) pieces
 
+-- what a piece costs that is a walk, and nothing for any other
+abbrev pub walk_cost : PlannedShape → Piece → ℕ
+walk_cost planned (access weight statement field) = 0
+walk_cost planned (giving weight statement x) = 0
+walk_cost planned (calling weight statement method kept) = 0
+walk_cost planned (walk weight home nested own) = piece_cost planned (walk weight home nested own)
+walk_cost planned (ending method) = 0
+
+abbrev pub walks_cost : PlannedShape → List Piece → ℕ
+walks_cost planned pieces = sum_by (walk_cost planned) pieces
+
+-- what a piece costs that is no walk, and nothing for a walk
+abbrev pub other_cost : PlannedShape → Piece → ℕ
+other_cost planned (access weight statement field) = piece_cost planned (access weight statement field)
+other_cost planned (giving weight statement x) = piece_cost planned (giving weight statement x)
+other_cost planned (calling weight statement method kept) = piece_cost planned (calling weight statement method kept)
+other_cost planned (walk weight home nested own) = 0
+other_cost planned (ending method) = piece_cost planned (ending method)
+
+abbrev pub others_cost : PlannedShape → List Piece → ℕ
+others_cost planned pieces = sum_by (other_cost planned) pieces
+
 -- ---- the pieces of a program
 
 -- the fields that an expression reads

@@ -4,7 +4,8 @@ use Rattle.std.specs.Prelude.{filter, length, slice_index, slice_index_or}
 use Rattle.std.specs.List.{list_any}
 use Rattle.std.specs.Global.{Vec}
 use Rattle.host_decl.specs.Hosts.{HostsShape}
-use Rattle.jif_tree.specs.Trees.{ProgramTree}
+use Rattle.jif_tree.specs.declared.program.Program.{Program}
+use Rattle.jif_tree.specs.Trees.{ProgramTree, program_tree}
 use Rattle.need_labels.specs.Needs.{NeedsShape}
 use Rattle.msg_cost.specs.declared.index.Index.{Index}
 use Rattle.msg_cost.specs.declared.index.Kind.{Kind}
@@ -14,7 +15,7 @@ use Rattle.msg_cost.specs.declared.step.Step.{Step}
 use Rattle.msg_cost.specs.declared.step.Step.TheVariants as step
 use Rattle.msg_cost.specs.Pieces.{Piece, program_pieces}
 use Rattle.msg_cost.specs.PieceViews.{all_pieces}
-use Rattle.msg_cost.specs.Tables.{RowsHaveTables}
+use Rattle.msg_cost.specs.Tables.{RowsHaveTables, AreBodies}
 use Rattle.msg_cost.specs.Touches.{statements_of, fields_of}
 
 -- the numbers of the parts of a kind on which a piece depends
@@ -49,13 +50,20 @@ pub record AreNoted (turn : ℕ) (piece : Piece) (numbers : List ℕ) (before af
 abbrev pub rows_of : List (Vec Kept) → List (List Piece)
 rows_of rows = map (λ row. all_pieces row.items) rows
 
--- the rows of the fields and of the statements of a program, whose walks have the tables of their blocks
-pub record IsIndex (program : ProgramTree) (needs : NeedsShape) (hosts : HostsShape) (index : Index) : Type 0 where
+-- the rows of the fields and of the statements of a program
+pub record HasRows (program : ProgramTree) (needs : NeedsShape) (index : Index) : Type 0 where
   pub fields : AreRows (numbers_of kind.Fields program needs) (program_pieces program) (rows_of index.fields.items)
   pub statements : AreRows (numbers_of kind.Statements program needs) (program_pieces program)
       (rows_of index.statements.items)
+
+-- these rows, whose walks know their blocks, and the tables of the bodies of all methods
+pub record IsIndex (program : Program) (needs : NeedsShape) (hosts : HostsShape) (index : Index) : Type 0 where
+  pub rows : HasRows (program_tree program) needs index
+  pub long_fields : length index.fields.items ≡ length program.fields.items
+  pub long_statements : length index.statements.items ≡ length needs.need
   pub field_tables : RowsHaveTables needs hosts index.fields.items
   pub statement_tables : RowsHaveTables needs hosts index.statements.items
+  pub bodies : AreBodies needs hosts program.methods.items index.bodies.items
 
 abbrev pub kind_of : Step → Kind
 kind_of (step.Field field host) = kind.Fields

@@ -1,10 +1,11 @@
 -- From where on hosts are trusted in a block, as tables have it.
-use Rattle.std.specs.Prelude.{◌≡◌, ℕ, ◌<◌, List, nat_le, slice_index}
+use Rattle.std.specs.Prelude.{◌≡◌, ◌↔◌, ℕ, ◌<◌, IsTrue, List, [], length, nat_le, slice_index, slice_index_or}
 use Rattle.std.specs.List.{All}
 use Rattle.std.specs.Global.{Vec}
 use Rattle.js_base.specs.declared.ids.HostId.{HostId}
 use Rattle.js_base.specs.declared.limits.TheConstants.{HOSTS}
 use Rattle.host_decl.specs.Hosts.{HostsShape}
+use Rattle.jif_tree.specs.declared.program.Method.{Method}
 use Rattle.jif_tree.specs.declared.program.Stmt.{Stmt}
 use Rattle.jif_tree.specs.Trees.{ProgramTree}
 use Rattle.need_labels.specs.Needs.{NeedsShape}
@@ -14,8 +15,10 @@ use Rattle.msg_cost.specs.declared.piece.Piece.TheVariants as kept
 use Rattle.msg_cost.specs.declared.table.TheConstants.{FAR}
 use Rattle.msg_cost.specs.declared.trust.Trust.{Trust}
 use Rattle.msg_cost.specs.declared.trust.Trust.TheVariants as trust
+use Rattle.msg_cost.specs.declared.walk.Walk.{Walk}
 use Rattle.msg_cost.specs.Kept.{is_trusted_from, AreTrustedTo}
 use Rattle.msg_cost.specs.Moves.{PlannedShape}
+use Rattle.msg_cost.specs.Walks.{IsAscending}
 
 -- what a program needs and the hosts, with a program and a plan
 abbrev pub planned_with : NeedsShape → HostsShape → ProgramTree → PlanShape → PlannedShape
@@ -42,18 +45,30 @@ abbrev pub IsRight : PlannedShape → List Stmt → ℕ → Trust → Type 0
 IsRight planned block place (trust.Noted ends) = AreTrustedTo planned block place ends
 IsRight planned block place (trust.Table table) = IsTable planned.needs planned.hosts block table.now
 
--- a walk has the table of its block
+-- a walk has the table of its block, and says whether the numbers of its statements ascend
+pub record KnowsBlock (needs : NeedsShape) (hosts : HostsShape) (walk : Walk) : Type 0 where
+  pub ascends : IsTrue walk.ascending ↔ IsAscending walk.block.now
+  pub table : IsTable needs hosts walk.block.now walk.table
+
+-- a piece knows its block, where it is a walk
 abbrev pub HasTable : NeedsShape → HostsShape → Kept → Type 0
 HasTable needs hosts (kept.Access weight statement field) = Unit {0}
 HasTable needs hosts (kept.Giving weight statement variable) = Unit {0}
 HasTable needs hosts (kept.Calling weight statement method kept) = Unit {0}
-HasTable needs hosts (kept.Walk weight home nested block table) = IsTable needs hosts block.now table
+HasTable needs hosts (kept.Walk walk) = KnowsBlock needs hosts walk
 HasTable needs hosts (kept.Ending method) = Unit {0}
 
--- each walk among these pieces has the table of its block
+-- each walk among these pieces knows its block
 abbrev pub HaveTables : NeedsShape → HostsShape → List Kept → Type 0
 HaveTables needs hosts pieces = All (HasTable needs hosts) pieces
 
 -- the same of each row
 abbrev pub RowsHaveTables : NeedsShape → HostsShape → List (Vec Kept) → Type 0
 RowsHaveTables needs hosts rows = All (λ row. HaveTables needs hosts row.items) rows
+
+-- the tables of the bodies of methods
+pub record AreBodies (needs : NeedsShape) (hosts : HostsShape) (methods : List Method) (tables : List (List ℕ)) :
+    Type 0 where
+  pub long : length tables ≡ length methods
+  pub are : (number : ℕ) (method : Method) → number < length methods → method ≡ slice_index_or methods number method →
+      IsTable needs hosts method.body.items (slice_index_or tables number [])

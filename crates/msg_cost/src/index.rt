@@ -8,15 +8,17 @@ ghost use Rattle.jif_tree.specs.Trees.{program_tree};
 ghost use Rattle.msg_cost.specs.Pieces.{program_pieces};
 ghost use Rattle.msg_cost.specs.PieceViews.{piece_shape, all_pieces};
 ghost use Rattle.msg_cost.specs.Rows.{numbers_of, AreRows, AreNoted, rows_of, IsIndex};
-ghost use Rattle.msg_cost.specs.Tables.{HasTable, HaveTables, RowsHaveTables};
+ghost use Rattle.msg_cost.specs.Tables.{HasTable, HaveTables, RowsHaveTables, AreBodies};
 ghost use Rattle.msg_cost.specs.Touches.{statements_of_method};
 ghost use Rattle.msg_cost.specs.Views.{ids_of};
 ghost use Rattle.need_labels.specs.Needs.{NeedsShape};
 
 use crate::piece::Piece;
 use crate::pieces::program_pieces;
+use crate::table::block_table;
 use host_decl::Hosts;
 use jif_tree::{Checked, Program, Stmt};
+use js_base::limits::HOSTS;
 use js_base::{MethodId, OutOfMemory, StmtId};
 use need_labels::Needs;
 use std::alloc::Global;
@@ -33,6 +35,8 @@ pub enum Kind {
 pub struct Index<'a> {
     pub fields: Vec<Vec<Piece<'a>>>,
     pub statements: Vec<Vec<Piece<'a>>>,
+    /// By method, from where on hosts are trusted in its body.
+    pub bodies: Vec<[u16; HOSTS]>,
 }
 
 /// The pieces of a program by their parts.
@@ -45,7 +49,7 @@ pub fn index_of<'a>(
     needs: &Needs,
     hosts: &Hosts,
 ) -> Result<Index<'a>, OutOfMemory>
-    ensures { IfOk result (IsIndex (program_tree checked.now.program) needs.now hosts.now) }
+    ensures { IfOk result (IsIndex checked.now.program needs.now hosts.now) }
 {
     let program = &checked.program;
     let pieces = program_pieces(alloc, program, needs, hosts)?;
@@ -53,7 +57,28 @@ pub fn index_of<'a>(
     let fields = pieces_by_part(alloc, Kind::Fields, program, needs, &pieces, count)?;
     let count = needs.need().len();
     let statements = pieces_by_part(alloc, Kind::Statements, program, needs, &pieces, count)?;
-    Ok(Index { fields, statements })
+    let bodies = body_tables(alloc, program, needs, hosts)?;
+    Ok(Index {
+        fields,
+        statements,
+        bodies,
+    })
+}
+
+/// The tables of the bodies of all methods.
+fn body_tables(
+    alloc: Global,
+    program: &Program,
+    needs: &Needs,
+    hosts: &Hosts,
+) -> Result<Vec<[u16; HOSTS]>, OutOfMemory>
+    ensures { IfOk result (λ tables. AreBodies needs.now hosts.now program.now.methods.items tables.items) }
+{
+    let mut tables = Vec::new(alloc);
+    for method in &program.methods {
+        tables.push(block_table(needs, hosts, &method.body))?;
+    }
+    Ok(tables)
 }
 
 /// By number, the pieces that depend on a part of this kind.
@@ -67,6 +92,7 @@ fn pieces_by_part<'a>(
 ) -> Result<Vec<Vec<Piece<'a>>>, OutOfMemory>
     ensures rows { IfOk result (λ rows. AreRows (numbers_of kind (program_tree program.now) needs.now)
         (all_pieces pieces.now) (rows_of rows.items)) }
+    ensures long { IfOk result (λ rows. length rows.items ≡ count) }
     ensures tables { IfOk result (λ rows. (hosts : HostsShape) →
         HaveTables needs.now hosts pieces.now → RowsHaveTables needs.now hosts rows.items) }
 {
@@ -92,6 +118,7 @@ fn fill_rows<'a>(
     requires unmarked { (number : ℕ) → number < length marks.old → slice_index marks.old number ≡ 0 }
     ensures rows { OnOk result (AreRows (numbers_of kind (program_tree program.now) needs.now)
         (all_pieces pieces.now) (rows_of rows.new.items)) }
+    ensures long { OnOk result (length (rows_of rows.new.items) ≡ length (rows_of rows.old.items)) }
     ensures tables { OnOk result ((hosts : HostsShape) → HaveTables needs.now hosts pieces.now →
         RowsHaveTables needs.now hosts rows.old.items → RowsHaveTables needs.now hosts rows.new.items) }
 {
@@ -196,7 +223,7 @@ fn field_numbers(
         Piece::Access { field, .. } => numbers.push(field.0)?,
         Piece::Giving { .. } => {}
         Piece::Calling { .. } => {}
-        Piece::Walk { .. } => {}
+        Piece::Walk(_) => {}
         Piece::Ending { .. } => {}
     }
     Ok(numbers)
@@ -231,9 +258,9 @@ fn statement_numbers(
             numbers.push(statement.0)?;
             add_method(&mut numbers, program, *method)?;
         }
-        Piece::Walk { home, block, .. } => {
-            numbers.push(home.0)?;
-            add_block(&mut numbers, block)?;
+        Piece::Walk(walk) => {
+            numbers.push(walk.home.0)?;
+            add_block(&mut numbers, walk.block)?;
         }
         Piece::Ending { method } => add_method(&mut numbers, program, *method)?,
     }

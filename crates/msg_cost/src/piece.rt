@@ -1,7 +1,6 @@
 //! The pieces of a program's cost.
 
-use jif_tree::Stmt;
-use js_base::limits::HOSTS;
+use crate::walk::Walk;
 use js_base::{FieldId, MethodId, StmtId, VarId};
 
 /// A piece of what a program costs, which depends on the hosts of few parts. A piece inside a loop weighs more.
@@ -26,16 +25,8 @@ pub enum Piece<'a> {
         method: MethodId,
         kept: bool,
     },
-    /// The token goes over the statements of a block that begins on the host of a statement, and behind a nested block
-    /// it comes back there. The table has for each host the first place of the block from which it is trusted for all
-    /// statements to the end. It depends on the needs and the hosts alone, and so is found once for all plans.
-    Walk {
-        weight: u64,
-        home: StmtId,
-        nested: bool,
-        block: &'a [Stmt],
-        table: [u16; HOSTS],
-    },
+    /// The token goes over the statements of a block.
+    Walk(Walk<'a>),
     /// The method at which the program began is done.
     Ending {
         method: MethodId,

@@ -1,27 +1,23 @@
-//! What pieces cost.
+//! What pieces cost that are no walks.
 
-ghost use Rattle.std.specs.Prelude.{◌≡◌, [], ◌∷◌, ◌++◌, IfSome, if◌then◌else◌};
+ghost use Rattle.std.specs.Prelude.{◌≡◌, [], ◌∷◌, ◌++◌, if◌then◌else◌};
 ghost use Rattle.jif_tree.specs.LabelRules.{method_at};
 ghost use Rattle.jif_tree.specs.Trees.{program_tree};
 ghost use Rattle.msg_cost.specs.Cost.{cost_of};
-ghost use Rattle.msg_cost.specs.Ends.{IsEnd};
-ghost use Rattle.msg_cost.specs.Moves.{on, end_host, called_home, called_end};
-ghost use Rattle.msg_cost.specs.Pieces.{piece_cost, walk_terms};
+ghost use Rattle.msg_cost.specs.Moves.{called_home, called_end};
+ghost use Rattle.msg_cost.specs.Pieces.{other_cost};
 ghost use Rattle.msg_cost.specs.PieceViews.{piece_shape};
-ghost use Rattle.msg_cost.specs.Tables.{IsTable, HasTable};
+ghost use Rattle.msg_cost.specs.Tables.{AreBodies};
 ghost use Rattle.msg_cost.specs.Terms.{message, exchange};
-ghost use Rattle.msg_cost.specs.Views.{seated_shape, ids_of, capped};
+ghost use Rattle.msg_cost.specs.Views.{seated_shape, capped};
 
-use crate::ends::{End, last_end};
+use crate::ends::listed_end;
 use crate::kept::Kept;
-use crate::messages::{exchange, leave, message, move_on};
+use crate::messages::{exchange, message};
 use crate::piece::Piece;
 use crate::seated::Seated;
-use crate::spot::Spot;
-use crate::tokens::{called_home, next_spot};
-use crate::trust::Trust;
+use crate::tokens::called_home;
 use crate::values::{field_cost, forwards};
-use jif_tree::Stmt;
 use js_base::limits::HOSTS;
 use js_base::{HostId, MethodId};
 
@@ -32,12 +28,10 @@ const NOTHING: Kept<'static> = Kept {
     found: 0,
 };
 
-/// What a piece costs. It is kept where the method ends that was called last.
-pub fn piece_cost(planned: &Seated<'_>, piece: &Piece<'_>, last: &mut Option<End>) -> u64
-    requires last { IfSome last.old (IsEnd (seated_shape planned.now)) }
-    requires table { HasTable planned.now.needs.now planned.now.hosts.now piece.now }
-    ensures cost { result ≡ capped (piece_cost (seated_shape planned.now) (piece_shape piece.now)) }
-    ensures last { IfSome last.new (IsEnd (seated_shape planned.now)) }
+/// What a piece costs that is no walk, and nothing for a walk.
+pub fn other_cost(planned: &Seated<'_>, bodies: &[[u16; HOSTS]], piece: &Piece<'_>) -> u64
+    requires { AreBodies planned.now.needs.now planned.now.hosts.now planned.now.program.now.methods.items bodies.now }
+    ensures { result ≡ capped (other_cost (seated_shape planned.now) (piece_shape piece.now)) }
 {
     match piece {
         Piece::Access {
@@ -59,22 +53,13 @@ pub fn piece_cost(planned: &Seated<'_>, piece: &Piece<'_>, last: &mut Option<End
             method,
             kept,
         } => {
-            let end = last_end(planned, last, *method);
+            let end = listed_end(planned, bodies, *method);
             let host = planned.host_of(*statement);
             calling_cost(planned, *weight, host, *method, end, *kept)
         }
-        Piece::Walk {
-            weight,
-            home,
-            nested,
-            block,
-            table,
-        } => {
-            let host = planned.host_of(*home);
-            walk_cost(planned, *weight, host, *nested, block, table)
-        }
+        Piece::Walk(_) => 0,
         Piece::Ending { method } => {
-            let end = last_end(planned, last, *method);
+            let end = listed_end(planned, bodies, *method);
             message(planned.hosts, 1, end, called_home(planned, *method))
         }
     }
@@ -102,63 +87,5 @@ fn calling_cost(
         both.saturating_add(exchange(planned.hosts, weight, end, host))
     } else {
         both
-    }
-}
-
-/// What the walk over a block costs, and where it ends.
-#[derive(Clone, Copy)]
-struct WholeWalk {
-    cost: u64,
-    end: HostId,
-}
-
-/// The walk over a block that begins on this host.
-fn walked(
-    planned: &Seated<'_>,
-    weight: u64,
-    home: HostId,
-    block: &[Stmt],
-    table: &[u16; HOSTS],
-) -> WholeWalk
-    requires { IsTable planned.now.needs.now planned.now.hosts.now block.now table.now }
-    ensures cost { result.cost ≡ capped (cost_of planned.now.hosts.now
-        (walk_terms (seated_shape planned.now) weight (on home) (ids_of block.now))) }
-    ensures end { result.end ≡ end_host (seated_shape planned.now) (on home) (ids_of block.now) }
-{
-    let mut total: u64 = 0;
-    let mut spot = Spot::on(home);
-    let mut trust = Trust::Table(table);
-    for place in 0..block.len() {
-        let next = next_spot(planned, spot, block, place, &mut trust);
-        total = total.saturating_add(move_on(planned.hosts, weight, spot, next));
-        spot = next;
-    }
-    WholeWalk {
-        cost: total.saturating_add(leave(planned.hosts, weight, spot)),
-        end: spot.end(),
-    }
-}
-
-/// What the walk over a block costs, with the way back behind a nested one.
-fn walk_cost(
-    planned: &Seated<'_>,
-    weight: u64,
-    home: HostId,
-    nested: bool,
-    block: &[Stmt],
-    table: &[u16; HOSTS],
-) -> u64
-    requires { IsTable planned.now.needs.now planned.now.hosts.now block.now table.now }
-    ensures { let shape = seated_shape planned.now in
-        result ≡ capped (cost_of planned.now.hosts.now (walk_terms shape weight (on home) (ids_of block.now)
-        ++ (if nested then message weight (end_host shape (on home) (ids_of block.now)) home ∷ [] else []))) }
-{
-    let walked = walked(planned, weight, home, block, table);
-    if nested {
-        walked
-            .cost
-            .saturating_add(message(planned.hosts, weight, walked.end, home))
-    } else {
-        walked.cost
     }
 }

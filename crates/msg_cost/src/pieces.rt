@@ -5,11 +5,13 @@ ghost use Rattle.jif_tree.specs.Trees.{done, expr_tree, block_tree, tree_before,
 ghost use Rattle.msg_cost.specs.Pieces.{access, giving, walk, expr_pieces, argument_pieces};
 ghost use Rattle.msg_cost.specs.Pieces.{call_pieces, block_pieces, program_pieces};
 ghost use Rattle.msg_cost.specs.Moves.{own_statements};
-ghost use Rattle.msg_cost.specs.PieceViews.{all_pieces};
+ghost use Rattle.msg_cost.specs.PieceViews.{piece_shape, all_pieces};
 ghost use Rattle.msg_cost.specs.Tables.{HaveTables};
+ghost use Rattle.msg_cost.specs.Views.{ids_of};
 
 use crate::piece::Piece;
 use crate::table::with_table;
+use crate::walk::Walk;
 use crate::weight::inside;
 use host_decl::Hosts;
 use jif_tree::{Expr, Program, Stmt, StmtKind, params_of, tree_laws};
@@ -18,10 +20,7 @@ use js_base::{FieldId, MethodId, OutOfMemory, StmtId, VarId};
 use need_labels::Needs;
 use std::alloc::Global;
 
-/// Stands for the table of a walk until all pieces are there.
-const NO_TABLE: [u16; HOSTS] = [0; HOSTS];
-
-/// The pieces of what a program costs, each walk with the table of its block.
+/// The pieces of what a program costs, of which each walk knows its block.
 ///
 /// # Errors
 /// That memory ran out.
@@ -39,7 +38,7 @@ pub fn program_pieces<'a>(
     Ok(pieces)
 }
 
-/// Gives each walk the table of its block.
+/// Lets each walk know its block.
 fn add_tables(needs: &Needs, hosts: &Hosts, pieces: &mut [Piece<'_>])
     ensures pieces { all_pieces pieces.new ≡ all_pieces pieces.old }
     ensures tables { HaveTables needs.now hosts.now pieces.new }
@@ -49,25 +48,33 @@ fn add_tables(needs: &Needs, hosts: &Hosts, pieces: &mut [Piece<'_>])
     }
 }
 
-/// The pieces of what a program costs, without tables.
+/// The pieces of what a program costs, of which no walk knows its block.
 fn bare_pieces(alloc: Global, program: &Program) -> Result<Vec<Piece<'_>>, OutOfMemory>
     ensures { IfOk result (λ pieces. all_pieces pieces.items ≡ program_pieces (program_tree program.now)) }
 {
     let mut pieces = Vec::new(alloc);
     for method in &program.methods {
-        pieces.push(Piece::Walk {
-            weight: 1,
-            home: method.head,
-            nested: false,
-            block: &method.body,
-            table: NO_TABLE,
-        })?;
+        pieces.push(bare_walk(1, method.head, false, &method.body))?;
         add_block(&mut pieces, program, 1, &method.body)?;
     }
     pieces.push(Piece::Ending {
         method: program.main,
     })?;
     Ok(pieces)
+}
+
+/// A walk that knows nothing of its block yet.
+fn bare_walk(weight: u64, home: StmtId, nested: bool, block: &[Stmt]) -> Piece<'_>
+    ensures { piece_shape result ≡ walk weight home nested (ids_of block.now) }
+{
+    Piece::Walk(Walk {
+        weight,
+        home,
+        nested,
+        block,
+        ascending: false,
+        table: [0; HOSTS],
+    })
 }
 
 /// Adds the pieces of the statements of a block, without the walk over them.
@@ -100,13 +107,7 @@ fn add_nested<'a>(
         ≡ all_pieces pieces.old.items ++ (walk weight home true (own_statements (block_tree block.now))
         ∷ block_pieces (program_tree program.now) weight (block_tree block.now))) }
 {
-    pieces.push(Piece::Walk {
-        weight,
-        home,
-        nested: true,
-        block,
-        table: NO_TABLE,
-    })?;
+    pieces.push(bare_walk(weight, home, true, block))?;
     add_block(pieces, program, weight, block)
 }
 

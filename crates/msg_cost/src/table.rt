@@ -7,8 +7,10 @@ ghost use Rattle.msg_cost.specs.Kept.{is_trusted_from};
 ghost use Rattle.msg_cost.specs.PieceViews.{piece_shape};
 ghost use Rattle.msg_cost.specs.Tables.{planned_with, IsTrustedSince, IsTable, HasTable};
 
+use crate::around::is_ascending;
 use crate::piece::Piece;
 use crate::trust::is_trusted_for;
+use crate::walk::Walk;
 use host_decl::Hosts;
 use jif_tree::Stmt;
 use js_base::HostId;
@@ -20,7 +22,7 @@ use need_labels::Needs;
 pub const FAR: usize = 65_535;
 
 /// The table of a block: for each host the first place from which it is trusted for all statements to the end.
-fn block_table(needs: &Needs, hosts: &Hosts, block: &[Stmt]) -> [u16; HOSTS]
+pub fn block_table(needs: &Needs, hosts: &Hosts, block: &[Stmt]) -> [u16; HOSTS]
     ensures { IsTable needs.now hosts.now block.now result }
 {
     let mut table = [0; HOSTS];
@@ -63,25 +65,17 @@ fn short(number: usize) -> u16
     }
 }
 
-/// A piece with the table of its block, where it is a walk.
+/// A piece that knows of its block what a walk has to, where it is one.
 pub fn with_table<'a>(needs: &Needs, hosts: &Hosts, piece: Piece<'a>) -> Piece<'a>
     ensures shape { piece_shape result ≡ piece_shape piece.entry }
     ensures table { HasTable needs.now hosts.now result }
 {
     match piece {
-        Piece::Walk {
-            weight,
-            home,
-            nested,
-            block,
-            ..
-        } => Piece::Walk {
-            weight,
-            home,
-            nested,
-            block,
-            table: block_table(needs, hosts, block),
-        },
+        Piece::Walk(walk) => Piece::Walk(Walk {
+            ascending: is_ascending(walk.block),
+            table: block_table(needs, hosts, walk.block),
+            ..walk
+        }),
         Piece::Access { .. } => piece,
         Piece::Giving { .. } => piece,
         Piece::Calling { .. } => piece,

@@ -1,5 +1,5 @@
 -- What contracts see of plans with costs.
-use Rattle.std.specs.Prelude.{◌≡◌, ℕ, IfSome, length}
+use Rattle.std.specs.Prelude.{◌≡◌, ℕ, ◌<◌, ◌^◌, IfSome, length}
 use Rattle.need_labels.specs.Labelled.{labelled_of}
 use Rattle.need_labels.specs.Plan.{PlanShape}
 use Rattle.msg_cost.specs.declared.index.Index.{Index}
@@ -27,11 +27,12 @@ pub record IsCostedAs (cost : PlanShape → ℕ) (plan : PlanShape) (costed : Co
 abbrev pub IsCosted : (PlanShape → ℕ) → Costed → Type 0
 IsCosted cost costed = costed.cost ≡ cost costed.plan
 
--- what the pieces cost under a plan that moves of a part touch, to whichever host
+-- what the pieces cost under a plan that moves of a part touch, but for walks, to whichever host
 abbrev pub touched_in : Counted → Index → Part → PlanShape → ℕ
 touched_in counted index part plan =
     touched_cost (labelled_of counted.checked.now) counted.needs.now counted.hosts.now index (step_to part 0) plan
 
--- it has what they cost under its plan, where that was counted
+-- it has what they cost under its plan, where that was counted, and that is little
 abbrev pub IsWeighed : (PlanShape → ℕ) → Weighed → Type 0
-IsWeighed touched weighed = IfSome weighed.touched (λ cost. cost ≡ touched weighed.best.plan)
+IsWeighed touched weighed =
+    IfSome weighed.touched (λ cost. (cost ≡ touched weighed.best.plan) × (cost < 2 ^ 62))

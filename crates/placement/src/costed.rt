@@ -23,6 +23,6 @@ pub struct Costed {
 #[derive(Drop)]
 pub struct Weighed {
     pub best: Costed,
-    /// What the pieces cost in it that moves of the part touch, once that was counted.
+    /// What the pieces cost in it that moves of the part touch, but for walks, once that was counted.
     pub touched: Option<u64>,
 }

@@ -1,6 +1,6 @@
 //! Moves that lower the cost of a plan.
 
-ghost use Rattle.std.specs.Prelude.{◌≡◌, ◌↔◌, ◌+◌, IfOk, IsTrue, slice_set};
+ghost use Rattle.std.specs.Prelude.{◌≡◌, ◌↔◌, ◌+◌, ◌^◌, ◌<◌, IfOk, IsTrue, slice_set};
 ghost use Rattle.jif_tree.specs.Trees.{program_tree};
 ghost use Rattle.jif_tree.specs.Limits.{IsWithinLimits};
 ghost use Rattle.msg_cost.specs.Rows.{IsIndex};
@@ -13,7 +13,7 @@ use crate::costed::{Costed, Counted, Weighed};
 use crate::part::Part;
 use js_base::bits::has_bit;
 use js_base::{FieldId, HostId, OutOfMemory, StmtId};
-use msg_cost::{Index, Step, cost_after, cost_before};
+use msg_cost::{Change, Index, Step, cost_after, cost_before, walks_change};
 use need_labels::Plan;
 use place_rules::Allowed;
 use std::alloc::Global;
@@ -27,7 +27,7 @@ pub fn lowered(
     start: Costed,
 ) -> Result<Plan, OutOfMemory>
     requires within { IsWithinLimits (program_tree counted.checked.now.program) }
-    requires index { IsIndex (program_tree counted.checked.now.program) counted.needs.now counted.hosts.now index.now }
+    requires index { IsIndex counted.checked.now.program counted.needs.now counted.hosts.now index.now }
     requires costed { IsCosted (cost_in counted) start }
     ensures { IfOk result (IsLowered (cost_in counted.entry) (steps_in (count_in counted.entry) allowed.now)
         start.plan) }
@@ -51,7 +51,7 @@ fn pass(
     best: Costed,
 ) -> Result<Costed, OutOfMemory>
     requires within { IsWithinLimits (program_tree counted.checked.now.program) }
-    requires index { IsIndex (program_tree counted.checked.now.program) counted.needs.now counted.hosts.now index.now }
+    requires index { IsIndex counted.checked.now.program counted.needs.now counted.hosts.now index.now }
     requires costed { IsCosted (cost_in counted) best }
     ensures { IfOk result (IsCostedAs (cost_in counted.entry)
         (after_steps (cost_in counted.entry) best.plan (steps_in (count_in counted.entry) allowed.now))) }
@@ -69,7 +69,7 @@ fn pass_over_fields(
     best: Costed,
 ) -> Result<Costed, OutOfMemory>
     requires within { IsWithinLimits (program_tree counted.checked.now.program) }
-    requires index { IsIndex (program_tree counted.checked.now.program) counted.needs.now counted.hosts.now index.now }
+    requires index { IsIndex counted.checked.now.program counted.needs.now counted.hosts.now index.now }
     requires costed { IsCosted (cost_in counted) best }
     ensures { IfOk result (IsCostedAs (cost_in counted.entry)
         (after_steps (cost_in counted.entry) best.plan (steps_from field_part (count_in counted.entry) 0 words.now))) }
@@ -98,7 +98,7 @@ fn pass_over_statements(
     best: Costed,
 ) -> Result<Costed, OutOfMemory>
     requires within { IsWithinLimits (program_tree counted.checked.now.program) }
-    requires index { IsIndex (program_tree counted.checked.now.program) counted.needs.now counted.hosts.now index.now }
+    requires index { IsIndex counted.checked.now.program counted.needs.now counted.hosts.now index.now }
     requires costed { IsCosted (cost_in counted) best }
     ensures { IfOk result (IsCostedAs (cost_in counted.entry)
         (after_steps (cost_in counted.entry) best.plan
@@ -139,7 +139,7 @@ fn try_part(
     word: u16,
 ) -> Result<Costed, OutOfMemory>
     requires within { IsWithinLimits (program_tree counted.checked.now.program) }
-    requires index { IsIndex (program_tree counted.checked.now.program) counted.needs.now counted.hosts.now index.now }
+    requires index { IsIndex counted.checked.now.program counted.needs.now counted.hosts.now index.now }
     requires costed { IsCosted (cost_in counted) best }
     ensures { IfOk result (IsCostedAs (cost_in counted.entry)
         (after_steps (cost_in counted.entry) best.plan (steps_of part word (count_in counted.entry)))) }
@@ -168,7 +168,7 @@ fn try_host(
     host: HostId,
 ) -> Result<Weighed, OutOfMemory>
     requires within { IsWithinLimits (program_tree counted.checked.now.program) }
-    requires index { IsIndex (program_tree counted.checked.now.program) counted.needs.now counted.hosts.now index.now }
+    requires index { IsIndex counted.checked.now.program counted.needs.now counted.hosts.now index.now }
     requires costed { IsCosted (cost_in counted) tried.best }
     requires weighed { IsWeighed (touched_in counted index.now part) tried }
     ensures best { IfOk result (λ next. IsCostedAs (cost_in counted.entry)
@@ -181,9 +181,11 @@ fn try_host(
     }
     let before = touched_before(counted, index, &tried, part);
     let after = touched_after(counted, index, &tried.best.plan, part, host);
-    if after < before {
+    let walks = walks_touched(counted, index, &tried.best.plan, part, host);
+    if after + walks.after < before + walks.before {
         let plan = moved(alloc, &tried.best.plan, step)?;
-        let cost = tried.best.cost.saturating_sub(before - after);
+        let saved = (before + walks.before) - (after + walks.after);
+        let cost = tried.best.cost.saturating_sub(saved);
         Ok(Weighed {
             best: Costed { plan, cost },
             touched: Some(after),
@@ -196,12 +198,13 @@ fn try_host(
     }
 }
 
-/// What the pieces cost that moves of a part touch, as the plan stands. It is counted once for a plan.
+/// What the pieces cost that moves of a part touch, but for walks, as the plan stands. It is counted once for a plan.
 fn touched_before(counted: Counted<'_>, index: &Index<'_>, tried: &Weighed, part: Part) -> u64
     requires within { IsWithinLimits (program_tree counted.checked.now.program) }
-    requires index { IsIndex (program_tree counted.checked.now.program) counted.needs.now counted.hosts.now index.now }
+    requires index { IsIndex counted.checked.now.program counted.needs.now counted.hosts.now index.now }
     requires weighed { IsWeighed (touched_in counted index.now part) tried.now }
-    ensures { result ≡ touched_in counted.entry index.now part tried.now.best.plan }
+    ensures cost { result ≡ touched_in counted.entry index.now part tried.now.best.plan }
+    ensures small { result < 2 ^ 62 }
 {
     if let Some(cost) = tried.touched {
         return cost;
@@ -215,7 +218,7 @@ fn touched_before(counted: Counted<'_>, index: &Index<'_>, tried: &Weighed, part
     cost_before(checked, needs, hosts, index, &tried.best.plan, step)
 }
 
-/// What they cost behind a move of the part. The cost of the plan changes as this does.
+/// What they cost behind a move of the part.
 fn touched_after(
     counted: Counted<'_>,
     index: &Index<'_>,
@@ -224,10 +227,9 @@ fn touched_after(
     host: HostId,
 ) -> u64
     requires within { IsWithinLimits (program_tree counted.checked.now.program) }
-    requires index { IsIndex (program_tree counted.checked.now.program) counted.needs.now counted.hosts.now index.now }
+    requires index { IsIndex counted.checked.now.program counted.needs.now counted.hosts.now index.now }
     ensures cost { result ≡ touched_in counted.entry index.now part (moved plan.now (step_to part host.0)) }
-    ensures change { cost_in counted.entry (moved plan.now (step_to part host.0))
-        + touched_in counted.entry index.now part plan.now ≡ cost_in counted.entry plan.now + result }
+    ensures small { result < 2 ^ 62 }
 {
     let Counted {
         checked,
@@ -235,6 +237,31 @@ fn touched_after(
         hosts,
     } = counted;
     cost_after(checked, needs, hosts, index, plan, part.step_to(host))
+}
+
+/// What the walks cost that a move of the part touches, before it and behind it, but for what they cost both times.
+/// With the costs of the other pieces, the cost of the plan changes as these do.
+fn walks_touched(
+    counted: Counted<'_>,
+    index: &Index<'_>,
+    plan: &Plan,
+    part: Part,
+    host: HostId,
+) -> Change
+    requires within { IsWithinLimits (program_tree counted.checked.now.program) }
+    requires index { IsIndex counted.checked.now.program counted.needs.now counted.hosts.now index.now }
+    ensures change { cost_in counted.entry (moved plan.now (step_to part host.0))
+        + (touched_in counted.entry index.now part plan.now + result.before)
+        ≡ cost_in counted.entry plan.now
+        + (touched_in counted.entry index.now part (moved plan.now (step_to part host.0)) + result.after) }
+    ensures small { (result.before < 2 ^ 62) × (result.after < 2 ^ 62) }
+{
+    let Counted {
+        checked,
+        needs,
+        hosts,
+    } = counted;
+    walks_change(checked, needs, hosts, index, plan, part.step_to(host))
 }
 
 /// Whether a move leaves the plan as it is: its part stands on the host already, or there is no such part.

@@ -10,7 +10,7 @@ use Rattle.msg_cost.specs.Cost.{cost_of}
 use Rattle.msg_cost.specs.Moves.{on}
 use Rattle.msg_cost.specs.Terms.{block_terms}
 use Rattle.msg_cost.specs.Views.{seated_shape, ids_of, capped}
-use Rattle.msg_cost.proofs.Sums.{CostsWith}
+use Rattle.msg_cost.specs.Walks.{CostsWith}
 use Rattle.msg_cost.proofs.Walks.{one_walked, branch_alone, loop_alone}
 use Rattle.msg_cost.proofs.blocks.+blocks.Goals as goal
 

@@ -5,7 +5,7 @@ use Rattle.msg_cost.specs.Moves.{on}
 use Rattle.msg_cost.specs.Terms.{block_terms}
 use Rattle.msg_cost.specs.Tables.{IsRight}
 use Rattle.msg_cost.specs.Views.{seated_shape}
-use Rattle.msg_cost.proofs.Sums.{CostsWith}
+use Rattle.msg_cost.specs.Walks.{CostsWith}
 use Rattle.msg_cost.proofs.blocks.+blocks.Given as goal
 
 -- the total counts the statements so far

@@ -2,7 +2,7 @@ use Rattle.std.proofs.Common.{drop, map}
 use Rattle.jif_tree.specs.Trees.{expr_tree}
 use Rattle.msg_cost.specs.Terms.{argument_terms}
 use Rattle.msg_cost.specs.Views.{seated_shape}
-use Rattle.msg_cost.proofs.Sums.{CostsWith}
+use Rattle.msg_cost.specs.Walks.{CostsWith}
 use Rattle.msg_cost.proofs.calls.argument_cost.Given as goal
 
 -- the total counts the arguments so far

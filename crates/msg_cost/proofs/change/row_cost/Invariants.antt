@@ -1,14 +1,10 @@
 use Rattle.std.proofs.Common.{◌≡◌, take}
-use Rattle.std.specs.Prelude.{IfSome}
-use Rattle.msg_cost.specs.Ends.{IsEnd}
-use Rattle.msg_cost.specs.Pieces.{pieces_cost}
+use Rattle.msg_cost.specs.Pieces.{others_cost}
 use Rattle.msg_cost.specs.PieceViews.{all_pieces}
 use Rattle.msg_cost.specs.Views.{seated_shape, capped}
 use Rattle.msg_cost.proofs.change.row_cost.Given as goal
 
--- the total is what the pieces so far cost
+-- the total is what the pieces so far cost, but for walks
 abbrev pub invariant-loop-piece : goal.invariant-loop-piece
-invariant-loop-piece l = record {
-  total : l.total ≡ capped (pieces_cost (seated_shape l.planned) (all_pieces (take l.piece-index l.row)));
-  last : IfSome l.last (IsEnd (seated_shape l.planned));
-}
+invariant-loop-piece l =
+    l.total ≡ capped (others_cost (seated_shape l.planned) (all_pieces (take l.piece-index l.row)))

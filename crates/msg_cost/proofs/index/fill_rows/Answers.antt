@@ -36,6 +36,7 @@ loop-place-preserved c =
           (rows_more touched (all_pieces (take place pieces)) (piece_shape piece) (place + 1) before after
           c.note_all.new.marks c.loop-place.invariant.rows noted);
       long = marked ∙ sym long;
+      many = long ∙ c.loop-place.invariant.many;
       turns = next_turn (place + 1) (piece_shape piece) numbers before after c.note_all.new.marks noted;
       tables = λ hosts have was.
           let has = table_of c.args.needs.now hosts pieces place piece c.loop-place-test.true c.index-pieces-place.is

@@ -12,6 +12,7 @@ invariant-loop-place l = record {
   rows : AreRows (numbers_of l.kind (program_tree l.program) l.needs) (all_pieces (take l.place l.pieces))
       (rows_of l.rows.items);
   long : length l.marks ≡ length (rows_of l.rows.items);
+  many : length (rows_of l.rows.items) ≡ length (rows_of l.fn.rows.items);
   turns : (number : ℕ) → number < length l.marks → get_or l.marks number 0 ≤ l.place;
   tables : (hosts : HostsShape) → HaveTables l.needs hosts l.pieces →
       RowsHaveTables l.needs hosts l.fn.rows.items → RowsHaveTables l.needs hosts l.rows.items;

@@ -1,4 +1,4 @@
-use Rattle.std.proofs.Common.{List, ◌∙◌, ap, subst}
+use Rattle.std.proofs.Common.{List, ◌∙◌, length, ap, subst}
 use Rattle.jif_tree.specs.Trees.{program_tree}
 use Rattle.msg_cost.specs.declared.index.Kind.TheVariants as kind
 use Rattle.msg_cost.specs.Pieces.{Piece}
@@ -14,12 +14,17 @@ returns c =
     let pieces = c.in_ok-pieces.ensures.pieces in
     let tables = c.in_ok-pieces.ensures.tables in
     record {
-      fields = subst (λ (all : List Piece).
-          AreRows (numbers_of kind.Fields program needs) all (rows_of c.in_ok-fields.fields.items))
-          (ap all_pieces c.deref.ensures.value ∙ pieces) c.in_ok-fields.ensures.rows;
-      statements = subst (λ (all : List Piece).
-          AreRows (numbers_of kind.Statements program needs) all (rows_of c.in_ok-statements.statements.items))
-          (ap all_pieces c.deref-2.ensures.value ∙ pieces) c.in_ok-statements.ensures.rows;
+      rows = record {
+        fields = subst (λ (all : List Piece).
+            AreRows (numbers_of kind.Fields program needs) all (rows_of c.in_ok-fields.fields.items))
+            (ap all_pieces c.deref.ensures.value ∙ pieces) c.in_ok-fields.ensures.rows;
+        statements = subst (λ (all : List Piece).
+            AreRows (numbers_of kind.Statements program needs) all (rows_of c.in_ok-statements.statements.items))
+            (ap all_pieces c.deref-2.ensures.value ∙ pieces) c.in_ok-statements.ensures.rows;
+      };
+      long_fields = c.in_ok-fields.ensures.long ∙ c.len-count.ensures ∙ c.args.checked.now.program.fields.ok.0;
+      long_statements = c.in_ok-statements.ensures.long ∙ ap length c.need-count.ensures;
       field_tables = c.in_ok-fields.ensures.tables hosts (rw c.deref.ensures.value tables);
       statement_tables = c.in_ok-statements.ensures.tables hosts (rw c.deref-2.ensures.value tables);
+      bodies = c.in_ok-bodies.ensures;
     }

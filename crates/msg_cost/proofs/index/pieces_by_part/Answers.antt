@@ -1,5 +1,8 @@
 use Rattle.std.proofs.Common.{◌≡◌, ◌∙◌, [], List, ℕ, length, get_or, replicate, sym, ap, arith}
-use Rattle.std.proofs.lemmas.List.{length-replicate, get_or-replicate}
+use Rattle.std.proofs.lemmas.List.{length-map, length-replicate, get_or-replicate}
+use Rattle.std.specs.Global.{Vec}
+use Rattle.msg_cost.specs.declared.piece.Piece.{Piece as Kept}
+use Rattle.msg_cost.specs.PieceViews.{all_pieces}
 use Rattle.msg_cost.specs.Pieces.{Piece}
 use Rattle.msg_cost.proofs.Noting.{no_rows}
 use Rattle.msg_cost.proofs.TrustTables.{empty_tables}
@@ -25,6 +28,13 @@ fill_rows-requires-clause-unmarked c number below =
 
 pub returns-clause-rows : goal.returns-clause-rows
 returns-clause-rows c = c.in_ok-fill_rows.ensures.rows
+
+pub returns-clause-long : goal.returns-clause-long
+returns-clause-long c =
+    let shape : Vec Kept → List Piece = λ row. all_pieces row.items in
+    sym (length-map c.fill_rows.new.rows.items shape)
+    ∙ c.in_ok-fill_rows.ensures.long ∙ ap length c.in_ok-rows.ensures
+    ∙ length-replicate {A = List Piece} c.args.count []
 
 pub returns-clause-tables : goal.returns-clause-tables
 returns-clause-tables c hosts have =

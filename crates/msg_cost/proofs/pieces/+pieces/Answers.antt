@@ -1,4 +1,4 @@
-use Rattle.std.proofs.Common.{◌≡◌, ◌∙◌, ◌++◌, suc, true, List, ◌∷◌, drop, ap, sym, subst, add-one, arith}
+use Rattle.std.proofs.Common.{◌≡◌, ◌∙◌, ◌++◌, suc, true, List, [], ◌∷◌, drop, ap, sym, subst, add-one, arith}
 use Rattle.std.proofs.lemmas.Result.{IfOk-weaker}
 use Rattle.js_base.proofs.Lists.{next_of}
 use Rattle.jif_tree.specs.declared.program.Stmt.{Stmt}
@@ -7,7 +7,7 @@ use Rattle.jif_tree.specs.Trees.{BlockTree, done, expr_tree, statement_tree, blo
 use Rattle.jif_tree.specs.Trees.{program_tree}
 use Rattle.jif_tree.proofs.StatementCounts.{part_counts, first_counts, second_counts, body_counts}
 use Rattle.msg_cost.specs.Moves.{own_statements}
-use Rattle.msg_cost.specs.Pieces.{walk, block_pieces}
+use Rattle.msg_cost.specs.Pieces.{Piece, walk, block_pieces}
 use Rattle.msg_cost.specs.PieceViews.{all_pieces}
 use Rattle.msg_cost.proofs.PieceWalks.{one_more, pushed_one, walked_added, branch_pieces, loop_pieces}
 use Rattle.msg_cost.proofs.pieces.+pieces.Goals as goal
@@ -38,7 +38,8 @@ pub add_nested-returns : goal.add_nested-returns
 add_nested-returns t c =
     let program = program_tree c.args.program.now in
     let old = all_pieces c.args.pieces.now.items in
-    let pushed = pushed_one c.args.pieces.now.items c.push.new.self.items _ c.in_ok-push.ensures.items in
+    let pushed = pushed_one c.args.pieces.now.items c.push.new.self.items _ c.in_ok-push.ensures.items
+    ∙ ap (λ (one : Piece). old ++ one ∷ []) c.bare_walk.ensures in
     IfOk-weaker c.add_block.result
     (λ (done : Unit {0}). all_pieces c.add_block.new.pieces.items
     ≡ all_pieces c.push.new.self.items ++ block_pieces program c.args.weight (block_tree c.args.block.now))

@@ -1,9 +1,9 @@
-use Rattle.std.proofs.Common.{◌≡◌, ◌++◌, suc, false, List, map, drop, subst, add-one}
+use Rattle.std.proofs.Common.{◌≡◌, ◌∙◌, ◌++◌, suc, false, List, [], ◌∷◌, map, drop, ap, subst, add-one}
 use Rattle.std.specs.List.{flat_map}
 use Rattle.js_base.proofs.Lists.{next_of}
 use Rattle.jif_tree.specs.declared.program.Method.{Method}
 use Rattle.jif_tree.specs.Trees.{method_tree, program_tree}
-use Rattle.msg_cost.specs.Pieces.{method_pieces}
+use Rattle.msg_cost.specs.Pieces.{Piece, method_pieces}
 use Rattle.msg_cost.specs.PieceViews.{all_pieces}
 use Rattle.msg_cost.proofs.PieceWalks.{pushed_one, walked_added, method_more}
 use Rattle.msg_cost.proofs.pieces.bare_pieces.Goals as goal
@@ -17,8 +17,8 @@ loop-method-preserved c =
     let next = next_of items c.loop-method.method-index method c.loop-method-test.true c.method-item.is in
     let P : List Method → Type 0 = λ left. so_far ++ flat_map (method_pieces program) (map method_tree left)
     ≡ flat_map (method_pieces program) (map method_tree items) in
-    let pushed = pushed_one c.loop-method.pieces.items c.push.new.self.items _
-    (rw c.deref.ensures.value at c.in_ok-push.ensures.items) in
+    let pushed = pushed_one c.loop-method.pieces.items c.push.new.self.items _ c.in_ok-push.ensures.items
+    ∙ ap (λ (one : Piece). so_far ++ one ∷ []) (rw c.deref.ensures.value at c.bare_walk.ensures) in
     rw add-one
     (method_more program so_far _ _ method (drop (suc c.loop-method.method-index) items)
     (subst P next c.loop-method.invariant)

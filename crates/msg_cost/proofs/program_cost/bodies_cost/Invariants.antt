@@ -3,7 +3,7 @@ use Rattle.std.specs.List.{flat_map}
 use Rattle.jif_tree.specs.Trees.{method_tree}
 use Rattle.msg_cost.specs.Terms.{method_terms}
 use Rattle.msg_cost.specs.Views.{seated_shape}
-use Rattle.msg_cost.proofs.Sums.{CostsWith}
+use Rattle.msg_cost.specs.Walks.{CostsWith}
 use Rattle.msg_cost.proofs.program_cost.bodies_cost.Given as goal
 
 -- the total counts the methods so far

@@ -1,4 +1,4 @@
-use Rattle.std.proofs.Common.{◌∙◌, arith}
+use Rattle.std.proofs.Common.{◌∙◌}
 use Rattle.msg_cost.specs.Steps.{moved}
 use Rattle.placement.specs.Steps.{step_to}
 use Rattle.placement.proofs.Touched.{touched_by}
@@ -9,9 +9,3 @@ returns-clause-cost c =
     (rw c.step_to.ensures at c.cost_after.ensures.cost)
     ∙ touched_by c.args.counted c.args.index.now c.args.part c.args.host.0
     (moved c.args.plan.now (step_to c.args.part c.args.host.0))
-
-pub returns-clause-change : goal.returns-clause-change
-returns-clause-change c =
-    let change = rw c.step_to.ensures at c.cost_after.ensures.change in
-    let same = touched_by c.args.counted c.args.index.now c.args.part c.args.host.0 c.args.plan.now in
-    omega arith
