@@ -1109,7 +1109,7 @@ fn starting_plan(allowed: &Allowed, host: usize) -> Plan {
 
 /// Which host runs the statements of a block from some statement on, and which gets the right to go on behind a segment
 /// to whose host it is lent.
-#[derive(Clone, Copy)]
+#[derive(Clone, Copy, PartialEq)]
 struct Spot {
     host: usize,
     back: Option<usize>,
@@ -1135,16 +1135,26 @@ struct Costs<'a> {
     reading: Vec<u16>,
     /// By method, the host that holds the right to go on behind its body.
     ends: Vec<usize>,
+    /// A statement that is moved, and the host to which it goes.
+    moved: Option<(usize, usize)>,
 }
 
 impl<'a> Costs<'a> {
     fn new(program: &'a Program, needs: &'a Needs, hosts: &'a Hosts, plan: &'a Plan) -> Costs<'a> {
         let word = |readers: &Vec<usize>| readers.iter().fold(0, |word, reader| word | 1 << plan.statements[*reader]);
         let reading = needs.readers.iter().map(word).collect();
-        let mut costs = Costs { program, needs, hosts, plan, reading, ends: Vec::new() };
+        let mut costs = Costs { program, needs, hosts, plan, reading, ends: Vec::new(), moved: None };
         let ends = program.methods.iter().map(|method| costs.block_end(plan.statements[method.head], &method.body));
         costs.ends = ends.collect();
         costs
+    }
+
+    /// The host of a statement, behind the move where there is one.
+    fn at(&self, statement: usize) -> usize {
+        match self.moved {
+            Some((moved, host)) if moved == statement => host,
+            _ => self.plan.statements[statement],
+        }
     }
 
     fn message(&self, weight: u64, from: usize, to: usize) -> u64 {
@@ -1160,7 +1170,7 @@ impl<'a> Costs<'a> {
     }
 
     fn return_host(&self, from: usize, host: usize, statements: &[Stmt]) -> usize {
-        let others = statements.iter().map(|statement| self.plan.statements[statement.id]);
+        let others = statements.iter().map(|statement| self.at(statement.id));
         let costs = &self.hosts.costs;
         match others.into_iter().find(|other| *other != host) {
             Some(next)
@@ -1175,7 +1185,7 @@ impl<'a> Costs<'a> {
 
     /// Where the first of these statements runs, behind a spot.
     fn next_spot(&self, spot: Spot, statements: &[Stmt]) -> Spot {
-        let host = self.plan.statements[statements[0].id];
+        let host = self.at(statements[0].id);
         if spot.host == host {
             return spot;
         }
@@ -1231,7 +1241,7 @@ impl<'a> Costs<'a> {
     }
 
     fn home(&self, method: usize) -> usize {
-        self.plan.statements[self.program.methods[method].head]
+        self.at(self.program.methods[method].head)
     }
 
     fn block(&self, weight: u64, home: usize, block: &[Stmt]) -> u64 {
@@ -1442,57 +1452,97 @@ impl<'a> Index<'a> {
     }
 }
 
+/// What something costs before a move and behind it, but for what it costs both times.
+#[derive(Clone, Copy, Default)]
+struct Change {
+    before: u64,
+    after: u64,
+}
+
 impl<'a> Costs<'a> {
+    /// The host that holds the right to go on behind a block. Each statement stands on a host that may hold it, and so
+    /// the last segment is not lent.
+    fn end_of(&self, home: usize, block: &[Stmt]) -> usize {
+        block.last().map_or(home, |last| self.at(last.id))
+    }
+
     fn found_end(&self, method: usize) -> usize {
-        self.block_end(self.home(method), &self.program.methods[method].body)
+        self.end_of(self.home(method), &self.program.methods[method].body)
     }
 
-    /// The same, kept where the method was asked for last.
-    fn last_end(&self, last: &mut Option<(usize, usize)>, method: usize) -> usize {
-        match *last {
-            Some((known, end)) if known == method => end,
-            _ => {
-                let end = self.found_end(method);
-                *last = Some((method, end));
-                end
-            }
-        }
-    }
-
-    fn piece(&self, piece: &Piece, last: &mut Option<(usize, usize)>) -> u64 {
-        let at = |statement: usize| self.plan.statements[statement];
+    /// What a piece costs that is no walk.
+    fn piece(&self, piece: &Piece) -> u64 {
         match *piece {
-            Piece::Access { weight, statement, field } => self.field(weight, at(statement), field),
+            Piece::Access { weight, statement, field } => self.field(weight, self.at(statement), field),
             Piece::Giving { weight, statement, var } => {
-                let word = self.needs.readers[var].iter().fold(0u16, |word, reader| word | 1 << at(*reader));
-                let host = at(statement);
+                let word = self.needs.readers[var].iter().fold(0u16, |word, reader| word | 1 << self.at(*reader));
+                let host = self.at(statement);
                 let others = (0..self.hosts.hosts.len()).filter(|other| *other != host && word >> other & 1 == 1);
                 others.map(|other| self.exchange(weight, host, other)).sum()
             }
             Piece::Calling { weight, statement, method, kept } => {
-                let (host, end) = (at(statement), self.last_end(last, method));
+                let (host, end) = (self.at(statement), self.found_end(method));
                 let both = self.message(weight, host, self.home(method)) + self.message(weight, end, host);
                 both + if kept { self.exchange(weight, end, host) } else { 0 }
             }
-            Piece::Walk { weight, home, nested, block } => {
-                let home = at(home);
-                let mut total = 0;
-                let mut spot = Spot::on(home);
-                for place in 0..block.len() {
-                    let next = self.next_spot(spot, &block[place..]);
-                    total += self.move_on(weight, spot, next);
-                    spot = next;
-                }
-                total + self.leave(weight, spot) + if nested { self.message(weight, spot.end(), home) } else { 0 }
-            }
-            Piece::Ending { method } => self.message(1, self.last_end(last, method), self.home(method)),
+            Piece::Walk { .. } => 0,
+            Piece::Ending { method } => self.message(1, self.found_end(method), self.home(method)),
         }
     }
 
     fn row(&self, row: &[Piece]) -> u64 {
-        let mut last = None;
-        row.iter().map(|piece| self.piece(piece, &mut last)).sum()
+        row.iter().map(|piece| self.piece(piece)).sum()
     }
+
+    /// The last start of a walk up to a place at which its spot is known: one behind a statement whose host is trusted
+    /// for the rest, or that of the block.
+    fn last_start(&self, home: usize, block: &[Stmt], most: usize) -> (usize, Spot) {
+        let known = |place: &usize| self.is_trusted_for_all(self.at(block[*place].id), &block[*place..]);
+        match (0..most).rev().find(known) {
+            Some(place) => (place + 1, Spot::on(self.at(block[place].id))),
+            None => (0, Spot::on(home)),
+        }
+    }
+}
+
+/// What a walk costs before and behind the move of a statement. Both are gone over in step, from the last known spot up
+/// to the statement to where they meet behind it.
+fn walk_change(before: &Costs, after: &Costs, weight: u64, home: usize, nested: bool, block: &[Stmt]) -> Change {
+    let moved = after.moved.expect("a move").0;
+    let place = block.partition_point(|statement| statement.id < moved);
+    let same_from = place + usize::from(block.get(place).is_some_and(|statement| statement.id == moved));
+    let (old_home, new_home) = (before.at(home), after.at(home));
+    let (start, mut first) = before.last_start(old_home, block, if home == moved { 0 } else { place });
+    let mut second = if start == 0 { Spot::on(new_home) } else { first };
+    let mut change = Change::default();
+    if nested {
+        change.before += before.message(weight, before.end_of(old_home, block), old_home);
+        change.after += after.message(weight, after.end_of(new_home, block), new_home);
+    }
+    for place in start..block.len() {
+        if place >= same_from && first == second {
+            return change;
+        }
+        let (next, then) = (before.next_spot(first, &block[place..]), after.next_spot(second, &block[place..]));
+        change.before += before.move_on(weight, first, next);
+        change.after += after.move_on(weight, second, then);
+        (first, second) = (next, then);
+    }
+    change.before += before.leave(weight, first);
+    change.after += after.leave(weight, second);
+    change
+}
+
+fn walks_change(before: &Costs, after: &Costs, row: &[Piece]) -> Change {
+    let mut total = Change::default();
+    for piece in row {
+        if let Piece::Walk { weight, home, nested, block } = *piece {
+            let one = walk_change(before, after, weight, home, nested, block);
+            total.before += one.before;
+            total.after += one.after;
+        }
+    }
+    total
 }
 
 /// The plan to which passes of moves come.
@@ -1501,28 +1551,43 @@ fn lowered(program: &Program, needs: &Needs, hosts: &Hosts, allowed: &Allowed, s
     let (mut plan, mut cost) = start;
     loop {
         let before = cost;
-        for (kind, words, rows) in
-            [(0, &allowed.fields, &index.fields), (1, &allowed.statements, &index.statements)]
-        {
-            for (number, word) in words.iter().enumerate() {
-                let row = &rows[number];
-                let mut known = None;
-                for host in 0..hosts.hosts.len() {
-                    if word >> host & 1 == 0 {
-                        continue;
-                    }
-                    let old = if kind == 0 { plan.fields[number] } else { plan.statements[number] };
-                    if old == host {
-                        continue;
-                    }
-                    let was = known.unwrap_or_else(|| counted(program, needs, hosts, &plan).row(row));
+        for (number, word) in allowed.fields.iter().enumerate() {
+            let row = &index.fields[number];
+            let mut known = None;
+            for host in (0..hosts.hosts.len()).filter(|host| word >> host & 1 == 1) {
+                let old = plan.fields[number];
+                if old == host {
+                    continue;
+                }
+                let was = known.unwrap_or_else(|| counted(program, needs, hosts, &plan, None).row(row));
+                plan.fields[number] = host;
+                let now = counted(program, needs, hosts, &plan, None).row(row);
+                if now < was {
+                    cost = cost + now - was;
+                    known = Some(now);
+                } else {
+                    plan.fields[number] = old;
                     known = Some(was);
-                    if kind == 0 { plan.fields[number] = host } else { plan.statements[number] = host }
-                    let now = counted(program, needs, hosts, &plan).row(row);
-                    if now < was {
-                        cost = cost + now - was;
-                        known = Some(now);
-                    } else if kind == 0 { plan.fields[number] = old } else { plan.statements[number] = old }
+                }
+            }
+        }
+        for (number, word) in allowed.statements.iter().enumerate() {
+            let row = &index.statements[number];
+            let mut known = None;
+            for host in (0..hosts.hosts.len()).filter(|host| word >> host & 1 == 1) {
+                if plan.statements[number] == host {
+                    continue;
+                }
+                let old = counted(program, needs, hosts, &plan, None);
+                let new = counted(program, needs, hosts, &plan, Some((number, host)));
+                let was = known.unwrap_or_else(|| old.row(row));
+                let now = new.row(row);
+                let walks = walks_change(&old, &new, row);
+                known = Some(was);
+                if now + walks.after < was + walks.before {
+                    cost = cost + now + walks.after - was - walks.before;
+                    known = Some(now);
+                    plan.statements[number] = host;
                 }
             }
         }
@@ -1532,8 +1597,14 @@ fn lowered(program: &Program, needs: &Needs, hosts: &Hosts, allowed: &Allowed, s
     }
 }
 
-fn counted<'a>(program: &'a Program, needs: &'a Needs, hosts: &'a Hosts, plan: &'a Plan) -> Costs<'a> {
-    Costs { program, needs, hosts, plan, reading: Vec::new(), ends: Vec::new() }
+fn counted<'a>(
+    program: &'a Program,
+    needs: &'a Needs,
+    hosts: &'a Hosts,
+    plan: &'a Plan,
+    moved: Option<(usize, usize)>,
+) -> Costs<'a> {
+    Costs { program, needs, hosts, plan, reading: Vec::new(), ends: Vec::new(), moved }
 }
 
 // ---- the report
