@@ -1675,17 +1675,32 @@ fn load(name: &str) -> Result<Vec<u8>, Stop> {
     })
 }
 
-fn checked(program: &str, hosts: &str) -> Result<String, Stop> {
-    let (program, hosts) = (load(program)?, load(hosts)?);
-    let tokens = lex(&program).map_err(why_no_tokens)?;
+/// A program with the plan that is chosen for it.
+struct Placed {
+    program: Program,
+    hosts: Hosts,
+    needs: Needs,
+    allowed: Allowed,
+    plan: Plan,
+    cost: u64,
+}
+
+fn placed(program: &[u8], hosts: &[u8]) -> Result<Placed, Stop> {
+    let tokens = lex(program).map_err(why_no_tokens)?;
     let draft = parse(&tokens).map_err(why_no_program)?;
-    let (principals, hosts) = read_hosts(&hosts)?;
+    let (principals, hosts) = read_hosts(hosts)?;
     let mut program = resolve(&draft, &principals)?;
     let found = check(&mut program, &principals)?;
     let needs = needs_of(&principals, &program, &found);
     let allowed = allowed_on(&program, &needs, &hosts)?;
     let start = cheapest_plan(&program, &needs, &hosts, &allowed);
     let (plan, cost) = lowered(&program, &needs, &hosts, &allowed, start);
+    Ok(Placed { program, hosts, needs, allowed, plan, cost })
+}
+
+fn checked(program: &str, hosts: &str) -> Result<String, Stop> {
+    let (program, hosts) = (load(program)?, load(hosts)?);
+    let Placed { program, hosts, allowed, plan, cost, .. } = placed(&program, &hosts)?;
     Ok(report(&program, &hosts, &allowed, &plan, cost))
 }
 

@@ -114,15 +114,7 @@ fn last_point(entries: &[Entry], home: usize) -> usize {
 
 fn made(count: u64) -> Result<String, Stop> {
     let text = program_text(count);
-    let tokens = lex(text.as_bytes()).map_err(why_no_tokens)?;
-    let draft = parse(&tokens).map_err(why_no_program)?;
-    let (principals, hosts) = read_hosts(HOSTS_TEXT.as_bytes())?;
-    let mut program = resolve(&draft, &principals)?;
-    let found = check(&mut program, &principals)?;
-    let needs = needs_of(&principals, &program, &found);
-    let allowed = allowed_on(&program, &needs, &hosts)?;
-    let start = cheapest_plan(&program, &needs, &hosts, &allowed);
-    let (plan, cost) = lowered(&program, &needs, &hosts, &allowed, start);
+    let Placed { program, hosts, needs, plan, cost, .. } = placed(text.as_bytes(), HOSTS_TEXT.as_bytes())?;
     let code = emitted(&program, &needs, &hosts, &plan);
     let mut world = world::World::start(&code, 0);
     let mut events = 0_u64;
