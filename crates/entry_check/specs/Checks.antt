@@ -1,4 +1,7 @@
 -- What one host may ask of another: the checks that a host makes on each request that reaches it.
+--
+-- Checks are made once. What each host may ask is computed when the host starts, one word for each field, variable and
+-- entry, with a bit for each host. Asking takes no memory then, and no look at labels.
 use Rattle.std.specs.Prelude.{◌≡◌, ◌≢◌, ℕ, ◌<◌, ◌↔◌, List, Option, Some, None, IsSomeAnd}
 use Rattle.std.specs.Prelude.{slice_get, slice_index}
 use Rattle.std.specs.Option.{option_map}

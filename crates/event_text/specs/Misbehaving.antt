@@ -1,4 +1,7 @@
 -- The lines that name the hosts that misbehave.
+--
+-- Scripts name misbehaving hosts before they set values. So the word of misbehaving hosts is known when the first act
+-- is read, and a token that an act calls its own can be refused by its line alone, before any event happens.
 use Rattle.std.specs.Prelude.{ℕ, ◌^◌, if◌then◌else◌, List, [], ◌∷◌, Option, Some, None, bit_or, codes, is_some}
 use Rattle.std.specs.Option.{option_and_then}
 use Rattle.std.specs.Str.{bytes_eq}

@@ -1,4 +1,7 @@
 -- What a misbehaving host may present as its own: a token that was not sent names a host of the code that misbehaves.
+--
+-- A tag of an own token is sixteen zeros. Nobody looks at the tag of a token that names a misbehaving host: no obeying
+-- host has it on its stack. So the script writes none, and the event is determined by its line.
 use Rattle.std.specs.Prelude.{◌≡◌, ◌<◌, ℕ, List, length, ⊤}
 use Rattle.std.specs.Int.{bit_at}
 use Rattle.host_code.specs.Code.{CodeHostShape}

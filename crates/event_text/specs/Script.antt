@@ -1,4 +1,9 @@
 -- What the bytes of a script say: hosts that misbehave, starting values of fields, and then events.
+--
+-- A script is sections. It is defined by the settings that its lines begin with, and the lines from the first on that
+-- is none, which have to be events. So a line that sets a value after an event is one that says no event, and no order
+-- has to be stated. The settings stand over fields with names and sizes, so that a file of starting values shares them
+-- with no code.
 use Rattle.std.specs.Prelude.{◌≡◌, ℕ, ◌<◌, ◌≤◌, ℤ, List, map, length, Result, Ok, Err, ⊤}
 use Rattle.js_base.specs.declared.limits.TheConstants.{SCRIPT_BYTES}
 use Rattle.host_code.specs.Code.{CodeShape}

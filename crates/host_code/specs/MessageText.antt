@@ -1,4 +1,7 @@
 -- How reports, journals and scripts print a message.
+--
+-- A token is printed without its tag, and an event with it. `#N` in a script stands for the token with its tag, as it
+-- was sent. So an act can only present what was sent, and no script can make up the token of an obeying host.
 use Rattle.std.specs.Prelude.{ℕ, ℤ, List, [], ◌++◌, Option, Some, None, slice_get, codes}
 use Rattle.std.specs.Fmt.{decimal, signed_decimal}
 use Rattle.js_base.specs.declared.ids.HostId.{HostId}

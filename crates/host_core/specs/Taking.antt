@@ -1,5 +1,9 @@
 -- What a host does with a message from another host, while no thread runs: a check, a change and an answer for each
 -- message.
+--
+-- A step of a host takes whether its check passes. The table is a function of the state, the message and one truth
+-- value, and a second definition says when that value is true. So a row reads as it stands in the table, and a check
+-- that is a relation, as on labels, needs no function.
 use Rattle.std.specs.Prelude.{◌≡◌, ℕ, ◌↔◌, Bool, if◌then◌else◌, IsTrue}
 use Rattle.std.specs.Prelude.{Option, Some, None, IsSome, slice_get, position, remove}
 use Rattle.std.specs.Option.{option_map}

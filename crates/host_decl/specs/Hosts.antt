@@ -1,4 +1,8 @@
 -- The hosts of a host file, as contracts see them. A text is the list of its bytes.
+--
+-- Names of hosts are as short as their file. Nothing looks at the length of a name. That no name is longer than the
+-- largest host file is a law (`short_names` of `host_file_laws`), proved over the kit's definitions of TOML, and what
+-- splitting asks of their lengths rests on it.
 use Rattle.std.specs.Prelude.{◌≡◌, ◌≢◌, ℕ, ◌<◌, ◌≤◌, List, [], All, length, map, slice_index}
 use Rattle.std.specs.Prelude.{slice_index_or}
 use Rattle.std.specs.List.{IsDistinct}

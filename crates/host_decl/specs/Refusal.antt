@@ -1,4 +1,7 @@
 -- Why a host file is refused, with names as the lists of their bytes.
+--
+-- A bad label names its host twice over. The refusal of a host file has the number of the host and its name, so that
+-- who prints it needs no file.
 use Rattle.std.specs.Prelude.{ℕ, List, string_bytes}
 use Rattle.principals.specs.Refusal.{PrincipalRefusal}
 use Rattle.principals.specs.Refusal as principals

@@ -1,4 +1,8 @@
 -- The order in which the variables of frames are kept.
+--
+-- The variables of a host are lent as one sorted slice. So a new one moves those behind it, in one piece. A deep
+-- recursion therefore moves memory in proportion to the square of its depth, and no form that lends such a slice at any
+-- moment spares that.
 use Rattle.std.specs.Prelude.{◌≡◌, ◌<◌, ◌≤◌, ℕ, List, [], ◌∷◌, ⊤, length, slice_get, Some, Result, Ok, Err, IsSomeAnd}
 use Rattle.std.specs.List.{AllByRecursion}
 use Rattle.std.specs.Ordering.{ordering_then, nat_cmp}

@@ -1,4 +1,9 @@
 -- What a host keeps of fields and of variables, as two maps.
+--
+-- Variables are read through one function. The store of a host keeps cells in the order of call sites, then of calls,
+-- then of variables, and finds one by halving. Contracts read them by `variable_of` and `is_set`, which goes over the
+-- cells from the front, so that another form can stand under the same contract. A table with hashes would move no cells
+-- where one is added, but it takes memory when it pleases, and a host makes all room before a step.
 use Rattle.std.specs.Prelude.{ℕ, ◌+◌, ◌==◌, ◌&&◌, ◌||◌, Bool, false, if◌then◌else◌, ℤ, pos, List, []}
 use Rattle.std.specs.Prelude.{◌∷◌}
 use Rattle.js_base.specs.declared.ids.HostId.{HostId}

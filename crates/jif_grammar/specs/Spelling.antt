@@ -1,4 +1,7 @@
 -- How phrases are written: the tokens of each phrase, with their marks. `depth` is the nesting around the phrase.
+--
+-- A method that is called after `=` counts as a node until its parenthesis. There the count starts again. So what has
+-- begun at a token depends on the tokens so far alone, and no refusal changes by it.
 use Rattle.std.specs.Prelude.{ℕ, suc, pos, Bool, true, false, List, [], ◌∷◌, ◌++◌, map, Option, Some, None}
 use Rattle.jif_lex.specs.declared.token.TokenKind.TheVariants.{Name, Number, Word}
 use Rattle.jif_lex.specs.declared.token.Symbol.TheVariants.{LeftBrace, RightBrace, LeftParenthesis, RightParenthesis}

@@ -1,4 +1,7 @@
 -- The refusals that the parser tells.
+--
+-- `TooDeep` and `TooMany` say no token. A user is told what there is too much of. The contract of `parse` says that
+-- there is such a token, and which refusals come before it.
 use Rattle.std.specs.Prelude.{ℕ, List, ⊤}
 use Rattle.jif_lex.specs.declared.token.Token.{Token}
 use Rattle.jif_grammar.specs.Programs.{IsRefused, unexpected, too_deep, too_many}

@@ -1,5 +1,13 @@
 -- How programs are printed: the fields, and then the methods, each statement on a line of its own. Lines are not
 -- indented, so that the text is short.
+--
+-- A local is printed as declared where it is assigned first. The tree of a program does not say which assignment
+-- declares a local. The printer keeps a number above those of the variables so far, and a local whose number is not
+-- below it is new. The number is taken from the variables that are gone over and not counted, so that it cannot
+-- overflow for any program.
+--
+-- Fields are printed before methods. The tree has them in two lists, and names are known in the whole program, so their
+-- order does not matter.
 use Rattle.std.specs.Prelude.{ℕ, zero, suc, pos, ℤ, Bool, true, false, if◌then◌else◌, List, [], ◌∷◌, ◌++◌, codes}
 use Rattle.std.specs.Prelude.{Option, Some, None}
 use Rattle.std.specs.Bool.{nat_lt}

@@ -1,4 +1,8 @@
 -- How the names that are known at a place are kept.
+--
+-- Known names are searched from the last. A method has at most 256 parameters and locals. Those known at a place are a
+-- list that is cut off at the end of a block, searched from its end, and those of the whole program stand in a hash
+-- table.
 use Rattle.std.specs.Prelude.{ℕ, ◌+◌, ◌-◌, ◌≤◌, Bool, if◌then◌else◌, [], length, drop}
 use Rattle.std.specs.String.{string_bytes}
 use Rattle.jif_resolve.specs.declared.scope.KnownName.{KnownName}

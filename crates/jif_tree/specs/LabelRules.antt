@@ -1,5 +1,16 @@
 -- The rules of labels: which label each expression has, which program label each statement, and what is asked of them.
 -- A program label stands above all that the execution of a statement tells (Denning; Myers and Liskov).
+--
+-- The rules of labels are a list. Each statement has the list of what it asks of labels, each with its cause, in the
+-- order in which a refusal looks at it. A program is accepted where all of them hold, and refused for the first that
+-- does not, so neither is the loop of the check.
+--
+-- A local without a label has that of its value before its flow is asked for. So every assignment asks for one flow in
+-- the same way, and the one of such a declaration always holds.
+--
+-- A released value is a join and a meet. The confidentiality of one label with the integrity of another is the first
+-- joined with `{}`, which nobody trusts, and met with the second. So a label needs no constructor that takes both
+-- apart.
 use Rattle.std.specs.Prelude.{◌≡◌, ℕ, ◌<◌, ◌⊎◌, List, [], ◌∷◌, ◌++◌, map, All, Any}
 use Rattle.std.specs.Prelude.{Option, Some, None, unwrap_or, slice_get, slice_set}
 use Rattle.std.specs.List.{flat_map}

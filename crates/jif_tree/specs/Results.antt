@@ -1,4 +1,8 @@
 -- Results of methods: that they are given back, and that no expression reads them.
+--
+-- What becomes of results is asked of the program. Methods give results back at their end only, nothing else reads a
+-- result, and the numbers of parameters rise. These are laws of `jif_resolve`, and conditions of `IsSet`. So no proof
+-- on worlds goes back to a draft.
 use Rattle.std.specs.Prelude.{◌≡◌, ◌≢◌, ℕ, ⊤, Some, slice_get}
 use Rattle.std.specs.List.{AllByRecursion}
 use Rattle.js_base.specs.declared.ids.VarId.{VarId}

@@ -1,4 +1,11 @@
 -- What a program does when it is run plainly, with no hosts: one statement a step, on one store.
+--
+-- The plain run builds no tree. Trees are built and compared by mirrors. The step of the plain run takes native
+-- statements apart, since it builds none.
+--
+-- The plain run takes values and not expressions. What a statement does is said of the values of its operands, and the
+-- plain run gives those that the expressions have. So an altered run, in which some readings give another number,
+-- shares what statements do.
 use Rattle.std.specs.Prelude.{◌≡◌, ℕ, ◌<◌, zero, suc, ◌==◌, if◌then◌else◌, ℤ, pos, List, []}
 use Rattle.std.specs.Prelude.{◌∷◌, ◌++◌, map}
 use Rattle.std.specs.Prelude.{length, unwrap_or, Option, Some, None, slice_get, slice_set}

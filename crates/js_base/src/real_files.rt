@@ -1,4 +1,8 @@
 //! The files of the system.
+//!
+//! `no such file` is for a missing file alone. The real files say that nothing is held under a name only where the
+//! system answers that the file was not found. That is also so where a folder on the way is missing. A folder in place
+//! of a file, or a file in place of a folder, is a file fault. A missing file is no fault and is not counted as one.
 
 ghost use Rattle.std.specs.Prelude.{◌≡◌, ◌≤◌, [], None, OnOk, OnErr, string_bytes};
 ghost use Rattle.js_base.specs.Counts.{Rose};

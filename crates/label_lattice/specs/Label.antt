@@ -2,6 +2,10 @@
 -- reader each, and a set of trusting principals. Owners are the numbers below `PRINCIPALS`, and readers those below
 -- `READERS`, of which the last is the outsider (principals, ActsFor). A label is kept as a word for each owner, with a
 -- bit set for each reader that the owner allows, and one word with a bit set for each principal that trusts.
+--
+-- Bits of undeclared readers stay allowed. A label has a place for each of 63 principals and one for the outsider. A
+-- policy forbids only declared principals and the outsider. The places past the last declared principal stay allowed in
+-- every label. So labels can be compared by their bits, and what is forbidden is always a reader who exists.
 use Rattle.std.specs.Prelude.{◌≡◌, ℕ, ◌<◌, ◌↔◌, ◌⊎◌, ◌^◌, List, All, Any, length}
 use Rattle.std.specs.Prelude.{slice_index}
 use Rattle.std.specs.Int.{bit_at}

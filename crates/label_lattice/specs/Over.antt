@@ -1,4 +1,8 @@
 -- Labels over the same principals: what every label keeps that is made from policies and trust of these.
+--
+-- A label over principals forbids the outsider too. Whoever forbids anybody on behalf of an owner forbids the outsider,
+-- since he acts for nobody else. This stands in the predicate of labels over principals beside what is closed under
+-- acts-for, so that other layers can say that such a label can be written.
 use Rattle.std.specs.Prelude.{ℕ, ◌<◌, length}
 use Rattle.js_base.specs.declared.limits.TheConstants.{PRINCIPALS}
 use Rattle.principals.specs.ActsFor.{Declared, ActsFor, IsReader, outsider}

@@ -1,4 +1,7 @@
 -- How a label is printed: between braces the policies, in the order of their owners, and then who trusts.
+--
+-- A row that allows nobody can be printed. Where two principals both act for a third, what the one forbids and the
+-- other forbids may leave nobody. Then the owner has no names behind its colon and blank, and such a text reads back.
 use Rattle.std.specs.Prelude.{ℕ, ◌+◌, ◌==◌, Bool, if◌then◌else◌}
 use Rattle.std.specs.Prelude.{List, [], ◌∷◌, ◌++◌, codes, slice_index}
 use Rattle.std.specs.Int.{bit_at}

@@ -1,6 +1,10 @@
 -- What the statements of a program need of the hosts that run them, what its reads tell, and who reads its variables,
 -- as sets over the statements of the tree. The rules are this project's own, in the manner of the secure program
 -- partitioning of Zdancewic, Zheng, Nystrom and Myers.
+--
+-- Needs are a relation. What a statement tells is a value, the join of a list of labels. Who has to trust its host is a
+-- word that has exactly the principals of a set: in that set are those for whom an authority acts, and labels have no
+-- value for these. Laws say that a program has one row of needs.
 use Rattle.std.specs.Prelude.{◌≡◌, ◌↔◌, ℕ, ◌<◌, ◌^◌, Bool, true, false, ◌||◌, nat_eq}
 use Rattle.std.specs.Prelude.{List, [], ◌∷◌, ◌++◌, map, filter, length, Option, Some, None, All, Any}
 use Rattle.std.specs.Int.{bit_at}

@@ -1,4 +1,8 @@
 -- What is in flight between the hosts, and how the program keeps it: a queue for each ordered pair of 16 hosts.
+--
+-- There are 256 queues, for 16 hosts. What is in flight from host i to host j stands at place 16 * i + j, however many
+-- hosts there are. So the place of a pair depends on the pair alone, and its proofs need no count of hosts. The empty
+-- queues cost nothing that matters.
 use Rattle.std.specs.Prelude.{◌≡◌, ℕ, Bool, false, ◌+◌, ◌*◌, ◌<◌, ◌==◌, ◌&&◌, if◌then◌else◌, nat_lt, List}
 use Rattle.std.specs.Prelude.{[], ◌∷◌, map, IsSomeAnd}
 use Rattle.std.specs.Prelude.{unwrap_or, slice_get}

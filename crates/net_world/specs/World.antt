@@ -1,4 +1,13 @@
 -- All hosts, what is in flight between them, and what each event leaves.
+--
+-- An answer carries the label of the message that it answers. A host knows the label of the instruction that it runs,
+-- and not that of a request. What is in flight has its label beside it, and so the world labels answers.
+--
+-- A message is taken from any place of its queue. The network may deliver messages of one pair in another order than
+-- they were sent. A script says which message arrives, by its place among those in flight.
+--
+-- Who misbehaves is who has no state. A world has no list of misbehaving hosts beside the states, so that the two can't
+-- disagree. What misbehaving hosts are sent carries no label, since nobody takes it.
 use Rattle.std.specs.Prelude.{◌≡◌, ℕ, ◌+◌, ℤ, Bool, true, false, ◌==◌, if◌then◌else◌, List}
 use Rattle.std.specs.Prelude.{[], ◌∷◌, ◌++◌, length, map}
 use Rattle.std.specs.Prelude.{Option, Some, None, IsSome, is_some, slice_get, slice_set, remove, IsTrue, IsSomeAnd}

@@ -1,4 +1,8 @@
 //! Who acts for whom, as a row of bits for each principal.
+//!
+//! Each declared pair is added at once. The rows are closed under chains after each pair: who acts for the first of the
+//! pair gains all whom the second acts for. This takes 63 steps a pair, and its proof needs one lemma on chains with
+//! one more pair.
 
 ghost use Rattle.std.specs.Prelude.{ℕ, ◌<◌, List, [], ◌∷◌, ◌++◌, All};
 ghost use Rattle.principals.specs.Closure.{AreRowsOf};

@@ -1,4 +1,10 @@
 //! Principals, and who acts for whom.
+//!
+//! Declared pairs are kept. Who acts for whom is asked of rows of bits. The pairs that were declared are kept beside
+//! them, so that a contract sees a list of pairs, and the relation is a chain of such pairs.
+//!
+//! A principal is looked for by the end of its name first. There are at most 63, so they are gone over one by one.
+//! Names are often numbered, and a whole name is compared only where its last byte is the same.
 
 ghost use Rattle.std.specs.Prelude.{◌≡◌, ◌<◌, ◌↔◌, length, map, Some, IsTrue, IfSome, IfNone, All};
 ghost use Rattle.std.specs.Prelude.{Contains};

@@ -1,12 +1,18 @@
 -- Which code bytes spell, or what is wrong with them. Each item is read and tested in the order of the bytes. What
 -- speaks of a later part is tested behind all parts.
-use Rattle.std.specs.Prelude.{ℕ, ◌+◌, ◌*◌, suc, ℤ, Bool, true, false, not, ◌&&◌, ◌||◌, ◌==◌}
+--
+-- Of a split file the first fault from the front is told. The place of a text is that of its length, and a text that
+-- passes the end is short, whatever it begins with. The first eight bytes are compared when all are there. An
+-- expression that does not leave one value, or has no nodes, is refused at its count, once all its nodes were read; a
+-- part that ends in another way than code may, at its last instruction. Without an entry the root is out of range. All
+-- words of a label are taken as they are. So each file that is none has one refusal.
+use Rattle.std.specs.Prelude.{ℕ, ◌+◌, ◌*◌, suc, Bool, true, false, not, ◌&&◌, ◌||◌, ◌==◌}
 use Rattle.std.specs.Prelude.{if◌then◌else◌, List, [], ◌∷◌, length, nat_lt, nat_le, slice_get, sum_by, codes}
 use Rattle.std.specs.Prelude.{Ok, Err, ⊤}
 use Rattle.std.specs.Option.{option_map_or}
 use Rattle.std.specs.List.{before_first, after_first}
 use Rattle.std.specs.Str.{bytes_eq}
-use Rattle.std.specs.Int.{w16, w32, w64, cast_signed}
+use Rattle.std.specs.Int.{w16, w32, w64}
 use Rattle.js_base.specs.declared.binary_operator.BinOp.{BinOp}
 use Rattle.js_base.specs.declared.binary_operator.BinOp.TheVariants as binary
 use Rattle.js_base.specs.declared.ids.HostId.{HostId}
@@ -28,10 +34,11 @@ use Rattle.host_code.specs.Code.{CodeShape, CodeHostShape, CodeFieldShape, CodeV
 use Rattle.host_code.specs.Code.{host_of_site}
 use Rattle.host_code.specs.CodeExpr.{depth_after}
 use Rattle.host_code.specs.Sound.{temporaries_at}
+use Rattle.byte_format.specs.Reader.{◌>>=◌, given, refused, require}
 use Rattle.split_file.specs.declared.fault.Fault.TheVariants as fault
 use Rattle.split_file.specs.Spelling.{magic}
-use Rattle.split_file.specs.Reader.{Reader, ◌>>=◌, given, refused, place, require, in_range, byte_at, bytes_at}
-use Rattle.split_file.specs.Reader.{number_at, text_at, items_at, list_at}
+use Rattle.split_file.specs.Reader.{Reader, place, in_range, byte_at, bytes_at, number_at, integer_at, text_at}
+use Rattle.split_file.specs.Reader.{items_at, list_at}
 
 -- ---- names
 
@@ -78,11 +85,6 @@ hosts_at = do
   items_at (λ _. host_row_at) [] count
 
 -- ---- fields and variables
-
-unfoldable pub integer_at : Reader ℤ
-integer_at = do
-  word ← number_at w64
-  given (cast_signed w64 word)
 
 unfoldable pub flag_at : Reader Bool
 flag_at = do
