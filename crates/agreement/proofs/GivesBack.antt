@@ -169,7 +169,8 @@ shows_halted eyes host state shown shows = record {
   requests = shows.requests;
 }
 
-pub shows_ignored : (eyes : Eyes) (host : HostId) (state : HostShape) (shown : HostView) → ShowsHost eyes host state shown →
+pub shows_ignored : (eyes : Eyes) (host : HostId) (state : HostShape) (shown : HostView) →
+    ShowsHost eyes host state shown →
     ShowsHost eyes host (with_one_ignored state) shown
 shows_ignored eyes host state shown shows = record {
   key = shows.key;

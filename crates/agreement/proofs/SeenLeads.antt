@@ -179,7 +179,8 @@ calm_open eyes host running thread is none = elim (cases_Bool (is_open eyes host
       absurd (cc)
 ]
 
-pub held_of : (eyes : Eyes) (held : Option Token) → IsSomeAnd held (TokenFits eyes.code) → (token : Token) × (held ≡ Some token)
+pub held_of : (eyes : Eyes) (held : Option Token) → IsSomeAnd held (TokenFits eyes.code) →
+    (token : Token) × (held ≡ Some token)
 held_of eyes None fits = absurd fits
 held_of eyes (Some token) fits = (token, refl)
 
@@ -228,7 +229,8 @@ turned_leads : (eyes : Eyes) (world after : WorldShape) (old : HostShape) (outco
     IsTurn eyes.code old outcome → after_step world old.me outcome (label_of_turn eyes.code old) ≡ after →
     StateFits eyes.code outcome.state → HostKeeps eyes old.me outcome.state →
     (seen : View) × SeenTurn eyes now old.me (carried_in eyes old thread there.op) seen × Leads eyes after seen
-turned_leads eyes world after old outcome thread there now are sound calm fits good keep obeys is here alone turns leaves
+turned_leads eyes world after old outcome thread there now are sound calm fits good keep obeys is here alone turns
+    leaves
     fits_then keep_then =
     let visible = visible_of eyes world old thread there now are calm fits good keep obeys is here in
     let run = visible.1 in

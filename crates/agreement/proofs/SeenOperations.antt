@@ -21,8 +21,10 @@ use Rattle.host_code.specs.Sound.{OperationFits}
 use Rattle.host_code.specs.Thread.{ThreadShape}
 use Rattle.host_core.specs.Fits.{StateFits}
 use Rattle.host_core.specs.Host.{HostShape, Outcome, with_running, after_step, with_temporary, value_in_thread}
-use Rattle.host_core.specs.Host.{after_clearing, next_request, after_pop, with_one_ignored, without_message, with_message}
-use Rattle.host_core.specs.Turn.{after_operation, after_read, after_let, after_forward, after_return, after_back, MayReturn, with_thread, PassesWith}
+use Rattle.host_core.specs.Host.{after_clearing, next_request, after_pop, with_one_ignored, without_message}
+use Rattle.host_core.specs.Host.{with_message}
+use Rattle.host_core.specs.Turn.{after_operation, after_read, after_let, after_forward, after_return, after_back}
+use Rattle.host_core.specs.Turn.{MayReturn, with_thread, PassesWith}
 use Rattle.split_shades.specs.ShadedCode.{IsShadedOp}
 use Rattle.split_shades.specs.Shades.{Ahead}
 use Rattle.split_shades.specs.Basis.{read_label}
@@ -34,12 +36,14 @@ use Rattle.agreement.specs.Comes.{ComesTo, Comes}
 use Rattle.agreement.specs.Leads.{Holder, nobody, flies_on}
 use Rattle.agreement.specs.Turns.{ChangesAlone, carried_in, host_idle, ComesBehind, ComesWithResult, SeenOperation}
 use Rattle.agreement.specs.Views.{sees_variable, ShowsHost, gives, Completed}
-use Rattle.agreement.specs.Views.{View, masked, masked_all, last_seen, sees_read, thread_view, with_host, host_with_thread}
+use Rattle.agreement.specs.Views.{View, masked, masked_all, last_seen, sees_read, thread_view, with_host}
+use Rattle.agreement.specs.Views.{host_with_thread}
 use Rattle.agreement.proofs.Branches.{own_view, other_view}
 use Rattle.agreement.proofs.Ends.{Ends}
 use Rattle.agreement.proofs.GivesBack.{Given, given_ends}
 use Rattle.agreement.proofs.Steps.{Leaves}
-use Rattle.agreement.proofs.SeenTurns.{Visible, Arrives, completed_some, comes_some, idle_shows, either_true, let_turned}
+use Rattle.agreement.proofs.SeenTurns.{Visible, Arrives, completed_some, comes_some, idle_shows, either_true}
+use Rattle.agreement.proofs.SeenTurns.{let_turned}
 use Rattle.agreement.proofs.SeenTurns.{put_turned, went_arrives, call_turned, frame_turned, push_turned, some_below}
 use Rattle.agreement.proofs.SeenTurns.{branch_turned}
 
@@ -352,10 +356,14 @@ operation_turned eyes old thread there token now count (op.Ret x value) passes r
 operation_turned eyes old thread there token now count (op.Read field index) passes run alone law fit checks fits =
     arrived eyes old thread token now (op.Read field index) _
     (read_turned eyes old thread there token now field index run law (field_at eyes.code field) alone)
-operation_turned eyes old thread there token now count (op.Send x to) passes run alone law fit checks fits = absurd alone
-operation_turned eyes old thread there token now count (op.Pass x to) passes run alone law fit checks fits = absurd alone
-operation_turned eyes old thread there token now count (op.Ask entry on) passes run alone law fit checks fits = absurd alone
-operation_turned eyes old thread there token now count (op.Go entry on) passes run alone law fit checks fits = absurd alone
+operation_turned eyes old thread there token now count (op.Send x to) passes run alone law fit checks fits =
+    absurd alone
+operation_turned eyes old thread there token now count (op.Pass x to) passes run alone law fit checks fits =
+    absurd alone
+operation_turned eyes old thread there token now count (op.Ask entry on) passes run alone law fit checks fits =
+    absurd alone
+operation_turned eyes old thread there token now count (op.Go entry on) passes run alone law fit checks fits =
+    absurd alone
 operation_turned eyes old thread there token now count op.Back passes run alone law fit checks fits =
     let done = back_turned eyes old thread there token now passes run alone checks in
     (done.0, done.1, inr done.2)

@@ -85,7 +85,8 @@ pub record Rested (eyes : Eyes) (old new : HostShape) (shown : HostView) : Type 
   pub own : ShowsHost eyes old.me new shown
 
 -- Where it is so, and what is in flight and was sent is seen so, that is what is seen.
-pub resting_leads : (eyes : Eyes) (world after : WorldShape) (old new : HostShape) (shown : HostView) (now seen : View) →
+pub resting_leads : (eyes : Eyes) (world after : WorldShape) (old new : HostShape) (shown : HostView)
+    (now seen : View) →
     Calm eyes world now → state_at world old.me ≡ Some old → Moved world old.me new after.flying after →
     Rested eyes old new shown → seen.hosts ≡ (with_host now old.me shown).hosts →
     ((i j : HostId) → hidden_flights eyes (after.flying i j) ≡ []) →

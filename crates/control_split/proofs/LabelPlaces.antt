@@ -20,7 +20,8 @@ or_true false = refl
 
 among_more : (label : Label) (labels more : List Label) → IsAmong label labels → IsAmong label (labels ++ more)
 among_more label labels more among =
-    list_any-append (same_label label) labels more ∙ ap (λ (there : Bool). there || list_any (same_label label) more) among
+    list_any-append (same_label label) labels more ∙ ap (λ (there : Bool). there || list_any (same_label label) more)
+    among
 
 among_last : (label : Label) (labels : List Label) → IsAmong label (labels ++ label ∷ [])
 among_last label labels =

@@ -1,5 +1,6 @@
 -- What holds of the expressions of a block holds of those of its statements.
-use Rattle.std.proofs.Common.{◌≡◌, ℕ, zero, suc, ◌+◌, ◌<◌, ◌≤◌, List, [], ◌∷◌, ◌++◌, All, map, sum, length, get_or, refl, ap, sym}
+use Rattle.std.proofs.Common.{◌≡◌, ℕ, zero, suc, ◌+◌, ◌<◌, ◌≤◌, List, [], ◌∷◌, ◌++◌, All, map, sum, length, get_or}
+use Rattle.std.proofs.Common.{refl, ap, sym}
 use Rattle.std.proofs.Common.{subst, arith}
 use Rattle.std.proofs.lemmas.List.{append-nil}
 use Rattle.std.proofs.lemmas.List.Elements.{All-head, All-tail, All-cons, All-nil}
@@ -8,7 +9,8 @@ use Rattle.jif_tree.specs.declared.program.Expr.{Expr}
 use Rattle.jif_tree.specs.declared.program.Stmt.{Stmt}
 use Rattle.jif_tree.specs.declared.program.StmtKind.{StmtKind}
 use Rattle.jif_tree.specs.declared.program.StmtKind as kind
-use Rattle.jif_tree.specs.Trees.{Heading, ExprTree, BlockTree, done, branch, loop, call, statement_tree, block_tree, expr_tree}
+use Rattle.jif_tree.specs.Trees.{Heading, ExprTree, BlockTree, done, branch, loop, call, statement_tree, block_tree}
+use Rattle.jif_tree.specs.Trees.{expr_tree}
 use Rattle.jif_tree.specs.Trees.{row_tree, tree_before, head_of}
 use Rattle.jif_tree.specs.Sizes.{expr_nodes, block_nodes}
 use Rattle.host_code.specs.declared.code_expr.TheConstants.{MOST_NODES}

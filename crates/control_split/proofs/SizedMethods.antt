@@ -13,4 +13,5 @@ sized_methods [] all = All-nil (λ (method : MethodTree). IsSizedBlock method.bo
 sized_methods (method ∷ methods) all =
     let rest = flat_map (λ (one : MethodTree). block_nodes one.body) methods in
     All-cons (λ (one : MethodTree). IsSizedBlock one.body) method methods
-    (all_first (block_nodes method.body) rest all) (sized_methods methods (all_second (block_nodes method.body) rest all))
+    (all_first (block_nodes method.body) rest all)
+    (sized_methods methods (all_second (block_nodes method.body) rest all))

@@ -2,7 +2,8 @@
 use Rattle.std.proofs.Common.{◌≡◌, ℕ, suc, ◌+◌, ◌<◌, ◌≤◌, List, [], ◌∷◌, map, length, take}
 use Rattle.std.proofs.Common.{zero, Some, slice_get, unwrap_or, refl, sym, ap, ◌∙◌, subst, arith}
 use Rattle.std.specs.List.{range_with_len, AllByRecursion}
-use Rattle.std.proofs.lemmas.List.{ext_get_or, length-map, length-set, length-replicate, get_or-map, get_or-take, length-take}
+use Rattle.std.proofs.lemmas.List.{ext_get_or, length-map, length-set, length-replicate, get_or-map, get_or-take}
+use Rattle.std.proofs.lemmas.List.{length-take}
 use Rattle.std.proofs.lemmas.List.FromFn.{get_or-map-range_with_len, length-map-range_with_len}
 use Rattle.js_base.specs.declared.ids.HostId.{HostId}
 use Rattle.label_lattice.specs.declared.label.Label.{Label}
@@ -112,7 +113,8 @@ pub entries_count : (counts : Counts) (emissions : List Emission) →
     (counts_after counts emissions).entries ≡ counts.entries + length (entries_in emissions)
 entries_count counts [] = omega arith
 entries_count counts (instruction one ∷ others) =
-    entries_count (one_more_branch one.op counts) others ∙ ap (λ entries. entries + length (entries_in others)) (same one.op)
+    entries_count (one_more_branch one.op counts) others ∙ ap (λ entries. entries + length (entries_in others))
+    (same one.op)
   where
     same : (what : Op) → (one_more_branch what counts).entries ≡ counts.entries
     same (op.Branch guard number) = refl

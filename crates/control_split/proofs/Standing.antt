@@ -1,6 +1,7 @@
 -- Where the entries of a walk stand and its branches lead, once all is put together.
 use Rattle.std.proofs.Common.{◌≡◌, ℕ, ◌+◌, ◌<◌, inl, inr, Bool, true, false, List, [], ◌∷◌, ◌++◌, length}
-use Rattle.std.proofs.Common.{get_or, set, Option, Some, None, option_map, nat_eq, if◌then◌else◌, refl, sym, ap, ◌∙◌, arith}
+use Rattle.std.proofs.Common.{get_or, set, Option, Some, None, option_map, nat_eq, if◌then◌else◌, refl, sym, ap, ◌∙◌}
+use Rattle.std.proofs.Common.{arith}
 use Rattle.std.proofs.lemmas.List.{length-set, length-append, append-nil}
 use Rattle.std.proofs.lemmas.Bool.Decides.{eqb_tells}
 use Rattle.js_base.specs.declared.ids.HostId.{HostId}
@@ -73,7 +74,8 @@ pub standing_after : (labels : List Label) (assembly : AssemblyShape) (emissions
     AllByRecursion (IsWithin HOST_NUMBERS) emissions →
     get_or (assembled assembly (items_of labels emissions)).standing number (Some 0)
     ≡ settle (get_or assembly.standing number (Some 0)) (standing_place assembly.lists number emissions)
-standing_after labels assembly [] number there count within = sym (settle_none (get_or assembly.standing number (Some 0)))
+standing_after labels assembly [] number there count within =
+    sym (settle_none (get_or assembly.standing number (Some 0)))
 standing_after labels assembly (instruction one ∷ others) number there count within =
     standing_after labels (with_item assembly (item_of labels (instruction one))) others number there
     (length-set assembly.lists one.host.0 (list_on assembly.lists one.host ++ raw_instruction labels one ∷ []) ∙ count)

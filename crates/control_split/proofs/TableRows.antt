@@ -100,13 +100,15 @@ fields_further plan all number field start before after rows pushed row within i
     let first = with_labels start.labels (labels_in trees) in
     let names_before : before.labels ≡ first = ap (λ (trace : TraceShape). trace.labels) was in
     let names_after : after.labels ≡ with_labels first (tree.label ∷ []) =
-    ap (λ (trace : TraceShape). trace.labels) (one ∙ ap (λ (trace : TraceShape). naming trace (tree.label ∷ [])) was) in (
+    ap (λ (trace : TraceShape). trace.labels)
+    (one ∙ ap (λ (trace : TraceShape). naming trace (tree.label ∷ [])) was) in (
       naming_more start before after (labels_in trees) tree.label was one
           ∙ ap (naming start) (sym (ap labels_in more ∙ map-append (λ (one : FieldTree). one.label) trees (tree ∷ []))),
       last
           ∙ ap (λ (some : List CodeFieldShape). some ++ row ∷ []) were
           ∙ ap (λ (next : CodeFieldShape). placed_code_fields before.labels plan 0 trees ++ next ∷ []) made
-          ∙ ap (λ (place : ℕ). placed_code_fields before.labels plan 0 trees ++ code_field after.labels plan place tree ∷ [])
+          ∙ ap (λ (place : ℕ). placed_code_fields before.labels plan 0 trees
+          ++ code_field after.labels plan place tree ∷ [])
           count
           ∙ ap (λ (names : List Label). placed_code_fields names plan 0 trees
           ++ code_field after.labels plan (length trees) tree ∷ []) names_before
@@ -188,13 +190,15 @@ variables_further program all labels number var other start before after rows pu
       naming_more start before after names label was one ∙ ap (naming start) (sym more_names),
       last
           ∙ ap (λ (some : List CodeVariableShape). some ++ row ∷ []) were
-          ∙ ap (λ (next : CodeVariableShape). map (code_variable program before.labels) (zip vars names) ++ next ∷ []) made
+          ∙ ap (λ (next : CodeVariableShape). map (code_variable program before.labels) (zip vars names)
+          ++ next ∷ []) made
           ∙ ap (λ (there : List Label). map (code_variable program there) (zip vars names)
           ++ code_variable program after.labels (tree, label) ∷ []) names_before
           ∙ ap (λ (there : List Label). map (code_variable program first) (zip vars names)
           ++ code_variable program there (tree, label) ∷ []) names_after
           ∙ sym (variables_more start.labels program vars names tree label count)
-          ∙ ap (λ (there : List Label). map (code_variable program there) (zip (vars ++ tree ∷ []) (names ++ label ∷ [])))
+          ∙ ap (λ (there : List Label). map (code_variable program there)
+          (zip (vars ++ tree ∷ []) (names ++ label ∷ [])))
           (sym names_after)
           ∙ ap (λ (some : List VarTree). map (code_variable program after.labels) (zip some (names ++ label ∷ [])))
           (sym more_vars)

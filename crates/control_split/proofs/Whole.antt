@@ -76,10 +76,12 @@ entry_at : (number : ℕ) (emissions : List Emission) (host : HostId) → host.0
 entry_at number emissions host within on = placed (host_standing number emissions) refl on
   where
     placed : (there : Option HostId) → there ≡ host_standing number emissions → IsOn host there →
-        unwrap_or (option_map (λ on. length (list_on no_lists on) + length (emitted_on on (before_entry number emissions)))
+        unwrap_or (option_map (λ on. length (list_on no_lists on) + length
+        (emitted_on on (before_entry number emissions)))
         there) (length (emitted_on host emissions))
         ≡ length (emitted_on host (before_entry number emissions))
-    placed None is here = ap (λ before. length (emitted_on host before)) (sym (none_before_entry number emissions (sym is)))
+    placed None is here = ap (λ before. length (emitted_on host before))
+        (sym (none_before_entry number emissions (sym is)))
     placed (Some other) is here =
         rw (here, nothing_first host within) (omega arith)
 
@@ -90,7 +92,8 @@ branch_at : (number : ℕ) (emissions : List Emission) (host : HostId) → host.
 branch_at number emissions host within on = placed (host_landing number emissions) refl on
   where
     placed : (there : Option HostId) → there ≡ host_landing number emissions → IsOn host there →
-        unwrap_or (option_map (λ on. length (list_on no_lists on) + length (emitted_on on (before_landing number emissions)))
+        unwrap_or (option_map (λ on. length (list_on no_lists on) + length
+        (emitted_on on (before_landing number emissions)))
         there) (length (emitted_on host emissions))
         ≡ length (emitted_on host (before_landing number emissions))
     placed None is here =
@@ -154,7 +157,8 @@ HaveTheirs emissions number (named ∷ others) =
     (named.host.0 < HOST_NUMBERS) × IsOn named.host (host_standing number emissions)
     × HaveTheirs emissions (suc number) others
 
-pub settled_from : (counts : Counts) (labels : List Label) (emissions : List Emission) (number : ℕ) (named : List Named) →
+pub settled_from : (counts : Counts) (labels : List Label) (emissions : List Emission) (number : ℕ)
+    (named : List Named) →
     number + length named ≡ counts.entries → AllByRecursion (IsWithin HOST_NUMBERS) emissions →
     HaveTheirs emissions number named →
     settled_entries (assembly_from counts labels emissions) number (map (raw_entry labels) named)
@@ -220,7 +224,8 @@ settled_list counts labels emissions host count (one ∷ others) is there within
     let one_is = ap (λ end. settled_instruction (assembly_from counts labels emissions).landing end
     (raw_instruction labels one)) is
     ∙ settled_one counts labels emissions host one there within first.0 first.1 in
-    rw (one_is, settled_list counts labels emissions host count others is there within (All-tail P one others each)) refl
+    rw (one_is, settled_list counts labels emissions host count others is there within (All-tail P one others each))
+    refl
 
 -- the part of a host
 pub settled_part_is : (counts : Counts) (labels : List Label) (emissions : List Emission) (host : HostId) →

@@ -1,5 +1,6 @@
 -- The events of a script present what misbehaving hosts were sent, or tokens of such hosts.
-use Rattle.std.proofs.Common.{◌≡◌, ◌<◌, ◌==◌, ℕ, Bool, true, false, List, [], ◌∷◌, length, Option, Some, None, Result, Ok, Err}
+use Rattle.std.proofs.Common.{◌≡◌, ◌<◌, ◌==◌, ℕ, Bool, true, false, List, [], ◌∷◌, length, Option, Some, None, Result}
+use Rattle.std.proofs.Common.{Ok, Err}
 use Rattle.std.proofs.Common.{refl, subst, sym, inl, inr, arith}
 use Rattle.std.specs.Prelude.{All, ℤ, map, position, if◌then◌else◌, codes}
 use Rattle.std.specs.Int.{bit_at}

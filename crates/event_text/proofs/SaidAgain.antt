@@ -67,7 +67,13 @@ module _ (code : CodeShape) (word : ℕ) where
       four_made (λ request field index value. bad.Set request field index value) _ _ _ _ made of in
       subst (Said (codes "set") said) same
       (subst (λ ws. Said (codes "set") ws (bad.Set request field index value)) (sym (four_are said it there))
-      (rw (request_said it.0 request one, field_said code it.1 field two, signed_text it.2 index three, signed_text it.3 value four)
+      (rw (
+        request_said it.0 request one,
+        field_said code it.1 field two,
+        signed_text it.2 index three,
+        signed_text it.3
+            value four,
+      )
       (ap (λ (rest : List ℕ). codes "set " ++ rest) (spaced_four it.0 it.1 it.2 it.3))))
 
   forward_said : (said : List Word) → Prints (codes "forward") said (forward_of code said)
@@ -77,7 +83,13 @@ module _ (code : CodeShape) (word : ℕ) where
       four_made (λ request frame variable value. bad.Forward request frame variable value) _ _ _ _ made of in
       subst (Said (codes "forward") said) same
       (subst (λ ws. Said (codes "forward") ws (bad.Forward request frame variable value)) (sym (four_are said it there))
-      (rw (request_said it.0 request one, frame_said it.1 frame two, variable_said code it.2 variable three, signed_text it.3 value four)
+      (rw (
+        request_said it.0 request one,
+        frame_said it.1 frame two,
+        variable_said code it.2 variable three,
+        signed_text
+            it.3 value four,
+      )
       (ap (λ (rest : List ℕ). codes "forward " ++ rest) (spaced_four it.0 it.1 it.2 it.3))))
 
   sync_said : (said : List Word) → Prints (codes "sync") said (sync_of code word said)
@@ -87,7 +99,13 @@ module _ (code : CodeShape) (word : ℕ) where
       four_made (λ request frame entry token. bad.Sync request frame entry token) _ _ _ _ made of in
       subst (Said (codes "sync") said) same
       (subst (λ ws. Said (codes "sync") ws (bad.Sync request frame entry token)) (sym (four_are said it there))
-      (rw (request_said it.0 request one, frame_said it.1 frame two, entry_said it.2 entry three, token_said code word it.3 token four)
+      (rw (
+        request_said it.0 request one,
+        frame_said it.1 frame two,
+        entry_said it.2 entry three,
+        token_said code word
+            it.3 token four,
+      )
       (ap (λ (rest : List ℕ). codes "sync " ++ rest) (spaced_four it.0 it.1 it.2 it.3))))
 
   rgoto_said : (said : List Word) → Prints (codes "rgoto") said (rgoto_of code word said)

@@ -1,6 +1,7 @@
 -- A number that was read is printed as it was written.
 use Rattle.std.proofs.Common.{◌≡◌, ◌<◌, ◌≤◌, ◌-◌, ◌^◌, ◌==◌, ◌||◌, ◌&&◌, not, ℕ, suc, ℤ, pos, negsuc, Bool, true, false}
-use Rattle.std.proofs.Common.{List, [], ◌∷◌, ◌++◌, length, get_or, Option, Some, None, refl, ap, sym, ◌∙◌, inl, inr, arith}
+use Rattle.std.proofs.Common.{List, [], ◌∷◌, ◌++◌, length, get_or, Option, Some, None, refl, ap, sym, ◌∙◌, inl, inr}
+use Rattle.std.proofs.Common.{arith}
 use Rattle.std.specs.Prelude.{if◌then◌else◌, nat_lt, nat_le, slice_index}
 use Rattle.std.specs.List.{list_all}
 use Rattle.std.specs.Char.{is_ascii_digit}
@@ -59,7 +60,8 @@ below_text digits (Some size) value read is =
       | inl (holds, same) ↦
           let one : negsuc (size - 1) ≡ value = cc in
           let some : suc (size - 1) ≡ size = grind (arith, nat_tests) in
-          ap signed_decimal (sym one) ∙ ap (λ n. 45 ∷ decimal n) some ∙ ap (λ ds. 45 ∷ ds) (number_text digits size read)
+          ap signed_decimal (sym one) ∙ ap (λ n. 45 ∷ decimal n) some ∙ ap (λ ds. 45 ∷ ds)
+          (number_text digits size read)
       | inr (fails, none) ↦ absurd cc
     ]
 

@@ -1,5 +1,6 @@
 -- Values at the end of some room, where the one that was made last stands first.
-use Rattle.std.proofs.Common.{◌≡◌, ℕ, zero, suc, ◌+◌, ◌<◌, ℤ, pos, List, [], ◌∷◌, get_or, drop, length, refl, ap, arith, add-one}
+use Rattle.std.proofs.Common.{◌≡◌, ℕ, zero, suc, ◌+◌, ◌<◌, ℤ, pos, List, [], ◌∷◌, get_or, drop, length, refl, ap, arith}
+use Rattle.std.proofs.Common.{add-one}
 use Rattle.std.specs.Prelude.{slice_set}
 use Rattle.js_base.specs.declared.binary_operator.BinOp.{BinOp}
 use Rattle.jif_tree.specs.Operators.{binary_value}

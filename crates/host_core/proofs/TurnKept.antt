@@ -268,8 +268,10 @@ back_on : (code : CodeShape) (host : HostShape) (held : Token) (here passes : Bo
     then after_pop code (with_running host None) host.entries
     else with_one_ignored (with_running host None))
     else with_message (with_running host None) held.host (message.Lgoto held))
-back_on code host held true true sound fits holds here =
-    (kept_pop code (with_running host None) host.entries sound (kept_at_rest code host fits) fits.entries fits.stack, tt)
+back_on code host held true true sound fits holds here = (
+  kept_pop code (with_running host None) host.entries sound (kept_at_rest code host fits) fits.entries fits.stack,
+  tt,
+)
 back_on code host held true false sound fits holds here =
     (kept_ignored code (with_running host None) (kept_at_rest code host fits), tt)
 back_on code host held false passes sound fits holds here =

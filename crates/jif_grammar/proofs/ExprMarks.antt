@@ -78,7 +78,8 @@ goes_members depth later tokens names none goes =
     goes_names due.members due.after_member depth later tokens names (λ name. refl) refl none goes
 
 abbrev pub parts_before : ℕ → LabelPhrase → List Marked → List Marked
-parts_before depth parts tokens = joined_before (plain depth (symbol symbols.Semicolon)) (part_before depth) parts tokens
+parts_before depth parts tokens = joined_before (plain depth (symbol symbols.Semicolon))
+    (part_before depth) parts tokens
 
 abbrev pub brace : ℕ → Marked
 brace depth = plain depth (symbol symbols.RightBrace)
@@ -242,7 +243,8 @@ goes_expr (relabelled release e label) closing depth inner later tokens grouped 
     let close = nested_at (suc inner) (due.exactly due.right_parenthesis) ∷ behind in
     let label_due = nested_at (suc inner) due.label ∷ close in
     let rest = label_before nothing (suc inner) label (plain (suc inner) (symbol symbols.RightParenthesis) ∷ tokens) in
-    let more = goes_label (suc inner) close (plain (suc inner) (symbol symbols.RightParenthesis) ∷ tokens) label grouped.1
+    let more = goes_label (suc inner) close (plain (suc inner) (symbol symbols.RightParenthesis) ∷ tokens) label
+    grouped.1
     (behind, refl, goes.0) in (
       nested_at (suc inner) (due.exactly due.left_parenthesis)
           ∷ operand_at due.at_comma (suc inner) (suc inner) ∷ label_due,
@@ -259,7 +261,8 @@ goes_expr (relabelled acceptance e label) closing depth inner later tokens group
     let close = nested_at (suc inner) (due.exactly due.right_parenthesis) ∷ behind in
     let label_due = nested_at (suc inner) due.label ∷ close in
     let rest = label_before nothing (suc inner) label (plain (suc inner) (symbol symbols.RightParenthesis) ∷ tokens) in
-    let more = goes_label (suc inner) close (plain (suc inner) (symbol symbols.RightParenthesis) ∷ tokens) label grouped.1
+    let more = goes_label (suc inner) close (plain (suc inner) (symbol symbols.RightParenthesis) ∷ tokens) label
+    grouped.1
     (behind, refl, goes.0) in (
       nested_at (suc inner) (due.exactly due.left_parenthesis)
           ∷ operand_at due.at_comma (suc inner) (suc inner) ∷ label_due,

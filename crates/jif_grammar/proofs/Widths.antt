@@ -39,7 +39,8 @@ pub of_label_width : (label : LabelPhrase) (rest : List TokenKind) →
     length (label_then label rest) ≡ length (label_spelling nothing 0 label) + length rest
 of_label_width label rest =
     width (label_spelling nothing 0 label) rest (label_then label)
-    (ap token_kinds (spelled_label nothing 0 label (plain_tokens rest)) ∙ unmarked_label nothing 0 label (plain_tokens rest))
+    (ap token_kinds (spelled_label nothing 0 label (plain_tokens rest)) ∙ unmarked_label nothing 0 label
+    (plain_tokens rest))
 
 pub of_expr_width : (e : ExprPhrase) (rest : List TokenKind) →
     length (expr_then e rest) ≡ length (expr_spelling 0 e) + length rest
@@ -57,7 +58,8 @@ pub of_optional_label_width : (label : Option LabelPhrase) (rest : List TokenKin
     length (optional_label_then label rest) ≡ length (optional_label_spelling 0 label) + length rest
 of_optional_label_width label rest =
     width (optional_label_spelling 0 label) rest (optional_label_then label)
-    (ap token_kinds (spelled_optional_label 0 label (plain_tokens rest)) ∙ unmarked_optional_label 0 label (plain_tokens rest))
+    (ap token_kinds (spelled_optional_label 0 label (plain_tokens rest)) ∙ unmarked_optional_label 0 label
+    (plain_tokens rest))
 
 pub of_block_width : (block : BlockPhrase) (rest : List TokenKind) →
     length (block_then block rest) ≡ length (block_spelling 0 block) + length rest
@@ -87,7 +89,8 @@ pub of_head_width : (kind : Option LabelPhrase) (name : List ℕ) (begin : Label
     length (head_then kind name begin rest) ≡ length (head_spelling kind name begin) + length rest
 of_head_width kind name begin rest =
     width (head_spelling kind name begin) rest (head_then kind name begin)
-    (ap token_kinds (spelled_head kind name begin (plain_tokens rest)) ∙ unmarked_head kind name begin (plain_tokens rest))
+    (ap token_kinds (spelled_head kind name begin (plain_tokens rest)) ∙ unmarked_head kind name begin
+    (plain_tokens rest))
 
 pub of_item_width : (item : ItemPhrase) (rest : List TokenKind) →
     length (item_then item rest) ≡ length (item_spelling item) + length rest

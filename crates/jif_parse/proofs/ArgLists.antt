@@ -1,5 +1,6 @@
 -- Arguments joined by commas, and the parenthesis behind them.
-use Rattle.std.proofs.Common.{◌≡◌, ℕ, pos, negsuc, ◌≤◌, List, [], ◌∷◌, ◌++◌, length, map, refl, ap, sym, subst, ◌∙◌, arith}
+use Rattle.std.proofs.Common.{◌≡◌, ℕ, pos, negsuc, ◌≤◌, List, [], ◌∷◌, ◌++◌, length, map, refl, ap, sym, subst, ◌∙◌}
+use Rattle.std.proofs.Common.{arith}
 use Rattle.std.proofs.lemmas.List.{map-append, length-append}
 use Rattle.js_base.specs.declared.limits.TheConstants.{NESTING}
 use Rattle.jif_lex.specs.declared.token.TokenKind.{TokenKind}
@@ -120,7 +121,8 @@ args_none {old} {new} {depth} nested is passes =
       drafts_are = refl;
       moves = one.moves;
       takes =
-          takes_passed (nested_at depth due.args) (symbol symbols.RightParenthesis) [] depth one passes.counts nested refl
+          takes_passed (nested_at depth due.args) (symbol symbols.RightParenthesis) [] depth one passes.counts nested
+          refl
           refl;
     }
 
@@ -130,7 +132,8 @@ args_fail so_far fails = fails_then so_far.takes (fails at_argument)
 
 pub args_end_fails : {old now after : Cursor} {depth : ℕ} {drafts : List ExprDraft} {draft : ExprDraft}
     {error : ParseError} → ArgsSoFar old now depth drafts → ReadsExpr now after 0 depth depth draft →
-    ¬ IsNextSymbol after symbols.Comma → (error ≡ fault.Unexpected after.at) × ¬ IsNextSymbol after symbols.RightParenthesis →
+    ¬ IsNextSymbol after symbols.Comma → (error ≡ fault.Unexpected after.at)
+    × ¬ IsNextSymbol after symbols.RightParenthesis →
     FailsArgs old depth error
 args_end_fails {old} {now} {after} {depth} {drafts} {draft} {error} so_far reads comma other =
     fails_then (takes_then so_far.takes (reads.takes at_argument))

@@ -40,7 +40,8 @@ below_tightest operators.Multiply = omega arith
 below_tightest operators.Divide = omega arith
 below_tightest operators.Remainder = omega arith
 
-pub never_next : (cursor : Cursor) (operator : BinOp) → StopsAt 0 cursor → ¬ IsNextSymbol cursor (operator_symbol operator)
+pub never_next : (cursor : Cursor) (operator : BinOp) → StopsAt 0 cursor →
+    ¬ IsNextSymbol cursor (operator_symbol operator)
 never_next cursor operator stops is = absurd (omega (arith, stops operator is))
 
 -- ---- operators
@@ -134,14 +135,16 @@ pub takes_operator : {old new : Cursor} (closing : Closing) (depth : ℕ) (opera
     IsNextSymbol old (operator_symbol operator) → Counted old new depth node →
     Takes old new (links_due closing depth) (operand_due closing depth depth)
 takes_operator closing depth operator is counted =
-    takes_counted (nested_at depth (links closing)) (symbol (operator_symbol operator)) (operand closing ∷ []) depth node is
+    takes_counted (nested_at depth (links closing)) (symbol (operator_symbol operator))
+    (operand closing ∷ []) depth node is
     counted (operator_due closing operator) (operator_marked closing depth operator)
 
 pub operator_over : {old : Cursor} {error : ParseError} (closing : Closing) (depth : ℕ) (operator : BinOp)
     (more : List TokenKind) → kinds old.rest.now ≡ symbol (operator_symbol operator) ∷ more →
     IsOver old depth node error → Fails old (links_due closing depth) error
 operator_over closing depth operator more is over =
-    fails_at_limit (nested_at depth (links closing)) (symbol (operator_symbol operator)) more (operand closing ∷ []) depth
+    fails_at_limit (nested_at depth (links closing)) (symbol (operator_symbol operator)) more
+    (operand closing ∷ []) depth
     node is over (operator_due closing operator) (operator_marked closing depth operator)
 
 -- ---- what ends an expression
@@ -158,7 +161,8 @@ takes_closing at_bracket depth nested passes =
     takes_passed (nested_at depth (links at_bracket)) (symbol symbols.RightBracket) [] depth (step_symbol passes)
     passes.passes.counts nested refl refl
 takes_closing at_parenthesis depth nested passes =
-    takes_passed (nested_at depth (links at_parenthesis)) (symbol symbols.RightParenthesis) [] depth (step_symbol passes)
+    takes_passed (nested_at depth (links at_parenthesis)) (symbol symbols.RightParenthesis) [] depth
+    (step_symbol passes)
     passes.passes.counts nested refl refl
 takes_closing at_argument depth nested passes =
     takes_passed (nested_at depth (links at_argument)) (symbol symbols.RightParenthesis) [] depth (step_symbol passes)
@@ -327,7 +331,8 @@ closing_fails old error closing depth stops comma other =
 -- ---- behind a name
 
 same_behind_name : (closing : Closing) (depth inner : ℕ) (kind : TokenKind) → ¬ (kind ≡ symbol symbols.LeftBracket) →
-    SameStep (record { due = after_operand_name closing; depth = depth; inner = inner }) (nested_at depth (links closing))
+    SameStep (record { due = after_operand_name closing; depth = depth; inner = inner })
+    (nested_at depth (links closing))
     kind
 same_behind_name closing depth inner (token.Name name) other later t n = refl
 same_behind_name closing depth inner (token.Number number) other later t n = refl

@@ -8,7 +8,8 @@ use Rattle.jif_grammar.specs.Grouping.{IsProgram}
 use Rattle.jif_grammar.specs.Marks.{tally_at_start}
 use Rattle.jif_grammar.specs.Unmarked.{program_then}
 use Rattle.jif_grammar.specs.DraftShapes.{draft_shape}
-use Rattle.jif_grammar.specs.Programs.{Spells, IsProgramText, IsProgramOf, line_at, Refusal, unexpected, too_deep, too_many}
+use Rattle.jif_grammar.specs.Programs.{Spells, IsProgramText, IsProgramOf, line_at, Refusal, unexpected, too_deep}
+use Rattle.jif_grammar.specs.Programs.{too_many}
 use Rattle.jif_grammar.specs.Programs.{IsRefused}
 use Rattle.jif_grammar.specs.Verdicts.{refusal_of}
 use Rattle.jif_parse.specs.declared.cursor.Cursor.{Cursor}
@@ -55,6 +56,7 @@ refused_by {start} {error} tokens starts law fails =
     elim fails.why [
       | inl memory ↦ subst (IsRefusedBy tokens) (sym memory) tt
       | inr told ↦
-          let some : refusal_of tokens ≡ Some told.0 = cc (told.2 tally_at_start starts.counts, starts.rest, starts.at) in
+          let some : refusal_of tokens ≡ Some told.0 =
+          cc (told.2 tally_at_start starts.counts, starts.rest, starts.at) in
           by_refusal tokens error told.0 told.1 (law told.0 some)
     ]

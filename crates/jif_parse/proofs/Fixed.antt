@@ -79,7 +79,8 @@ fails_fixed old error fixed depth other =
 pub step_name : {old new : Cursor} {draft : NameDraft} (reads : ReadsName old new draft) →
     Stepped old new (token.Name reads.name)
 step_name {old} {new} reads =
-    stepped (token.Name reads.name) (reads.written ∙ ap (λ ts. token.Name reads.name ∷ kinds ts) reads.passes.steps.rest)
+    stepped (token.Name reads.name) (reads.written
+    ∙ ap (λ ts. token.Name reads.name ∷ kinds ts) reads.passes.steps.rest)
     reads.passes.steps
 
 -- a name that is due by itself

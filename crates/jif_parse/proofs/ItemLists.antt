@@ -1,5 +1,6 @@
 -- Fields and methods, put together from what was read.
-use Rattle.std.proofs.Common.{◌≡◌, ◌<◌, ℕ, ◌+◌, ◌-◌, ◌⊎◌, get_or, true, false, List, [], ◌∷◌, ◌++◌, length, map, Option, Some, None, refl}
+use Rattle.std.proofs.Common.{◌≡◌, ◌<◌, ℕ, ◌+◌, ◌-◌, ◌⊎◌, get_or, true, false, List, [], ◌∷◌, ◌++◌, length, map, Option}
+use Rattle.std.proofs.Common.{Some, None, refl}
 use Rattle.std.proofs.Common.{ap, sym, subst, ◌∙◌, arith, append_assoc, inl, inr}
 use Rattle.std.proofs.lemmas.List.{append-nil, map-append}
 use Rattle.std.specs.Option.{option_map}
@@ -29,7 +30,8 @@ use Rattle.jif_grammar.specs.Spelling.{field_end_spelling, head_spelling, item_s
 use Rattle.jif_grammar.specs.Spelling.{params_spelling, authority_spelling, result_spelling}
 use Rattle.jif_grammar.specs.DraftShapes.{label_shape, name_shape, field_shape, method_shape}
 use Rattle.jif_grammar.specs.Drafts.{label_at, label_width, name_at, policies_at, trust_at, optional_label_at}
-use Rattle.jif_grammar.specs.Drafts.{method_name_place, after_item, fields_at, methods_at, block_width, block_at, result_at}
+use Rattle.jif_grammar.specs.Drafts.{method_name_place, after_item, fields_at, methods_at, block_width, block_at}
+use Rattle.jif_grammar.specs.Drafts.{result_at}
 use Rattle.jif_grammar.specs.Drafts.{params_at, names_at}
 use Rattle.jif_grammar.specs.Unmarked.{label_then, head_then, tail_then, field_end_then, item_then, program_then}
 use Rattle.jif_grammar.specs.Unmarked.{authority_then, block_then, result_then}
@@ -41,7 +43,8 @@ use Rattle.jif_parse.specs.declared.methods.MethodTail.{MethodTail}
 use Rattle.jif_parse.specs.declared.parse_error.ParseError.{ParseError}
 use Rattle.jif_parse.specs.declared.parse_error.ParseError.TheVariants as fault
 use Rattle.jif_parse.specs.Counting.{IsTally, HasCounted}
-use Rattle.jif_parse.specs.Reading.{behind, IsNextKind, IsNextSymbol, IsNextName, Takes, Fails, Moves, Passes, Counted, IsOver}
+use Rattle.jif_parse.specs.Reading.{behind, IsNextKind, IsNextSymbol, IsNextName, Takes, Fails, Moves, Passes, Counted}
+use Rattle.jif_parse.specs.Reading.{IsOver}
 use Rattle.jif_parse.specs.Phrases.{ReadsName, ReadsLabel, FailsLabel, ReadsParts, FailsParts}
 use Rattle.jif_parse.specs.Statements.{HasLines}
 use Rattle.jif_parse.specs.Fields.{ReadsFieldEnd, FailsFieldEnd}
@@ -70,7 +73,8 @@ whole_then {a} {b} {c} {p} {q} first second = record {
       );
 }
 
-pub whole_fails : {a b : Cursor} {p : List Nested} {error : ParseError} → TakesWhole a b p → Fails b p error → FailsWhole a error
+pub whole_fails : {a b : Cursor} {p : List Nested} {error : ParseError} → TakesWhole a b p → Fails b p error →
+    FailsWhole a error
 whole_fails {a} {b} {p} first fails = record {
   why = elim fails.why [
     | inl memory ↦ inl memory
@@ -79,7 +83,8 @@ whole_fails {a} {b} {p} first fails = record {
       told.1,
       λ t is.
           let one = first.same t is in
-          one.2 ∙ ap (λ d. refusal_from (going d one.0) b.at (kinds b.rest.now)) (sym (append-nil p)) ∙ told.2 [] one.0 one.1,
+          one.2 ∙ ap (λ d. refusal_from (going d one.0) b.at (kinds b.rest.now)) (sym (append-nil p))
+          ∙ told.2 [] one.0 one.1,
     )
   ];
 }
@@ -108,10 +113,12 @@ behind_int = nested_all 0 [] (due.label ∷ due.a_name ∷ due.after_name ∷ []
 abbrev behind_void : List Nested
 behind_void = nested_all 0 [] (due.a_name ∷ due.label ∷ method_rest)
 
-item_step : {old new : Cursor} (kind : TokenKind) (sooner : List Nested) (beginning : Beginning) → Stepped old new kind →
+item_step : {old new : Cursor} (kind : TokenKind) (sooner : List Nested) (beginning : Beginning) →
+    Stepped old new kind →
     HasCounted old.counts new.counts beginning →
     ((t : Tally) (n : ℕ) (more : List TokenKind) → refusal_from (going [] t) n (kind ∷ more)
-    ≡ refusal_from (walk_within (excess (after_token t (mark beginning 0 kind))) sooner (after_token t (mark beginning 0 kind)) n)
+    ≡ refusal_from (walk_within (excess (after_token t (mark beginning 0 kind))) sooner
+    (after_token t (mark beginning 0 kind)) n)
     (n + 1) more) → TakesWhole old new sooner
 item_step {old} {new} kind sooner beginning step counted walks = record {
   same = λ t is.
@@ -145,7 +152,8 @@ void_over {old} next over = record {
     λ t is.
         let after = after_token t (mark marks.method 0 (Word Void)) in
         ap (refusal_from (going [] t) old.at) next
-        ∙ ap (λ o. refusal_from (walk_within o behind_void after old.at) (old.at + 1) (kinds (behind old))) (over.2 t is),
+        ∙ ap (λ o. refusal_from (walk_within o behind_void after old.at) (old.at + 1) (kinds (behind old)))
+        (over.2 t is),
   );
 }
 
@@ -163,7 +171,8 @@ unexpected_first t n [] some no_int no_void = absurd (some refl)
 unexpected_first t n (next ∷ tokens) some no_int no_void =
     no_item t n next.kind (kinds tokens) (no_int next.kind (kinds tokens) refl) (no_void next.kind (kinds tokens) refl)
 
-not_next : (old : Cursor) (written : TokenKind) → ¬ IsNextKind old written → (kind : TokenKind) (more : List TokenKind) →
+not_next : (old : Cursor) (written : TokenKind) → ¬ IsNextKind old written →
+    (kind : TokenKind) (more : List TokenKind) →
     kinds old.rest.now ≡ kind ∷ more → ¬ (kind ≡ written)
 not_next old written other kind more is same = other (next_kind old written more (is ∙ ap (λ k. k ∷ more) same))
 
@@ -180,13 +189,16 @@ item_unexpected {old} some no_int no_void tells = record {
 
 -- ---- fields
 
-pub named_fails : {old a : Cursor} {error : ParseError} → IsNextKind old (Word Int) → Passes old a → FailsNamed a error →
+pub named_fails : {old a : Cursor} {error : ParseError} → IsNextKind old (Word Int) → Passes old a →
+    FailsNamed a error →
     FailsWhole old error
-named_fails next passes fails = whole_fails (int_taken next passes) (fails_before (nested_at 0 due.after_name ∷ []) fails)
+named_fails next passes fails = whole_fails (int_taken next passes)
+    (fails_before (nested_at 0 due.after_name ∷ []) fails)
 
 named_taken : {old a b : Cursor} {label : LabelDraft} {name : NameDraft} → IsNextKind old (Word Int) → Passes old a →
     ReadsNamed a b label name → TakesWhole old b (nested_at 0 due.after_name ∷ [])
-named_taken next passes read = whole_then (int_taken next passes) (takes_before (nested_at 0 due.after_name ∷ []) read.takes)
+named_taken next passes read = whole_then (int_taken next passes)
+    (takes_before (nested_at 0 due.after_name ∷ []) read.takes)
 
 pub field_end_fails : {old a b : Cursor} {label : LabelDraft} {name : NameDraft} {error : ParseError} →
     IsNextKind old (Word Int) → Passes old a → ReadsNamed a b label name → FailsFieldEnd b error → FailsWhole old error
@@ -213,7 +225,8 @@ field_read {old} {a} {b} {new} {label} {name} {ending} w next passes read last =
     let label_is = read.label_is ∙ ap (λ at. label_at at read.label) first.moves.at in
     let place : a.at + label_width read.label ≡ old.at + 1 + label_width read.label = omega (arith, first.moves.at) in
     let name_is = read.name_is ∙ ap (λ at. name_at at read.name) place in
-    let width : length (item_spelling (field phrase)) ≡ label_width read.label + length (field_end_spelling last.ending) + 2 =
+    let width : length (item_spelling (field phrase)) ≡ label_width read.label + length
+    (field_end_spelling last.ending) + 2 =
     omega (
       arith,
       w.item (field phrase) [],
@@ -240,7 +253,8 @@ result_then_width w (Some value) =
 
 method_width : (w : Widths) (phrase : MethodPhrase) → length (item_spelling (method phrase))
     ≡ length (head_spelling phrase.kind phrase.name phrase.begin) + length (params_spelling phrase.params)
-    + length (authority_spelling phrase.authority) + block_width phrase.body + length (result_spelling phrase.result) + 4
+    + length (authority_spelling phrase.authority) + block_width phrase.body + length
+    (result_spelling phrase.result) + 4
 method_width w phrase =
     let end = result_then phrase.result (symbol RightBrace ∷ []) in
     let body = symbol LeftBrace ∷ block_then phrase.body end in
@@ -263,7 +277,8 @@ pub method_read : {old t new : Cursor} {result : Option LabelDraft} {name : Name
     option_map label_shape result ≡ optional_label_at (old.at + 1) kind →
     name_shape name ≡ name_at (method_name_place old.at kind) name_phrase →
     label_shape begin ≡ label_at (method_name_place old.at kind + 1) begin_phrase →
-    Moves old t (length (head_spelling kind name_phrase begin_phrase)) → TakesWhole old t tail_due → ReadsTail t new tail →
+    Moves old t (length (head_spelling kind name_phrase begin_phrase)) → TakesWhole old t tail_due →
+    ReadsTail t new tail →
     ReadsItem old new (draft.Method (record {
       result = result;
       name = name;
@@ -289,8 +304,10 @@ method_read {old} {t} {new} {result} {name} {begin} {line} tail kind name_phrase
     let authority_place = params_place + length (params_spelling read.params) + 1 in
     let body_place = authority_place + length (authority_spelling read.authority) + 1 in
     let at_params : t.at + 1 ≡ params_place = omega (arith, moves.at) in
-    let at_authority : t.at + 5 + length (params_spelling read.params) ≡ authority_place + 3 = omega (arith, moves.at) in
-    let at_body : t.at + 3 + length (params_spelling read.params) + length (authority_spelling read.authority) ≡ body_place =
+    let at_authority : t.at + 5 + length (params_spelling read.params) ≡ authority_place + 3 =
+    omega (arith, moves.at) in
+    let at_body : t.at + 3 + length (params_spelling read.params) + length (authority_spelling read.authority)
+    ≡ body_place =
     omega (arith, moves.at) in
     let params_are = read.params_are ∙ ap (λ at. params_at at read.params) at_params in
     let authority_is = read.authority_is ∙ ap (λ at. names_at at read.authority) at_authority in
@@ -300,7 +317,8 @@ method_read {old} {t} {new} {result} {name} {begin} {line} tail kind name_phrase
       written = written ∙ ap (head_then kind name_phrase begin_phrase) read.written;
       draft_is = λ lines has.
           let body_is = read.body_is lines (lines_moved lines moves has)
-          ∙ ap (λ at. block_at lines at read.block (result_at lines (at + block_width read.block) read.result)) at_body in
+          ∙ ap (λ at. block_at lines at read.block (result_at lines (at + block_width read.block) read.result))
+          at_body in
           let at_line = line_is lines has in
           cc (result_is, name_is, begin_is, params_are, authority_is, body_is, at_line);
       moves = moves_as _ (omega (arith, width)) (moves_then moves read.moves);
@@ -309,15 +327,18 @@ method_read {old} {t} {new} {result} {name} {begin} {line} tail kind name_phrase
 
 -- ---- `void` methods
 
-pub void_name_fails : {old a : Cursor} {error : ParseError} → IsNextKind old (Word Void) → Counted old a 0 marks.method →
+pub void_name_fails : {old a : Cursor} {error : ParseError} → IsNextKind old (Word Void) →
+    Counted old a 0 marks.method →
     (error ≡ fault.OutOfMemory) ⊎ ((error ≡ fault.Unexpected a.at) × ¬ IsNextName a) → FailsWhole old error
 void_name_fails {a = a} {error = error} next counted other =
-    whole_fails (void_taken next counted) (fails_before (nested_all 0 [] (due.label ∷ method_rest)) (fails_name a error 0 other))
+    whole_fails (void_taken next counted) (fails_before (nested_all 0 [] (due.label ∷ method_rest))
+    (fails_name a error 0 other))
 
 void_name_taken : {old a b : Cursor} {name : NameDraft} → IsNextKind old (Word Void) → Counted old a 0 marks.method →
     ReadsName a b name → TakesWhole old b (nested_at 0 due.label ∷ tail_due)
 void_name_taken next counted read =
-    whole_then (void_taken next counted) (takes_before (nested_at 0 due.label ∷ tail_due) (takes_name 0 none_nested read))
+    whole_then (void_taken next counted) (takes_before (nested_at 0 due.label ∷ tail_due)
+    (takes_name 0 none_nested read))
 
 pub void_label_fails : {old a b : Cursor} {name : NameDraft} {error : ParseError} → IsNextKind old (Word Void) →
     Counted old a 0 marks.method → ReadsName a b name → FailsLabel b error → FailsWhole old error
@@ -334,7 +355,8 @@ pub void_tail_fails : {old a b c : Cursor} {name : NameDraft} {begin : LabelDraf
     FailsTail c error → FailsWhole old error
 void_tail_fails next counted read label fails = whole_fails (void_head_taken next counted read label) fails
 
-pub void_read : {old a b c new : Cursor} {name : NameDraft} {begin : LabelDraft} {line : ℕ} (tail : MethodTail) → Widths →
+pub void_read : {old a b c new : Cursor} {name : NameDraft} {begin : LabelDraft} {line : ℕ} (tail : MethodTail) →
+    Widths →
     ((lines : ℕ → ℕ) → HasLines lines old → line ≡ lines old.at) → IsNextKind old (Word Void) →
     Counted old a 0 marks.method → ReadsName a b name → ReadsLabel b c begin → ReadsTail c new tail →
     ReadsItem old new (draft.Method (record {
@@ -406,7 +428,8 @@ pub int_read : {old a b c d new : Cursor} {label begin : LabelDraft} {name : Nam
       line = line;
       body = tail.body;
     }))
-int_read {old} {a} {b} {c} {d} {new} {label} {begin} {name} {line} tail w line_is next passes read brace counted parts rest =
+int_read {old} {a} {b} {c} {d} {new} {label} {begin} {name} {line} tail w line_is next passes read brace counted parts
+    rest =
     let first = stepped (Word Int) next passes.steps in
     let third = stepped (symbol LeftBrace) brace counted.steps in
     let width_of_begin = label_width_is parts.label in
@@ -428,7 +451,11 @@ int_read {old} {a} {b} {c} {d} {new} {label} {begin} {name} {line} tail w line_i
     ∙ ap (λ ks. symbol LeftBrace ∷ ks) parts.written)))
     (ap Some (read.label_is ∙ ap (λ at. label_at at read.label) first.moves.at))
     (read.name_is ∙ ap (λ at. name_at at read.name) name_place)
-    (parts.draft_is ∙ ap (λ at. record { policies = policies_at at parts.label; trust = trust_at at parts.label }) begin_place)
+    (parts.draft_is ∙ ap (λ at. record {
+      policies = policies_at at parts.label;
+      trust =
+          trust_at at parts.label;
+    }) begin_place)
     (moves_as _ (omega (arith, head, width_of_begin))
     (moves_then (moves_then (moves_then first.moves read.moves) third.moves) parts.moves))
     (int_head_taken next passes read brace counted parts) rest
@@ -440,7 +467,8 @@ program_more : (program : ProgramPhrase) (item : ItemPhrase) (rest : List TokenK
 program_more [] item rest = refl
 program_more (first ∷ program) item rest = ap (item_then first) (program_more program item rest)
 
-sound_more : (program : ProgramPhrase) (item : ItemPhrase) → IsProgram program → IsItem item → IsProgram (program ++ item ∷ [])
+sound_more : (program : ProgramPhrase) (item : ItemPhrase) → IsProgram program → IsItem item →
+    IsProgram (program ++ item ∷ [])
 sound_more [] item sound one = (one, tt)
 sound_more (first ∷ program) item sound one = (sound.0, sound_more program item sound.1 one)
 
@@ -457,7 +485,8 @@ pub record ItemsRead (old now : Cursor) (made : Draft) : Type 0 where
   pub moves : Moves old now count
   pub takes : TakesWhole old now []
 
-pub nothing_read : (old : Cursor) (made : Draft) → made.fields.items ≡ [] → made.methods.items ≡ [] → ItemsRead old old made
+pub nothing_read : (old : Cursor) (made : Draft) → made.fields.items ≡ [] → made.methods.items ≡ [] →
+    ItemsRead old old made
 nothing_read old made no_fields no_methods = record {
   program = [];
   sound = tt;
@@ -469,7 +498,8 @@ nothing_read old made no_fields no_methods = record {
   takes = record { same = λ t is. (t, is, refl) };
 }
 
-fields_more : (old new : ℕ) (made : ItemDraft) (item : ItemPhrase) (lines : ℕ → ℕ) (before after : Draft) (more : ProgramPhrase) →
+fields_more : (old new : ℕ) (made : ItemDraft) (item : ItemPhrase) (lines : ℕ → ℕ) (before after : Draft)
+    (more : ProgramPhrase) →
     new ≡ after_item old item → HasAdded before after made → IsItemDraft lines old item made →
     map field_shape before.fields.items ++ fields_at old (item ∷ more)
     ≡ map field_shape after.fields.items ++ fields_at new more
@@ -485,12 +515,14 @@ fields_more old new (draft.Method made) (method phrase) lines before after more 
 fields_more old new (draft.Field made) (method phrase) lines before after more place added is = absurd is
 fields_more old new (draft.Method made) (field phrase) lines before after more place added is = absurd is
 
-methods_more : (old new : ℕ) (made : ItemDraft) (item : ItemPhrase) (lines : ℕ → ℕ) (before after : Draft) (more : ProgramPhrase) →
+methods_more : (old new : ℕ) (made : ItemDraft) (item : ItemPhrase) (lines : ℕ → ℕ) (before after : Draft)
+    (more : ProgramPhrase) →
     new ≡ after_item old item → HasAdded before after made → IsItemDraft lines old item made →
     map method_shape before.methods.items ++ methods_at lines old (item ∷ more)
     ≡ map method_shape after.methods.items ++ methods_at lines new more
 methods_more old new (draft.Method made) (method phrase) lines before after more place added is =
-    ap (λ s. map method_shape before.methods.items ++ s ∷ methods_at lines (after_item old (method phrase)) more) (sym is)
+    ap (λ s. map method_shape before.methods.items ++ s ∷ methods_at lines (after_item old (method phrase)) more)
+    (sym is)
     ∙ ap (λ at. map method_shape before.methods.items ++ method_shape made ∷ methods_at lines at more) (sym place)
     ∙ sym (append_assoc (map method_shape before.methods.items) (method_shape made ∷ []) (methods_at lines new more))
     ∙ ap (λ xs. xs ++ methods_at lines new more) (sym (map-append method_shape before.methods.items (made ∷ []))
@@ -555,7 +587,8 @@ all_items {old} {now} {made} so_far none = record {
       end.2 ∙ ap (λ tokens. refusal_from (going [] end.0) now.at (kinds tokens)) none;
 }
 
-item_first : (item : ItemPhrase) (rest : List TokenKind) → (kind : TokenKind) × ((more : List TokenKind) × (item_then item rest ≡ kind ∷ more))
+item_first : (item : ItemPhrase) (rest : List TokenKind) →
+    (kind : TokenKind) × ((more : List TokenKind) × (item_then item rest ≡ kind ∷ more))
 item_first (field phrase) rest = (_, (_, refl))
 item_first (method phrase) rest = by_kind phrase.kind
   where

@@ -1,5 +1,6 @@
 -- Where a reader stands behind what it read.
-use Rattle.std.proofs.Common.{◌≡◌, ℕ, suc, ◌≤◌, ◌<◌, ◌+◌, List, [], ◌∷◌, length, drop, refl, ap, sym, subst, ◌∙◌, arith, Some, None}
+use Rattle.std.proofs.Common.{◌≡◌, ℕ, suc, ◌≤◌, ◌<◌, ◌+◌, List, [], ◌∷◌, length, drop, refl, ap, sym, subst, ◌∙◌, arith}
+use Rattle.std.proofs.Common.{Some, None}
 use Rattle.std.proofs.lemmas.List.{drop-drop, length-map, length-drop}
 use Rattle.js_base.specs.declared.limits.TheConstants.{NESTING}
 use Rattle.jif_lex.specs.declared.token.Token.{Token}
@@ -83,7 +84,8 @@ fails_other old error first tells other =
     fails_unexpected old error first tells (λ kind more is. other kind (next_kind old kind more is))
 
 -- fewer tokens are left
-pub fewer : {old middle new : Cursor} {kind : TokenKind} {count : ℕ} → Stepped old middle kind → Moves middle new count →
+pub fewer : {old middle new : Cursor} {kind : TokenKind} {count : ℕ} → Stepped old middle kind →
+    Moves middle new count →
     length new.rest.now < length old.rest.now
 fewer {old} {middle} {new} {kind} {count} one moves =
     let more : length (kinds old.rest.now) ≡ suc (length (kinds middle.rest.now)) = ap length one.is_next in

@@ -45,10 +45,15 @@ names_due list depth = nested_at depth a_name ∷ nested_at depth (after_name_of
 -- the names so far, each with a comma behind it
 pub record NamesSoFar (old now : Cursor) (drafts : List NameDraft) : Type 0 where
   pub items : ItemsSoFar names_form old now (map name_shape drafts)
-  pub takes : (list : NameList) (depth : ℕ) → depth ≤ NESTING → Takes old now (names_due list depth) (names_due list depth)
+  pub takes : (list : NameList) (depth : ℕ) → depth ≤ NESTING →
+      Takes old now (names_due list depth) (names_due list depth)
 
 pub no_names : (old : Cursor) → NamesSoFar old old []
-no_names old = record { items = no_items names_form old; takes = λ list depth nested. takes_nothing old (names_due list depth) }
+no_names old = record {
+  items = no_items names_form old;
+  takes =
+      λ list depth nested. takes_nothing old (names_due list depth);
+}
 
 -- behind a name
 behind_name : {old now new : Cursor} {drafts : List NameDraft} {draft : NameDraft} → NamesSoFar old now drafts →
@@ -61,10 +66,12 @@ behind_name so_far reads list depth nested =
 takes_comma : {old new : Cursor} (list : NameList) (depth : ℕ) → depth ≤ NESTING → IsNextSymbol old Comma →
     Passes old new → Takes old new (nested_at depth (after_name_of list) ∷ []) (names_due list depth)
 takes_comma of_readers depth nested is passes =
-    takes_passed (nested_at depth (after_name_of of_readers)) (symbol Comma) (a_name ∷ after_name_of of_readers ∷ []) depth
+    takes_passed (nested_at depth (after_name_of of_readers)) (symbol Comma)
+    (a_name ∷ after_name_of of_readers ∷ []) depth
     (stepped (symbol Comma) is passes.steps) passes.counts nested refl refl
 takes_comma of_members depth nested is passes =
-    takes_passed (nested_at depth (after_name_of of_members)) (symbol Comma) (a_name ∷ after_name_of of_members ∷ []) depth
+    takes_passed (nested_at depth (after_name_of of_members)) (symbol Comma)
+    (a_name ∷ after_name_of of_members ∷ []) depth
     (stepped (symbol Comma) is passes.steps) passes.counts nested refl refl
 takes_comma of_principals depth nested is passes =
     takes_passed (nested_at depth (after_name_of of_principals)) (symbol Comma)
@@ -76,9 +83,11 @@ pub names_more : {old now behind new : Cursor} {drafts : List NameDraft} {draft 
     (after : List NameDraft) → after ≡ drafts ++ draft ∷ [] → NamesSoFar old new after
 names_more {old} {now} {behind} {new} {drafts} {draft} so_far reads is passes after are = record {
   items = subst (λ shapes. ItemsSoFar names_form old new shapes)
-      (sym (ap (map name_shape) are ∙ map-append name_shape drafts (draft ∷ []) ∙ ap (λ s. map name_shape drafts ++ s ∷ [])
+      (sym (ap (map name_shape) are ∙ map-append name_shape drafts (draft ∷ []) ∙ ap (λ s. map name_shape drafts
+      ++ s ∷ [])
       reads.draft_is))
-      (one_more {behind = behind} {new = new} reads.name so_far.items reads.written (step_name reads).moves tt (stepped (symbol Comma) is passes.steps)
+      (one_more {behind = behind} {new = new} reads.name so_far.items reads.written (step_name reads).moves tt
+      (stepped (symbol Comma) is passes.steps)
       (λ items one all. tt));
   takes = λ list depth nested.
       takes_then (behind_name so_far reads list depth nested) (takes_comma list depth nested is passes);

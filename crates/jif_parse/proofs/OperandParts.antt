@@ -11,12 +11,15 @@ use Rattle.jif_grammar.specs.Phrases as phrases
 use Rattle.jif_grammar.specs.Phrases.{ExprPhrase, number, variable, element, parenthesized, signed, relabelled}
 use Rattle.jif_grammar.specs.Operators.{sign_symbol, change_word}
 use Rattle.jif_grammar.specs.Due as due
-use Rattle.jif_grammar.specs.Due.{Due, Closing, at_comma, at_bracket, at_parenthesis, operand, links, after_operand_name}
+use Rattle.jif_grammar.specs.Due.{Due, Closing, at_comma, at_bracket, at_parenthesis, operand, links}
+use Rattle.jif_grammar.specs.Due.{after_operand_name}
 use Rattle.jif_grammar.specs.Due.{exactly, left_parenthesis, right_parenthesis, due_after_token, relabelled_operand}
 use Rattle.jif_grammar.specs.Marks.{nothing, node, mark}
 use Rattle.jif_grammar.specs.Nesting.{Nested, nested_at, marked_by, nested_after}
-use Rattle.jif_grammar.specs.DraftShapes.{expr_shape, number_shape, variable_shape, element_shape, label_shape, name_shape}
-use Rattle.jif_grammar.specs.Drafts.{expr_at, expr_width, label_at, label_width, name_at, signed_shape, relabelled_shape}
+use Rattle.jif_grammar.specs.DraftShapes.{expr_shape, number_shape, variable_shape, element_shape, label_shape}
+use Rattle.jif_grammar.specs.DraftShapes.{name_shape}
+use Rattle.jif_grammar.specs.Drafts.{expr_at, expr_width, label_at, label_width, name_at, signed_shape}
+use Rattle.jif_grammar.specs.Drafts.{relabelled_shape}
 use Rattle.jif_grammar.specs.Unmarked.{expr_then, label_then}
 use Rattle.jif_tree.specs.declared.draft.ExprDraft as code
 use Rattle.jif_tree.specs.declared.draft.ExprDraft.{ExprDraft}
@@ -69,7 +72,8 @@ takes_word : {old new : Cursor} (closing : Closing) (depth inner : ℕ) (name : 
     IsNextKind old (token.Name name) → Counted old new inner node →
     Takes old new (operand_due closing depth inner) (name_due closing depth inner ∷ [])
 takes_word closing depth inner name is counted =
-    takes_counted (operand_at closing depth inner) (token.Name name) (after_operand_name closing ∷ []) inner node is counted
+    takes_counted (operand_at closing depth inner) (token.Name name) (after_operand_name closing ∷ []) inner node is
+    counted
     refl refl
 
 pub variable_read : {old new : Cursor} {depth inner : ℕ} (name : List ℕ) (draft : NameDraft) →
@@ -96,7 +100,8 @@ takes_bracket : {old new : Cursor} (closing : Closing) (depth inner : ℕ) → I
     Takes old new (name_due closing depth inner ∷ [])
     (operand_due at_bracket (inner + 1) (inner + 1) ++ links_due closing depth)
 takes_bracket {old} {new} closing depth inner is counted =
-    subst (λ n. Takes old new (name_due closing depth inner ∷ []) (operand_due at_bracket n n ++ links_due closing depth))
+    subst (λ n. Takes old new (name_due closing depth inner ∷ []) (operand_due at_bracket n n
+    ++ links_due closing depth))
     (sym (add-one inner))
     (takes_counted (name_due closing depth inner) (symbol symbols.LeftBracket) (operand at_bracket ∷ links closing ∷ [])
     (inner + 1) nothing is counted refl (ap (λ n. mark nothing n (symbol symbols.LeftBracket)) (sym (add-one inner))))
@@ -137,7 +142,8 @@ element_read {old} {first} {second} {new} {depth} {inner} {index} name named dra
       draft_is =
           shape ∙ ap (λ n. element_shape n (expr_shape index)) same
           ∙ ap (element_shape (name_at old.at name)) (reads.draft_is
-          ∙ ap (λ n. expr_at n reads.expr) (let e : second.at ≡ old.at + 2 = omega (arith, one.moves.at, two.moves.at) in e));
+          ∙ ap (λ n. expr_at n reads.expr) (let e : second.at ≡ old.at + 2 =
+          omega (arith, one.moves.at, two.moves.at) in e));
       moves =
           moves_as (expr_width (element name reads.expr))
           (let e : 1 + (1 + (expr_width reads.expr + 1)) ≡ expr_width (element name reads.expr) =
@@ -214,7 +220,8 @@ takes_sign : {old new : Cursor} (closing : Closing) (depth inner : ℕ) (sign : 
 takes_sign {old} {new} closing depth inner sign is counted =
     subst (Takes old new (operand_due closing depth inner))
     (sign_after closing depth inner sign ∙ ap (operand_due closing depth) (sym (add-one inner)))
-    (takes_counted (operand_at closing depth inner) (symbol (sign_symbol sign)) (operand closing ∷ []) (inner + 1) node is
+    (takes_counted (operand_at closing depth inner) (symbol (sign_symbol sign)) (operand closing ∷ [])
+    (inner + 1) node is
     counted (sign_due closing sign)
     (sign_marked closing depth inner sign ∙ ap (λ n. mark node n (symbol (sign_symbol sign))) (sym (add-one inner))))
 
@@ -224,7 +231,8 @@ pub signed_fails : {old now : Cursor} {depth inner : ℕ} {error : ParseError} (
 signed_fails {old} {now} {depth} {inner} sign is counted fails closing =
     fails_then (takes_sign closing depth inner sign is counted) (fails closing)
 
-pub signed_read : {old now new : Cursor} {depth inner : ℕ} {value : ExprDraft} (sign : phrases.Sign) (draft : ExprDraft) →
+pub signed_read : {old now new : Cursor} {depth inner : ℕ} {value : ExprDraft} (sign : phrases.Sign)
+    (draft : ExprDraft) →
     IsNextSymbol old (sign_symbol sign) → Counted old now (inner + 1) node →
     ReadsExpr now new 6 depth (inner + 1) value → expr_shape draft ≡ signed_shape sign (expr_shape value) →
     ReadsExpr old new 6 depth inner draft
@@ -329,7 +337,8 @@ change_label_fails {old} {now} {after} {depth} {inner} change opened reads fails
     (fails_before (nested_at (inner + 1) (exactly right_parenthesis) ∷ links_due closing depth)
     (fails (inner + 1) opened.counted.nested))
 
-takes_label : {old now after new : Cursor} {value : ExprDraft} {label : LabelDraft} (closing : Closing) (depth inner : ℕ)
+takes_label : {old now after new : Cursor} {value : ExprDraft} {label : LabelDraft} (closing : Closing)
+    (depth inner : ℕ)
     (change : phrases.Change) → Opened old now inner change → ReadsUpTo now after at_comma (inner + 1) value →
     ReadsLabel after new label →
     Takes old new (operand_due closing depth inner)
@@ -354,7 +363,8 @@ pub relabelled_read : {old now after last new : Cursor} {depth inner : ℕ} {val
     PassesSymbol last new symbols.RightParenthesis →
     expr_shape draft ≡ relabelled_shape change (expr_shape value) (label_shape label) →
     ReadsExpr old new 6 depth inner draft
-relabelled_read {old} {now} {after} {last} {new} {depth} {inner} {value} {label} change draft opened reads labelled closes
+relabelled_read {old} {now} {after} {last} {new} {depth} {inner} {value} {label} change draft opened reads labelled
+    closes
     shape =
     let one = stepped (token.Word (change_word change)) opened.is opened.counted.steps in
     let two = step_symbol opened.opens in
@@ -370,7 +380,8 @@ relabelled_read {old} {now} {after} {last} {new} {depth} {inner} {value} {label}
           ∙ ap (label_then labelled.label) four.is_next)));
       draft_is =
           shape ∙ ap (λ e. relabelled_shape change e (label_shape label)) (reads.draft_is
-          ∙ ap (λ n. expr_at n reads.expr) (let e : now.at ≡ old.at + 2 = omega (arith, one.moves.at, two.moves.at) in e))
+          ∙ ap (λ n. expr_at n reads.expr) (let e : now.at ≡ old.at + 2 = omega (arith, one.moves.at, two.moves.at) in
+          e))
           ∙ ap (relabelled_shape change (expr_at (old.at + 2) reads.expr)) (labelled.draft_is
           ∙ ap (λ n. label_at n labelled.label) (let e : after.at ≡ old.at + 3 + expr_width reads.expr =
           omega (arith, one.moves.at, two.moves.at, reads.moves.at) in e));
@@ -401,7 +412,8 @@ nothing_next old none closing kind is =
     let e : [] ≡ kind ∷ kinds (behind old) = ap kinds (sym none) ∙ is in absurd (cc)
 
 pub other_next : (old : Cursor) (first : Token) → IsNext old first →
-    ((closing : Closing) → due_after_token (operand closing) first.kind ≡ None) → (closing : Closing) (kind : TokenKind) →
+    ((closing : Closing) → due_after_token (operand closing) first.kind ≡ None) →
+    (closing : Closing) (kind : TokenKind) →
     IsNextKind old kind → due_after_token (operand closing) kind ≡ None
 other_next old first next none closing kind is =
     let e : first.kind ∷ kinds (behind old) ≡ kind ∷ kinds (behind old) = sym (ap kinds next) ∙ is in

@@ -24,10 +24,12 @@ use Rattle.jif_parse.specs.declared.cursor.Cursor.{Cursor}
 use Rattle.jif_parse.specs.declared.parse_error.ParseError.{ParseError}
 use Rattle.jif_parse.specs.declared.parse_error.ParseError.TheVariants as fault
 use Rattle.jif_parse.specs.Reading.{IsNextKind, IsNextSymbol, IsNextName, Moves, Passes, Takes}
-use Rattle.jif_parse.specs.Phrases.{PassesSymbol, ReadsName, ReadsNames, FailsNames, ReadsParts, FailsParts, ReadsLabel, FailsLabel, of_readers, of_members}
+use Rattle.jif_parse.specs.Phrases.{PassesSymbol, ReadsName, ReadsNames, FailsNames, ReadsParts, FailsParts, ReadsLabel}
+use Rattle.jif_parse.specs.Phrases.{FailsLabel, of_readers, of_members}
 use Rattle.jif_parse.specs.Parts.{behind_readers, behind_members, EndsNames, ReadsAnyNames, FailsAnyNames, part_end}
 use Rattle.jif_parse.specs.Parts.{parts_left, FailsPart, ReadsPolicy, ReadsTrust}
-use Rattle.jif_parse.proofs.Taking.{takes_nothing, takes_alike, takes_then, takes_before, fails_then, fails_before, takes_same, SameStep, out_of_memory}
+use Rattle.jif_parse.proofs.Taking.{takes_nothing, takes_alike, takes_then, takes_before, fails_then, fails_before}
+use Rattle.jif_parse.proofs.Taking.{takes_same, SameStep, out_of_memory}
 use Rattle.jif_parse.proofs.Moving.{stays, moves_then, moves_as, stepped, takes_passed, fails_other}
 use Rattle.jif_parse.proofs.Fixed.{step_symbol, takes_fixed, fails_fixed, step_name}
 
@@ -53,13 +55,15 @@ takes_as_part old depth other =
 readers_as_names : (old : Cursor) (depth : ℕ) → IsNextName old →
     Takes old old (nested_at depth readers ∷ []) (nested_at depth a_name ∷ nested_at depth after_reader ∷ [])
 readers_as_names old depth next =
-    takes_alike old (nested_at depth readers) (nested_at depth a_name) (nested_at depth after_reader ∷ []) (token.Name next.0)
+    takes_alike old (nested_at depth readers) (nested_at depth a_name) (nested_at depth after_reader ∷ [])
+    (token.Name next.0)
     next.1 (λ later t n. refl)
 
 members_as_names : (old : Cursor) (depth : ℕ) → IsNextName old →
     Takes old old (nested_at depth members ∷ []) (nested_at depth a_name ∷ nested_at depth after_member ∷ [])
 members_as_names old depth next =
-    takes_alike old (nested_at depth members) (nested_at depth a_name) (nested_at depth after_member ∷ []) (token.Name next.0)
+    takes_alike old (nested_at depth members) (nested_at depth a_name) (nested_at depth after_member ∷ [])
+    (token.Name next.0)
     next.1 (λ later t n. refl)
 
 with_names : {old new : Cursor} {drafts : List NameDraft} → IsNextName old → ReadsNames old new drafts →
@@ -289,7 +293,8 @@ trust_of_members {old} {first} {second} {now} {new} {drafts} is mark passes name
       members = names.names;
       written =
           one.is_next ∙ ap (λ ks. symbol symbols.Question ∷ ks) ((step_symbol passes).is_next
-          ∙ ap (λ ks. symbol symbols.Colon ∷ ks) (names.written ∙ ap (names_then names.names) (step_symbol brace).is_next));
+          ∙ ap (λ ks. symbol symbols.Colon ∷ ks) (names.written ∙ ap (names_then names.names)
+          (step_symbol brace).is_next));
       drafts_are =
           names.drafts_are
           ∙ ap (λ n. names_at n names.names) (let e : second.at ≡ old.at + 2 = omega (arith, two.at) in e);
@@ -308,13 +313,15 @@ pub record PartsSoFar (old now : Cursor) (drafts : List PolicyDraft) : Type 0 wh
   pub written : (part : Part) (parts : List Part) (rest : List TokenKind) →
       kinds now.rest.now ≡ joined_then (symbol symbols.Semicolon) part_then (part ∷ parts) rest →
       kinds old.rest.now ≡ joined_then (symbol symbols.Semicolon) part_then (front (part ∷ parts)) rest
-  pub policies : (parts : List Part) → policies_at old.at (front parts) ≡ map policy_shape drafts ++ policies_at now.at parts
+  pub policies : (parts : List Part) → policies_at old.at (front parts) ≡ map policy_shape drafts
+      ++ policies_at now.at parts
   pub trust : (parts : List Part) → trust_at old.at (front parts) ≡ trust_at now.at parts
   pub moves : Moves old now count
   pub width : (part : Part) (parts : List Part) →
       length (parts_tokens (front (part ∷ parts))) ≡ count + length (parts_tokens (part ∷ parts))
   pub last : (parts : List Part) → TrustIsLast parts → TrustIsLast (front parts)
-  pub takes : (depth : ℕ) → depth ≤ NESTING → Takes old now (nested_at depth first_part ∷ []) (nested_at depth a_part ∷ [])
+  pub takes : (depth : ℕ) → depth ≤ NESTING → Takes old now (nested_at depth first_part ∷ [])
+      (nested_at depth a_part ∷ [])
 
 pub no_parts : (old : Cursor) → ¬ IsNextSymbol old symbols.RightBrace → PartsSoFar old old []
 no_parts old other = record {
@@ -428,7 +435,8 @@ parts_none {old} {new} next passes label is =
       draft_is = is;
       moves = one.moves;
       takes = λ depth nested.
-          takes_passed (nested_at depth first_part) (symbol symbols.RightBrace) [] depth one passes.counts nested refl refl;
+          takes_passed (nested_at depth first_part) (symbol symbols.RightBrace) [] depth one passes.counts nested refl
+          refl;
     }
 
 -- ---- whole labels

@@ -83,7 +83,8 @@ parts_clean principals (policy ∷ policies) trust (policy_of owner readers ∷ 
     (principal_clean principals policy.owner owner are.0.0)
     (principals_clean principals policy.readers readers are.0.1) in
     let rest = parts_clean principals policies trust known are.1 in
-    ap (λ (f : List Fault). f ++ flat_map (policy_faults principals) policies ++ trust_faults principals trust) own ∙ rest
+    ap (λ (f : List Fault). f ++ flat_map (policy_faults principals) policies ++ trust_faults principals trust) own
+    ∙ rest
 
 pub label_clean : (principals : Declared) (written : LabelShape) (label : Label) → IsLabelFor principals written label →
     label_faults principals written ≡ []
@@ -98,7 +99,8 @@ label_named principals label declared = parts_have principals label declared.spe
 pub record SameGlobals (globals others : List Global) : Type 0 where
   pub meanings : (name : List ℕ) → global_meaning others name ≡ global_meaning globals name
   pub taken : (name : List ℕ) →
-      list_any (λ global. bytes_eq name global.name.text) others ≡ list_any (λ global. bytes_eq name global.name.text) globals
+      list_any (λ global. bytes_eq name global.name.text) others
+      ≡ list_any (λ global. bytes_eq name global.name.text) globals
 
 abbrev pub with_globals : Setting → List Global → Setting
 with_globals s globals = record { principals = s.principals; globals = globals; gives = s.gives }
@@ -224,7 +226,8 @@ array_back s others same naming n p names name f is (Some (sense.Array g)) means
 array_back s others same naming n p names name f is (Some (sense.Method m params gives)) means made = absurd cc
 
 pub expr_back : Laws → (s : Setting) → IsDeclared s.principals → (others : List Global) → SameGlobals s.globals others →
-    (program : ProgramTree) (n : ℕ) (p : Place) → AreNamesAt (naming_in s program) n s p → (shape : ExprShape) (e : ExprTree) →
+    (program : ProgramTree) (n : ℕ) (p : Place) → AreNamesAt (naming_in s program) n s p →
+    (shape : ExprShape) (e : ExprTree) →
     IsNamedShape shape → IsExprFor s p shape e → ExprBack (with_globals s others) p (naming_in s program) e
 expr_back laws s declared others same program n p names (number_shape (pos k)) e named is =
     let Q : ExprTree → Type 0 = λ t. ExprBack (with_globals s others) p (naming_in s program) t in

@@ -70,7 +70,8 @@ same_place p names others statements more calls sites one two three =
 pub after_same : (g : Given) (p q : Place) (n : ℕ) (b : BlockShape) (tree : BlockTree) (fresh : BlockShape) →
     BlockBack g q n b tree fresh → after_block p fresh ≡ after_block p b
 after_same g p q n b tree fresh back =
-    same_place p (local_names fresh) (local_names b) (statements_in fresh) (statements_in b) (calls_in fresh) (calls_in b)
+    same_place p (local_names fresh) (local_names b) (statements_in fresh) (statements_in b) (calls_in fresh)
+    (calls_in b)
     back.names back.statements back.calls
 
 pub same_long : (g : Given) (q : Place) (n : ℕ) (b : BlockShape) (tree : BlockTree) (fresh : BlockShape) →
@@ -147,7 +148,8 @@ pub branch_named : (is_empty : Bool) (guard : ExprPhrase) (first second rest : B
 branch_named true guard first second rest test one two behind = (test, one, behind)
 branch_named false guard first second rest test one two behind = (test, one, two, behind)
 
-pub branch_back : (g : Given) (p : Place) (n mid aft : ℕ) (start : Start) (guard : ExprShape) (first second rest : BlockShape)
+pub branch_back : (g : Given) (p : Place) (n mid aft : ℕ) (start : Start) (guard : ExprShape)
+    (first second rest : BlockShape)
     (test : ExprTree) (one other behind : BlockTree) → IsExprFor g.s p guard test →
     (second ≡ end_shape → is_done other ≡ true) → (is_done other ≡ true → second ≡ end_shape) →
     ExprBack (new g) p (naming_of g) test → HasNone one →
@@ -156,7 +158,8 @@ pub branch_back : (g : Given) (p : Place) (n mid aft : ℕ) (start : Start) (gua
     BlockMade g (after_block (after_statement p) first) mid second other →
     BlockMade g (after_block (after_block (after_statement p) first) second) aft rest behind →
     BlockMade g p n (branch_shape start guard first second rest) (branch (heading_of p start) test one other behind)
-branch_back g p n mid aft start guard first second rest test one other behind tested gone_if none_if e one_none other_none mid_is
+branch_back g p n mid aft start guard first second rest test one other behind tested gone_if none_if e one_none
+    other_none mid_is
     aft_is made
     also after =
     let naming : Naming = naming_of g in
@@ -203,7 +206,8 @@ branch_back g p n mid aft start guard first second rest test one other behind te
       );
       back = λ lines at last.
           (let result : BlockShape = result_at lines last (result_phrase naming behind) in
-          let split = branched naming mid other own (block_phrase naming n one) (block_phrase naming aft behind) lines at
+          let split = branched naming mid other own (block_phrase naming n one)
+          (block_phrase naming aft behind) lines at
           result in
           let front : BlockShape = block_at lines split.inside (block_phrase naming n one) end_shape in
           let back : BlockShape = block_at lines split.otherwise (block_phrase naming mid other) end_shape in
@@ -300,7 +304,8 @@ loop_back g p n aft start guard body rest test one behind tested e one_none aft_
           let left : BlockShape = block_at lines rest_place (block_phrase naming aft behind) result in
           let fb = nested_back g inside n body one one_none made lines body_place in
           let rb = after.back lines rest_place last in
-          let last_place : after_block inside front ≡ after_block inside body = after_same g inside inside n body one front fb in
+          let last_place : after_block inside front ≡ after_block inside body =
+          after_same g inside inside n body one front fb in
           let whole : BlockBack g p n b tree (block_at lines at (of aft) result) = record {
             again = loop (heading_of p (start_at lines at)) test fb.again rb.again;
             is = (
@@ -336,7 +341,8 @@ pub call_back : (g : Given) (p : Place) (n : ℕ) (start : Start) (name : NameSh
     length values ≡ length args → AllZip (IsExprFor g.s p) args values → BlockMade g (after_call p) n rest r →
     BlockMade g p n (call_shape start name args into rest)
     (call (heading_of p start) (record { 0 = p.site }) m values kept r)
-call_back g p n start name args None rest m values (Some v) r names named keeps method each long valued after = absurd cc
+call_back g p n start name args None rest m values (Some v) r names named keeps method each long valued after =
+    absurd cc
 call_back g p n start name args None rest m values None r names named keeps method each long valued after =
     let naming : Naming = naming_of g in
     let phrases : List ExprPhrase = map (expr_phrase naming) values in
@@ -384,7 +390,16 @@ call_back g p n start name args (Some into) rest m values kept r names named kee
           seen = after.seen;
           named = (found.named, method.named, each.named, after.named);
           result = after.result;
-          alike = (Some v, method_name naming m, values, block_phrase naming n r, refl, tt, (g.s, p, valued), after.alike);
+          alike = (
+            Some v,
+            method_name naming m,
+            values,
+            block_phrase naming n r,
+            refl,
+            tt,
+            (g.s, p, valued),
+            after.alike,
+          );
           back = λ lines at last.
               (let back = after.back lines (at + 6 + length (args_spelling 0 phrases)) last in
               record {

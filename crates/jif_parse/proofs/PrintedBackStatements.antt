@@ -57,12 +57,15 @@ high_test v n more = grind (arith, nat_tests)
 pub three_joined : {X : Type 0} (xs ys zs : List X) → xs ≡ [] → ys ≡ [] → zs ≡ [] → xs ++ ys ++ zs ≡ []
 three_joined xs ys zs one two three = none_joined (xs ++ ys) zs (none_joined xs ys one two) three
 
-pub four_joined : {X : Type 0} (xs ys zs ws : List X) → xs ≡ [] → ys ≡ [] → zs ≡ [] → ws ≡ [] → xs ++ ys ++ zs ++ ws ≡ []
+pub four_joined : {X : Type 0} (xs ys zs ws : List X) → xs ≡ [] → ys ≡ [] → zs ≡ [] → ws ≡ [] →
+    xs ++ ys ++ zs ++ ws ≡ []
 four_joined xs ys zs ws one two three four = none_joined (xs ++ ys ++ zs) ws (three_joined xs ys zs one two three) four
 
-pub assigned_back : (g : Given) (p : Place) (n : ℕ) (start : Start) (name : NameShape) (value : ExprShape) (rest : BlockShape)
+pub assigned_back : (g : Given) (p : Place) (n : ℕ) (start : Start) (name : NameShape) (value : ExprShape)
+    (rest : BlockShape)
     (x : ExprTree) (r tree : BlockTree) → AreNamesAt (naming_of g) n g.s p → IsName name.text →
-    IsExprFor g.s p value x → ExprBack (new g) p (naming_of g) x → BlockMade g (after_statement p) n rest r → (means : Option Meaning) →
+    IsExprFor g.s p value x → ExprBack (new g) p (naming_of g) x → BlockMade g (after_statement p) n rest r →
+    (means : Option Meaning) →
     meaning_at g.s p name.text ≡ means → assignment_tree (heading_of p start) means x r ≡ Some tree →
     BlockMade g p n (assignment_shape start name value rest) tree
 assigned_back g p n start name value rest x r tree names named valued e after None means made = absurd cc
@@ -73,7 +76,8 @@ assigned_back g p n start name value rest x r tree names named valued e after (S
     let low : nat_lt v.0 n ≡ true = low_test v.0 n found.below in
     let own : ExprPhrase = expr_phrase naming x in
     let of : Bool → BlockPhrase =
-    λ known. assigned_phrase known (label_phrase naming.principals (variable_label naming v)) (variable_name naming v) own
+    λ known. assigned_phrase known (label_phrase naming.principals (variable_label naming v))
+    (variable_name naming v) own
     (block_phrase naming (if known then n else suc v.0) r) in
     let is : set_local (heading_of p start) v x r ≡ tree = cc in
     let Q : BlockTree → Type 0 = λ t. BlockMade g p n b t in
@@ -88,7 +92,8 @@ assigned_back g p n start name value rest x r tree names named valued e after (S
         ap (λ known. assigned_phrase known (label_phrase naming.principals (variable_label naming v))
             (variable_name naming v) own (block_phrase naming (if nat_lt v.0 n then n else suc v.0) r)) low,
         (g.s, p, valued),
-        subst (λ known. Alike naming rest (block_phrase naming (if known then n else suc v.0) r) (result_phrase naming r))
+        subst (λ known. Alike naming rest (block_phrase naming (if known then n else suc v.0) r)
+            (result_phrase naming r))
             (sym low) after.alike,
       );
       back = λ lines at last.
@@ -147,8 +152,10 @@ assigned_back g p n start name value rest x r tree names named valued e after (S
             ends = back.ends;
           });
     })
-assigned_back g p n start name value rest x r tree names named valued e after (Some (sense.Array f)) means made = absurd cc
-assigned_back g p n start name value rest x r tree names named valued e after (Some (sense.Method m params gives)) means made =
+assigned_back g p n start name value rest x r tree names named valued e after (Some (sense.Array f)) means made =
+    absurd cc
+assigned_back g p n start name value rest x r tree names named valued e after
+    (Some (sense.Method m params gives)) means made =
     absurd cc
 
 -- ---- declarations
@@ -169,7 +176,8 @@ local_clean g p at name printed same none =
 
 pub same_some : (principals : Declared) (written : Option LabelShape) (label : Option Label) →
     IsOptionalLabelFor principals written label → SameSome written (label_phrase principals label)
-same_some principals None label is = subst (λ l. (SameSome {X = LabelShape} None (label_phrase principals l))) (sym is) tt
+same_some principals None label is = subst (λ l. (SameSome {X = LabelShape} None (label_phrase principals l)))
+    (sym is) tt
 same_some principals (Some written) label (l, is, labelled) =
     subst (λ m. SameSome (Some written) (label_phrase principals m)) (sym is) tt
 
@@ -212,7 +220,8 @@ declared_back g p n start written name value rest x r n_is there named free valu
             (block_phrase naming (if nat_lt v.0 n then n else suc v.0) r)) high,
         same_some naming.principals written (variable_label naming v) labelled,
         (g.s, p, valued),
-        subst (λ known. Alike naming rest (block_phrase naming (if known then n else suc v.0) r) (result_phrase naming r))
+        subst (λ known. Alike naming rest (block_phrase naming (if known then n else suc v.0) r)
+            (result_phrase naming r))
             (sym high) after.alike,
       );
       back = λ lines at last.
@@ -238,7 +247,8 @@ declared_back g p n start written name value rest x r n_is there named free valu
             );
             same = ap (λ t. set_local (without_line (heading_of p start)) v x t) back.same;
             clean = four_joined _ _ _ _
-                (optional_clean naming.principals (optional_label_at (at + 1) label) (variable_label naming v) fresh_label)
+                (optional_clean naming.principals (optional_label_at (at + 1) label)
+                (variable_label naming v) fresh_label)
                 (local_clean g p name_place name printed same free) (e.clean (name_place + 2))
                 (subst (λ q. block_faults (new g) q left ≡ []) (sym place) back.clean);
             locals = (
@@ -246,7 +256,8 @@ declared_back g p n start written name value rest x r n_is there named free valu
                 tree = there.tree;
                 there = ap (slice_get g.program.vars) n_is ∙ there.there;
                 named = there.named ∙ sym same;
-                labelled = subst (IsOptionalLabelFor naming.principals (optional_label_at (at + 1) label)) (sym label_is)
+                labelled = subst (IsOptionalLabelFor naming.principals (optional_label_at (at + 1) label))
+                    (sym label_is)
                     fresh_label;
               },
               subst (λ k. LocalsAre naming k (locals_in left)) (ap suc (sym n_is)) back.locals,

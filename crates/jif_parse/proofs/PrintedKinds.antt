@@ -203,7 +203,8 @@ item_kinds : (item : ItemPhrase) → HasTokens item_pieces item_then item
 item_kinds (field phrase) rest =
     ap (λ (ks : List TokenKind). Word Int ∷ ks)
     (label_kinds phrase.label (space_part ∷ name_part phrase.name ∷ field_end_pieces phrase.ending rest)
-    ∙ ap (λ (ks : List TokenKind). label_then phrase.label (Name phrase.name ∷ ks)) (field_end_kinds phrase.ending rest))
+    ∙ ap (λ (ks : List TokenKind). label_then phrase.label (Name phrase.name ∷ ks))
+    (field_end_kinds phrase.ending rest))
 item_kinds (method phrase) rest =
     head_kinds phrase.kind phrase.name phrase.begin (tail_pieces phrase rest)
     ∙ ap (λ (ks : List TokenKind). head_then phrase.kind phrase.name phrase.begin ks) (tail_kinds phrase rest)

@@ -54,7 +54,8 @@ LocalsAre naming n [] = ⊤
 LocalsAre naming n (local ∷ locals) =
     IsVariableAt naming n local.name.text local.label × LocalsAre naming (suc n) locals
 
-pub locals_front : (naming : Naming) (n : ℕ) (xs ys : List LocalShape) → LocalsAre naming n (xs ++ ys) → LocalsAre naming n xs
+pub locals_front : (naming : Naming) (n : ℕ) (xs ys : List LocalShape) → LocalsAre naming n (xs ++ ys) →
+    LocalsAre naming n xs
 locals_front naming n [] ys are = tt
 locals_front naming n (x ∷ xs) ys are = (are.0, locals_front naming (suc n) xs ys are.1)
 
@@ -152,10 +153,12 @@ pub optional_back : Laws → (principals : Declared) → IsDeclared principals �
     (label : Option Label) → IsOptionalLabelFor principals written label → (at : ℕ) →
     IsOptionalLabelFor principals (optional_label_at at (label_phrase principals label)) label
 optional_back laws principals declared None label is at =
-    let Q : Option Label → Type 0 = λ l. IsOptionalLabelFor principals (optional_label_at at (label_phrase principals l)) l in
+    let Q : Option Label → Type 0 = λ l. IsOptionalLabelFor principals
+    (optional_label_at at (label_phrase principals l)) l in
     subst Q (sym is) refl
 optional_back laws principals declared (Some written) label (l, is, labelled) at =
-    let Q : Option Label → Type 0 = λ l. IsOptionalLabelFor principals (optional_label_at at (label_phrase principals l)) l in
+    let Q : Option Label → Type 0 = λ l. IsOptionalLabelFor principals
+    (optional_label_at at (label_phrase principals l)) l in
     subst Q (sym is) (l, refl, label_back laws principals l declared labelled.over at)
 
 pub optional_clean : (principals : Declared) (written : Option LabelShape) (label : Option Label) →
@@ -211,12 +214,14 @@ called_clean at other keeps args (Some (sense.Method m params gives)) none =
     (ap (λ b. fault_where b WrongCount other) (none_where _ WrongCount at both.1))
 
 -- a method is found again
-pub record MethodBack (s : Setting) (p : Place) (naming : Naming) (m : MethodId) (keeps : Bool) (args : ℕ) : Type 0 where
+pub record MethodBack (s : Setting) (p : Place) (naming : Naming) (m : MethodId) (keeps : Bool)
+    (args : ℕ) : Type 0 where
   pub is : method_of (meaning_at s p (method_name naming m)) ≡ Some m
   pub clean : (at : ℕ) → called_faults at keeps args (meaning_at s p (method_name naming m)) ≡ []
   pub named : IsName (method_name naming m)
 
-pub method_back : (s : Setting) (others : List Global) → SameGlobals s.globals others → (naming : Naming) (n : ℕ) (p : Place) →
+pub method_back : (s : Setting) (others : List Global) → SameGlobals s.globals others →
+    (naming : Naming) (n : ℕ) (p : Place) →
     AreNamesAt naming n s p → (name : NameShape) (m : MethodId) (keeps : Bool) (args : ℕ) → IsName name.text →
     (means : Option Meaning) → meaning_at s p name.text ≡ means → method_of means ≡ Some m →
     called_faults name.at keeps args means ≡ [] → MethodBack (with_globals s others) p naming m keeps args

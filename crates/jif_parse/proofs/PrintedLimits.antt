@@ -66,7 +66,8 @@ pub fields_within : (low high : Tally) → FieldsBelow low high → low.nesting 
 fields_within low high below nesting within =
     record { nesting = λ deep. omega (arith, nesting, deep); counts = fields_few low high below within }
 
-pub fields_nested : (low high : Tally) (d e : ℕ) → FieldsBelow low high → FieldsBelow (nested_as low d) (nested_as high e)
+pub fields_nested : (low high : Tally) (d e : ℕ) → FieldsBelow low high →
+    FieldsBelow (nested_as low d) (nested_as high e)
 fields_nested low high d e below = record {
   fields = below.fields;
   elements = below.elements;
@@ -92,7 +93,8 @@ never_fewer t marks.statement = (omega arith, omega arith)
 never_fewer t marks.node = (omega arith, omega arith)
 never_fewer t marks.arguments = (omega arith, omega arith)
 
-pub fields_skip : (low high : Tally) (tokens : List Marked) → FieldsBelow low high → FieldsBelow low (after_tokens high tokens)
+pub fields_skip : (low high : Tally) (tokens : List Marked) → FieldsBelow low high →
+    FieldsBelow low (after_tokens high tokens)
 fields_skip low high [] below = below
 fields_skip low high (token ∷ tokens) below =
     let more = never_fewer high token.begins in
@@ -185,7 +187,8 @@ fields_append {one = one} {two = two} {three = three} {four = four} first second
         let back = second.run (after_tokens low two) (after_tokens high one) front.1 parts.1 in (
           within_joined low two four front.0 back.0,
           subst (λ t. FieldsBelow (after_tokens low (two ++ four)) t) (sym (tokens_behind high one three))
-              (subst (λ t. FieldsBelow t (after_tokens (after_tokens high one) three)) (sym (tokens_behind low two four))
+              (subst (λ t. FieldsBelow t (after_tokens (after_tokens high one) three))
+              (sym (tokens_behind low two four))
               back.1),
         )
 
@@ -210,7 +213,8 @@ fields_run b kind other kinds others is = record { run = all }
         within.0 in
         let rest = fields_add (after_token low (mark b 0 other))
         (after_tokens (after_token high (mark b 0 kind)) (map (plain 0) kinds)) others one
-        (fields_skip (after_token low (mark b 0 other)) (after_token high (mark b 0 kind)) (map (plain 0) kinds) next) in
+        (fields_skip (after_token low (mark b 0 other)) (after_token high (mark b 0 kind))
+        (map (plain 0) kinds) next) in
         ((one, rest.0), rest.1)
 
 -- a plain field begins at the symbol after its name, and nothing begins behind it
@@ -339,7 +343,8 @@ printed_within principals naming lines program fields items grouped limits are a
       size = one.1.size;
       elements = omega (arith, one.1.elements, last.1);
     } in
-    let two = (methods_sim naming lines 0 program items alike grouped).run (after_tokens start front) start below within in
+    let two = (methods_sim naming lines 0 program items alike grouped).run
+    (after_tokens start front) start below within in
     stays_program (fields_phrases principals fields ++ items)
     (subst (λ ts. StaysWithin start ts) (sym (spelling_append (fields_phrases principals fields) items))
     (within_joined start front (spelling items) one.0 two.0))

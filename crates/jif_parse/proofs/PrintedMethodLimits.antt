@@ -56,7 +56,8 @@ params_sim (param ∷ next ∷ params) (other ∷ more ∷ others) same =
     (sim_plain 0 0 _ _ zero_less (params_sim (next ∷ params) (more ∷ others) (omega (arith, same))))
 
 -- nothing begins at the names of an authority
-pub authority_plain : (names : List (List ℕ)) → (kinds : List TokenKind) × (authority_spelling names ≡ map (plain 0) kinds)
+pub authority_plain : (names : List (List ℕ)) →
+    (kinds : List TokenKind) × (authority_spelling names ≡ map (plain 0) kinds)
 authority_plain [] = ([], refl)
 authority_plain (name ∷ names) = (
   Word Where ∷ Word Authority ∷ symbol LeftParenthesis ∷ names_tokens (name ∷ names) ++ symbol RightParenthesis ∷ [],
@@ -73,7 +74,8 @@ authority_sim kind names others =
     (subst (λ ts. Sim (plain 0 kind ∷ map (plain 0) one.0) (plain 0 kind ∷ ts)) (sym two.1)
     (sim_run nothing 0 0 kind kind one.0 two.0 tt zero_less))
 
-pub head_sim : (kind other : Option LabelPhrase) (name printed : List ℕ) (begin label : LabelPhrase) → SameSome kind other →
+pub head_sim : (kind other : Option LabelPhrase) (name printed : List ℕ) (begin label : LabelPhrase) →
+    SameSome kind other →
     Sim (head_spelling kind name begin) (head_spelling other printed label)
 head_sim None None name printed begin label same =
     sim_both marks.method 0 0 _ _ tt zero_less (sim_plain 0 0 _ _ zero_less
@@ -84,7 +86,8 @@ head_sim (Some kind) (Some other) name printed begin label same =
     sim_append (sim_plain 0 0 _ _ zero_less (label_sim nothing 0 0 kind other tt zero_less))
     (sim_plain 0 0 _ _ zero_less (label_sim marks.method 0 0 begin label tt zero_less))
 
-pub some_both : (at : ℕ) (kind other : Option LabelPhrase) → SameSome (optional_label_at at kind) other → SameSome kind other
+pub some_both : (at : ℕ) (kind other : Option LabelPhrase) → SameSome (optional_label_at at kind) other →
+    SameSome kind other
 some_both at None None same = tt
 some_both at None (Some other) same = absurd same
 some_both at (Some kind) None same = absurd same
@@ -103,7 +106,8 @@ method_sim naming lines at q own alike grouped =
     (head_sim q.kind own.kind q.name own.name q.begin own.begin (some_both (at + 1) q.kind own.kind alike.kind))
     (sim_plain 0 0 _ _ zero_less (params_sim q.params own.params (sym (params_long _ q.params) ∙ alike.count))))
     (authority_sim (symbol RightParenthesis) q.authority own.authority))
-    (sim_plain 0 0 _ _ zero_less (block_sim naming q.body lines _ _ q.result own.body own.result alike.body grouped.3 0 0
+    (sim_plain 0 0 _ _ zero_less (block_sim naming q.body lines _ _ q.result own.body own.result alike.body grouped.3 0
+    0
     zero_less)))
     (result_sim naming _ q.result own.result result grouped.4))
     (sim_plain 0 0 _ _ zero_less sim_nil)
@@ -192,14 +196,16 @@ field_in field =
 -- ---- the methods of a program
 
 pub methods_sim : (naming : Naming) (lines : ℕ → ℕ) (at : ℕ) (program items : ProgramPhrase) →
-    MethodsAlike naming (methods_at lines at program) items → IsProgram program → Sim (spelling program) (spelling items)
+    MethodsAlike naming (methods_at lines at program) items → IsProgram program →
+    Sim (spelling program) (spelling items)
 methods_sim naming lines at [] [] alike grouped = sim_nil
 methods_sim naming lines at [] (item ∷ items) alike grouped = absurd alike
 methods_sim naming lines at (phrase.field field ∷ program) items alike grouped =
     let rest = methods_sim naming lines (after_item at (phrase.field field)) program items alike grouped.1 in
     record { run = λ low high below within. passed rest low high below within }
   where
-    passed : Sim (spelling program) (spelling items) → Stands (field_spelling field ++ spelling program) (spelling items)
+    passed : Sim (spelling program) (spelling items) → Stands (field_spelling field ++ spelling program)
+        (spelling items)
     passed rest low high below within =
         let parts = within_parts high (field_spelling field) (spelling program) within in
         let next = rest.run low (after_tokens high (field_spelling field))

@@ -17,7 +17,8 @@ method_grouped kind name begin params authority body = simp append_assoc
 
 pub method_prints : (naming : Naming) (seen : ℕ) (method : MethodTree)
     (text kind name begin params authority body : List ℕ) (inside : ℕ) →
-    text ≡ kind ++ 32 ∷ (name ++ (begin ++ 40 ∷ (params ++ 41 ∷ (authority ++ 32 ∷ 123 ∷ 10 ∷ (body ++ 125 ∷ 10 ∷ []))))) →
+    text ≡ kind ++ 32 ∷ (name ++ (begin ++ 40 ∷ (params
+    ++ 41 ∷ (authority ++ 32 ∷ 123 ∷ 10 ∷ (body ++ 125 ∷ 10 ∷ []))))) →
     kind ≡ kind_text naming method.result → name ≡ method.name → begin ≡ printed_label naming.principals method.begin →
     params ≡ join_by (declared_text naming) (codes ", ") method.params →
     authority ≡ authority_text naming method.authority → inside ≡ seen_after_all seen method.params →

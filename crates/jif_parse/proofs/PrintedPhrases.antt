@@ -51,7 +51,8 @@ call_phrase naming (Some into) name args rest = phrase.call_into (variable_name 
 abbrev pub block_phrase : Naming → ℕ → BlockTree → BlockPhrase
 block_phrase naming seen done = phrase.end
 block_phrase naming seen (set_local heading x value rest) =
-    assigned_phrase (nat_lt x.0 seen) (label_phrase naming.principals (variable_label naming x)) (variable_name naming x)
+    assigned_phrase (nat_lt x.0 seen) (label_phrase naming.principals (variable_label naming x))
+    (variable_name naming x)
     (expr_phrase naming value) (block_phrase naming (seen_after seen x) rest)
 block_phrase naming seen (set_field heading field value rest) =
     phrase.assignment (field_name naming field) (expr_phrase naming value) (block_phrase naming seen rest)

@@ -80,7 +80,8 @@ same_items (item ∷ items) = ap (λ r. item ∷ r) (same_items items)
 
 -- items that are their own phrases
 own_spelled : {X : Type 0} (kind : TokenKind) (separator : List ℕ) → IsSeparator kind separator →
-    (pieces : X → List Spelled → List Spelled) (text : X → List ℕ) → ((x : X) → Reads pieces text x) → (items : List X) →
+    (pieces : X → List Spelled → List Spelled) (text : X → List ℕ) → ((x : X) → Reads pieces text x) →
+    (items : List X) →
     Reads (joined_pieces kind pieces) (join_by text separator) items
 own_spelled kind separator same pieces text each items rest =
     ap (λ xs. spelled_text (joined_pieces kind pieces xs rest)) (sym (same_items items))
@@ -207,7 +208,8 @@ no_result naming (loop heading guard body rest) none = no_result naming rest non
 no_result naming (call heading site method args into rest) none = no_result naming rest none
 no_result naming (give_back heading value rest) none = absurd none
 
-set_spelled : (value : ExprPhrase) (rest : List Spelled) (behind : List ℕ) (all : List ℕ) → spelled_text rest ≡ behind ++ all →
+set_spelled : (value : ExprPhrase) (rest : List Spelled) (behind : List ℕ) (all : List ℕ) →
+    spelled_text rest ≡ behind ++ all →
     (before : List ℕ) →
     before ++ spelled_text (set_pieces value rest)
     ≡ before ++ codes " = " ++ phrase_text value ++ codes ";\n" ++ behind ++ all
@@ -252,7 +254,8 @@ assigned_spelled : (naming : Naming) (known : Bool) (x : VarId) (value : ExprPhr
     (more : List Spelled) (behind all : List ℕ) → spelled_text (block_pieces block more) ≡ behind ++ all →
     spelled_text (block_pieces (assigned_phrase known (label_phrase naming.principals (variable_label naming x))
     (variable_name naming x) value block) more)
-    ≡ (if known then variable_name naming x else declared_text naming x) ++ codes " = " ++ phrase_text value ++ codes ";\n"
+    ≡ (if known then variable_name naming x else declared_text naming x)
+    ++ codes " = " ++ phrase_text value ++ codes ";\n"
     ++ behind ++ all
 assigned_spelled naming true x value block more behind all is =
     set_spelled value (block_pieces block more) behind all is (variable_name naming x)
@@ -308,7 +311,8 @@ plain_spelled : (naming : Naming) (seen : ℕ) (block : BlockTree) → HasNone b
     ((rest : List Spelled) →
     spelled_text (block_pieces (block_phrase naming seen block) (result_pieces (result_phrase naming block) rest))
     ≡ block_text naming seen block ++ spelled_text rest) → (rest : List Spelled) →
-    spelled_text (block_pieces (block_phrase naming seen block) rest) ≡ block_text naming seen block ++ spelled_text rest
+    spelled_text (block_pieces (block_phrase naming seen block) rest) ≡ block_text naming seen block
+    ++ spelled_text rest
 plain_spelled naming seen block none whole rest =
     ap (λ result. spelled_text (block_pieces (block_phrase naming seen block) (result_pieces result rest)))
     (sym (no_result naming block none)) ∙ whole rest
@@ -319,7 +323,8 @@ pub block_spelled : (naming : Naming) (seen : ℕ) (block : BlockTree) → HasLa
 block_spelled naming seen done last rest = refl
 block_spelled naming seen (set_local heading x value behind) last rest =
     let more : List Spelled = result_pieces (result_phrase naming behind) rest in
-    assigned_spelled naming (nat_lt x.0 seen) x (expr_phrase naming value) (block_phrase naming (seen_after seen x) behind)
+    assigned_spelled naming (nat_lt x.0 seen) x (expr_phrase naming value)
+    (block_phrase naming (seen_after seen x) behind)
     more (block_text naming (seen_after seen x) behind) (spelled_text rest)
     (block_spelled naming (seen_after seen x) behind last rest)
 block_spelled naming seen (set_field heading field value behind) last rest =
@@ -354,7 +359,8 @@ block_spelled naming seen (branch heading guard first second behind) last rest =
 block_spelled naming seen (loop heading guard body behind) last rest =
     let after : ℕ = seen_behind seen body in
     let more : List Spelled = result_pieces (result_phrase naming behind) rest in
-    let left : List Spelled = symbol_part RightBrace ∷ line_end_part ∷ block_pieces (block_phrase naming after behind) more in
+    let left : List Spelled = symbol_part RightBrace ∷ line_end_part ∷ block_pieces
+    (block_phrase naming after behind) more in
     let one : List ℕ = block_text naming seen body in
     ap (λ (t : List ℕ). 119 ∷ 104 ∷ 105 ∷ 108 ∷ 101 ∷ t)
     (guard_spelled (expr_phrase naming guard) (block_pieces (block_phrase naming seen body) left)
@@ -369,7 +375,8 @@ block_spelled naming seen (call heading site method args None behind) last rest 
 block_spelled naming seen (call heading site method args (Some into) behind) last rest =
     let more : List Spelled = result_pieces (result_phrase naming behind) rest in
     let left : List Spelled =
-    call_pieces (method_name naming method) (map (expr_phrase naming) args) (block_pieces (block_phrase naming seen behind) more) in
+    call_pieces (method_name naming method) (map (expr_phrase naming) args)
+    (block_pieces (block_phrase naming seen behind) more) in
     sym (append_assoc (variable_name naming into) (codes " = ") (spelled_text left))
     ∙ call_spelled naming (method_name naming method) args (block_pieces (block_phrase naming seen behind) more)
     (block_text naming seen behind) (spelled_text rest) (block_spelled naming seen behind last rest)
@@ -378,7 +385,8 @@ block_spelled naming seen (give_back heading value behind) last rest =
     let one : List ℕ = expr_text naming value in
     let grouped : codes "return " ++ one ++ codes ";\n" ++ [] ++ spelled_text rest
     ≡ 114 ∷ 101 ∷ 116 ∷ 117 ∷ 114 ∷ 110 ∷ 32 ∷ (one ++ 59 ∷ 10 ∷ spelled_text rest) = simp append_assoc in
-    ap (λ (t : List ℕ). 114 ∷ 101 ∷ 116 ∷ 117 ∷ 114 ∷ 110 ∷ 32 ∷ t) (expr_spelled (expr_phrase naming value) (end_pieces rest))
+    ap (λ (t : List ℕ). 114 ∷ 101 ∷ 116 ∷ 117 ∷ 114 ∷ 110 ∷ 32 ∷ t) (expr_spelled (expr_phrase naming value)
+    (end_pieces rest))
     ∙ sym grouped
     ∙ ap (λ b. codes "return " ++ one ++ codes ";\n" ++ block_text naming seen b ++ spelled_text rest) (sym last)
 
@@ -478,11 +486,13 @@ head_spelled : (naming : Naming) (result : Option VarId) → HasLabelWhere namin
     spelled_text (head_pieces (kind_phrase naming result) name (printed_parts naming.principals begin) rest)
     ≡ text.kind_text naming result ++ 32 ∷ (name ++ (printed_label naming.principals begin ++ spelled_text rest))
 head_spelled naming None has name begin rest =
-    ap (λ (t : List ℕ). 118 ∷ 111 ∷ 105 ∷ 100 ∷ 32 ∷ (name ++ t)) (label_spelled (printed_parts naming.principals begin) rest)
+    ap (λ (t : List ℕ). 118 ∷ 111 ∷ 105 ∷ 100 ∷ 32 ∷ (name ++ t))
+    (label_spelled (printed_parts naming.principals begin) rest)
 head_spelled naming (Some x) has name begin rest =
     let label : List ℕ = optional_label_text naming.principals (variable_label naming x) in
     ap (λ (t : List ℕ). 105 ∷ 110 ∷ 116 ∷ t)
-    (or_none_spelled naming x has (space_part ∷ name_part name ∷ label_pieces (printed_parts naming.principals begin) rest)
+    (or_none_spelled naming x has (space_part ∷ name_part name ∷ label_pieces
+    (printed_parts naming.principals begin) rest)
     ∙ ap (λ (t : List ℕ). label ++ 32 ∷ (name ++ t)) (label_spelled (printed_parts naming.principals begin) rest))
 
 -- what is asked of a method
@@ -509,7 +519,8 @@ method_spelled naming seen method is rest =
     let inside : List Spelled = space_part ∷ symbol_part LeftBrace ∷ line_end_part ∷ statements in
     let grouped : kind ++ codes " " ++ name ++ begin ++ codes "(" ++ params ++ codes ")" ++ authority ++ codes " {\n"
     ++ body ++ codes "}\n" ++ spelled_text rest
-    ≡ kind ++ 32 ∷ (name ++ (begin ++ 40 ∷ (params ++ 41 ∷ (authority ++ 32 ∷ 123 ∷ 10 ∷ (body ++ 125 ∷ 10 ∷ spelled_text rest)))))
+    ≡ kind ++ 32 ∷ (name ++ (begin ++ 40 ∷ (params
+    ++ 41 ∷ (authority ++ 32 ∷ 123 ∷ 10 ∷ (body ++ 125 ∷ 10 ∷ spelled_text rest)))))
     = simp append_assoc in
     head_spelled naming method.result is.result name method.begin
     (tail_pieces (method_phrase naming seen method) rest)
@@ -532,7 +543,8 @@ methods_spelled naming seen (method ∷ methods) are rest =
     ∙ ap (λ (t : List ℕ). method_text naming seen method ++ t) (methods_spelled naming after methods are.1 rest)
     ∙ sym (append_assoc (method_text naming seen method) (methods_text naming after methods) (spelled_text rest))
 
-fields_spelled : (principals : Declared) (fields : List FieldTree) (after : List phrase.ItemPhrase) (rest : List Spelled)
+fields_spelled : (principals : Declared) (fields : List FieldTree) (after : List phrase.ItemPhrase)
+    (rest : List Spelled)
     (behind : List ℕ) → spelled_text (program_pieces after rest) ≡ behind →
     spelled_text (program_pieces (fields_phrases principals fields ++ after) rest)
     ≡ flat_map (field_text principals) fields ++ behind

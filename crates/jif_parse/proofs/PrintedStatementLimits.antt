@@ -99,19 +99,22 @@ changed naming change inside label i l d e less sim =
     sim_append (sim_append
     (sim_both node (suc d) (suc e) _ _ tt more (sim_plain (suc d) (suc e) _ _ more
     (unwrapped (suc e) _ (expr_phrase naming i) sim)))
-    (sim_plain (suc d) (suc e) _ _ more (label_sim nothing (suc d) (suc e) label (printed_parts naming.principals l) tt more)))
+    (sim_plain (suc d) (suc e) _ _ more (label_sim nothing (suc d) (suc e) label
+    (printed_parts naming.principals l) tt more)))
     (sim_plain (suc d) (suc e) _ _ more sim_nil)
 
 pub expr_sim : (naming : Naming) (q : ExprPhrase) (x : ExprTree) (at : ℕ) → IsSomewhere (expr_at at q) x → IsGrouped q →
     (d e least : ℕ) → e ≤ d → least ≤ level q →
     Sim (expr_spelling d q) (expr_spelling e (operand least (expr_phrase naming x)))
 expr_sim naming (phrase.number n) x at (s, p, is) grouped d e least less most =
-    subst (λ t. Sim (expr_spelling d (phrase.number n)) (expr_spelling e (operand least (expr_phrase naming t)))) (sym is)
+    subst (λ t. Sim (expr_spelling d (phrase.number n)) (expr_spelling e (operand least (expr_phrase naming t))))
+    (sym is)
     (whole least e _ (phrase.number n) most (sim_both node d e _ _ tt less sim_nil))
 expr_sim naming (phrase.variable name) x at (s, p, is) grouped d e least less most =
     variable_sim naming d e least name x less most (meaning_at s p name) is
 expr_sim naming (phrase.element name index) x at (s, p, (f, i, is, array, inner)) grouped d e least less most =
-    subst (λ t. Sim (expr_spelling d (phrase.element name index)) (expr_spelling e (operand least (expr_phrase naming t))))
+    subst (λ t. Sim (expr_spelling d (phrase.element name index))
+    (expr_spelling e (operand least (expr_phrase naming t))))
     (sym is)
     (whole least e _ (expr_phrase naming (tree.element f i)) most
     (sim_both node d e (Name name) _ tt less
@@ -164,7 +167,8 @@ expr_sim naming (phrase.relabelled release inside label) x at (s, p, (i, l, is, 
     (whole least e _ (expr_phrase naming (tree.declassified i l)) most
     (changed naming release inside label i l d e less
     (expr_sim naming inside i (at + 2) (s, p, inner) grouped.0 (suc d) (suc e) 0 (omega (arith, less)) (omega arith))))
-expr_sim naming (phrase.relabelled acceptance inside label) x at (s, p, (i, l, is, inner, labelled)) grouped d e least less
+expr_sim naming (phrase.relabelled acceptance inside label) x at (s, p, (i, l, is, inner, labelled)) grouped d e least
+    less
     most =
     subst (λ t. Sim (expr_spelling d (phrase.relabelled acceptance inside label))
     (expr_spelling e (operand least (expr_phrase naming t)))) (sym is)
@@ -192,7 +196,8 @@ args_sim naming (arg ∷ next ∷ args) (value ∷ other ∷ values) at (s, p, a
 
 -- ---- statements
 
-pub optional_sim : (d e at : ℕ) (label other : Option LabelPhrase) → e ≤ d → SameSome (optional_label_at at label) other →
+pub optional_sim : (d e at : ℕ) (label other : Option LabelPhrase) → e ≤ d →
+    SameSome (optional_label_at at label) other →
     Sim (optional_label_spelling d label) (optional_label_spelling e other)
 optional_sim d e at None None less same = sim_nil
 optional_sim d e at None (Some other) less same = absurd same
@@ -218,7 +223,8 @@ no_statements lines at (phrase.branch_else guard first second rest) is = absurd 
 no_statements lines at (phrase.loop guard body rest) is = absurd cc
 
 pub end_sim : (naming : Naming) (lines : ℕ → ℕ) (last : ℕ) (r : Option ExprPhrase) (block : BlockPhrase)
-    (result : Option ExprPhrase) (e : ℕ) → Alike naming (result_at lines last r) block result → Sim [] (block_spelling e block)
+    (result : Option ExprPhrase) (e : ℕ) → Alike naming (result_at lines last r) block result →
+    Sim [] (block_spelling e block)
 end_sim naming lines last None block result e (is, none) =
     subst (λ b. Sim [] (block_spelling e b)) (sym is) sim_nil
 end_sim naming lines last (Some value) block result e (x, is, some, found) =
@@ -236,8 +242,10 @@ without_else d e {front = front} {others = others} {more = more} {behind = behin
     subst (λ ts. Sim ts (others ++ plain (suc e) (symbol RightBrace) ∷ behind)) (sym (append_assoc front three last))
     (sim_append one (sim_plain (suc d) (suc e) _ _ deeper (sim_skip d _ (sim_skip (suc d) _ (sim_skip (suc d) _ two)))))
 
-pub block_sim : (naming : Naming) (q : BlockPhrase) (lines : ℕ → ℕ) (at last : ℕ) (r : Option ExprPhrase) (block : BlockPhrase)
-    (result : Option ExprPhrase) → Alike naming (block_at lines at q (result_at lines last r)) block result → IsBlock q →
+pub block_sim : (naming : Naming) (q : BlockPhrase) (lines : ℕ → ℕ) (at last : ℕ) (r : Option ExprPhrase)
+    (block : BlockPhrase)
+    (result : Option ExprPhrase) → Alike naming (block_at lines at q (result_at lines last r)) block result →
+    IsBlock q →
     (d e : ℕ) → e ≤ d → Sim (block_spelling d q) (block_spelling e block)
 block_sim naming phrase.end lines at last r block result alike grouped d e less =
     end_sim naming lines last r block result e alike
@@ -284,7 +292,8 @@ block_sim naming (phrase.call_into into name args rest) lines at last r block re
     (sim_plain d e _ _ less (sim_plain d e _ _ less
     (block_sim naming rest lines _ last r more result behind grouped.1 d e less))))
 block_sim naming (phrase.branch guard first rest) lines at last r block result
-    (is_empty, x, one, two, more, one_result, two_result, is, gone, none, found, inner, other, behind) grouped d e less =
+    (is_empty, x, one, two, more, one_result, two_result, is, gone, none, found, inner, other, behind) grouped d e
+    less =
     let T : List Marked = block_spelling d (phrase.branch guard first rest) in
     let deeper : suc e ≤ suc d = omega (arith, less) in
     let own : block ≡ phrase.branch (expr_phrase naming x) one more =
@@ -341,7 +350,8 @@ SameResult naming last None result = result ≡ None
 SameResult naming last (Some value) result =
     (x : ExprTree) × (result ≡ Some (expr_phrase naming x)) × IsSomewhere (expr_at (last + 1) value) x
 
-pub result_of : (naming : Naming) (q : BlockPhrase) (lines : ℕ → ℕ) (at last : ℕ) (r : Option ExprPhrase) (block : BlockPhrase)
+pub result_of : (naming : Naming) (q : BlockPhrase) (lines : ℕ → ℕ) (at last : ℕ) (r : Option ExprPhrase)
+    (block : BlockPhrase)
     (result : Option ExprPhrase) → Alike naming (block_at lines at q (result_at lines last r)) block result →
     SameResult naming last r result
 result_of naming phrase.end lines at last None block result (is, none) = none
@@ -349,7 +359,8 @@ result_of naming phrase.end lines at last (Some value) block result (x, is, some
 result_of naming (phrase.declaration label name value rest) lines at last r block result
     (own, printed, x, more, is, same, found, behind) =
     result_of naming rest lines _ last r more result behind
-result_of naming (phrase.assignment name value rest) lines at last r block result (printed, x, more, is, found, behind) =
+result_of naming (phrase.assignment name value rest) lines at last r block result
+    (printed, x, more, is, found, behind) =
     result_of naming rest lines _ last r more result behind
 result_of naming (phrase.element_assignment name index value rest) lines at last r block result
     (printed, i, x, more, is, index_found, found, behind) =
@@ -370,10 +381,12 @@ result_of naming (phrase.loop guard body rest) lines at last r block result
     (x, one, more, one_result, is, found, inner, behind) =
     result_of naming rest lines _ last r more result behind
 
-pub result_sim : (naming : Naming) (last : ℕ) (r result : Option ExprPhrase) → SameResult naming last r result → IsResult r →
+pub result_sim : (naming : Naming) (last : ℕ) (r result : Option ExprPhrase) → SameResult naming last r result →
+    IsResult r →
     Sim (result_spelling r) (result_spelling result)
 result_sim naming last None result same grouped = subst (λ s. Sim [] (result_spelling s)) (sym same) sim_nil
 result_sim naming last (Some value) result (x, is, found) grouped =
     subst (λ s. Sim (result_spelling (Some value)) (result_spelling s)) (sym is)
-    (sim_append (sim_both statement 0 0 _ _ tt (omega arith) (value_sim naming value x _ 0 0 found grouped (omega arith)))
+    (sim_append (sim_both statement 0 0 _ _ tt (omega arith) (value_sim naming value x _ 0 0 found grouped
+    (omega arith)))
     (sim_plain 0 0 _ _ (omega arith) sim_nil))

@@ -164,14 +164,17 @@ sim_both b d e kind other {front = front} {others = others} is less sim = record
   where
     both : Stands (mark b d kind ∷ front) (mark b e other ∷ others)
     both low high below within =
-        let next = below_nested (after_beginning low b) (after_beginning high b) e d (below_after b low high is below) in
+        let next = below_nested (after_beginning low b) (after_beginning high b) e d
+        (below_after b low high is below) in
         let deep = shallow (after_token high (mark b d kind)) within.0 in
         let rest = sim.run (after_token low (mark b e other)) (after_token high (mark b d kind)) next within.1 in
         ((within_low _ _ next (omega (arith, deep, less)) within.0, rest.0), rest.1)
 
-pub sim_skip : (d : ℕ) (kind : TokenKind) {front others : List Marked} → Sim front others → Sim (plain d kind ∷ front) others
+pub sim_skip : (d : ℕ) (kind : TokenKind) {front others : List Marked} → Sim front others →
+    Sim (plain d kind ∷ front) others
 sim_skip d kind sim = record {
-  run = λ low high below within. sim.run low (after_token high (plain d kind)) (below_nested low high low.nesting d below) within.1;
+  run = λ low high below within. sim.run low (after_token high (plain d kind))
+      (below_nested low high low.nesting d below) within.1;
 }
 
 pub sim_append : {one two three four : List Marked} → Sim one two → Sim three four → Sim (one ++ three) (two ++ four)
@@ -184,7 +187,8 @@ sim_append {one = one} {two = two} {three = three} {four = four} first second = 
         let back = second.run (after_tokens low two) (after_tokens high one) front.1 parts.1 in (
           within_joined low two four front.0 back.0,
           subst (λ t. Below (after_tokens low (two ++ four)) t) (sym (tokens_behind high one three))
-              (subst (λ t. Below t (after_tokens (after_tokens high one) three)) (sym (tokens_behind low two four)) back.1),
+              (subst (λ t. Below t (after_tokens (after_tokens high one) three))
+              (sym (tokens_behind low two four)) back.1),
         )
 
 pub skip_run : (low high : Tally) (d : ℕ) (kinds : List TokenKind) → Below low high →
@@ -218,12 +222,15 @@ sim_run b d e kind other kinds others is less = record { run = all }
   where
     all : Stands (mark b d kind ∷ map (plain d) kinds) (mark b e other ∷ map (plain e) others)
     all low high below within =
-        let next = below_nested (after_beginning low b) (after_beginning high b) e d (below_after b low high is below) in
+        let next = below_nested (after_beginning low b) (after_beginning high b) e d
+        (below_after b low high is below) in
         let deep = shallow (after_token high (mark b d kind)) within.0 in
         let here : e ≤ NESTING = omega (arith, deep, less) in
         let one = within_low (after_token low (mark b e other)) (after_token high (mark b d kind)) next here within.0 in
-        let rest = add_run (after_token low (mark b e other)) (after_tokens (after_token high (mark b d kind)) (map (plain d) kinds))
-        e others here one (skip_run (after_token low (mark b e other)) (after_token high (mark b d kind)) d kinds next) in
+        let rest = add_run (after_token low (mark b e other)) (after_tokens (after_token high (mark b d kind))
+        (map (plain d) kinds))
+        e others here one (skip_run (after_token low (mark b e other))
+        (after_token high (mark b d kind)) d kinds next) in
         ((one, rest.0), rest.1)
 
 pub label_sim : (b : Beginning) (d e : ℕ) (label other : LabelPhrase) → InMethod b → e ≤ d →

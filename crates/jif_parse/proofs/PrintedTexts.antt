@@ -29,7 +29,8 @@ pub binary_text : (operator : BinOp) (first second : ExprPhrase) (least : ℕ) {
     right ≡ phrase_text (operand (least + 1) second) →
     text ≡ phrase_text (binary operator (operand (operator_level operator) first)
     (operand (suc (operator_level operator)) second))
-binary_text operator first second least {left = left} {symbol = symbol} {right = right} is level_is left_is symbol_is right_is =
+binary_text operator first second least {left = left} {symbol = symbol} {right =
+    right} is level_is left_is symbol_is right_is =
     let one = left_is ∙ ap (λ n. phrase_text (operand n first)) level_is in
     let two = right_is ∙ ap (λ n. phrase_text (operand n second)) (add-one least ∙ ap suc level_is) in
     simp append_assoc (is ∙ ap (λ (t : List ℕ). t ++ 32 ∷ (symbol ++ 32 ∷ right)) one
@@ -53,7 +54,8 @@ operand_high least p its level_is high is =
     is ∙ ap (λ b. phrase_text (parenthesized_where b p)) (sym test)
 
 -- the texts of all items, joined
-pub all_joined : {X Y : Type 0} (of : Y → List ℕ) (text : X → List ℕ) (items : List X) (place : ℕ) (texts others : List Y)
+pub all_joined : {X Y : Type 0} (of : Y → List ℕ) (text : X → List ℕ) (items : List X) (place : ℕ)
+    (texts others : List Y)
     {joined : List ℕ} →
     length items ≤ place → joined ≡ join_by of (44 ∷ 32 ∷ []) texts → texts ≡ others →
     map of others ≡ map text (take place items) → joined ≡ join_by text (44 ∷ 32 ∷ []) items

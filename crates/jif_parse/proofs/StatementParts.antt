@@ -23,7 +23,8 @@ use Rattle.jif_grammar.specs.Marks as marks
 use Rattle.jif_grammar.specs.Nesting.{Nested, nested_at, nested_all}
 use Rattle.jif_grammar.specs.Spelling.{args_spelling, optional_label_spelling}
 use Rattle.jif_grammar.specs.Unmarked.{args_then, expr_then, label_then, optional_label_then}
-use Rattle.jif_grammar.specs.Drafts.{expr_at, expr_width, args_at, name_at, label_width, policies_at, trust_at, optional_label_at}
+use Rattle.jif_grammar.specs.Drafts.{expr_at, expr_width, args_at, name_at, label_width, policies_at, trust_at}
+use Rattle.jif_grammar.specs.Drafts.{optional_label_at}
 use Rattle.jif_grammar.specs.DraftShapes.{name_shape}
 use Rattle.jif_parse.specs.declared.cursor.Cursor.{Cursor}
 use Rattle.jif_parse.specs.declared.parse_error.ParseError.{ParseError}
@@ -35,7 +36,8 @@ use Rattle.jif_parse.specs.Statements.{FailsLocalName, ReadsAssignment, FailsAss
 use Rattle.jif_parse.specs.Statements.{FailsStatement, statements_due}
 use Rattle.jif_parse.specs.Widths.{Widths}
 use Rattle.jif_parse.proofs.Taking.{takes_then, takes_before, fails_then, fails_before, fails_at_limit, out_of_memory}
-use Rattle.jif_parse.proofs.Moving.{moves_then, moves_as, stepped, Stepped, takes_passed, takes_counted, fails_other, next_kind}
+use Rattle.jif_parse.proofs.Moving.{moves_then, moves_as, stepped, Stepped, takes_passed, takes_counted, fails_other}
+use Rattle.jif_parse.proofs.Moving.{next_kind}
 use Rattle.jif_parse.proofs.Fixed.{takes_fixed, fails_fixed, step_symbol, step_name, takes_name, fails_name}
 use Rattle.jif_parse.proofs.Values.{value_as_operand}
 use Rattle.jif_parse.proofs.Widths.{declaration_width, assignment_width, element_assignment_width, call_width}
@@ -85,7 +87,8 @@ element_read {old} {a} {b} {new} {depth} {index} {draft} nested first passed sec
       draft_is = second.draft_is ∙ ap (λ at. expr_at at second.expr) place;
       moves = moves_as _ (omega arith) (moves_then (moves_then first.moves step.moves) second.moves);
       takes = takes_then (takes_before (value_due depth) first.takes)
-          (takes_then (takes_before (nested_at depth (operand at_semicolon) ∷ []) (takes_fixed due.assign depth nested passed))
+          (takes_then (takes_before (nested_at depth (operand at_semicolon) ∷ [])
+          (takes_fixed due.assign depth nested passed))
           second.takes);
     }
 
@@ -129,7 +132,8 @@ pub name_fails : {old a b : Cursor} {label : LabelDraft} {error : ParseError} �
     ReadsParts a b label →
     (error ≡ fault.OutOfMemory) ⊎ ((error ≡ fault.Unexpected b.at) × ¬ IsNextName b) → FailsLocalName old error
 name_fails {b = b} {error = error} opened parts other depth nested =
-    fails_then (takes_then (label_opened depth nested opened) (takes_before (named_local_due depth) (parts.takes depth nested)))
+    fails_then (takes_then (label_opened depth nested opened) (takes_before (named_local_due depth)
+    (parts.takes depth nested)))
     (fails_before (nested_all depth [] local_rest) (fails_name b error depth other))
 
 pub labelled_read : {old a b new : Cursor} {label : LabelDraft} {name : NameDraft} →
@@ -150,7 +154,11 @@ labelled_read {old} {a} {b} {new} {label} {name} opened parts read =
       sound = parts.trust_is_last;
       written = label_is ∙ ap (λ ks. label_then parts.label ks) last.is_next;
       label_is = ap Some (parts.draft_is
-          ∙ ap (λ at. record { policies = policies_at at parts.label; trust = trust_at at parts.label }) first.moves.at);
+          ∙ ap (λ at. record {
+            policies = policies_at at parts.label;
+            trust =
+                trust_at at parts.label;
+          }) first.moves.at);
       name_is = read.draft_is ∙ ap (λ at. name_at at read.name) place;
       moves = moves_as _ (omega (arith, width)) (moves_then moved last.moves);
       takes = λ depth nested. takes_then (takes_then (label_opened depth nested opened)
@@ -209,7 +217,8 @@ name_taken : {old a b : Cursor} {label : Option LabelDraft} {name : NameDraft} (
     depth ≤ NESTING → IsNextKind old (Word Int) → Counted old a depth marks.local → ReadsLocalName a b label name →
     Takes old b (statements_due place depth) (value_of_local_due place depth)
 name_taken place depth nested next counted read =
-    takes_then (int_taken place depth next counted) (takes_before (statements_due place depth) (read.takes depth nested))
+    takes_then (int_taken place depth next counted) (takes_before (statements_due place depth)
+    (read.takes depth nested))
 
 pub local_fails_at_symbol : {old a b : Cursor} {label : Option LabelDraft} {name : NameDraft} {depth : ℕ}
     {error : ParseError} → depth ≤ NESTING → IsNextKind old (Word Int) → Counted old a depth marks.local →
@@ -237,7 +246,8 @@ local_fails_at_value {depth = depth} nested next counted read passed fails place
     fails_then (symbol_taken place depth nested next counted read passed)
     (fails_before (statements_due place depth) fails)
 
-pub local_read : {old a b c new : Cursor} {label : Option LabelDraft} {name : NameDraft} {value : ExprDraft} {depth : ℕ} →
+pub local_read : {old a b c new : Cursor} {label : Option LabelDraft} {name : NameDraft} {value : ExprDraft}
+    {depth : ℕ} →
     Widths → depth ≤ NESTING → IsNextKind old (Word Int) → Counted old a depth marks.local →
     ReadsLocalName a b label name → PassesSymbol b c Assign → ReadsUpTo c new at_semicolon depth value →
     ReadsKind old new depth (kind.Declare label name value)
@@ -260,7 +270,8 @@ local_read {old} {a} {b} {c} {new} {label} {name} {value} {depth} w nested next 
           ∙ ap (λ ks. optional_label_then read.label (Name read.name ∷ ks)) (equals.is_next
           ∙ ap (λ ks. symbol Assign ∷ ks) up_to.written));
       draft_is = λ lines has behind. cc (label_is, name_is, value_is);
-      moves = moves_as _ (omega (arith, width)) (moves_then (moves_then (moves_then first.moves read.moves) equals.moves) up_to.moves);
+      moves = moves_as _ (omega (arith, width))
+          (moves_then (moves_then (moves_then first.moves read.moves) equals.moves) up_to.moves);
       takes = λ place. takes_then (symbol_taken place depth nested next counted read passed)
           (takes_before (statements_due place depth) up_to.takes);
     }
@@ -314,7 +325,8 @@ arguments_over {old} {a} {name} {depth} next counted over =
 
 call_opened : {old a b : Cursor} {name : List ℕ} (depth : ℕ) → IsCallNext old name → Counted old a depth marks.node →
     Counted a b depth marks.arguments →
-    Takes old b (nested_at depth due.value ∷ []) (nested_at depth due.args ∷ nested_at depth (exactly due.semicolon) ∷ [])
+    Takes old b (nested_at depth due.value ∷ []) (nested_at depth due.args ∷ nested_at depth
+    (exactly due.semicolon) ∷ [])
 call_opened depth next counted opened =
     takes_then (method_taken depth next counted)
     (takes_counted (nested_at depth due.after_value_name) (symbol LeftParenthesis) call_rest depth marks.arguments
@@ -325,7 +337,8 @@ pub called_fails : {old a b : Cursor} {name : List ℕ} {depth : ℕ} {error : P
     FailsAssignment old depth error
 called_fails {depth = depth} next counted opened fails = fails_then (call_opened depth next counted opened) fails
 
-pub called_read : {old a b new : Cursor} {name : List ℕ} {depth : ℕ} {into method : NameDraft} {args : Vec ExprDraft Global} →
+pub called_read : {old a b new : Cursor} {name : List ℕ} {depth : ℕ} {into method : NameDraft}
+    {args : Vec ExprDraft Global} →
     Widths → IsCallNext old name → name_shape method ≡ name_at old.at name → Counted old a depth marks.node →
     Counted a b depth marks.arguments → ReadsCall b new depth args.items →
     ReadsAssignment old new depth into (kind.Call method args (Some into))
@@ -354,7 +367,8 @@ first_name_taken : {old a : Cursor} {name : List ℕ} (place : Place) (depth : �
     Counted old a depth marks.statement →
     Takes old a (statements_due place depth) (nested_at depth due.after_first_name ∷ statements_due place depth)
 first_name_taken {name = name} place depth next counted =
-    takes_counted (nested_at depth (due.statements place)) (Name name) (due.after_first_name ∷ due.statements place ∷ [])
+    takes_counted (nested_at depth (due.statements place)) (Name name)
+    (due.after_first_name ∷ due.statements place ∷ [])
     depth marks.statement next counted refl refl
 
 equals_taken : {old a b : Cursor} {name : List ℕ} (place : Place) (depth : ℕ) → depth ≤ NESTING →
@@ -396,7 +410,8 @@ bracket_taken : {old a b : Cursor} {name : List ℕ} (place : Place) (depth : �
     Takes old b (statements_due place depth) (element_due depth ++ statements_due place depth)
 bracket_taken place depth nested next counted passed =
     takes_then (first_name_taken place depth next counted) (takes_before (statements_due place depth)
-    (takes_passed (nested_at depth due.after_first_name) (symbol LeftBracket) (operand due.at_bracket ∷ local_rest) depth
+    (takes_passed (nested_at depth due.after_first_name) (symbol LeftBracket)
+    (operand due.at_bracket ∷ local_rest) depth
     (step_symbol passed) passed.passes.counts nested refl refl))
 
 pub element_statement_fails : {old a b : Cursor} {name : List ℕ} {depth : ℕ} {error : ParseError} → depth ≤ NESTING →
@@ -414,21 +429,24 @@ element_statement_read {old} {a} {b} {new} {name} {depth} w nested next name_is 
     let second = step_symbol passed in
     let width = element_assignment_width w name read.index read.expr phrases.end in
     let index_place : b.at ≡ old.at + 2 = omega (arith, first.moves.at, second.moves.at) in
-    let value_place : b.at + 2 + expr_width read.index ≡ old.at + 4 + expr_width read.index = omega (arith, index_place) in
+    let value_place : b.at + 2 + expr_width read.index ≡ old.at + 4 + expr_width read.index =
+    omega (arith, index_place) in
     let index_is = read.index_is ∙ ap (λ at. expr_at at read.index) index_place in
     let value_is = read.draft_is ∙ ap (λ at. expr_at at read.expr) value_place in
     record {
       block = phrases.element_assignment name read.index read.expr phrases.end;
       some = omega (arith, width);
       sound = (read.index_grouped, read.grouped, tt);
-      written = first.is_next ∙ ap (λ ks. Name name ∷ ks) (second.is_next ∙ ap (λ ks. symbol LeftBracket ∷ ks) read.written);
+      written = first.is_next ∙ ap (λ ks. Name name ∷ ks) (second.is_next
+          ∙ ap (λ ks. symbol LeftBracket ∷ ks) read.written);
       draft_is = λ lines has behind. cc (name_is, index_is, value_is);
       moves = moves_as _ (omega (arith, width)) (moves_then (moves_then first.moves second.moves) read.moves);
       takes = λ place. takes_then (bracket_taken place depth nested next counted passed)
           (takes_before (statements_due place depth) read.takes);
     }
 
-not_after_name : (old : Cursor) (depth : ℕ) (kind : TokenKind) → ¬ IsNextSymbol old Assign → ¬ IsNextSymbol old LeftBracket →
+not_after_name : (old : Cursor) (depth : ℕ) (kind : TokenKind) → ¬ IsNextSymbol old Assign →
+    ¬ IsNextSymbol old LeftBracket →
     ¬ IsNextSymbol old LeftParenthesis → IsNextKind old kind → due_after_token due.after_first_name kind ≡ None
 not_after_name old depth (token.Symbol Assign) no_value no_index no_args is = absurd (no_value is)
 not_after_name old depth (token.Symbol LeftBracket) no_value no_index no_args is = absurd (no_index is)
@@ -473,7 +491,8 @@ call_statement_read {old} {a} {b} {new} {name} {depth} w nested next name_is cou
       block = phrases.call name read.args phrases.end;
       some = omega (arith, width);
       sound = (read.grouped, tt);
-      written = first.is_next ∙ ap (λ ks. Name name ∷ ks) (second.is_next ∙ ap (λ ks. symbol LeftParenthesis ∷ ks) read.written);
+      written = first.is_next ∙ ap (λ ks. Name name ∷ ks) (second.is_next
+          ∙ ap (λ ks. symbol LeftParenthesis ∷ ks) read.written);
       draft_is = λ lines has behind. cc (name_is, args_are);
       moves = moves_as _ (omega (arith, width)) (moves_then (moves_then first.moves second.moves) read.moves);
       takes = λ place. takes_then (parenthesis_taken place depth nested next counted passed)

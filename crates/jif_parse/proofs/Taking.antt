@@ -110,7 +110,8 @@ takes_token {old} {new} first kind sooner nesting beginning is_next at counted n
         within,
         ap (λ ks. refusal_from (going (first ∷ later) t) old.at ks) is_next
             ∙ walk_step first later t old.at kind (kinds new.rest.now) sooner token is_due marked
-            ∙ ap (λ o. refusal_from (walk_within o behind (after_token t token) old.at) (old.at + 1) (kinds new.rest.now))
+            ∙ ap (λ o. refusal_from (walk_within o behind (after_token t token) old.at) (old.at + 1)
+            (kinds new.rest.now))
             (no_excess new.counts (after_token t token) within nested)
             ∙ ap (λ n. refusal_from (going behind (after_token t token)) n (kinds new.rest.now)) (sym at),
       );

@@ -36,7 +36,8 @@ same_at_name depth later t n (next ∷ tokens) unlike =
 same_within : (depth : ℕ) (later : List Nested) (t : Tally) (n : ℕ) (tokens : List Token) (passed : Option Excess) →
     ((rest : List TokenKind) → ¬ (kinds tokens ≡ symbol symbols.LeftParenthesis ∷ rest)) →
     refusal_from (walk_within passed (nested_at depth after_value_name ∷ later) t n) (n + 1) (kinds tokens)
-    ≡ refusal_from (walk_within passed (nested_at depth (after_operand_name at_semicolon) ∷ later) t n) (n + 1) (kinds tokens)
+    ≡ refusal_from (walk_within passed (nested_at depth (after_operand_name at_semicolon) ∷ later) t n) (n + 1)
+    (kinds tokens)
 same_within depth later t n tokens (Some passed) unlike = refl
 same_within depth later t n tokens None unlike = same_at_name depth later t (n + 1) tokens unlike
 

@@ -15,7 +15,8 @@ use Rattle.jif_grammar.specs.Drafts.{expr_width, block_width, block_at}
 use Rattle.jif_parse.specs.Widths.{Widths}
 use Rattle.jif_parse.proofs.Chains.{chain, chain_then}
 
-pub declaration_width : (w : Widths) (label : Option LabelPhrase) (name : List ℕ) (value : ExprPhrase) (rest : BlockPhrase) →
+pub declaration_width : (w : Widths) (label : Option LabelPhrase) (name : List ℕ) (value : ExprPhrase)
+    (rest : BlockPhrase) →
     block_width (declaration label name value rest)
     ≡ length (optional_label_spelling 0 label) + expr_width value + block_width rest + 4
 declaration_width w label name value rest =
@@ -74,7 +75,13 @@ guarded_width w guard block rest =
 pub branch_width : (w : Widths) (guard : ExprPhrase) (first rest : BlockPhrase) →
     block_width (branch guard first rest) ≡ expr_width guard + block_width first + block_width rest + 5
 branch_width w guard first rest =
-    omega (arith, w.block (branch guard first rest) [], w.block rest [], guarded_width w guard first (block_then rest []))
+    omega (
+      arith,
+      w.block (branch guard first rest) [],
+      w.block rest [],
+      guarded_width w guard first
+          (block_then rest []),
+    )
 
 pub branch_else_width : (w : Widths) (guard : ExprPhrase) (first second rest : BlockPhrase) →
     block_width (branch_else guard first second rest)

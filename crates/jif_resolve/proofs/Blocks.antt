@@ -89,7 +89,8 @@ pub made_clean : {s : Setting} {start : Place} {block : List StmtDraft} {i : ℕ
 made_clean x so_far less read = (clean_step x so_far less read).0
 
 pub made_counted : {s : Setting} {start : Place} {block : List StmtDraft} {i : ℕ} {p : Place} {statements : List Stmt}
-    (x : StmtDraft) → block_faults s start (block_shape block) ≡ [] → IsCounted (after_block start (block_shape block)) →
+    (x : StmtDraft) → block_faults s start (block_shape block) ≡ [] →
+    IsCounted (after_block start (block_shape block)) →
     MadeSoFar s start block i p statements → i < length block → x ≡ get_or block i x →
     IsCounted (behind p (block_shape (x ∷ [])))
 made_counted x clean counted so_far less read = walk_counted x counted (walked clean so_far) less read

@@ -101,7 +101,8 @@ known_more principals names known i name p less same are is =
     subst (λ ys. AreKnown principals ys (known ++ p ∷ [])) (sym shapes)
     (zip_push (IsKnown principals) (texts front) known shape.text p are is)
 
-pub clean_binary : (s : Setting) (p : Place) (left right : ExprShape) → expr_faults s p left ++ expr_faults s p right ≡ [] →
+pub clean_binary : (s : Setting) (p : Place) (left right : ExprShape) → expr_faults s p left ++ expr_faults s p right
+    ≡ [] →
     (expr_faults s p left ≡ []) × (expr_faults s p right ≡ [])
 clean_binary s p left right none = none_in_two (expr_faults s p left) (expr_faults s p right) none
 

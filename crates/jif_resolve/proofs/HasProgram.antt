@@ -365,19 +365,22 @@ program_made principals draft main labels none is_main =
 
 with_main : (principals : Declared) (draft : DraftShape) (main : Option MethodId) → HasLabels principals →
     faults_of principals draft ≡ [] → main_of draft ≡ main →
-    ((tree : ProgramTree) × IsProgramOf principals draft tree) ⊎ ((refusal : Refusal) × IsRefused principals draft refusal)
+    ((tree : ProgramTree) × IsProgramOf principals draft tree)
+    ⊎ ((refusal : Refusal) × IsRefused principals draft refusal)
 with_main principals draft None labels none is = inr (no_main, (none, is))
 with_main principals draft (Some main) labels none is = inl (program_made principals draft main labels none is)
 
 with_faults : (principals : Declared) (draft : DraftShape) (faults : List Fault) → HasLabels principals →
     faults_of principals draft ≡ faults →
-    ((tree : ProgramTree) × IsProgramOf principals draft tree) ⊎ ((refusal : Refusal) × IsRefused principals draft refusal)
+    ((tree : ProgramTree) × IsProgramOf principals draft tree)
+    ⊎ ((refusal : Refusal) × IsRefused principals draft refusal)
 with_faults principals draft [] labels is = with_main principals draft (main_of draft) labels is refl
 with_faults principals draft (fault ∷ faults) labels is =
     let first = first_fault fault faults in
     inr (for_fault first.0, subst (λ fs. IsFirst fs first.0) (sym is) first.1)
 
 pub program_or_refusal : (principals : Declared) (draft : DraftShape) → HasLabels principals →
-    ((tree : ProgramTree) × IsProgramOf principals draft tree) ⊎ ((refusal : Refusal) × IsRefused principals draft refusal)
+    ((tree : ProgramTree) × IsProgramOf principals draft tree)
+    ⊎ ((refusal : Refusal) × IsRefused principals draft refusal)
 program_or_refusal principals draft labels =
     with_faults principals draft (faults_of principals draft) labels refl

@@ -12,7 +12,8 @@ use Rattle.jif_grammar.specs.DraftShapes.{ParamShape, MethodShape, DraftShape}
 use Rattle.jif_resolve.specs.Counts.{statements_in, calls_in}
 use Rattle.jif_resolve.specs.Meanings.{Global, globals_of}
 use Rattle.jif_resolve.specs.Places.{Setting, Place, after_statement, after_call, after_declaration}
-use Rattle.jif_resolve.specs.Places.{after_block, head_after, body_place, meaning_at, counted, numbered_in, after_params}
+use Rattle.jif_resolve.specs.Places.{after_block, head_after, body_place, meaning_at, counted, numbered_in}
+use Rattle.jif_resolve.specs.Places.{after_params}
 use Rattle.jif_resolve.specs.Places.{after_variable}
 use Rattle.jif_resolve.specs.Faults.{setting_of}
 use Rattle.jif_resolve.specs.Resolved.{assignment_tree, IsBlockFor, IsMethodFor, AreMethodsFor}

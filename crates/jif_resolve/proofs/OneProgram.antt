@@ -173,9 +173,11 @@ one_block s declared p (return_shape start value rest) first second (x, r, same,
 
 -- ---- fields, variables and methods
 
-same_field : (name_a name_b : List ℕ) (label_a label_b : Label) (size_a size_b : ℕ) (array_a array_b : Bool) (first_a first_b : ℤ) →
+same_field : (name_a name_b : List ℕ) (label_a label_b : Label) (size_a size_b : ℕ) (array_a array_b : Bool)
+    (first_a first_b : ℤ) →
     name_a ≡ name_b → label_a ≡ label_b → size_a ≡ size_b → array_a ≡ array_b → first_a ≡ first_b →
-    (let one : FieldTree = record { name = name_a; label = label_a; size = size_a; array = array_a; first = first_a } in one)
+    (let one : FieldTree = record { name = name_a; label = label_a; size = size_a; array = array_a; first = first_a } in
+    one)
     ≡ record { name = name_b; label = label_b; size = size_b; array = array_b; first = first_b }
 same_field name_a name_b label_a label_b size_a size_b array_a array_b first_a first_b
     e0 e1 e2 e3 e4 = cc
@@ -189,7 +191,8 @@ one_field principals declared field first second one two =
     let sizes : first.size ≡ second.size = one.size ∙ sym two.size in
     let arrays : first.array ≡ second.array = one.array ∙ sym two.array in
     let firsts : first.first ≡ second.first = one.first ∙ sym two.first in
-    same_field first.name second.name first.label second.label first.size second.size first.array second.array first.first second.first
+    same_field first.name second.name first.label second.label first.size second.size first.array second.array
+    first.first second.first
     names labels sizes arrays firsts
 
 same_variable : (method_a method_b : MethodId) (name_a name_b : List ℕ) (label_a label_b : Option Label) →
@@ -209,11 +212,35 @@ one_variable principals declared variable first second one two =
     same_variable first.method second.method first.name second.name first.label second.label
     methods names labels
 
-same_method : (name_a name_b : List ℕ) (begin_a begin_b : Label) (params_a params_b : List VarId) (result_a result_b : Option VarId) (authority_a authority_b : List PrincipalId) (head_a head_b : StmtId) (line_a line_b : ℕ) (body_a body_b : BlockTree) →
-    name_a ≡ name_b → begin_a ≡ begin_b → params_a ≡ params_b → result_a ≡ result_b → authority_a ≡ authority_b → head_a ≡ head_b → line_a ≡ line_b → body_a ≡ body_b →
-    (let one : MethodTree = record { name = name_a; begin = begin_a; params = params_a; result = result_a; authority = authority_a; head = head_a; line = line_a; body = body_a } in one)
-    ≡ record { name = name_b; begin = begin_b; params = params_b; result = result_b; authority = authority_b; head = head_b; line = line_b; body = body_b }
-same_method name_a name_b begin_a begin_b params_a params_b result_a result_b authority_a authority_b head_a head_b line_a line_b body_a body_b
+same_method : (name_a name_b : List ℕ) (begin_a begin_b : Label) (params_a params_b : List VarId)
+    (result_a result_b : Option VarId) (authority_a authority_b : List PrincipalId) (head_a head_b : StmtId)
+    (line_a line_b : ℕ) (body_a body_b : BlockTree) →
+    name_a ≡ name_b → begin_a ≡ begin_b → params_a ≡ params_b → result_a ≡ result_b → authority_a ≡ authority_b →
+    head_a ≡ head_b → line_a ≡ line_b → body_a ≡ body_b →
+    (let one : MethodTree = record {
+      name = name_a;
+      begin = begin_a;
+      params = params_a;
+      result = result_a;
+      authority =
+          authority_a;
+      head = head_a;
+      line = line_a;
+      body = body_a;
+    } in one)
+    ≡ record {
+      name = name_b;
+      begin = begin_b;
+      params = params_b;
+      result = result_b;
+      authority = authority_b;
+      head =
+          head_b;
+      line = line_b;
+      body = body_b;
+    }
+same_method name_a name_b begin_a begin_b params_a params_b result_a result_b authority_a authority_b head_a head_b
+    line_a line_b body_a body_b
     e0 e1 e2 e3 e4 e5 e6 e7 = cc
 
 one_method : (s : Setting) → IsDeclared s.principals → (head : Place) (method : MethodShape)
@@ -231,7 +258,8 @@ one_method s declared head method first second one two =
     let lines : first.line ≡ second.line = one.line ∙ sym two.line in
     let bodies : first.body ≡ second.body =
     one_block s declared (body_place head method) method.body first.body second.body one.body two.body in
-    same_method first.name second.name first.begin second.begin first.params second.params first.result second.result first.authority second.authority first.head second.head first.line second.line first.body second.body
+    same_method first.name second.name first.begin second.begin first.params second.params first.result second.result
+    first.authority second.authority first.head second.head first.line second.line first.body second.body
     names begins params results authority heads lines bodies
 
 one_methods : (principals : Declared) → IsDeclared principals → (globals : List Global)
@@ -247,7 +275,8 @@ one_methods principals declared globals before (method ∷ methods) first second
     one_methods principals declared globals (before ++ method ∷ []) methods ts us behind last in
     cc
 
-same_program : (fields_a fields_b : List FieldTree) (vars_a vars_b : List VarTree) (methods_a methods_b : List MethodTree) (main_a main_b : MethodId) →
+same_program : (fields_a fields_b : List FieldTree) (vars_a vars_b : List VarTree)
+    (methods_a methods_b : List MethodTree) (main_a main_b : MethodId) →
     fields_a ≡ fields_b → vars_a ≡ vars_b → methods_a ≡ methods_b → main_a ≡ main_b →
     (let one : ProgramTree = record { fields = fields_a; vars = vars_a; methods = methods_a; main = main_a } in one)
     ≡ record { fields = fields_b; vars = vars_b; methods = methods_b; main = main_b }

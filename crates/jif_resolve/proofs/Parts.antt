@@ -70,7 +70,8 @@ label_is_of_parts principals written label is =
 
 pub policies_more : (principals : Declared) (policies : List PolicyDraft) (i : ℕ) (policy : PolicyDraft)
     (label : Label) → i < length policies → policy ≡ get_or policies i policy →
-    IsOfParts principals (map policy_part (map policy_shape (take i policies)) ++ policy_part (policy_shape policy) ∷ [])
+    IsOfParts principals (map policy_part (map policy_shape (take i policies))
+    ++ policy_part (policy_shape policy) ∷ [])
     label → IsOfParts principals (map policy_part (map policy_shape (take (i + 1) policies))) label
 policies_more principals policies i policy label less same is =
     let shapes = ap (map policy_part) (shapes_more policy_shape policies i policy less same)

@@ -17,7 +17,8 @@ range_in_two first (suc m) n =
     let length : suc m + n ≡ suc (m + n) = omega arith in
     let start : first + 1 + m ≡ first + suc m = omega arith in
     ap (range_with_len first) length
-    ∙ ap (λ r. first ∷ r) (range_in_two (first + 1) m n ∙ ap (λ a. range_with_len (first + 1) m ++ range_with_len a n) start)
+    ∙ ap (λ r. first ∷ r) (range_in_two (first + 1) m n ∙ ap (λ a. range_with_len (first + 1) m
+    ++ range_with_len a n) start)
 
 -- two parts that count up, one after the other
 pub ranges_joined : (first m n : ℕ) (one two : List ℕ) → one ≡ range_with_len first m →

@@ -80,10 +80,12 @@ front_long own method =
     let middle = map (local_variable own) (locals_in method.body) in
     let both : length (front ++ middle) ≡ length front + length middle = length-append front middle in
     let one : length front ≡ length method.params = length-map method.params (param_variable own) in
-    let two : length middle ≡ length (locals_in method.body) = length-map (locals_in method.body) (local_variable own) in
+    let two : length middle ≡ length (locals_in method.body) =
+    length-map (locals_in method.body) (local_variable own) in
     omega arith
 
-pub variables_long : (own : MethodId) (method : MethodShape) → length (method_variables own method) ≡ variables_in method
+pub variables_long : (own : MethodId) (method : MethodShape) → length (method_variables own method)
+    ≡ variables_in method
 variables_long own method =
     let front = map (param_variable own) method.params ++ map (local_variable own) (locals_in method.body) in
     let back = result_variables own method.result in

@@ -7,7 +7,8 @@ use Rattle.js_base.specs.declared.limits.TheConstants.{EXPRESSION_NODES, ARRAY_S
 use Rattle.jif_grammar.specs.declared.what.What.{What}
 use Rattle.jif_grammar.specs.declared.what.What.TheVariants as counted
 use Rattle.jif_grammar.specs.Marks as marks
-use Rattle.jif_grammar.specs.Marks.{Beginning, Marked, Tally, tally_at_start, after_beginning, after_token, after_tokens}
+use Rattle.jif_grammar.specs.Marks.{Beginning, Marked, Tally, tally_at_start, after_beginning, after_token}
+use Rattle.jif_grammar.specs.Marks.{after_tokens}
 use Rattle.jif_grammar.specs.Spelling.{spelling}
 use Rattle.jif_grammar.specs.Phrases.{ProgramPhrase}
 use Rattle.jif_grammar.specs.Programs.{IsWithin, IsWithinLimits}

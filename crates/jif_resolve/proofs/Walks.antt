@@ -89,7 +89,8 @@ plain_step : (m : ℕ) (p : Place) (rest : BlockShape) →
     })
 plain_step m p rest =
     same_place _ _ _ _ _ _ _ _ _ refl refl
-    (let same : p.statement + 1 + statements_in rest ≡ p.statement + (1 + statements_in rest) = omega arith in same) refl
+    (let same : p.statement + 1 + statements_in rest ≡ p.statement + (1 + statements_in rest) = omega arith in
+    same) refl
 
 -- a block is left behind its last statement
 left_behind : (m : ℕ) (p : Place) (b : BlockShape) → m ≤ length p.known →
@@ -165,7 +166,8 @@ counted_behind : (p : Place) (b : BlockShape) → IsCounted (after_block p b) �
 counted_behind p b = same_counts (after_block p b) (behind p b) (sym (left_behind 0 p b (omega arith)))
 
 counted_from : (p : Place) (b : BlockShape) → IsCounted (behind p b) → IsCounted p
-counted_from p b counted = counted_before p b (same_counts (behind p b) (after_block p b) (left_behind 0 p b (omega arith)) counted)
+counted_from p b counted = counted_before p b (same_counts (behind p b) (after_block p b)
+    (left_behind 0 p b (omega arith)) counted)
 
 -- ---- statements one by one
 
@@ -374,7 +376,8 @@ while_place p q x guard ys is one =
 pub while_faults : (s : Setting) (p q : Place) (x : StmtDraft) (guard : ExprDraft) (ys : List StmtDraft)
     (first guarded : Option Fault) → block_shape (x ∷ []) ≡ while_alone x guard ys → q ≡ after_statement p →
     guarded ≡ with_faults first (expr_faults s p (expr_shape guard)) →
-    with_faults guarded (block_faults s q (block_shape ys)) ≡ with_faults first (block_faults s p (block_shape (x ∷ [])))
+    with_faults guarded (block_faults s q (block_shape ys)) ≡ with_faults first
+    (block_faults s p (block_shape (x ∷ [])))
 while_faults s p q x guard ys first guarded is one in_guard =
     let g = expr_faults s p (expr_shape guard) in
     let y = block_faults s (after_statement p) (block_shape ys) in

@@ -67,7 +67,8 @@ assigned_in program own gives heading (Some (sense.Plain field)) value rest tree
     let same : set_field heading field value rest ≡ tree = cc in
     subst (IsBlockIn program own gives) same (is, one, behind)
 assigned_in program own gives heading (Some (sense.Array field)) value rest tree is one behind made = absurd cc
-assigned_in program own gives heading (Some (sense.Method method params g)) value rest tree is one behind made = absurd cc
+assigned_in program own gives heading (Some (sense.Method method params g)) value rest tree is one behind made =
+    absurd cc
 
 kept_in : (program : ProgramTree) (own : MethodId) (means : Option Meaning) (kept : Option VarId) →
     Means program own means → option_map Some (local_of means) ≡ Some kept →
@@ -178,7 +179,8 @@ block_in program own s size globals p vars known (declaration_shape start writte
       next,
       expr_in program own s p globals known value x one,
       block_in program own s size globals (after_declaration p name) vars (next, known) rest
-          (let left : length (p.earlier ++ name.text ∷ []) + length (locals_in rest) ≤ size = omega arith in left) parts.3 r
+          (let left : length (p.earlier ++ name.text ∷ []) + length (locals_in rest) ≤ size = omega arith in
+          left) parts.3 r
           behind,
     )
 block_in program own s size globals p vars known (assignment_shape start name value rest) room none tree
@@ -223,7 +225,8 @@ block_in program own s size globals p vars known (branch_shape start guard first
       block_in program own s size globals between vars known second
           (let left : length between.earlier + length (locals_in second) ≤ size = omega arith in left) parts.2 u middle,
       block_in program own s size globals (after_block between second) vars known rest
-          (let left : length (after_block between second).earlier + length (locals_in rest) ≤ size = omega arith in left)
+          (let left : length (after_block between second).earlier + length (locals_in rest) ≤ size = omega arith in
+          left)
           parts.3 r behind,
     )
 block_in program own s size globals p vars known (loop_shape start guard body rest) room none tree

@@ -6,7 +6,8 @@ use Rattle.std.proofs.lemmas.List.{append-nil}
 use Rattle.std.proofs.lemmas.List.Concat.{flat_map-append}
 use Rattle.js_base.specs.declared.ids.HostId.{HostId}
 use Rattle.host_code.specs.declared.instruction.Instr.{Instr}
-use Rattle.jifpicture.specs.Arrows.{Arrow, SheetShape, arrow_text, arrow_to, arrows_from, arrows_text, asked_by, own_row}
+use Rattle.jifpicture.specs.Arrows.{Arrow, SheetShape, arrow_text, arrow_to, arrows_from, arrows_text, asked_by}
+use Rattle.jifpicture.specs.Arrows.{own_row}
 use Rattle.jifpicture.specs.Arrows.{part_arrows}
 use Rattle.jifpicture.specs.declared.layout.Row.{Row}
 use Rattle.jifpicture.proofs.Walks.{left_cut, two_pieces, written}
@@ -46,7 +47,8 @@ host_written sheet n start before after was pushed =
     let numbers = range_with_len 0 n in
     let longer : arrows_text sheet (flat_map (arrows_from sheet) (range_with_len 0 (n + 1)))
     ≡ arrows_text sheet (flat_map (arrows_from sheet) numbers) ++ arrows_text sheet (arrows_from sheet n) =
-    ap (λ (all : List ℕ). arrows_text sheet (flat_map (arrows_from sheet) all)) (rw add-one (range_push 0 n n (omega arith)))
+    ap (λ (all : List ℕ). arrows_text sheet (flat_map (arrows_from sheet) all))
+    (rw add-one (range_push 0 n n (omega arith)))
     ∙ ap (arrows_text sheet) (flat_map-append (arrows_from sheet) numbers (n ∷ [])
     ∙ ap (λ (last : List Arrow). flat_map (arrows_from sheet) numbers ++ last) (append-nil (arrows_from sheet n)))
     ∙ flat_map-append (arrow_text sheet) (flat_map (arrows_from sheet) numbers) (arrows_from sheet n) in

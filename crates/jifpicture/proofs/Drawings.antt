@@ -63,7 +63,8 @@ picture_is placed code count hosts lines text code_is count_is hosts_are lines_a
     let fields = map field_tree placed.source.checked.program.fields.items in
     let counted = count_is ∙ sym (length-map placed.source.checked.program.fields.items field_tree) in
     text_is
-    ∙ ap (λ (k : CodeShape). drawing (record { plan = placed.plan; code = k; fields = count }) hosts fields lines) code_is
+    ∙ ap (λ (k : CodeShape). drawing (record { plan = placed.plan; code = k; fields = count }) hosts fields lines)
+    code_is
     ∙ ap (λ (n : ℕ). drawing (record { plan = placed.plan; code = code_of shape; fields = n }) hosts fields lines)
     counted
     ∙ ap (λ (all : List HostShape). drawing (sheet_of shape) all fields lines) hosts_are

@@ -17,7 +17,8 @@ use Rattle.jif_tree.specs.LabelRules.{argument_flows, expr_constraints, call_con
 use Rattle.jif_tree.specs.LabelRules.{params_of, result_of, result_flows}
 use Rattle.label_check.specs.declared.check_error.CheckError.{CheckError}
 use Rattle.label_check.specs.Parts.{asked, AreMet, Refuses, flows_to_params}
-use Rattle.label_check.proofs.Asked.{none_met, asked_met, asked_before, asked_behind, both_met, refused_before, refused_behind}
+use Rattle.label_check.proofs.Asked.{none_met, asked_met, asked_before, asked_behind, both_met, refused_before}
+use Rattle.label_check.proofs.Asked.{refused_behind}
 use Rattle.label_check.proofs.Exits.{then_met, then_refused, then_all_met, then_all_refused}
 
 -- what these expressions ask for, each as the function says
@@ -87,7 +88,11 @@ next_flow : (pc : Label) (labels : VariableLabels) (given : List Label) (params 
 next_flow pc labels [] params d e one also = absurd (omega arith)
 next_flow pc labels (from ∷ given) [] d e one also = absurd (omega arith)
 next_flow pc labels (from ∷ given) (param ∷ params) d e one also =
-    rw (take_all (length (from ∷ given) - 1) given (omega arith), take_all (length (param ∷ params) - 1) params (omega arith))
+    rw (
+      take_all (length (from ∷ given) - 1) given (omega arith),
+      take_all (length (param ∷ params) - 1) params
+          (omega arith),
+    )
 
 pub flows_less : (statement : StmtId) (pc : Label) (labels : VariableLabels) (all : List Constraint)
     (given : List Label) (params : List VarId) (d : Label) (e : VarId) → 1 ≤ length given → 1 ≤ length params →

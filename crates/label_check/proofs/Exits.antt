@@ -54,7 +54,8 @@ pub then_all_met : {T : Type 0} (statement : StmtId) (first second : List Constr
     (result : Result T CheckError) → ((others : Declared) → AreMet others (asked statement first)) →
     OnOk result ((others : Declared) → AreMet others (asked statement second)) →
     OnOk result ((others : Declared) → AreMet others (asked statement (first ++ second)))
-then_all_met statement first second (Ok value) met last = λ others. asked_met statement first second (met others) (last others)
+then_all_met statement first second (Ok value) met last = λ others. asked_met statement first second (met others)
+    (last others)
 then_all_met statement first second (Err why) met last = tt
 
 pub then_all_refused : {T : Type 0} (statement : StmtId) (first second : List Constraint)

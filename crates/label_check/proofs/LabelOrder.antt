@@ -12,7 +12,8 @@ use Rattle.label_lattice.specs.Over.{IsLabelOver}
 use Rattle.jif_tree.specs.Trees.{ExprTree, number, local, scalar, element, inverted, negated, binary, declassified}
 use Rattle.jif_tree.specs.Trees.{endorsed, BlockTree, done, set_local, set_field, set_element, branch, loop}
 use Rattle.jif_tree.specs.Trees.{call, give_back, Heading}
-use Rattle.jif_tree.specs.LabelRules.{MethodSetting, VariableLabels, StatementLabels, expr_label, labels_after, block_labels}
+use Rattle.jif_tree.specs.LabelRules.{MethodSetting, VariableLabels, StatementLabels, expr_label, labels_after}
+use Rattle.jif_tree.specs.LabelRules.{block_labels}
 use Rattle.jif_tree.specs.LabelRules.{variable_label, labels_after_assignment, guarded, part_labels, expr_constraints}
 use Rattle.jif_tree.specs.WrittenLabels.{written_in, written_in_block}
 use Rattle.label_check.specs.RuleLaws.{AreNamedOver, read_in}
@@ -48,7 +49,8 @@ abbrev label_at : VariableLabels → ℕ → Label
 label_at labels place = unwrap_or (unwrap_or (slice_get labels place) None) empty_label
 
 set_over : (P : Label → Type 0) → P empty_label → (labels : VariableLabels) (label : Label) → P label →
-    ((place : ℕ) → P (label_at labels place)) → (place other : ℕ) → P (label_at (slice_set labels place (Some label)) other)
+    ((place : ℕ) → P (label_at labels place)) → (place other : ℕ) →
+    P (label_at (slice_set labels place (Some label)) other)
 set_over P empty [] label holds all place other = empty
 set_over P empty (first ∷ labels) label holds all zero zero = holds
 set_over P empty (first ∷ labels) label holds all zero (suc other) = all (suc other)
@@ -60,7 +62,8 @@ assigned_over : (P : Label → Type 0) → P empty_label → (labels : VariableL
     ((place : ℕ) → P (label_at labels place)) → (found : Option (Option Label)) → slice_get labels x.0 ≡ found →
     (place : ℕ) → P (label_at (labels_after_assignment labels x label) place)
 assigned_over P empty labels x label holds all None is place = rw is (all place)
-assigned_over P empty labels x label holds all (Some None) is place = rw is (set_over P empty labels label holds all x.0 place)
+assigned_over P empty labels x label holds all (Some None) is place =
+    rw is (set_over P empty labels label holds all x.0 place)
 assigned_over P empty labels x label holds all (Some (Some declared)) is place = rw is (all place)
 
 pub expr_over : {setting : MethodSetting} (order : LabelOrder setting.principals) (pc : Label) {labels : VariableLabels}
@@ -95,7 +98,8 @@ expr_over {setting} order pc (endorsed operand label) under named written =
 
 -- ---- what is read flows to the label of the expression
 
-pub read_flows : {setting : MethodSetting} (order : LabelOrder setting.principals) (pc : Label) {labels : VariableLabels}
+pub read_flows : {setting : MethodSetting} (order : LabelOrder setting.principals)
+    (pc : Label) {labels : VariableLabels}
     (expr : ExprTree) → IsLabelOver setting.principals pc → AreNamedOver setting labels →
     All (IsLabelOver setting.principals) (written_in expr) →
     All (λ label. Flows label (expr_label setting pc labels expr)) (read_in setting labels expr)
@@ -188,7 +192,8 @@ named_after {setting} order (branch heading guard first second rest) pc under na
 named_after {setting} order (loop heading guard body rest) pc under named written =
     let P : Label → Type 0 = IsLabelOver setting.principals in
     let before = all_left P (written_in guard ++ written_in_block body) (written_in_block rest) written in
-    let inside = inside_over order pc guard under named (all_left P (written_in guard) (written_in_block body) before) in
+    let inside = inside_over order pc guard under named (all_left P (written_in guard)
+    (written_in_block body) before) in
     named_after order rest pc under
     (named_after order body _ inside named (all_right P (written_in guard) (written_in_block body) before))
     (all_right P (written_in guard ++ written_in_block body) (written_in_block rest) written)
@@ -257,7 +262,8 @@ block_above {setting} order (branch heading guard first second rest) pc {labels}
     let of_second = all_right P (written_in guard ++ written_in_block first) (written_in_block second) blocks in
     let label = guarded setting pc labels guard in
     let inside = inside_over order pc guard under named of_guard in
-    let up = (order.above pc (expr_label setting pc labels guard) under (expr_over order pc guard under named of_guard)).0 in
+    let up = (order.above pc (expr_label setting pc labels guard) under
+    (expr_over order pc guard under named of_guard)).0 in
     let between = named_after order first label inside named of_first in
     let middle = labels_after setting label labels first in
     let after = labels_after setting label middle second in
@@ -280,7 +286,8 @@ block_above {setting} order (loop heading guard body rest) pc {labels} under nam
     let of_body = all_right P (written_in guard) (written_in_block body) before in
     let label = guarded setting pc labels guard in
     let inside = inside_over order pc guard under named of_guard in
-    let up = (order.above pc (expr_label setting pc labels guard) under (expr_over order pc guard under named of_guard)).0 in
+    let up = (order.above pc (expr_label setting pc labels guard) under
+    (expr_over order pc guard under named of_guard)).0 in
     let after = labels_after setting label labels body in
     let one : StatementLabels = loop_above setting pc labels heading guard in
     All-append (IsAbove pc) (one ∷ block_labels setting label labels body) (block_labels setting pc after rest)

@@ -158,7 +158,8 @@ loop_passes {principals} setting pc labels heading guard body rest tree {pcs} {p
       pc = inside;
       parts = part_labels setting inside labels guard;
       constraints = expr_constraints setting pc labels guard ++ expr_constraints setting inside labels guard;
-    }) (block_labels setting inside labels body) (block_labels setting pc after rest) (labels_after setting pc after rest)
+    }) (block_labels setting inside labels body) (block_labels setting pc after rest)
+    (labels_after setting pc after rest)
     met passes))
 
 pub loop_refused : {principals : Declared} (setting : MethodSetting) (pc : Label) (labels : VariableLabels)
@@ -207,7 +208,8 @@ branch_passes {principals} setting pc labels between heading guard first second 
     let started : VariableLabels → Type 0 = λ l.
     Passes principals pcs_between (labels_after setting inside l second)
     (block_labels setting inside l second) pcs_behind labels_behind [] in
-    let then : Passes principals pcs_between after (block_labels setting inside middle second) pcs_behind labels_behind []
+    let then : Passes principals pcs_between after (block_labels setting inside middle second) pcs_behind labels_behind
+    []
     = subst started (sym passes.same_labels) also in
     let one : StatementLabels = record {
       statement = heading.id;
@@ -220,7 +222,8 @@ branch_passes {principals} setting pc labels between heading guard first second 
     (subst row (sym (append_assoc (block_labels setting inside labels first) (block_labels setting inside middle second)
     others))
     (passes_on
-    (passes_block one (block_labels setting inside labels first) (block_labels setting inside middle second ++ others) end
+    (passes_block one (block_labels setting inside labels first) (block_labels setting inside middle second
+    ++ others) end
     met passes)
     (passes_before end others then))))
 
@@ -257,7 +260,8 @@ second_refused {principals} setting pc labels between heading guard first second
     let middle = labels_after setting inside labels first in
     let after = labels_after setting inside middle second in
     let all : BlockTree → Type 0 = λ t. Refuses principals (obligations_of (block_labels setting pc labels t)) why in
-    let started : VariableLabels → Type 0 = λ l. Refuses principals (obligations_of (block_labels setting inside l second)) why in
+    let started : VariableLabels → Type 0 = λ l. Refuses principals
+    (obligations_of (block_labels setting inside l second)) why in
     subst all (sym is)
     (refused_behind met
     (refused_in_first (block_labels setting inside labels first ++ block_labels setting inside middle second)

@@ -9,13 +9,15 @@ use Rattle.principals.specs.ActsFor.{Declared, ActsFor, outsider}
 use Rattle.principals.proofs.Decisions.{acts_for}
 use Rattle.label_lattice.specs.declared.label.Label.{Label}
 use Rattle.label_lattice.specs.declared.label.TheConstants.{READERS}
-use Rattle.label_lattice.specs.Label.{Forbids, Trusts, ConfFlows, IntegFlows, Flows, IsTrustedBy, KeepsOut, PolicyForbids}
+use Rattle.label_lattice.specs.Label.{Forbids, Trusts, ConfFlows, IntegFlows, Flows, IsTrustedBy, KeepsOut}
+use Rattle.label_lattice.specs.Label.{PolicyForbids}
 
 -- for each owner and each reader
 pub all_pairs : (P : ℕ → ℕ → Type 0) → ((owner reader : ℕ) → Decided (P owner reader)) →
     Decided ((owner reader : ℕ) → owner < PRINCIPALS → reader < READERS → P owner reader)
 all_pairs P each =
-    as_well _ _ (λ all owner reader lt less. all owner lt reader less) (λ all owner lt reader less. all owner reader lt less)
+    as_well _ _ (λ all owner reader lt less. all owner lt reader less)
+    (λ all owner lt reader less. all owner reader lt less)
     (all_below PRINCIPALS (λ owner. (reader : ℕ) → reader < READERS → P owner reader)
     (λ owner. all_below READERS (P owner) (each owner)))
 
@@ -51,7 +53,8 @@ keeps_out principals owner readers reader =
     (λ out. (out.is_reader, (out.not_owner, out.not_named)))
     (both _ _ (either _ _ (less_than reader (length principals.names)) (cases_eq reader outsider))
     (both _ _ (never _ (acts_for principals reader owner.0))
-    (all_of (λ named. ¬ ActsFor principals reader named.0) (λ named. never _ (acts_for principals reader named.0)) readers)))
+    (all_of (λ named. ¬ ActsFor principals reader named.0) (λ named. never _ (acts_for principals reader named.0))
+    readers)))
 
 pub policy_forbids : (principals : Declared) (owner : PrincipalId) (readers : List PrincipalId) (principal reader : ℕ) →
     Decided (PolicyForbids principals owner readers principal reader)

@@ -1,6 +1,7 @@
 -- Parts of labels with declared names make labels.
 use Rattle.std.proofs.Common.{ℕ, zero, suc, ◌≡◌, ◌≢◌, ◌+◌, ◌<◌, ◌≤◌, ◌^◌, ◌↔◌, ◌⊎◌, ◌∙◌, sym, ap, subst, inl, inr}
-use Rattle.std.proofs.Common.{lit<, bit_or, List, [], ◌∷◌, ◌++◌, append-nil, append_assoc, All, get_or, length, map, Some}
+use Rattle.std.proofs.Common.{lit<, bit_or, List, [], ◌∷◌, ◌++◌, append-nil, append_assoc, All, get_or, length, map}
+use Rattle.std.proofs.Common.{Some}
 use Rattle.std.proofs.Common.{slice_get, arith}
 use Rattle.std.specs.Prelude.{Any, Contains}
 use Rattle.std.specs.Int.{bit_at}

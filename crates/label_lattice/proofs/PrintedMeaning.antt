@@ -117,7 +117,14 @@ any_all : {X : Type 0} (P : X → Type 0) (xs : List X) → All (λ x. ¬ P x) x
 any_all P xs none (k, y, within, read, holds) = none k y within (subst P (sym read) holds)
 
 all_from : {X : Type 0} (P : X → Type 0) (xs : List X) → ¬ Any P xs → All (λ x. ¬ P x) xs
-all_from P xs none k d within holds = none (k, get_or xs k d, within, get_or_default xs k (get_or xs k d) d within, holds)
+all_from P xs none k d within holds = none (
+  k,
+  get_or xs k d,
+  within,
+  get_or_default xs k
+      (get_or xs k d) d within,
+  holds,
+)
 
 -- ---- what is made of each principal that passes
 
@@ -301,7 +308,8 @@ forbids_there principals label declared over owner reader owner_in reader_in for
     name = named principals.names from.by
         (over.forbids.owners from.by reader from.within reader_in from.forbids)
 
-    not_allowed : ¬ Any (λ (id : PrincipalId). ActsFor principals reader id.0) (ids_where (allows label from.by) principals)
+    not_allowed : ¬ Any (λ (id : PrincipalId). ActsFor principals reader id.0)
+        (ids_where (allows label from.by) principals)
     not_allowed some =
         let found = each_found (λ (id : PrincipalId). ActsFor principals reader id.0) (allows label from.by) id_of 0
         principals.names some in
@@ -379,7 +387,8 @@ forbids_back itself principals label declared over owner reader owner_in reader_
 
 trust_there : (principals : Declared) (principal : ℕ) (ids : List PrincipalId) →
     Any (λ id. ActsFor principals id.0 principal) ids → Any (PartTrusts principals principal) (known_trust ids)
-trust_there principals principal [] any = absurd (any_none (λ (id : PrincipalId). ActsFor principals id.0 principal) any)
+trust_there principals principal [] any = absurd
+    (any_none (λ (id : PrincipalId). ActsFor principals id.0 principal) any)
 trust_there principals principal (id ∷ ids) any =
     any_here (PartTrusts principals principal) (trust_of (id ∷ ids)) [] any
 
@@ -471,8 +480,11 @@ allows_is label owner reader = (
 
 pub forbids_some_is : (label : Label) (owner : ℕ) →
     (forbids_some label owner ≡ true) ↔ ((reader : ℕ) × (reader < 64) × Forbids label owner reader)
-forbids_some_is label owner =
-    (λ some. lacks_found (get_or label.rows owner 0) some, λ found. lacks_at (get_or label.rows owner 0) found.0 found.1 found.2)
+forbids_some_is label owner = (
+  λ some. lacks_found (get_or label.rows owner 0) some,
+  λ found. lacks_at
+      (get_or label.rows owner 0) found.0 found.1 found.2,
+)
 
 pub trusted_is : (label : Label) (principal : ℕ) → (is_trusted_by label principal ≡ true) ↔ Trusts label principal
 trusted_is label principal = (is_one (bit_at label.trust principal), one_is (bit_at label.trust principal))

@@ -182,7 +182,8 @@ pub method_added : (methods : List Method) (number : ℕ) (called : Method) (old
     next ≡ (old ++ called.head.0 ∷ []) ++ map (λ statement. statement.0) (ids_of called.body.items) →
     next ≡ old ++ map (λ statement. statement.0) (statements_of_method (slice_get (map method_tree methods) number))
 method_added methods number called old next found is =
-    let P : Option MethodTree → Type 0 = λ one. next ≡ old ++ map (λ statement. statement.0) (statements_of_method one) in
+    let P : Option MethodTree → Type 0 = λ one. next ≡ old ++ map (λ statement. statement.0)
+    (statements_of_method one) in
     let there : slice_get (map method_tree methods) number ≡ Some (method_tree called) =
     slice_get-map method_tree methods number ∙ ap (option_map method_tree) found in
     let own = own_ids called.body.items in
@@ -193,7 +194,8 @@ method_added methods number called old next found is =
 pub method_absent : (methods : List Method) (number : ℕ) (old : List ℕ) → slice_get methods number ≡ None →
     old ≡ old ++ map (λ statement. statement.0) (statements_of_method (slice_get (map method_tree methods) number))
 method_absent methods number old none =
-    let P : Option MethodTree → Type 0 = λ one. old ≡ old ++ map (λ statement. statement.0) (statements_of_method one) in
+    let P : Option MethodTree → Type 0 = λ one. old ≡ old ++ map (λ statement. statement.0)
+    (statements_of_method one) in
     let there : slice_get (map method_tree methods) number ≡ None =
     slice_get-map method_tree methods number ∙ ap (option_map method_tree) none in
     subst P (sym there) (sym (append-nil old))

@@ -1,5 +1,6 @@
 -- Labels that just those trust who back a statement.
-use Rattle.std.proofs.Common.{ℕ, ◌<◌, ◌≤◌, ◌≡◌, ◌↔◌, ◌⊎◌, ◌∙◌, sym, ap, subst, inl, inr, true, false, List, [], ◌∷◌, ◌++◌}
+use Rattle.std.proofs.Common.{ℕ, ◌<◌, ◌≤◌, ◌≡◌, ◌↔◌, ◌⊎◌, ◌∙◌, sym, ap, subst, inl, inr, true, false, List, [], ◌∷◌}
+use Rattle.std.proofs.Common.{◌++◌}
 use Rattle.std.proofs.Common.{map, take, length, get_or, ◌+◌}
 use Rattle.std.proofs.lemmas.List.{append-nil, map-append, take_all, take_more}
 use Rattle.js_base.specs.declared.ids.VarId.{VarId}
@@ -36,7 +37,8 @@ one_backs principals one label same = record {
 }
 
 pub label_backs : (principals : Declared) (label : Label) → IsBackedBy principals (for_label label ∷ []) label
-label_backs principals label = one_backs principals (for_label label) label (λ p within. (λ trusts. trusts, λ trusts. trusts))
+label_backs principals label = one_backs principals (for_label label) label
+    (λ p within. (λ trusts. trusts, λ trusts. trusts))
 
 -- a label that is trusted by whoever trusts either
 either_backs : {principals : Declared} (first second : List Backing) {left : Label} (both : Label) →
@@ -128,7 +130,8 @@ param_backs {principals} labels first params place d label {old} {new} within is
     ∙ ap (λ some. map for_label (first ∷ some)) (map-append labels (take place params) (get_or params place d ∷ []))
     ∙ map-append for_label (first ∷ map labels (take place params)) (labels (get_or params place d) ∷ [])
     ))
-    (both_back (map for_label (first ∷ map labels (take place params))) (for_label (labels (get_or params place d)) ∷ [])
+    (both_back (map for_label (first ∷ map labels (take place params)))
+    (for_label (labels (get_or params place d)) ∷ [])
     meet backed
     (subst (λ (one : Label). IsBackedBy principals (for_label one ∷ []) label) is (label_backs principals label)))
 

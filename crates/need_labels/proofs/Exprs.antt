@@ -1,5 +1,6 @@
 -- Expressions of a statement, one after the other.
-use Rattle.std.proofs.Common.{ℕ, ◌≡◌, ◌∙◌, sym, ap, refl, subst, Bool, true, false, ◌||◌, List, [], ◌∷◌, ◌++◌, append_assoc}
+use Rattle.std.proofs.Common.{ℕ, ◌≡◌, ◌∙◌, sym, ap, refl, subst, Bool, true, false, ◌||◌, List, [], ◌∷◌, ◌++◌}
+use Rattle.std.proofs.Common.{append_assoc}
 use Rattle.std.proofs.Common.{map, take, length, get_or, ◌<◌, ◌+◌}
 use Rattle.std.specs.List.{fold, flat_map, list_any}
 use Rattle.std.proofs.lemmas.List.{append-nil, map-append, take_more}
@@ -91,7 +92,8 @@ walked_both : (place : Place) (old : Current) (first second : List ExprTree) →
 walked_both place old first second =
     ap (λ (used : Label). record (walked place (walked place old first) second) { used = used })
     (sym (fold-append join_of old.used (parts_of place old.pc first) (parts_of place old.pc second))
-    ∙ ap (fold join_of old.used) (sym (flat_map-append (part_labels (setting_at place) old.pc (all_labels (labelled_at place)))
+    ∙ ap (fold join_of old.used) (sym (flat_map-append (part_labels (setting_at place) old.pc
+    (all_labels (labelled_at place)))
     first second)))
     ∙ ap (λ (releases : Bool). record (walked place old (first ++ second)) { releases = releases })
     (or_assoc old.releases (list_any releases first) (list_any releases second)
@@ -150,7 +152,10 @@ binary_adds place old reads operator left right both new label adds is =
           (ap (λ (one : Label). (parts left ++ (parts right ++ [])) ++ one ∷ []) is
           ∙ two_parts (parts left) (parts right)
           (expr_label (setting_at place) old.pc (all_labels (labelled_at place)) (binary operator left right))))
-          ∙ ap (λ (some : Bool). record (walked place old (binary operator left right ∷ [])) { releases = old.releases || some })
+          ∙ ap (λ (some : Bool). record (walked place old (binary operator left right ∷ [])) {
+            releases =
+                old.releases || some;
+          })
           (sym (or_assoc (releases left) (releases right) false));
       reads = reads_as (two_lists (tellings_in (setting_at place) (labelled_at place) old.pc left)
           (tellings_in (setting_at place) (labelled_at place) old.pc right))

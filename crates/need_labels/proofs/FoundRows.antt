@@ -22,14 +22,16 @@ use Rattle.need_labels.proofs.Backings.{both_back, twice_back}
 
 -- ---- lists
 
-pub zip_length : {A B : Type 0} (R : A → B → Type 0) (xs : List A) (ys : List B) → AllZip R xs ys → length xs ≡ length ys
+pub zip_length : {A B : Type 0} (R : A → B → Type 0) (xs : List A) (ys : List B) → AllZip R xs ys →
+    length xs ≡ length ys
 zip_length R [] [] all = refl
 zip_length R [] (b ∷ ys) all = absurd all
 zip_length R (a ∷ xs) [] all = absurd all
 zip_length R (a ∷ xs) (b ∷ ys) all = ap suc (zip_length R xs ys all.1)
 
 -- one of each is another
-zip_set : {A B : Type 0} (R : A → B → Type 0) (before : List A) (old new : A) (behind : List A) (ys : List B) (place : ℕ)
+zip_set : {A B : Type 0} (R : A → B → Type 0) (before : List A) (old new : A) (behind : List A) (ys : List B)
+    (place : ℕ)
     (y : B) → length before ≡ place → AllZip R (before ++ old ∷ behind) ys → R new y →
     AllZip R (before ++ new ∷ behind) (set ys place y)
 zip_set R [] old new behind [] place y is all here = absurd all
@@ -130,7 +132,8 @@ one_added principals labelled start new one word backed used need is_need reads 
             (subst (λ (turn : ℕ). AreReads principals labelled before one.id turn [] [] start.reads) (sym count)
             (are.reads one.id)));
       };
-  backed = subst (λ (parts : List Backing). IsBackedBy principals parts backed) (sym (append-nil one.backing)) is_backed;
+  backed = subst (λ (parts : List Backing). IsBackedBy principals parts backed)
+      (sym (append-nil one.backing)) is_backed;
 }
 
 pub both_added : {principals : Declared} {labelled : Labelled} {old between new : Found}
@@ -149,7 +152,8 @@ both_added {principals} {labelled} {old} {between} {new} first second {left} {ri
 -- ---- a statement with statements in it
 
 -- those who back the statements in it back it
-enclosing_backed : {principals : Declared} (one : StatementUse) (nested : List StatementUse) {own inside backing : Label} →
+enclosing_backed : {principals : Declared} (one : StatementUse)
+    (nested : List StatementUse) {own inside backing : Label} →
     IsIntegrityMeet own inside backing → IsBackedBy principals (one.backing ++ []) own →
     IsBackedBy principals (all_backing nested) inside →
     IsBackedBy principals (enclosing one nested).backing backing
@@ -176,7 +180,8 @@ enclosing_found {principals} {labelled} before one nested {old} {new} place word
           ∙ sym (map-append (λ (each : StatementUse). each.used) before (enclosing one nested ∷ nested));
       need = subst (AllZip R all) (sym need)
           (zip_set R before one (enclosing one nested) nested old.need.items place word is are.need is_need);
-      reads = λ id. subst (λ (rows : Reads). AreReads principals labelled all id (suc (length all)) [] [] rows) (sym reads)
+      reads = λ id. subst (λ (rows : Reads). AreReads principals labelled all id (suc (length all)) [] [] rows)
+          (sym reads)
           (reads_alike (before ++ one ∷ nested) all
           (flat_map-append (λ (each : StatementUse). each.tellings) before (one ∷ nested)
           ∙ sym (flat_map-append (λ (each : StatementUse). each.tellings) before (enclosing one nested ∷ nested)))
@@ -201,7 +206,8 @@ enclosed {principals} start first old new one nested own inside backing place wo
     record {
       adds = λ before are.
           enclosing_found before one nested place word
-          (zip_length (λ (each : StatementUse) (need : ℕ). IsNeed principals each.backing need) before start.need.items are.need ∙ sym is)
+          (zip_length (λ (each : StatementUse) (need : ℕ). IsNeed principals each.backing need) before start.need.items
+          are.need ∙ sym is)
           used reads need (is_need (enclosing one nested).backing backed)
           (also.adds (before ++ one ∷ []) (adds.adds before are));
       backed = twice_back (one.backing) (all_backing nested) backed;

@@ -11,7 +11,8 @@ use Rattle.label_lattice.specs.Lattice.{IsIntegrityMeet}
 use Rattle.jif_tree.specs.declared.program.Stmt.{Stmt}
 use Rattle.jif_tree.specs.declared.program.StmtKind.{StmtKind}
 use Rattle.jif_tree.specs.declared.program.StmtKind as kind
-use Rattle.jif_tree.specs.Trees.{ExprTree, Heading, BlockTree, done, branch, loop, statement_tree, block_tree, expr_tree}
+use Rattle.jif_tree.specs.Trees.{ExprTree, Heading, BlockTree, done, branch, loop, statement_tree, block_tree}
+use Rattle.jif_tree.specs.Trees.{expr_tree}
 use Rattle.jif_tree.specs.Trees.{row_tree, tree_before, head_of}
 use Rattle.jif_tree.specs.LabelRules.{MethodSetting}
 use Rattle.need_labels.specs.declared.place.Found.{Found}
@@ -69,13 +70,15 @@ uses_in_turn labelled setting (statement ∷ statements) =
     (uses_in_turn labelled setting statements)
 
 -- one more statement
-pub next_added : {principals : Declared} (labelled : Labelled) (setting : MethodSetting) (statements : List Stmt) (place : ℕ)
+pub next_added : {principals : Declared} (labelled : Labelled) (setting : MethodSetting) (statements : List Stmt)
+    (place : ℕ)
     (statement : Stmt) {old between new : Found} {left right both : Label} → place < length statements →
     statement ≡ get_or statements place statement → IsIntegrityMeet left right both →
     AddsUses principals labelled old (block_uses labelled setting (block_tree (take place statements))) between left →
     AddsUses principals labelled between (block_uses labelled setting (tree_before statement done)) new right →
     AddsUses principals labelled old (block_uses labelled setting (block_tree (take (place + 1) statements))) new both
-next_added {principals} labelled setting statements place statement {old} {new = new} {both = both} within is meet adds also =
+next_added {principals} labelled setting statements place statement {old} {new = new} {both =
+    both} within is meet adds also =
     let before : List StatementUse = block_uses labelled setting (block_tree (take place statements)) in
     subst (λ (uses : List StatementUse). AddsUses principals labelled old uses new both) (sym (
     uses_in_turn labelled setting (take (place + 1) statements)
@@ -91,7 +94,8 @@ next_added {principals} labelled setting statements place statement {old} {new =
 -- ---- branches and loops
 
 -- the guard by itself, and then with what is inside
-guard_use : (labelled : Labelled) (setting : MethodSetting) (id : StmtId) (guard : ExprTree) (inside : List StatementUse) →
+guard_use : (labelled : Labelled) (setting : MethodSetting) (id : StmtId) (guard : ExprTree)
+    (inside : List StatementUse) →
     enclosing (statement_use labelled setting id (guard ∷ []) [] [] []) inside ∷ inside
     ≡ statement_use labelled setting id (guard ∷ []) [] [] (all_backing inside) ∷ inside ++ []
 guard_use labelled setting id guard inside =
@@ -101,7 +105,8 @@ guard_use labelled setting id guard inside =
     ∙ ap (λ (some : List StatementUse).
     statement_use labelled setting id (guard ∷ []) [] [] (all_backing inside) ∷ some) (sym (append-nil inside))
 
-pub branch_added : {principals : Declared} {labelled : Labelled} (setting : MethodSetting) {old new : Found} {backing : Label}
+pub branch_added : {principals : Declared} {labelled : Labelled}
+    (setting : MethodSetting) {old new : Found} {backing : Label}
     (heading : Heading) (guard : ExprTree) (first second tree : BlockTree) →
     tree ≡ branch heading guard first second done →
     AddsUses principals labelled old
@@ -111,10 +116,12 @@ pub branch_added : {principals : Declared} {labelled : Labelled} (setting : Meth
     AddsUses principals labelled old (block_uses labelled setting tree) new backing
 branch_added {principals} {labelled} setting {old} {new} {backing} heading guard first second tree is adds =
     subst (λ (uses : List StatementUse). AddsUses principals labelled old uses new backing)
-    (guard_use labelled setting heading.id guard (block_uses labelled setting first ++ block_uses labelled setting second)
+    (guard_use labelled setting heading.id guard (block_uses labelled setting first
+    ++ block_uses labelled setting second)
     ∙ sym (ap (block_uses labelled setting) is)) adds
 
-pub loop_added : {principals : Declared} {labelled : Labelled} (setting : MethodSetting) {old new : Found} {backing : Label}
+pub loop_added : {principals : Declared} {labelled : Labelled}
+    (setting : MethodSetting) {old new : Found} {backing : Label}
     (heading : Heading) (guard : ExprTree) (body tree : BlockTree) →
     tree ≡ loop heading guard body done →
     AddsUses principals labelled old

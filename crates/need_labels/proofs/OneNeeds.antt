@@ -47,7 +47,8 @@ pub needs_once : (principals : Declared) (labelled : Labelled) (first second : N
 needs_once principals labelled first second are also =
     let uses : List StatementUse = statement_uses principals labelled in
     let used = are.used ∙ sym also.used in
-    let need = zip_once (λ (one : StatementUse) (word : ℕ). IsNeed principals one.backing word) uses first.need second.need
+    let need = zip_once (λ (one : StatementUse) (word : ℕ). IsNeed principals one.backing word) uses first.need
+    second.need
     (λ one word other is too. one_word principals one.backing word other is too) are.need also.need in
     let loc = are.loc ∙ sym also.loc in
     let readers = are.readers ∙ sym also.readers in

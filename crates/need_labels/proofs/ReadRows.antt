@@ -1,10 +1,12 @@
 -- What one read changes in the rows that reads leave.
-use Rattle.std.proofs.Common.{ℕ, ◌<◌, ◌≤◌, ◌≡◌, ◌≢◌, ◌∙◌, ◌⊎◌, sym, ap, refl, subst, inl, inr, Bool, true, false, ◌||◌, cond}
+use Rattle.std.proofs.Common.{ℕ, ◌<◌, ◌≤◌, ◌≡◌, ◌≢◌, ◌∙◌, ◌⊎◌, sym, ap, refl, subst, inl, inr, Bool, true, false, ◌||◌}
+use Rattle.std.proofs.Common.{cond}
 use Rattle.std.proofs.Common.{List, [], ◌∷◌, ◌++◌, map, length, get_or, set, arith, append_assoc, eqb}
 use Rattle.std.specs.Global.{Vec}
 use Rattle.std.specs.List.{fold, filter, flat_map, range_with_len}
 use Rattle.std.proofs.lemmas.Bool.{cases_eq, eq-eqb, ne_eqb}
-use Rattle.std.proofs.lemmas.List.{append-nil, map-append, length-map, length-set, get_or-map, get_or-set_same, get_or-set_other, map-set}
+use Rattle.std.proofs.lemmas.List.{append-nil, map-append, length-map, length-set, get_or-map, get_or-set_same}
+use Rattle.std.proofs.lemmas.List.{get_or-set_other, map-set}
 use Rattle.std.proofs.lemmas.List.Elements.{filter-append}
 use Rattle.std.proofs.lemmas.List.Folds.{list_any-append}
 use Rattle.std.proofs.lemmas.List.Sums.{fold-append}
@@ -38,21 +40,25 @@ told_same : (principals : Declared) (before : List Telling) (telling : Telling) 
     told_of principals (before ++ telling ∷ []) field ≡ join_of (told_of principals before field) telling.label
 told_same principals before telling field is =
     told_more principals before telling field
-    ∙ ap (λ (b : Bool). fold join_of (told_of principals before field) (map (λ one. one.label) (cond b (telling ∷ []) [])))
+    ∙ ap (λ (b : Bool). fold join_of (told_of principals before field)
+    (map (λ one. one.label) (cond b (telling ∷ []) [])))
     (eq-eqb telling.field.0 field is)
 
 told_other : (principals : Declared) (before : List Telling) (telling : Telling) (field : ℕ) → telling.field.0 ≢ field →
     told_of principals (before ++ telling ∷ []) field ≡ told_of principals before field
 told_other principals before telling field other =
     told_more principals before telling field
-    ∙ ap (λ (b : Bool). fold join_of (told_of principals before field) (map (λ one. one.label) (cond b (telling ∷ []) [])))
+    ∙ ap (λ (b : Bool). fold join_of (told_of principals before field)
+    (map (λ one. one.label) (cond b (telling ∷ []) [])))
     (ne_eqb telling.field.0 field other)
 
 -- a row of what is told
 abbrev told_row : Declared → Labelled → List Telling → List Label
-told_row principals labelled tellings = map (told_of principals tellings) (range_with_len 0 (length labelled.program.fields))
+told_row principals labelled tellings = map (told_of principals tellings)
+    (range_with_len 0 (length labelled.program.fields))
 
-told_row_same : (principals : Declared) (labelled : Labelled) (before : List Telling) (telling : Telling) (d x : Label) →
+told_row_same : (principals : Declared) (labelled : Labelled) (before : List Telling) (telling : Telling)
+    (d x : Label) →
     telling.field.0 < length labelled.program.fields →
     x ≡ join_of (get_or (told_row principals labelled before) telling.field.0 d) telling.label →
     set (told_row principals labelled before) telling.field.0 x ≡ told_row principals labelled (before ++ telling ∷ [])
@@ -94,7 +100,8 @@ told_reads principals labelled id turn old loc telling before told others are is
 -- a row changes by what one read tells
 pub tell_adds : (principals : Declared) (labelled : Labelled) (id : StmtId) (turn : ℕ) (old : Reads) (loc : Vec Label)
     (telling : Telling) (d x : Label) → telling.field.0 < length old.loc.items →
-    loc.items ≡ set old.loc.items telling.field.0 x → x ≡ join_of (get_or old.loc.items telling.field.0 d) telling.label →
+    loc.items ≡ set old.loc.items telling.field.0 x →
+    x ≡ join_of (get_or old.loc.items telling.field.0 d) telling.label →
     AddsReads principals labelled id turn old (telling ∷ []) []
     (record { loc = loc; readers = old.readers; marks = old.marks })
 tell_adds principals labelled id turn old loc telling d x within is x_is = record {
@@ -141,7 +148,8 @@ read_more reads x y = list_any-append (λ read. eqb read.0 y) reads (x ∷ [])
 
 read_same : (reads : List VarId) (x : VarId) (y : ℕ) → x.0 ≡ y → is_read (reads ++ x ∷ []) y ≡ true
 read_same reads x y is =
-    read_more reads x y ∙ ap (λ (b : Bool). is_read reads y || (b || false)) (eq-eqb x.0 y is) ∙ or-true (is_read reads y)
+    read_more reads x y ∙ ap (λ (b : Bool). is_read reads y || (b || false)) (eq-eqb x.0 y is)
+    ∙ or-true (is_read reads y)
 
 read_other : (reads : List VarId) (x : VarId) (y : ℕ) → x.0 ≢ y → is_read (reads ++ x ∷ []) y ≡ is_read reads y
 read_other reads x y other =
@@ -216,51 +224,52 @@ pub read_first : (principals : Declared) (labelled : Labelled) (id : StmtId) (tu
     marks.items ≡ set old.marks.items x.0 turn →
     AddsReads principals labelled id turn old [] (x ∷ [])
     (record { loc = old.loc; readers = readers; marks = marks })
-read_first principals labelled id turn old x readers marks row d marked within new readers_are row_is marks_are = record {
-  adds = λ before told others are.
-      let vars = length labelled.program.vars in
-      let long = are.long in
-      let below : x.0 < vars = omega (arith, long, marked) in
-      let unread : is_read others x.0 ≡ false =
-      sym (are.marked x.0 below) ∙ ne_eqb (get_or old.marks.items x.0 0) turn new in
-      let old_row : (get_or old.readers.items x.0 d).items ≡ readers_of before x.0 =
-      sym (get_or-map items_of old.readers.items x.0 d d.items within)
-      ∙ ap (λ (rows : List (List StmtId)). get_or rows x.0 d.items) are.readers
-      ∙ get_or-map-range_with_len (reader_row before id others) 0 vars x.0 x.0 d.items below (omega arith)
-      ∙ ap (λ (b : Bool). readers_of before x.0 ++ cond b (id ∷ []) []) unread
-      ∙ append-nil (readers_of before x.0) in
-      let new_row : reader_row before id (others ++ x ∷ []) x.0 ≡ row.items =
-      ap (λ (b : Bool). readers_of before x.0 ++ cond b (id ∷ []) []) (read_same others x x.0 refl)
-      ∙ sym (row_is ∙ ap (λ (earlier : List StmtId). earlier ++ id ∷ []) old_row) in
-      subst (λ (tellings : List Telling). AreReads principals labelled before id turn tellings (others ++ x ∷ [])
-      (record { loc = old.loc; readers = readers; marks = marks }))
-      (sym (append-nil told)) (record {
-        loc = are.loc;
-        readers = ap (map items_of) readers_are ∙ map-set items_of old.readers.items x.0 row
-            ∙ ap (λ (rows : List (List StmtId)). set rows x.0 row.items) are.readers
-            ∙ row_set (reader_row before id others) (reader_row before id (others ++ x ∷ [])) vars x.0 row.items []
-            below new_row
-            (λ k apart. ap (λ (b : Bool). readers_of before k ++ cond b (id ∷ []) [])
-            (sym (read_other others x k (λ same. apart (sym same)))));
-        long = ap length marks_are ∙ length-set old.marks.items x.0 turn ∙ are.long;
-        marked = λ y under. ap (λ (all : List ℕ). eqb (get_or all y 0) turn) marks_are ∙ elim (cases_eq x.0 y) [
-          | inl same ↦ eq-eqb _ turn (ap (λ (place : ℕ). get_or (set old.marks.items x.0 turn) place 0) (sym same)
-              ∙ get_or-set_same old.marks.items x.0 turn 0 marked) ∙ sym (read_same others x y same)
-          | inr other ↦ ap (λ (mark : ℕ). eqb mark turn)
-              (get_or-set_other old.marks.items x.0 y turn 0 (λ same. other (sym same)))
-              ∙ are.marked y under ∙ sym (read_other others x y other)
-        ];
-        earlier = λ y. subst (λ (all : List ℕ). get_or all y 0 ≤ turn) (sym marks_are) (elim (cases_eq x.0 y) [
-          | inl same ↦ omega (
-            arith,
-            ap (λ (place : ℕ). get_or (set old.marks.items x.0 turn) place 0) (sym same)
-                ∙ get_or-set_same old.marks.items x.0 turn 0 marked,
-          )
-          | inr other ↦ omega (
-            arith,
-            get_or-set_other old.marks.items x.0 y turn 0 (λ same. other (sym same)),
-            are.earlier y,
-          )
-        ]);
-      });
-}
+read_first principals labelled id turn old x readers marks row d marked within new readers_are row_is marks_are =
+    record {
+      adds = λ before told others are.
+          let vars = length labelled.program.vars in
+          let long = are.long in
+          let below : x.0 < vars = omega (arith, long, marked) in
+          let unread : is_read others x.0 ≡ false =
+          sym (are.marked x.0 below) ∙ ne_eqb (get_or old.marks.items x.0 0) turn new in
+          let old_row : (get_or old.readers.items x.0 d).items ≡ readers_of before x.0 =
+          sym (get_or-map items_of old.readers.items x.0 d d.items within)
+          ∙ ap (λ (rows : List (List StmtId)). get_or rows x.0 d.items) are.readers
+          ∙ get_or-map-range_with_len (reader_row before id others) 0 vars x.0 x.0 d.items below (omega arith)
+          ∙ ap (λ (b : Bool). readers_of before x.0 ++ cond b (id ∷ []) []) unread
+          ∙ append-nil (readers_of before x.0) in
+          let new_row : reader_row before id (others ++ x ∷ []) x.0 ≡ row.items =
+          ap (λ (b : Bool). readers_of before x.0 ++ cond b (id ∷ []) []) (read_same others x x.0 refl)
+          ∙ sym (row_is ∙ ap (λ (earlier : List StmtId). earlier ++ id ∷ []) old_row) in
+          subst (λ (tellings : List Telling). AreReads principals labelled before id turn tellings (others ++ x ∷ [])
+          (record { loc = old.loc; readers = readers; marks = marks }))
+          (sym (append-nil told)) (record {
+            loc = are.loc;
+            readers = ap (map items_of) readers_are ∙ map-set items_of old.readers.items x.0 row
+                ∙ ap (λ (rows : List (List StmtId)). set rows x.0 row.items) are.readers
+                ∙ row_set (reader_row before id others) (reader_row before id (others ++ x ∷ [])) vars x.0 row.items []
+                below new_row
+                (λ k apart. ap (λ (b : Bool). readers_of before k ++ cond b (id ∷ []) [])
+                (sym (read_other others x k (λ same. apart (sym same)))));
+            long = ap length marks_are ∙ length-set old.marks.items x.0 turn ∙ are.long;
+            marked = λ y under. ap (λ (all : List ℕ). eqb (get_or all y 0) turn) marks_are ∙ elim (cases_eq x.0 y) [
+              | inl same ↦ eq-eqb _ turn (ap (λ (place : ℕ). get_or (set old.marks.items x.0 turn) place 0) (sym same)
+                  ∙ get_or-set_same old.marks.items x.0 turn 0 marked) ∙ sym (read_same others x y same)
+              | inr other ↦ ap (λ (mark : ℕ). eqb mark turn)
+                  (get_or-set_other old.marks.items x.0 y turn 0 (λ same. other (sym same)))
+                  ∙ are.marked y under ∙ sym (read_other others x y other)
+            ];
+            earlier = λ y. subst (λ (all : List ℕ). get_or all y 0 ≤ turn) (sym marks_are) (elim (cases_eq x.0 y) [
+              | inl same ↦ omega (
+                arith,
+                ap (λ (place : ℕ). get_or (set old.marks.items x.0 turn) place 0) (sym same)
+                    ∙ get_or-set_same old.marks.items x.0 turn 0 marked,
+              )
+              | inr other ↦ omega (
+                arith,
+                get_or-set_other old.marks.items x.0 y turn 0 (λ same. other (sym same)),
+                are.earlier y,
+              )
+            ]);
+          });
+    }

@@ -1,5 +1,6 @@
 -- Who reads a variable.
-use Rattle.std.proofs.Common.{ℕ, ◌<◌, ◌≡◌, ◌↔◌, ◌∙◌, sym, ap, refl, subst, inl, inr, Bool, true, false, cond, List, [], ◌∷◌}
+use Rattle.std.proofs.Common.{ℕ, ◌<◌, ◌≡◌, ◌↔◌, ◌∙◌, sym, ap, refl, subst, inl, inr, Bool, true, false, cond, List, []}
+use Rattle.std.proofs.Common.{◌∷◌}
 use Rattle.std.proofs.Common.{map, length, get_or, eqb, arith}
 use Rattle.std.specs.Prelude.{Any, Contains, slice_get, unwrap_or}
 use Rattle.std.specs.List.{filter}

@@ -14,7 +14,8 @@ use Rattle.need_labels.specs.Needs.{StatementUse, statement_uses, readers_of}
 backs : (principals : Declared) (principal : ℕ) (part : Backing) → Decided (Backs principals principal part)
 backs principals principal (for_label label) = trusts label principal
 backs principals principal (for_release authority) =
-    any_of (λ member. ActsFor principals member.0 principal) (λ member. acts_for principals member.0 principal) authority
+    any_of (λ member. ActsFor principals member.0 principal) (λ member. acts_for principals member.0 principal)
+    authority
 
 -- the word of those who back
 some_need : (principals : Declared) (backing : List Backing) → (need : ℕ) × IsNeed principals backing need

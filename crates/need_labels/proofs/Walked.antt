@@ -13,9 +13,11 @@ use Rattle.need_labels.specs.declared.place.Found.{Found}
 use Rattle.need_labels.specs.declared.place.Current.{Current}
 use Rattle.need_labels.specs.declared.place.Reads.{Reads}
 use Rattle.need_labels.specs.Labelled.{pc_of, all_labels}
-use Rattle.need_labels.specs.Needs.{Backing, for_label, for_releases, releases, statement_use, tellings_in, variables_in}
+use Rattle.need_labels.specs.Needs.{Backing, for_label, for_releases, releases, statement_use, tellings_in}
+use Rattle.need_labels.specs.Needs.{variables_in}
 use Rattle.need_labels.specs.Needs.{IsNeed}
-use Rattle.need_labels.specs.Finding.{IsBackedBy, AddsReads, AddsExprs, started, IsWalked, AddsUses, setting_at, labelled_at}
+use Rattle.need_labels.specs.Finding.{IsBackedBy, AddsReads, AddsExprs, started, IsWalked, AddsUses, setting_at}
+use Rattle.need_labels.specs.Finding.{labelled_at}
 use Rattle.need_labels.proofs.FoundRows.{one_added}
 
 -- expressions that were walked from the start

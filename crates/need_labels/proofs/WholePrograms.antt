@@ -73,9 +73,11 @@ head_added {principals} {labelled} {new = new} head body adds also = record {
 -- one more method
 pub next_method : {principals : Declared} {labelled : Labelled} {old new : Found} (methods : List Method) (place : ℕ)
     (method : Method) → place < length methods → method ≡ get_or methods place method →
-    AreFound principals labelled (flat_map (method_uses principals labelled) (map method_tree (take place methods))) old →
+    AreFound principals labelled (flat_map (method_uses principals labelled) (map method_tree (take place methods)))
+    old →
     AddsFound principals labelled old (method_uses principals labelled (method_tree method)) new →
-    AreFound principals labelled (flat_map (method_uses principals labelled) (map method_tree (take (place + 1) methods))) new
+    AreFound principals labelled (flat_map (method_uses principals labelled)
+    (map method_tree (take (place + 1) methods))) new
 next_method {principals} {labelled} {old} {new} methods place method within is are adds =
     let uses : MethodTree → List StatementUse = method_uses principals labelled in
     let before : List MethodTree = map method_tree (take place methods) in
@@ -108,7 +110,8 @@ needs_found principals labelled found needs used need loc readers are =
     let rows = are.reads (record { 0 = 0 }) in
     record {
       used = used ∙ are.used;
-      need = subst (AllZip (λ (one : StatementUse) (word : ℕ). IsNeed principals one.backing word) uses) (sym need) are.need;
+      need = subst (AllZip (λ (one : StatementUse) (word : ℕ). IsNeed principals one.backing word) uses)
+          (sym need) are.need;
       loc = loc ∙ rows.loc ∙ ap (λ (all : List Telling). map (told_of principals all)
           (range_with_len 0 (length labelled.program.fields))) (append-nil _);
       readers = readers ∙ rows.readers ∙ rows_agree (λ x. readers_of uses x ++ []) (readers_of uses)

@@ -1,5 +1,6 @@
 -- Which host runs first, and which pair has the first message.
-use Rattle.std.proofs.Common.{◌≡◌, ◌≢◌, ℕ, zero, suc, ◌+◌, ◌<◌, ◌≤◌, Bool, true, false, List, [], ◌∷◌, length, get_or, refl}
+use Rattle.std.proofs.Common.{◌≡◌, ◌≢◌, ℕ, zero, suc, ◌+◌, ◌<◌, ◌≤◌, Bool, true, false, List, [], ◌∷◌, length, get_or}
+use Rattle.std.proofs.Common.{refl}
 use Rattle.std.proofs.Common.{ap, sym, subst, arith, Option, Some, None, inl, inr}
 use Rattle.std.specs.Prelude.{slice_get, IsSome, IsSomeAnd, nat_lt, ◌&&◌, if◌then◌else◌}
 use Rattle.std.specs.Option.{option_map}
@@ -103,7 +104,8 @@ pub none_flies_more : (world : WorldModel) (from : HostId) (n : ℕ) →
 none_flies_more world from n before last = below_more (λ to. ¬ Flies (world_of world) from to) n before last
 
 pub none_flies_from : (world : WorldModel) (from : HostId) (n : ℕ) → length world.hosts ≤ n →
-    ((earlier : HostId) → earlier.0 < n → ¬ Flies (world_of world) from earlier) → NothingFliesFrom (world_of world) from
+    ((earlier : HostId) → earlier.0 < n → ¬ Flies (world_of world) from earlier) →
+    NothingFliesFrom (world_of world) from
 none_flies_from world from n all before to flies =
     let lt = (flies_within world from to flies).1 in
     before to (omega arith) flies

@@ -52,7 +52,8 @@ fits_cell : (P : HostId → HostId → Flight → Type 0) (flying : Flying) (fro
 fits_cell P flying from to i j flights true is old new =
     let first : from.0 ≡ i.0 = grind (arith, nat_tests) in
     let second : to.0 ≡ j.0 = grind (arith, nat_tests) in
-    subst (λ k. All (P k j) flights) (same_id from i first) (subst (λ k. All (P from k) flights) (same_id to j second) new)
+    subst (λ k. All (P k j) flights) (same_id from i first) (subst (λ k. All (P from k) flights)
+    (same_id to j second) new)
 fits_cell P flying from to i j flights false is old new = old
 
 fits_with : (P : HostId → HostId → Flight → Type 0) (flying : Flying) (from to : HostId) (flights : List Flight) →
@@ -64,7 +65,8 @@ fits_with P flying from to flights old new i j =
 -- ---- the parts of a step
 
 pub mail_stepped : (code : CodeShape) (kind : HostShape → Outcome → Type 0) (before old new : WorldShape)
-    (host : HostId) (sent : Option (HostId × Message)) → old ≡ before → HasStepped kind old host sent new → MailFits code before →
+    (host : HostId) (sent : Option (HostId × Message)) → old ≡ before → HasStepped kind old host sent new →
+    MailFits code before →
     MailFits code new
 mail_stepped code kind before old new host sent same stepped fits =
     let moved = subst (MailFits code) (sym same) fits in
@@ -177,7 +179,8 @@ turned code from to is_host other = (is_host, λ same. other.1 (sym same))
 
 -- ---- what a misbehaving host makes
 
-pub is_bad_host : {X : Type 0} (hosts : List (Option X)) (i : ℕ) → IsTrue (is_absent (slice_get hosts i)) → i < length hosts
+pub is_bad_host : {X : Type 0} (hosts : List (Option X)) (i : ℕ) → IsTrue (is_absent (slice_get hosts i)) →
+    i < length hosts
 is_bad_host [] i absent = absurd (cc)
 is_bad_host (host ∷ hosts) zero absent = omega arith
 is_bad_host (host ∷ hosts) (suc i) absent = let lt = is_bad_host hosts i absent in omega arith
@@ -236,7 +239,8 @@ presented_fits : (code : CodeShape) (world : WorldShape) (token : BadToken) → 
 presented_fits code world (Sent number) count all own = some_fits code (tokens_sent world) number all
 presented_fits code world (Own token) count all own = bad_within world token.host (length code.hosts) count own
 
-with_presented : (code : CodeShape) (make : Token → Message) → ((t : Token) → TokenFits code t → TokensFit code (make t)) →
+with_presented : (code : CodeShape) (make : Token → Message) → ((t : Token) → TokenFits code t →
+    TokensFit code (make t)) →
     (o : Option Token) (m : Message) → IfSome o (TokenFits code) → option_map make o ≡ Some m → TokensFit code m
 with_presented code make fitting None m fits made = absurd (cc)
 with_presented code make fitting (Some token) m fits made =

@@ -1,5 +1,6 @@
 -- What a change of one queue does to what is in flight.
-use Rattle.std.proofs.Common.{◌≡◌, ◌≢◌, ℕ, zero, suc, ◌<◌, ◌≤◌, Bool, true, false, List, [], ◌∷◌, ◌++◌, length, replicate}
+use Rattle.std.proofs.Common.{◌≡◌, ◌≢◌, ℕ, zero, suc, ◌<◌, ◌≤◌, Bool, true, false, List, [], ◌∷◌, ◌++◌, length}
+use Rattle.std.proofs.Common.{replicate}
 use Rattle.std.proofs.Common.{Option, Some, refl, ap, sym, subst, ◌∙◌, arith}
 use Rattle.std.specs.Prelude.{slice_set, remove, nat_lt, ◌==◌, ◌&&◌, if◌then◌else◌, unwrap_or}
 use Rattle.std.proofs.lemmas.Bool.{lt-ltb}
@@ -32,7 +33,8 @@ pub flying_at : (count : ℕ) (queues : List (List Flight)) (from to : HostId) �
     flying_of count queues from to ≡ flights_at queues (pair_place from to)
 flying_at count queues from to lt within = rw (lt-ltb from.0 count lt, lt-ltb to.0 count within) refl
 
-set_cell : (count : ℕ) (queues : List (List Flight)) (from to i j : HostId) (flights : List Flight) (same there : Bool) →
+set_cell : (count : ℕ) (queues : List (List Flight)) (from to i j : HostId) (flights : List Flight)
+    (same there : Bool) →
     (i.0 == from.0 && j.0 == to.0) ≡ same → (nat_lt i.0 count && nat_lt j.0 count) ≡ there → count ≤ 16 →
     length queues ≡ 256 → from.0 < count → to.0 < count →
     (if there then flights_at (slice_set queues (pair_place from to) flights) (pair_place i j) else [])

@@ -55,7 +55,8 @@ pub hosts_before_more : (code : CodeShape) (store : List (List ℤ)) (bad : ℕ)
     (i : ℕ) (d : declared_hosts.HostShape) → i < length rows →
     hosts_before code store bad 0 (take (i + 1) rows)
     ≡ hosts_before code store bad 0 (take i rows) ++ host_before code store bad i (get_or rows i d) ∷ []
-hosts_before_more code store bad rows i d lt = rw add-one (hosts_before_suc code store bad 0 rows i i d lt (omega arith))
+hosts_before_more code store bad rows i d lt =
+    rw add-one (hosts_before_suc code store bad 0 rows i i d lt (omega arith))
 
 pub states_push : (hosts : List (Option HostModel)) (host : Option HostModel) →
     states_of (hosts ++ host ∷ []) ≡ states_of hosts ++ option_map state_of host ∷ []

@@ -22,7 +22,8 @@ flights_at_queue (queue ∷ queues) zero d lt = refl
 flights_at_queue (queue ∷ queues) (suc place) d lt = flights_at_queue queues place d (omega arith)
 
 -- a queue that has room is there, with it
-pub room_of : (queues : List Queue) (place : ℕ) (d : Queue) → HasRoom queues place → QueueHasRoom (get_or queues place d)
+pub room_of : (queues : List Queue) (place : ℕ) (d : Queue) → HasRoom queues place →
+    QueueHasRoom (get_or queues place d)
 room_of [] place d has = absurd has
 room_of (queue ∷ queues) zero d has = has
 room_of (queue ∷ queues) (suc place) d has = room_of queues place d has

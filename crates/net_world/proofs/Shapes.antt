@@ -27,8 +27,10 @@ use Rattle.host_core.specs.Turn.{IsTurn, label_of_turn, label_of_thread}
 use Rattle.host_core.proofs.StartKept.{idle_fits, root_fits}
 use Rattle.host_core.proofs.TakingKept.{taking_kept}
 use Rattle.host_core.proofs.TurnKept.{turn_kept}
-use Rattle.net_world.specs.World.{WorldShape, IsStep, IsRun, IsTakeStep, IsTurnStep, IsActStep, AreHostsOf, world_at_start}
-use Rattle.net_world.specs.World.{named_host, host_before, hosts_before, given, present, state_at, with_state, without_flight}
+use Rattle.net_world.specs.World.{WorldShape, IsStep, IsRun, IsTakeStep, IsTurnStep, IsActStep, AreHostsOf}
+use Rattle.net_world.specs.World.{world_at_start}
+use Rattle.net_world.specs.World.{named_host, host_before, hosts_before, given, present, state_at, with_state}
+use Rattle.net_world.specs.World.{without_flight}
 use Rattle.net_world.specs.World.{misbehaves}
 use Rattle.net_world.specs.Fits.{WorldModel, WorldFits, PresentFits, ShapeFits, IsStateOf, MailFits, HasOwnToken}
 use Rattle.net_world.specs.Fits.{OwnToken, OwnTokenIn}
@@ -37,7 +39,8 @@ use Rattle.net_world.proofs.Present.{present_set, present_states, length_states}
 use Rattle.net_world.proofs.Same.{me_turn, me_taking, me_entering}
 use Rattle.net_world.proofs.StepLaws.{take_puts, turn_puts, act_puts, same_misbehave}
 use Rattle.net_world.proofs.Starts.{nothing_sent}
-use Rattle.net_world.proofs.Fitting.{mail_sending, mail_telling, mail_without, flight_fits, tokens_fit, turned, bad_within}
+use Rattle.net_world.proofs.Fitting.{mail_sending, mail_telling, mail_without, flight_fits, tokens_fit, turned}
+use Rattle.net_world.proofs.Fitting.{bad_within}
 use Rattle.net_world.proofs.Fitting.{bad_differs, made_tokens_fit, label_fits}
 
 -- ---- a world of the program
@@ -135,7 +138,8 @@ shape_after : (code : CodeShape) (world after : WorldShape) (host : HostId) (sta
 shape_after code world after host state fits puts is_state mail = record {
   count = ap length puts ∙ length-set world.hosts host.0 (Some state) ∙ fits.count;
   states =
-      subst (λ (hosts : List (Option HostShape)). (number : HostId) → IfSome (present hosts number) (IsStateOf code number))
+      subst (λ (hosts : List (Option HostShape)). (number : HostId) →
+      IfSome (present hosts number) (IsStateOf code number))
       (sym puts) (present_set (IsStateOf code) world.hosts host state fits.states is_state);
   mail = mail;
 }

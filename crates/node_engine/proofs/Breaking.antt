@@ -1,5 +1,6 @@
 -- What is left of a node's world where a part breaks.
-use Rattle.std.proofs.Common.{◌≡◌, ◌⊎◌, inl, inr, ℕ, List, [], ◌∷◌, Option, Some, None, take, drop, refl, ◌∙◌, Result, Ok, Err, sym, subst}
+use Rattle.std.proofs.Common.{◌≡◌, ◌⊎◌, inl, inr, ℕ, List, [], ◌∷◌, Option, Some, None, take, drop, refl, ◌∙◌, Result}
+use Rattle.std.proofs.Common.{Ok, Err, sym, subst}
 use Rattle.std.specs.Prelude.{IfErr, IsErr}
 use Rattle.std.specs.Result.{IsErrAnd}
 use Rattle.std.proofs.lemmas.List.{append-nil}
@@ -27,7 +28,11 @@ line_done bytes there old new takes = record {
 -- a front of a line was put
 line_front : (bytes : List ℕ) (there : LinksTold) (old new : Option (List ℕ)) → TakesFront bytes old new →
     (world : NodeWorld) (host : HostShape) → Told world host (record { links = there; journal = old }) →
-    TellsOf (λ after. (n : ℕ) × (after ≡ do_part (Line (take n bytes)) world)) host (record { links = there; journal = new })
+    TellsOf (λ after. (n : ℕ) × (after ≡ do_part (Line (take n bytes)) world)) host (record {
+      links = there;
+      journal =
+          new;
+    })
 line_front bytes there old new front world host told =
     let put = rw told.journal_is at front.1 in (
       do_part (Line (take front.0 bytes)) world,
@@ -36,14 +41,22 @@ line_front bytes there old new front world host told =
     )
 
 pub line_breaks : (bytes : List ℕ) (there : LinksTold) (old new : Option (List ℕ)) → TakesFront bytes old new →
-    Stops node_error.OutFault (Line bytes ∷ []) (record { links = there; journal = old }) (record { links = there; journal = new })
+    Stops node_error.OutFault (Line bytes ∷ []) (record { links = there; journal = old }) (record {
+      links =
+          there;
+      journal = new;
+    })
 line_breaks bytes there old new front = record {
   after = λ world host told.
       let end = line_front bytes there old new front world host told in (end.0, end.1, inl end.2);
 }
 
 pub line_without_memory : (bytes : List ℕ) (there : LinksTold) (old new : Option (List ℕ)) → TakesFront bytes old new →
-    Stops node_error.OutOfMemory (Line bytes ∷ []) (record { links = there; journal = old }) (record { links = there; journal = new })
+    Stops node_error.OutOfMemory (Line bytes ∷ []) (record { links = there; journal = old }) (record {
+      links =
+          there;
+      journal = new;
+    })
 line_without_memory bytes there old new front = record {
   after = λ world host told.
       let end = line_front bytes there old new front world host told in (end.0, end.1, inl end.2);
@@ -82,7 +95,8 @@ abbrev SentOrNot : HostId → List ℕ → Outside → Outside → Type 0
 SentOrNot to bytes old new = (new.links.sent ≡ old.links.sent) ⊎ Took to bytes old.links.sent new.links.sent
 
 sent_or_not : (to : HostId) (bytes : List ℕ) (old new : Outside) → SentOrNot to bytes old new →
-    new.links.left ≡ old.links.left → new.journal ≡ old.journal → (world : NodeWorld) (host : HostShape) → Told world host old →
+    new.links.left ≡ old.links.left → new.journal ≡ old.journal → (world : NodeWorld) (host : HostShape) →
+    Told world host old →
     TellsOf (λ after. (after ≡ world) ⊎ (after ≡ do_part (Sending to bytes) world)) host new
 sent_or_not to bytes old new (inl same) stays kept world host told = (
   world,
@@ -98,7 +112,8 @@ sent_or_not to bytes old new (inr took) stays kept world host told =
     (do_part (Sending to bytes) world, (frame_sent to bytes old new took stays kept).after world host told, inr refl)
 
 pub send_breaks : (to : HostId) (bytes : List ℕ) (old new : Outside) →
-    ((new.links.sent ≡ old.links.sent) ⊎ Took to bytes old.links.sent new.links.sent) → new.links.left ≡ old.links.left → new.journal ≡ old.journal →
+    ((new.links.sent ≡ old.links.sent) ⊎ Took to bytes old.links.sent new.links.sent) →
+    new.links.left ≡ old.links.left → new.journal ≡ old.journal →
     Stops node_error.LinkFault (Sending to bytes ∷ []) old new
 send_breaks to bytes old new sent stays kept = record {
   after = λ world host told.
@@ -106,7 +121,8 @@ send_breaks to bytes old new sent stays kept = record {
 }
 
 pub send_without_memory : (to : HostId) (bytes : List ℕ) (old new : Outside) →
-    ((new.links.sent ≡ old.links.sent) ⊎ Took to bytes old.links.sent new.links.sent) → new.links.left ≡ old.links.left → new.journal ≡ old.journal →
+    ((new.links.sent ≡ old.links.sent) ⊎ Took to bytes old.links.sent new.links.sent) →
+    new.links.left ≡ old.links.left → new.journal ≡ old.journal →
     Stops node_error.OutOfMemory (Sending to bytes ∷ []) old new
 send_without_memory to bytes old new sent stays kept = record {
   after = λ world host told.
@@ -120,7 +136,8 @@ next_frame bytes left None gave = absurd (none-some left (sym gave))
 next_frame bytes left (Some rest) gave =
     let same : left ≡ bytes ∷ rest = cc in (rw same refl, (rest, same))
 
-pub frame_taken : (bytes : List ℕ) (old new : Outside) → Gave bytes old.links.left new.links.left → new.links.sent ≡ old.links.sent →
+pub frame_taken : (bytes : List ℕ) (old new : Outside) → Gave bytes old.links.left new.links.left →
+    new.links.sent ≡ old.links.sent →
     new.journal ≡ old.journal → Takes bytes old new
 frame_taken bytes old new gave same kept = record {
   after = λ world host told.
@@ -137,7 +154,8 @@ frame_taken bytes old new gave same kept = record {
 
 -- nothing was taken
 taking_stops : (error : NodeError) → ((world : NodeWorld) → Breaks error Taking world world) → (old new : Outside) →
-    new.links.left ≡ old.links.left → new.links.sent ≡ old.links.sent → new.journal ≡ old.journal → Stops error (Taking ∷ []) old new
+    new.links.left ≡ old.links.left → new.links.sent ≡ old.links.sent → new.journal ≡ old.journal →
+    Stops error (Taking ∷ []) old new
 taking_stops error breaks old new stays same kept = record {
   after = λ world host told. (
     world,
@@ -151,7 +169,8 @@ taking_stops error breaks old new stays same kept = record {
   );
 }
 
-pub taking_breaks : (old new : Outside) → new.links.left ≡ old.links.left → new.links.sent ≡ old.links.sent → new.journal ≡ old.journal →
+pub taking_breaks : (old new : Outside) → new.links.left ≡ old.links.left → new.links.sent ≡ old.links.sent →
+    new.journal ≡ old.journal →
     Stops node_error.LinkFault (Taking ∷ []) old new
 taking_breaks = taking_stops node_error.LinkFault (λ world. refl)
 

@@ -8,7 +8,8 @@ use Rattle.front_end.specs.Loads.{FilesChange, Told as TellsFile}
 use Rattle.front_end.specs.Stages.{Outcome, given, stopped}
 use Rattle.front_end.specs.Verdicts.{VerdictShape}
 use Rattle.node_engine.specs.NodeSources.{NodeStart}
-use Rattle.node_engine.specs.Nodes.{HoldsNode, IsEnded, IsNodeDue, LoadedNode, NodeAnswer, OptionsAnswer, files_of, name_of}
+use Rattle.node_engine.specs.Nodes.{HoldsNode, IsEnded, IsNodeDue, LoadedNode, NodeAnswer, OptionsAnswer, files_of}
+use Rattle.node_engine.specs.Nodes.{name_of}
 use Rattle.node_engine.specs.Options.{Asked, IsAsked}
 use Rattle.node_engine.specs.Serving.{IsServed}
 use Rattle.node_engine.specs.Told.{Outside}

@@ -12,7 +12,8 @@ use Rattle.host_decl.specs.Hosts.{HostShape, HostsShape}
 use Rattle.need_labels.specs.Labelled.{Labelled}
 use Rattle.need_labels.specs.Needs.{NeedsShape}
 use Rattle.place_rules.specs.Allowed.{AllowedShape}
-use Rattle.place_rules.specs.PlaceRules.{HoldsOn, IsHeld, IsWordOf, IsWordOfSome, AreAllowed, MayHoldField, MayHoldStatement}
+use Rattle.place_rules.specs.PlaceRules.{HoldsOn, IsHeld, IsWordOf, IsWordOfSome, AreAllowed, MayHoldField}
+use Rattle.place_rules.specs.PlaceRules.{MayHoldStatement}
 use Rattle.place_rules.specs.PlaceRules.{told_fields, needed_statements}
 use Rattle.place_rules.specs.Refusal.{IsFirstUnheld, IsRefused}
 use Rattle.place_rules.specs.declared.place_error.PlaceError.{PlaceError}
@@ -99,7 +100,8 @@ one_refusal labelled needs hosts (error.NoHostForStatement statement) error.OutO
     absurd (other refl)
 one_refusal labelled needs hosts (error.NoHostForStatement statement) (error.NoHostForField second) one two is other =
     absurd (none_unheld MayHoldField hosts.hosts (told_fields labelled needs) second.0 one.0 two)
-one_refusal labelled needs hosts (error.NoHostForStatement statement) (error.NoHostForStatement second) one two is other =
+one_refusal labelled needs hosts (error.NoHostForStatement statement) (error.NoHostForStatement second) one two is
+    other =
     ap (λ number. error.NoHostForStatement (record { 0 = number }))
     (one_first MayHoldStatement hosts.hosts (needed_statements needs) statement.0 second.0 one.1 two.1)
 
@@ -110,7 +112,8 @@ never_both labelled needs hosts allowed error.OutOfMemory are refused = refl
 never_both labelled needs hosts allowed (error.NoHostForField field) are refused =
     absurd (none_unheld MayHoldField hosts.hosts (told_fields labelled needs) field.0 are.held_fields refused)
 never_both labelled needs hosts allowed (error.NoHostForStatement statement) are refused =
-    absurd (none_unheld MayHoldStatement hosts.hosts (needed_statements needs) statement.0 are.held_statements refused.1)
+    absurd (none_unheld MayHoldStatement hosts.hosts (needed_statements needs) statement.0 are.held_statements
+    refused.1)
 
 -- ---- hosts of words
 

@@ -1,5 +1,6 @@
 -- A program has words, or is refused for a cause.
-use Rattle.std.proofs.Common.{◌≡◌, ◌≢◌, ◌∙◌, ◌⊎◌, ◌↔◌, ℕ, zero, suc, ◌+◌, ◌*◌, ◌/◌, ◌<◌, ◌≤◌, ◌^◌, List, [], ◌∷◌, Option, Some, None}
+use Rattle.std.proofs.Common.{◌≡◌, ◌≢◌, ◌∙◌, ◌⊎◌, ◌↔◌, ℕ, zero, suc, ◌+◌, ◌*◌, ◌/◌, ◌<◌, ◌≤◌, ◌^◌, List, [], ◌∷◌}
+use Rattle.std.proofs.Common.{Option, Some, None}
 use Rattle.std.proofs.Common.{length, position, refl, sym, ap, arith, inl, inr}
 use Rattle.std.specs.Int.{bit_at}
 use Rattle.std.proofs.Math.Nat.{two-pow-succ}
@@ -15,7 +16,8 @@ use Rattle.jif_tree.specs.Trees.{FieldTree}
 use Rattle.need_labels.specs.Labelled.{Labelled}
 use Rattle.need_labels.specs.Needs.{NeedsShape}
 use Rattle.place_rules.specs.Allowed.{AllowedShape}
-use Rattle.place_rules.specs.PlaceRules.{HoldsOn, AreAllowed, MayHoldField, MayHoldStatement, told_fields, needed_statements}
+use Rattle.place_rules.specs.PlaceRules.{HoldsOn, AreAllowed, MayHoldField, MayHoldStatement, told_fields}
+use Rattle.place_rules.specs.PlaceRules.{needed_statements}
 use Rattle.place_rules.specs.Refusal.{IsRefused}
 use Rattle.place_rules.specs.declared.place_error.PlaceError.{PlaceError}
 use Rattle.place_rules.specs.declared.place_error.PlaceError.TheVariants as error

@@ -90,7 +90,8 @@ turned split c world after sim halted fits stands fueled idle none host step =
 
 taken : (split : Split) (c : Configuration) (world after : WorldShape) (sim : Simulates split c world)
     (holder : Holder) → (stands : Stands split c sim.view world holder) →
-    (Paced split → IsFueled split c sim.view world holder stands sim.fuel) → AreIdle holder world → GoesOn holder world →
+    (Paced split → IsFueled split c sim.view world holder stands sim.fuel) → AreIdle holder world →
+    GoesOn holder world →
     (from to : HostId) (place : ℕ) → IsTakeStep split.code world from to place after → Goes split c sim.fuel after
 taken split c world after sim (runs holder) stands fueled idle none from to place step =
     absurd (none_taken world from to place step.flight stands.1.flying step.there)
@@ -110,7 +111,8 @@ taken split c world after sim halted stands fueled idle none from to place step 
 -- ---- events
 
 pub event_kept : (split : Split) (c : Configuration) (world after : WorldShape) (event : Event) →
-    (sim : Simulates split c world) → ShapeFits split.code world → IsStep split.code world event after → Goes split c sim.fuel after
+    (sim : Simulates split c world) → ShapeFits split.code world → IsStep split.code world event after →
+    Goes split c sim.fuel after
 event_kept split c world after (Take from to place) sim fits step =
     taken split c world after sim sim.holder sim.stands sim.fueled sim.idle sim.goes_on from to place step
 event_kept split c world after (Turn host) sim fits step =

@@ -386,10 +386,12 @@ takes_one split world after from to from' to' place flight flying step =
 
 -- the request in flight is taken
 pub asked_taken : (split : Split) (c : Configuration) (world after : WorldShape) (sim : Simulates split c world)
-    (holder owner : HostId) → AreIdle (asked holder owner) world → NoneHalted world → IsChain split sim.view.naming sim.view.chain →
+    (holder owner : HostId) → AreIdle (asked holder owner) world → NoneHalted world →
+    IsChain split sim.view.naming sim.view.chain →
     (stands : IsAsked split c sim.view world holder owner) → (from to : HostId) (place : ℕ) →
     IsTakeStep split.code world from to place after → (Paced split →
-    IsFueledRequest split sim.view.chain holder stands.waits.thread.thread.at sim.fuel stands.waits.flight.message) → Goes split c sim.fuel after
+    IsFueledRequest split sim.view.chain holder stands.waits.thread.thread.at sim.fuel stands.waits.flight.message) →
+    Goes split c sim.fuel after
 asked_taken split c world after sim holder owner idle none_halted is_chain stands from to place step fueled =
     let waits = stands.waits in
     let one = takes_one split world after from to holder owner place waits.flight waits.flying step in
@@ -420,7 +422,8 @@ giving_taken split c world after sim holder owner idle none_halted is_chain stan
 
 -- the answer in flight is taken
 pub answered_taken : (split : Split) (c : Configuration) (world after : WorldShape) (sim : Simulates split c world)
-    (holder owner : HostId) → AreIdle (answered holder owner) world → NoneHalted world → IsChain split sim.view.naming sim.view.chain →
+    (holder owner : HostId) → AreIdle (answered holder owner) world → NoneHalted world →
+    IsChain split sim.view.naming sim.view.chain →
     (stands : IsAnswered split c sim.view world holder owner) → (from to : HostId) (place : ℕ) →
     IsTakeStep split.code world from to place after → (Paced split →
     weight_at split sim.view.chain holder stands.waits.thread.thread.at + 1 ≤ sim.fuel) → Goes split c sim.fuel after
@@ -430,11 +433,13 @@ answered_taken split c world after sim holder owner idle none_halted is_chain st
     let state = some_same (state_at world holder) one.old waits.state one.obeys waits.there in
     answer_taken split c world after sim holder owner idle none_halted is_chain waits waits.flight.message stands.answer
     one.outcome one.label
-    (subst (λ (s : HostShape). IsTaking split.code s owner waits.flight.message one.outcome) state one.takes) one.leaves fueled
+    (subst (λ (s : HostShape). IsTaking split.code s owner waits.flight.message one.outcome) state one.takes) one.leaves
+    fueled
 
 -- the token is taken at an entry
 pub going_taken : (split : Split) (c : Configuration) (world after : WorldShape) (sim : Simulates split c world)
-    (sender target : HostId) → AreIdle (goes sender target) world → NoneHalted world → IsChain split sim.view.naming sim.view.chain →
+    (sender target : HostId) → AreIdle (goes sender target) world → NoneHalted world →
+    IsChain split sim.view.naming sim.view.chain →
     (stands : IsGoing split c sim.view world sender target) → (from to : HostId) (place : ℕ) →
     IsTakeStep split.code world from to place after → (Paced split →
     weight_at split sim.view.chain target stands.there.at + 1 ≤ sim.fuel) → Goes split c sim.fuel after
@@ -446,7 +451,8 @@ going_taken split c world after sim sender target idle none_halted is_chain stan
 
 -- the token is taken by who gave it
 pub returning_taken : (split : Split) (c : Configuration) (world after : WorldShape) (sim : Simulates split c world)
-    (sender target : HostId) → AreIdle (returns sender target) world → NoneHalted world → IsChain split sim.view.naming sim.view.chain →
+    (sender target : HostId) → AreIdle (returns sender target) world → NoneHalted world →
+    IsChain split sim.view.naming sim.view.chain →
     IsReturning split c sim.view world sender target → (from to : HostId) (place : ℕ) →
     IsTakeStep split.code world from to place after → (Paced split →
     3 * (PACE + length sim.view.chain) ≤ sim.fuel + 1) → Goes split c sim.fuel after

@@ -1,4 +1,5 @@
--- A run depends on the tree of its program alone: each configuration has a state over trees, which takes the same steps.
+-- A run depends on the tree of its program alone: each configuration has a state over trees, which takes the same
+-- steps.
 use Rattle.std.proofs.Common.{◌≡◌, ℕ, zero, suc, Bool, true, false, ℤ, pos, List, [], ◌∷◌, ◌++◌}
 use Rattle.std.proofs.Common.{length, map, Option, Some, None, refl, sym, ap, ◌∙◌}
 use Rattle.std.specs.Prelude.{slice_get, if◌then◌else◌}

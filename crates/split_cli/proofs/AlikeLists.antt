@@ -1,5 +1,6 @@
 -- Lists that are compared place by place, and rows of starting values field by field.
-use Rattle.std.proofs.Common.{◌≡◌, ◌≢◌, ◌∙◌, ℕ, zero, suc, ◌+◌, ◌<◌, ◌≤◌, ℤ, List, [], ◌∷◌, ◌++◌, length, take, drop, map}
+use Rattle.std.proofs.Common.{◌≡◌, ◌≢◌, ◌∙◌, ℕ, zero, suc, ◌+◌, ◌<◌, ◌≤◌, ℤ, List, [], ◌∷◌, ◌++◌, length, take, drop}
+use Rattle.std.proofs.Common.{map}
 use Rattle.std.proofs.Common.{Option, Some, slice_get, refl, sym, ap, subst, inl, inr, arith, Bor}
 use Rattle.std.proofs.Common.{take-append-drop, min, get_or, add-one, Bool, true, false, not, int_eq}
 use Rattle.std.specs.Option.{option_map}
@@ -30,14 +31,23 @@ same_more {X} one other i x y first second same before =
     ∙ sym (take_some other i y second)
 
 -- the end of one of them
-pub are_alike : {X : Type 0} (one other : List X) (i : ℕ) → take i one ≡ take i other → length one ≤ i → AreAlike one other
+pub are_alike : {X : Type 0} (one other : List X) (i : ℕ) → take i one ≡ take i other → length one ≤ i →
+    AreAlike one other
 are_alike {X} one other i same all =
-    inl (drop i other, sym (take-append-drop i other) ∙ ap (λ (xs : List X). xs ++ drop i other) (sym same ∙ take_all i one all))
+    inl (
+      drop i other,
+      sym (take-append-drop i other) ∙ ap (λ (xs : List X). xs ++ drop i other)
+          (sym same ∙ take_all i one all),
+    )
 
 pub are_alike_too : {X : Type 0} (one other : List X) (i : ℕ) → take i one ≡ take i other → length other ≤ i →
     AreAlike one other
 are_alike_too {X} one other i same all =
-    inr (drop i one, sym (take-append-drop i one) ∙ ap (λ (xs : List X). xs ++ drop i one) (same ∙ take_all i other all))
+    inr (
+      drop i one,
+      sym (take-append-drop i one) ∙ ap (λ (xs : List X). xs ++ drop i one)
+          (same ∙ take_all i other all),
+    )
 
 pub alike_by_length : {X : Type 0} (one other : List X) (i : ℕ) → take i one ≡ take i other →
     ¬ ((i < length one) × (i < length other)) → AreAlike one other

@@ -7,7 +7,8 @@ use Rattle.js_base.specs.declared.ids.HostId.{HostId}
 use Rattle.host_code.specs.declared.code.Entry.{Entry}
 use Rattle.host_code.specs.declared.instruction.Instr.{Instr}
 use Rattle.host_code.specs.Code.{CodeShape}
-use Rattle.split_cli.specs.CodeLines.{code_lines, entry_line, entry_lines, instruction_line, instruction_lines, part_lines}
+use Rattle.split_cli.specs.CodeLines.{code_lines, entry_line, entry_lines, instruction_line, instruction_lines}
+use Rattle.split_cli.specs.CodeLines.{part_lines}
 use Rattle.front_end.specs.Text.{line_text, lines_text}
 use Rattle.split_cli.proofs.ReportLines.{numbered_more}
 

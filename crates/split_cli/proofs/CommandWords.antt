@@ -99,7 +99,8 @@ pub no_steps : (words : List (List ℕ)) (a b c d e last : List ℕ) → words �
     a ≢ codes "compare" → last ≡ e →
     ((steps : ℕ) → IsStepCount steps → last ≢ decimal steps) → (command : CommandShape) → IsCommand command →
     words ≢ words_of command
-no_steps words a b c d e last is not_compare last_is none (Check program hosts) command same = let never : ⊥ = cc in never
+no_steps words a b c d e last is not_compare last_is none (Check program hosts) command same = let never : ⊥ = cc in
+    never
 no_steps words a b c d e last is not_compare last_is none (Run program hosts start steps) command same =
     none steps command (last_is
     ∙ last_word a b c d e (codes "run") program hosts start (decimal steps) (sym is ∙ same))

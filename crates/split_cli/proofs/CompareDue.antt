@@ -92,7 +92,8 @@ runs_due placed code file said run other said_too run_too first first_too events
 -- the first script stops the command
 pub first_stops : (file script other script_too : List ℕ) (placed : PlacedSource) (program : Program)
     (verdict : VerdictShape) → program_tree program ≡ placed.source.tree →
-    ScriptRead file script (code_of placed) (stopped verdict) → DueForCompare file script other script_too placed verdict
+    ScriptRead file script (code_of placed) (stopped verdict) →
+    DueForCompare file script other script_too placed verdict
 first_stops file script other script_too placed program verdict same stops = (program, same, inr stops)
 
 -- the second script does
@@ -107,7 +108,8 @@ second_stops file script other script_too placed program said verdict same was s
 -- both were read
 pub both_read : (file script other script_too : List ℕ) (placed : PlacedSource) (program : Program)
     (said said_too : ScriptShape) (verdict : VerdictShape) → program_tree program ≡ placed.source.tree →
-    ScriptRead file script (code_of placed) (given said) → ScriptRead other script_too (code_of placed) (given said_too) →
+    ScriptRead file script (code_of placed) (given said) →
+    ScriptRead other script_too (code_of placed) (given said_too) →
     DueForSaid placed file said other said_too verdict → DueForCompare file script other script_too placed verdict
 both_read file script other script_too placed program said said_too verdict same was also due =
     (program, same, inl (said, was, inl (said_too, also, due)))

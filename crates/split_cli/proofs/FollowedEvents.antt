@@ -25,7 +25,8 @@ record IsLonger (code : CodeShape) (world after next : WorldShape) (first one : 
   pub added : IsAdded code after one rest more
   pub kept : IsKept code world first (with_last more next) (with_last longer next)
 
-longer_behind : (code : CodeShape) (world after next : WorldShape) (first one : ℕ × Event) (rest run longer : Followed) →
+longer_behind : (code : CodeShape) (world after next : WorldShape) (first one : ℕ × Event)
+    (rest run longer : Followed) →
     IsKept code world first rest run → IsAdded code after one run longer →
     IsLonger code world after next first one rest longer
 longer_behind code world after next first one rest _ _ (kept.hidden is) (added.hidden secret) =
@@ -94,7 +95,8 @@ followed_one_more code world next (first ∷ said) one run longer (after, rest, 
       one_more.kept,
     )
 
-pub followed_more : (code : CodeShape) (world middle next : WorldShape) (said : List (ℕ × Event)) (i : ℕ) (d : ℕ × Event)
+pub followed_more : (code : CodeShape) (world middle next : WorldShape) (said : List (ℕ × Event)) (i : ℕ)
+    (d : ℕ × Event)
     (run longer : Followed) → i < length said → IsFollowed code world (take i said) run → run.last ≡ middle →
     IsAdded code middle (get_or said i d) run longer → IsStep code middle (get_or said i d).1 next →
     IsFollowed code world (take (i + 1) said) (with_last longer next)

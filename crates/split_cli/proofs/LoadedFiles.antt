@@ -72,7 +72,8 @@ pub three_due : (command : CommandShape) (program hosts script : List ℕ) (one 
     one.name.now ≡ program → one.most ≡ PROGRAM_BYTES → two.name.now ≡ hosts → two.most ≡ HOSTS_BYTES →
     three.name.now ≡ script → three.most ≡ SCRIPT_BYTES →
     files.loads_after ≡ counted_by 3 files.loads_before → files.faults_after ≡ files.faults_before →
-    SavesNothing command files → ((b c d : List ℕ) → IsLoaded PROGRAM_BYTES b p → IsLoaded HOSTS_BYTES c h → IsLoaded SCRIPT_BYTES d s →
+    SavesNothing command files → ((b c d : List ℕ) → IsLoaded PROGRAM_BYTES b p → IsLoaded HOSTS_BYTES c h →
+    IsLoaded SCRIPT_BYTES d s →
     EndsIn (DueForBytes command (b ∷ c ∷ d ∷ [])) result) →
     EndsIn (IsDueForCommand command files) result
 three_due command program hosts script one two three files [] p h s result names all pa pb pc na ma nb mb nc mc loads
@@ -108,7 +109,8 @@ pub four_due : (command : CommandShape) (program hosts script other : List ℕ) 
     one.name.now ≡ program → one.most ≡ PROGRAM_BYTES → two.name.now ≡ hosts → two.most ≡ HOSTS_BYTES →
     three.name.now ≡ script → three.most ≡ SCRIPT_BYTES → four.name.now ≡ other → four.most ≡ SCRIPT_BYTES →
     files.loads_after ≡ counted_by 4 files.loads_before → files.faults_after ≡ files.faults_before →
-    SavesNothing command files → ((b c d e : List ℕ) → IsLoaded PROGRAM_BYTES b p → IsLoaded HOSTS_BYTES c h → IsLoaded SCRIPT_BYTES d s →
+    SavesNothing command files → ((b c d e : List ℕ) → IsLoaded PROGRAM_BYTES b p → IsLoaded HOSTS_BYTES c h →
+    IsLoaded SCRIPT_BYTES d s →
     IsLoaded SCRIPT_BYTES e t → EndsIn (DueForBytes command (b ∷ c ∷ d ∷ e ∷ [])) result) →
     EndsIn (IsDueForCommand command files) result
 four_due command program hosts script other one two three four files [] p h s t result names all pa pb pc pd na ma nb

@@ -12,7 +12,8 @@ use Rattle.split_cli.specs.Compare.{fails, SameMisbehave, SameStarts, GoApart, S
 use Rattle.split_cli.specs.Compare.{differ, differ_text, DueForRuns, DueForSaid, DueForCompare}
 use Rattle.split_cli.specs.Drive.{first_world}
 use Rattle.front_end.specs.PlacedCode.{code_of}
-use Rattle.split_cli.specs.Followed.{Followed, IsKept, hidden, prompt, untimely, IsFollowed, EventsFollowed, followed, refused}
+use Rattle.split_cli.specs.Followed.{Followed, IsKept, hidden, prompt, untimely, IsFollowed, EventsFollowed, followed}
+use Rattle.split_cli.specs.Followed.{refused}
 use Rattle.front_end.specs.PlacedSources.{PlacedSource}
 use Rattle.split_cli.specs.Releases.{first_release}
 use Rattle.split_cli.specs.Replay.{events_in, event_refused, ScriptRead}
@@ -56,14 +57,16 @@ differ_not_alike {X} one other place apart alike =
     alike
 
 -- they are equal before the first place at which they differ
-not_earlier : {X : Type 0} (one other : List X) (place later : ℕ) → DifferAt one other place → DifferAt one other later →
+not_earlier : {X : Type 0} (one other : List X) (place later : ℕ) → DifferAt one other place →
+    DifferAt one other later →
     ¬ (place < later)
 not_earlier {X} one other place later apart also before =
     apart.differ (one_value (slice_get one place) apart.first apart.second apart.first_there
     (sym (get_in_take one place later before) ∙ ap (λ (xs : List X). slice_get xs place) also.same
     ∙ get_in_take other place later before ∙ apart.second_there))
 
-one_difference : {X : Type 0} (one other : List X) (place also : ℕ) → DifferAt one other place → DifferAt one other also →
+one_difference : {X : Type 0} (one other : List X) (place also : ℕ) → DifferAt one other place →
+    DifferAt one other also →
     place ≡ also
 one_difference one other place also apart too =
     same_place place also (not_earlier one other place also apart too) (not_earlier one other also place too apart)
@@ -138,7 +141,8 @@ starts_once placed one other =
     (first_unlike_once code world one.start other.start not.0 also.0 not.1 also.1 not.2 also.2)
     ∙ sym also.3)
 
-apart_once : (one other : List (ℕ × Event)) (line also : ℕ) → GoApart one other line → GoApart one other also → line ≡ also
+apart_once : (one other : List (ℕ × Event)) (line also : ℕ) → GoApart one other line → GoApart one other also →
+    line ≡ also
 apart_once one other line also first second =
     let place = one_difference (events_in one) (events_in other) first.place second.place first.apart second.apart in
     ap (λ (it : ℕ × Event). it.0)

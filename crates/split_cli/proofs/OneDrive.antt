@@ -184,7 +184,8 @@ report_once step text placed values most first second one two =
     subst (λ (w : WorldShape). DrivesTo code world most one.events w two.status) (sym same.worlds) moved in
     let status = one_status code world most one.events one.last one.status two.status one.ends there in
     one.verdict_is
-    ∙ same_report (text code) one.events two.events one.last two.last one.status two.status same.events same.worlds status
+    ∙ same_report (text code) one.events two.events one.last two.last one.status two.status same.events same.worlds
+    status
     ∙ sym two.verdict_is
 
 -- ---- what is due

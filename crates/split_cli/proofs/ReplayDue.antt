@@ -18,7 +18,8 @@ use Rattle.split_cli.specs.Drive.{first_world}
 use Rattle.front_end.specs.PlacedCode.{code_of}
 use Rattle.front_end.specs.Loading.{IsLoaded}
 use Rattle.front_end.specs.PlacedSources.{PlacedSource}
-use Rattle.split_cli.specs.Replay.{replay_text, ScriptRead, long, bad_line, read, EventsHappen, DueForReplay, DueForSaid}
+use Rattle.split_cli.specs.Replay.{replay_text, ScriptRead, long, bad_line, read, EventsHappen, DueForReplay}
+use Rattle.split_cli.specs.Replay.{DueForSaid}
 use Rattle.front_end.specs.Stages.{Outcome, given, stopped}
 use Rattle.front_end.specs.Verdicts.{VerdictShape, Print, too_long, no_form}
 use Rattle.front_end.proofs.StartingDue.{AreBytes}

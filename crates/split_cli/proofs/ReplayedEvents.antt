@@ -65,8 +65,12 @@ stops code first middle said i d answer.HostBusy result within ran is bad there 
     subst (IsReplayError code first said) (sym is)
     ((get_or said i d).1, refused_at code first middle said i d host_busy within ran (busy refl))
 stops code first middle said i d (answer.NoSuchToken count) result within ran is bad there busy token =
-    subst (IsReplayError code first said) (sym is)
-    ((get_or said i d).1, refused_at code first middle said i d (no_such_token count) within ran (token count refl), refl)
+    subst (IsReplayError code first said) (sym is) (
+      (get_or said i d).1,
+      refused_at code first middle said i d (no_such_token count) within ran
+          (token count refl),
+      refl,
+    )
 stops code first middle said i d answer.NotBad result within ran is bad there busy token =
     subst (IsReplayError code first said) (sym is)
     ((get_or said i d).1, refused_at code first middle said i d not_bad within ran (bad refl))

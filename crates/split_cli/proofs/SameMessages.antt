@@ -1,5 +1,6 @@
 -- Whether two messages or two events are the same can be decided: a message is made again of its parts and its token.
-use Rattle.std.proofs.Common.{◌≡◌, ◌∙◌, ℕ, zero, suc, ℤ, pos, negsuc, ◌==◌, List, [], ◌∷◌, drop, get_or, inl, inr, refl, sym}
+use Rattle.std.proofs.Common.{◌≡◌, ◌∙◌, ℕ, zero, suc, ℤ, pos, negsuc, ◌==◌, List, [], ◌∷◌, drop, get_or, inl, inr, refl}
+use Rattle.std.proofs.Common.{sym}
 use Rattle.std.proofs.Common.{ap, Bool, false, Option, Some, None}
 use Rattle.std.specs.Prelude.{◌↔◌, IsTrue, if◌then◌else◌, unwrap_or}
 use Rattle.std.proofs.lemmas.Bool.{cases_eq}
@@ -88,7 +89,8 @@ parts_in numbers =
 
 parts_again : (parts : Parts) → parts_in (parts_numbers parts) ≡ parts
 parts_again parts =
-    ap (λ i. record parts { index = i; value = signed (sign parts.value) (size parts.value) }) (signed_again parts.index)
+    ap (λ i. record parts { index = i; value = signed (sign parts.value) (size parts.value) })
+    (signed_again parts.index)
     ∙ ap (λ v. record parts { value = v }) (signed_again parts.value)
 
 same_parts : (one other : Parts) → Decided (one ≡ other)

@@ -54,7 +54,8 @@ pub record CompareCauses : Type 0 where
 -- ---- runs
 
 some_kept : (code : CodeShape) (world : WorldShape) (one : ℕ × Event) (rest : Followed) →
-    Decided (IsSecret code world one.1) → Decided (IsQuiet code world) → (run : Followed) × IsKept code world one rest run
+    Decided (IsSecret code world one.1) → Decided (IsQuiet code world) →
+    (run : Followed) × IsKept code world one rest run
 some_kept code world one rest (inl is) quiet = (rest, hidden is)
 some_kept code world one rest (inr not) (inl is) =
     (record { seen = one ∷ rest.seen; late = rest.late; last = rest.last }, prompt not is)
@@ -64,7 +65,8 @@ some_kept code world one rest (inr not) (inr loud) =
 -- one event before the others
 follow_first : (file : List ℕ) (code : CodeShape) (world next : WorldShape) (one : ℕ × Event)
     (said : List (ℕ × Event)) → IsStep code world one.1 next →
-    Decided (IsSecret code world one.1) → Decided (IsQuiet code world) → HasOutcome (EventsFollowed file code next said) →
+    Decided (IsSecret code world one.1) → Decided (IsQuiet code world) →
+    HasOutcome (EventsFollowed file code next said) →
     HasOutcome (EventsFollowed file code world (one ∷ said))
 follow_first file code world next one said step secret quiet (_, followed rest is) =
     let kept = some_kept code world one rest secret quiet in
@@ -161,7 +163,8 @@ unlike laws code world one other number =
     (never _ (same_option (same_list same_int) (slice_get one number) (slice_get other number))))))
     (slice_get code.fields number)
 
-field_within : (code : CodeShape) (P : CodeFieldShape → Type 0) (number : ℕ) → IsSomeAnd (slice_get code.fields number) P →
+field_within : (code : CodeShape) (P : CodeFieldShape → Type 0) (number : ℕ) →
+    IsSomeAnd (slice_get code.fields number) P →
     (field : CodeFieldShape) × (slice_get code.fields number ≡ Some field)
 field_within code P number some = by (slice_get code.fields number) refl some
   where
@@ -170,7 +173,8 @@ field_within code P number some = by (slice_get code.fields number) refl some
     by None is none = absurd none
     by (Some field) is so = (field, is)
 
-starts_some : CompareCauses → (placed : PlacedSource) (one other : ScriptShape) → HasOutcome (SameStarts placed one other)
+starts_some : CompareCauses → (placed : PlacedSource) (one other : ScriptShape) →
+    HasOutcome (SameStarts placed one other)
 starts_some laws placed one other =
     let code = code_of placed in
     let world = first_world placed one.bad one.start in
@@ -239,7 +243,8 @@ compared_some placed one other =
     ))
     (alike_or_differ same_sent one other)
 
-runs_due : CompareCauses → (placed : PlacedSource) (file : List ℕ) (said : ScriptShape) (run : Followed) (other : List ℕ)
+runs_due : CompareCauses → (placed : PlacedSource) (file : List ℕ) (said : ScriptShape) (run : Followed)
+    (other : List ℕ)
     (said_too : ScriptShape) (run_too : Followed) →
     HasVerdict (DueForRuns placed file said run other said_too run_too)
 runs_due laws placed file said run other said_too run_too =

@@ -122,7 +122,8 @@ split_due program hosts out first second p h split (Ok verdict) two loads faults
 split_due program hosts out first second p h split (Err why) two loads faults kept was follows no_load under report
     saved calm fails =
     stops_weaker (λ verdict. (verdict ≡ file_fault out) × (second.failed ≡ out)
-    × Rose second.faults_before second.faults_after) (IsDueForCommand (Split program hosts out) (joined first second)) why
+    × Rose second.faults_before second.faults_after) (IsDueForCommand (Split program hosts out) (joined first second))
+    why
     (λ verdict failed. inr (inr (
       2,
       split.text,

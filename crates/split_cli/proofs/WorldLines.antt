@@ -75,7 +75,8 @@ field_values_more w fields i field lt is =
     ∙ ap (λ f. field_values w 0 (take i fields) ++ field_value (state_at w f.host) i f) (sym is)
 
 -- the item at a place, whatever stands past the end
-pub item_at : {X : Type 0} (items : List X) (i : ℕ) → i < length items → (item : X) × ((d : X) → get_or items i d ≡ item)
+pub item_at : {X : Type 0} (items : List X) (i : ℕ) → i < length items →
+    (item : X) × ((d : X) → get_or items i d ≡ item)
 item_at [] i lt = absurd (omega arith)
 item_at (item ∷ items) zero lt = (item, λ d. refl)
 item_at (item ∷ items) (suc i) lt = item_at items i (omega arith)
@@ -85,7 +86,8 @@ pub queue_lines_more : (code : CodeShape) (from to : ℕ) (queue : List Message)
     lines_text (queue_lines code from to 0 (take (i + 1) queue))
     ≡ lines_text (queue_lines code from to 0 (take i queue)) ++ (flying_line code from to i message ++ 10 ∷ [])
 queue_lines_more code from to queue i message lt is =
-    report.numbered_more (queue_lines code from to) (flying_line code from to) (λ n. refl) (λ n x xs. refl) queue i message lt
+    report.numbered_more (queue_lines code from to) (flying_line code from to) (λ n. refl)
+    (λ n x xs. refl) queue i message lt
     ∙ ap (λ m. lines_text (queue_lines code from to 0 (take i queue)) ++ (flying_line code from to i m ++ 10 ∷ [])) is
 
 pub sent_lines_more : (code : CodeShape) (sent : List SentMessage) (i : ℕ) (one : SentMessage) → i < length sent →
@@ -179,7 +181,8 @@ pub value_shown : (world : WorldModel) (place : ℕ) (field : CodeFieldShape) (a
 value_shown world place field at name size row host there here named sized are =
     elements_shown (λ one elements. codes " " ++ one ++ codes " " ++ row_text elements) field place name size row host
     named sized are
-    ∙ ap (λ (state : Option HostShape). field_value state place field) (sym (field_there world field at host there here))
+    ∙ ap (λ (state : Option HostShape). field_value state place field)
+    (sym (field_there world field at host there here))
 
 pub field_shown : (world : WorldModel) (place : ℕ) (field : CodeFieldShape) (at : HostId) (name : List ℕ) (size : ℕ)
     (row : List ℤ) (host : HostModel) → Some host ≡ host_at world at → at ≡ field.host → name ≡ field.name →

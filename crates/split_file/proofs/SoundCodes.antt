@@ -1,5 +1,7 @@
 -- Codes as they are read, and as they are sound.
-use Rattle.std.proofs.Common.{◌≡◌, ℕ, zero, suc, ◌+◌, ◌-◌, ◌^◌, ◌<◌, ◌≤◌, ◌⊎◌, inl, inr, Bool, true, false, ◌||◌, List, [], ◌∷◌, ◌++◌, length, get_or, take, drop, Option, Some, None, refl, sym, ap, subst, ◌∙◌, append_assoc, arith}
+use Rattle.std.proofs.Common.{◌≡◌, ℕ, zero, suc, ◌+◌, ◌-◌, ◌^◌, ◌<◌, ◌≤◌, ◌⊎◌, inl, inr, Bool, true, false, ◌||◌, List}
+use Rattle.std.proofs.Common.{[], ◌∷◌, ◌++◌, length, get_or, take, drop, Option, Some, None, refl, sym, ap, subst, ◌∙◌}
+use Rattle.std.proofs.Common.{append_assoc, arith}
 use Rattle.std.specs.Prelude.{All, IsSomeAnd, slice_get, nat_lt, FitsSigned, unwrap_or}
 use Rattle.std.specs.List.{AllByRecursion}
 use Rattle.std.specs.Int.{w64}
@@ -201,7 +203,8 @@ entry_fits : (code : CodeShape) (parts : List (List Instr)) (is_first : Bool) (e
     entry.at < length (part_of (with_parts code parts) entry.host) → EntryFits (with_parts code parts) entry
 entry_fits code parts is_first entry is stands = record { host = is.host; at = stands; label = is.label }
 
-both_of : (P Q R : Entry → Type 0) → ((e : Entry) → P e → Q e → R e) → (xs : List Entry) → All P xs → All Q xs → All R xs
+both_of : (P Q R : Entry → Type 0) → ((e : Entry) → P e → Q e → R e) → (xs : List Entry) → All P xs → All Q xs →
+    All R xs
 both_of P Q R step xs one other k d lt = step (get_or xs k d) (one k d lt) (other k d lt)
 
 halt_is : (there : Option Entry) (root : HostId) → IsSomeAnd there (λ e. e.host ≡ root) →
@@ -324,7 +327,8 @@ first_stands there root e found is =
 
 first_of : (front : List Entry) (x : Entry) (back whole : List Entry) (root : HostId) → front ++ x ∷ back ≡ whole →
     IsSomeAnd (slice_get whole 0) (λ e. (e.host ≡ root) × (e.at ≡ 0)) → is_empty front ≡ true → x.at ≡ 0
-first_of [] x back whole root is there none = first_stands (slice_get whole 0) root x (item_behind [] x back whole is) there
+first_of [] x back whole root is there none =
+    first_stands (slice_get whole 0) root x (item_behind [] x back whole is) there
 first_of (y ∷ front) x back whole root is there none = absurd cc
 
 entries_are : (code : CodeShape) → IsRealCode code →
@@ -372,7 +376,8 @@ front_is code sound =
         each_entry = entries_are code sound;
         few_sites = omega (arith, is.few_sites);
         each_site = is.sites;
-        root_is = entry_there_again code.entries 0 code.root (root_on (slice_get code.entries 0) code.root is.halt_first);
+        root_is = entry_there_again code.entries 0 code.root
+            (root_on (slice_get code.entries 0) code.root is.halt_first);
         main_is = entry_there_again code.entries code.main.0 code.root is.main;
         main_short = omega (arith, main_within, is.few_entries);
       };

@@ -58,7 +58,8 @@ pub each_there : {X : Type 0} (P : X → Type 0) (xs : List X) →
 each_there P [] each = tt
 each_there P (x ∷ xs) each = (each 0 x refl, each_there P xs (λ place y there. each (suc place) y there))
 
-pub zipped_there : {X Y : Type 0} (P : X → Y → Type 0) (xs : List X) (ys : List Y) → AllZip P xs ys → (place : ℕ) (x : X) →
+pub zipped_there : {X Y : Type 0} (P : X → Y → Type 0) (xs : List X) (ys : List Y) → AllZip P xs ys →
+    (place : ℕ) (x : X) →
     slice_get xs place ≡ Some x → (y : Y) × (slice_get ys place ≡ Some y) × P x y
 zipped_there P [] [] all place x there = absurd (nothing_there place x there)
 zipped_there P [] (y ∷ ys) all place x there = absurd (nothing_there place x there)
@@ -416,7 +417,8 @@ block_trusted planned principals labelled setting same bodies (loop heading guar
 block_trusted planned principals labelled setting same bodies (call heading site method arguments into rest) in_it
     needed =
     let called = method_at labelled.program method in
-    let P : ProgramTree → Type 0 = λ program. IsTrustedInside planned heading.id (body_of (method_at program method)) in (
+    let P : ProgramTree → Type 0 = λ program.
+    IsTrustedInside planned heading.id (body_of (method_at program method)) in (
       needed.0.trusted,
       subst P same (called_due planned principals labelled same bodies (statement_host planned.plan heading.id)
           heading.id method _ needed.0.need needed.0.trusted),
@@ -427,7 +429,8 @@ block_trusted planned principals labelled setting same bodies (give_back heading
 
 -- ---- methods
 
-pub methods_stay : (principals : Declared) (program : ProgramTree) (labels : VariableLabels) (methods : List MethodTree) →
+pub methods_stay : (principals : Declared) (program : ProgramTree) (labels : VariableLabels)
+    (methods : List MethodTree) →
     Stay labels (labels_after_methods principals program labels methods)
 methods_stay principals program labels [] = stay_same labels
 methods_stay principals program labels (method ∷ methods) =
@@ -447,7 +450,8 @@ bodies_backed : (labelled : Labelled) (planned : PlannedShape) (principals : Dec
     AreNeeded planned principals (flat_map (method_uses principals labelled) methods) → (place : ℕ)
     (method : MethodTree) → slice_get methods place ≡ Some method →
     AreBackedBy planned principals (for_label method.begin ∷ []) (statements_of method.body)
-bodies_backed labelled planned principals final are number [] labels many end there labelled_there met needed place method
+bodies_backed labelled planned principals final are number [] labels many end there labelled_there met needed place
+    method
     is = absurd (nothing_there place method is)
 bodies_backed labelled planned principals final are number (first ∷ methods) labels many end there labelled_there met
     needed zero method is =

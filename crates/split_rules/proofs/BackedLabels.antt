@@ -210,10 +210,12 @@ params_below : (labelled : Labelled) (setting : MethodSetting) (principals : Dec
     AllByRecursion (IsLabelled labels) params →
     AllByRecursion (Holds principals) (argument_flows setting pc labels arguments params) → (p : ℕ) → p < READERS →
     AreBelow begin p (map (label_of labelled) params)
-params_below labelled setting principals begin pc under labels final are stay arguments [] many there holds p within = tt
+params_below labelled setting principals begin pc under labels final are stay arguments [] many there holds p within =
+    tt
 params_below labelled setting principals begin pc under labels final are stay [] (param ∷ params) many there holds p
     within = absurd (omega (arith, many))
-params_below labelled setting principals begin pc under labels final are stay (argument ∷ arguments) (param ∷ params) many
+params_below labelled setting principals begin pc under labels final are stay (argument ∷ arguments)
+    (param ∷ params) many
     there holds p within = (
       to_variable labelled principals begin pc setting.authority under labels final are stay param there.0
           (expr_label setting pc labels argument) holds.0 p within,
@@ -231,7 +233,8 @@ kept_below labelled principals begin pc authority under labels final are stay No
     absurd (true≢false (sym same))
 kept_below labelled principals begin pc authority under labels final are stay (Some result) (Some x) same there holds p
     within = (
-      to_variable labelled principals begin pc authority under labels final are stay x there (variable_label labels result)
+      to_variable labelled principals begin pc authority under labels final are stay x there
+          (variable_label labels result)
           holds.0 p within,
       tt,
     )
@@ -242,8 +245,11 @@ given_below : (labelled : Labelled) (principals : Declared) (begin pc : Label) (
     AllByRecursion (Holds principals) (return_flows pc labels result from) → (p : ℕ) → p < READERS →
     AreBelow begin p (labels_of labelled result)
 given_below labelled principals begin pc authority under labels final are stay None there from holds p within = tt
-given_below labelled principals begin pc authority under labels final are stay (Some result) there from holds p within =
-    (to_variable labelled principals begin pc authority under labels final are stay result there from holds.0 p within, tt)
+given_below labelled principals begin pc authority under labels final are stay (Some result) there from holds p
+    within = (
+      to_variable labelled principals begin pc authority under labels final are stay result there from holds.0 p within,
+      tt,
+    )
 
 -- ---- blocks
 
@@ -293,7 +299,8 @@ all_releases setting principals pc labels (expr ∷ exprs) holds is =
     let rest = flat_map (expr_constraints setting pc labels) exprs in
     elim (either_true (releases expr) (list_any releases exprs) is) [
       | inl one ↦ release_trusted setting principals pc labels expr one (all_first (Holds principals) own rest holds)
-      | inr others ↦ all_releases setting principals pc labels exprs (all_second (Holds principals) own rest holds) others
+      | inr others ↦ all_releases setting principals pc labels exprs (all_second (Holds principals) own rest holds)
+          others
     ]
 
 below_both : (begin : Label) (p : ℕ) (one two : List Label) → AreBelow begin p one → AreBelow begin p two →
@@ -347,9 +354,11 @@ block_backed labelled principals method gives setting same gives_it begin pc und
     let flows = (all_second (Holds principals) own _ met.0).0 in
     let P : ProgramTree → Type 0 = λ program. Holds principals
     (flow_of pc (expr_label setting pc labels value) (field_label program field)) in
-    first_or_rest principals p (statement_use labelled setting heading.id (value ∷ []) [] (field_label labelled.program field ∷ []) [])
+    first_or_rest principals p (statement_use labelled setting heading.id (value ∷ []) []
+    (field_label labelled.program field ∷ []) [])
     (block_uses labelled setting rest) (Trusts begin p)
-    (statement_backed setting principals begin pc under (field_label labelled.program field ∷ []) (value ∷ []) [] p within (
+    (statement_backed setting principals begin pc under (field_label labelled.program field ∷ [])
+    (value ∷ []) [] p within (
       λ trusts. under.down p within (flow_trusts principals pc (expr_label setting pc labels value)
           (field_label labelled.program field) (subst P same flows) p within trusts),
       tt,
@@ -368,7 +377,8 @@ block_backed labelled principals method gives setting same gives_it begin pc und
     first_or_rest principals p (statement_use labelled setting heading.id (index ∷ value ∷ []) []
     (field_label labelled.program field ∷ []) [])
     (block_uses labelled setting rest) (Trusts begin p)
-    (statement_backed setting principals begin pc under (field_label labelled.program field ∷ []) (index ∷ value ∷ []) []
+    (statement_backed setting principals begin pc under (field_label labelled.program field ∷ [])
+    (index ∷ value ∷ []) []
     p within (
       λ trusts. under.down p within (flow_trusts principals pc from (field_label labelled.program field)
           (subst P same flows) p within trusts),
@@ -403,7 +413,8 @@ block_backed labelled principals method gives setting same gives_it begin pc und
     let two_met = all_second (λ (it : StatementLabels). AllByRecursion (Holds principals) it.constraints) labels_one
     labels_two both_met in
     let first_backed = block_backed labelled principals method gives setting same gives_it begin inside_pc under_inside
-    labels final are many first (stay_then between behind final second_stays rest_stays) there.1 labelled_there.0 one_met
+    labels final are many first (stay_then between behind final second_stays rest_stays) there.1 labelled_there.0
+    one_met
     p within in
     let second_backed = block_backed labelled principals method gives setting same gives_it begin inside_pc under_inside
     between final are (first_stays.many ∙ many) second rest_stays there.2 labelled_there.1 two_met p within in
@@ -465,7 +476,8 @@ block_backed labelled principals method gives setting same gives_it begin pc und
     let below : T (Some tree) = (
       λ trusts. under.down p within (asked_there.0.1 p within trusts),
       below_both begin p (map (label_of labelled) tree.params) (labels_of labelled into)
-          (params_below labelled setting principals begin pc under labels final are stays arguments tree.params there.0.2
+          (params_below labelled setting principals begin pc under labels final are stays arguments tree.params
+          there.0.2
           params_there flows p within)
           (kept_below labelled principals begin pc setting.authority under labels final are stays tree.result into
           there.0.3 labelled_there.1 kept p within),
@@ -484,7 +496,8 @@ block_backed labelled principals method gives setting same gives_it begin pc und
     let stays = stay_then labels end final (block_stays setting pc labels rest) stay in
     let own = expr_constraints setting pc labels value in
     let flows = all_second (Holds principals) own _ met.0 in
-    first_or_rest principals p (statement_use labelled setting heading.id (value ∷ []) [] (labels_of labelled setting.result) [])
+    first_or_rest principals p (statement_use labelled setting heading.id (value ∷ []) []
+    (labels_of labelled setting.result) [])
     (block_uses labelled setting rest) (Trusts begin p)
     (statement_backed setting principals begin pc under (labels_of labelled setting.result) (value ∷ []) [] p within
     (given_below labelled principals begin pc setting.authority under labels final are stays setting.result

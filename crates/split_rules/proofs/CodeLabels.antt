@@ -125,7 +125,8 @@ words_same [] (word ∷ words) same = absurd (cc)
 words_same (word ∷ words) [] same = absurd (cc)
 words_same (word ∷ words) (other ∷ others) same =
     let both = both_hold (nat_eq word other) (same_words words others) same in
-    ap (λ first. first ∷ words) (eqb-true word other both.0) ∙ ap (λ more. other ∷ more) (words_same words others both.1)
+    ap (λ first. first ∷ words) (eqb-true word other both.0) ∙ ap (λ more. other ∷ more)
+    (words_same words others both.1)
 
 labels_same : (one other : Label) → same_label one other ≡ true → one ≡ other
 labels_same one other same =

@@ -93,7 +93,8 @@ one_pushed : (planned : PlannedShape) (entries : List Entrance) (from : Position
     Pushes planned entries from calling number other → next ≡ other
 one_pushed planned entries from no_call number next other first second =
     one_cut planned entries from number next other first second
-one_pushed planned entries from (arguing (call heading site method arguments into rest) set left) number next other first
+one_pushed planned entries from (arguing (call heading site method arguments into rest) set left) number next other
+    first
     second = first.goes ∙ sym second.goes
 one_pushed planned entries from calling number next other first second = absurd first
 

@@ -16,7 +16,8 @@ use Rattle.label_lattice.specs.Lattice.{join_of}
 use Rattle.jif_tree.specs.Trees.{ExprTree, number, local, scalar, element, inverted, negated, binary, declassified}
 use Rattle.jif_tree.specs.Trees.{endorsed, BlockTree, done, set_local, set_field, set_element, branch, loop, call}
 use Rattle.jif_tree.specs.Trees.{give_back, FieldTree, MethodTree}
-use Rattle.jif_tree.specs.LabelRules.{MethodSetting, VariableLabels, setting_of, variable_label, field_label, expr_label}
+use Rattle.jif_tree.specs.LabelRules.{MethodSetting, VariableLabels, setting_of, variable_label, field_label}
+use Rattle.jif_tree.specs.LabelRules.{expr_label}
 use Rattle.jif_tree.specs.LabelRules.{part_labels, Holds, expr_constraints, StatementLabels, flow_of, guarded}
 use Rattle.jif_tree.specs.LabelRules.{argument_flows, result_flows, labels_after, block_labels}
 use Rattle.jif_tree.specs.LabelRules.{labels_after_assignment, method_at, params_of, result_of, begin_label}
@@ -521,7 +522,8 @@ block_well principals labelled planned tree program method result_there gives fi
     let same = ap (λ label. join_of pc label) (guard_same labelled setting pc labels final are from_first guard
     values.0) in
     let P : BlockTree → Label → Type 0 = λ block it. BlockTellsWell labelled planned setting it block in
-    let guard_parts = all_first (Sees planned host) (part_labels setting pc (all_labels labelled) guard) _ own.parts in (
+    let guard_parts =
+    all_first (Sees planned host) (part_labels setting pc (all_labels labelled) guard) _ own.parts in (
       own.pc_seen,
       first_reads principals labelled planned tree method host pc guard [] _ _ there.0 own,
       sees_both planned host pc (expr_label setting pc (all_labels labelled) guard) own.pc_seen
@@ -563,7 +565,8 @@ block_well principals labelled planned tree program method result_there gives fi
       sees_less planned host pc inside (flows_first pc (expr_label setting pc labels guard)) own.pc_seen,
       subst P same (first_reads principals labelled planned tree method host inside guard [] _ _ there.0 own),
       subst Q same own.pc_seen,
-      subst R same (block_well principals labelled planned tree program method result_there gives final are inside labels
+      subst R same (block_well principals labelled planned tree program method result_there gives final are inside
+          labels
           many inner rest_stays there.1 has.0 values.1 (all_first (IsMet principals) labels_one _ met.1)
           (all_first (IsKept labelled) labels_one _ kept.1)
           (all_first (IsUseWell labelled planned principals) uses_one _ uses.1)),

@@ -66,7 +66,8 @@ one_clear zero second one two apart = inl refl
 one_clear (suc first) zero one two apart = inr refl
 one_clear (suc first) (suc second) one two apart = absurd (apart (omega arith) (omega arith))
 
-pub flows_both : (first second to : Label) → ConfFlows first to → ConfFlows second to → ConfFlows (join_of first second) to
+pub flows_both : (first second to : Label) → ConfFlows first to → ConfFlows second to →
+    ConfFlows (join_of first second) to
 unfolding join_of
 flows_both first second to one two owner reader owner_in reader_in forbids =
     let first_bit = bit_at (slice_index first.rows owner) reader in

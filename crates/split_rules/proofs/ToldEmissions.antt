@@ -1,5 +1,5 @@
--- What each emission of a walk asks of other hosts and tells them, over labels as they are: of an instruction by itself,
--- and of the entries that were named before it.
+-- What each emission of a walk asks of other hosts and tells them, over labels as they are: of an instruction by
+-- itself, and of the entries that were named before it.
 use Rattle.std.proofs.Common.{◌≡◌, ◌∙◌, ℕ, suc, ◌<◌, List, [], ◌∷◌, ◌++◌, length, refl, ap, sym, subst, arith}
 use Rattle.std.proofs.Common.{append_assoc, append-nil, length-append}
 use Rattle.std.specs.Prelude.{Some, slice_get, ⊤}
@@ -114,7 +114,8 @@ told_on labelled planned named (lands host number ∷ xs) ys first second =
     told_on labelled planned named xs ys first second
 
 -- emissions that name no entry
-pub record IsQuiet (labelled : Labelled) (planned : PlannedShape) (named : List Named) (xs : List Emission) : Type 0 where
+pub record IsQuiet (labelled : Labelled) (planned : PlannedShape) (named : List Named)
+    (xs : List Emission) : Type 0 where
   pub told : AreTold labelled planned named xs
   pub none : entries_in xs ≡ []
 
@@ -177,5 +178,6 @@ pub begun_more : (labelled : Labelled) (planned : PlannedShape) (named more : Li
     IsBegun labelled planned named → IsBegun labelled planned (named ++ more)
 begun_more labelled planned named more begun = record {
   some = let some = begun.some in let long = length-append named more in omega arith;
-  methods = λ place tree there. get_left named more (suc place) (entry_of planned tree) (begun.methods place tree there);
+  methods = λ place tree there. get_left named more (suc place) (entry_of planned tree)
+      (begun.methods place tree there);
 }

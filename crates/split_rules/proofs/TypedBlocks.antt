@@ -106,10 +106,12 @@ moves_on walked around level lane tree trees entries branches next moves = recor
 }
 
 statement_then : (walked : Walked) (around : Around) (level : Level) (lane : Lane) (tree : BlockTree)
-    (trees : List BlockTree) (entries : List Entrance) (branches : List Position) → AreMethodEntries walked.planned entries →
+    (trees : List BlockTree) (entries : List Entrance) (branches : List Position) →
+    AreMethodEntries walked.planned entries →
     AreRunWhereTrusted walked.planned (tree ∷ trees) →
     IsLaneKnown walked.planned entries level lane (tree ∷ trees) → IsLaneTrusted walked.planned lane (tree ∷ trees) →
-    (others : List StmtId) → others ≡ map number_of trees → (own : List Emission) (rest : Counts → Lane → List Emission) (left : Counts) →
+    (others : List StmtId) → others ≡ map number_of trees → (own : List Emission) (rest : Counts → Lane →
+    List Emission) (left : Counts) →
     let next = next_spot walked.planned lane.spot (number_of tree) others in
     let counts = counts_in entries branches in
     let moved = move_emissions walked around counts lane next (number_of tree ∷ others) in
@@ -121,7 +123,8 @@ statement_then : (walked : Walked) (around : Around) (level : Level) (lane : Lan
     Owns walked level next.host tree trees lane_there entries_there branches own) →
     ((lane_there : Lane) (entries_there : List Entrance) (branches_there : List Position) →
     AreMethodEntries walked.planned entries_there → IsLaneKnown walked.planned entries_there level lane_there trees →
-    IsLaneTrusted walked.planned lane_there trees → Leads walked.planned (known_at (lane_place walked.planned level lane_there trees) entries_there branches_there)
+    IsLaneTrusted walked.planned lane_there trees →
+    Leads walked.planned (known_at (lane_place walked.planned level lane_there trees) entries_there branches_there)
     (rest (counts_in entries_there branches_there) lane_there) nowhere) →
     Leads walked.planned (known_at (lane_place walked.planned level lane (tree ∷ trees)) entries branches)
     (moved ++ own ++ rest left (lane_at counts lane next)) nowhere
@@ -207,10 +210,12 @@ lane_ends planned entries level lane known = by lane.spot.back refl
     by : (back : Option HostId) → lane.spot.back ≡ back → back ≡ None
     by None is = refl
     by (Some back) is =
-        let P : Option HostId → Type 0 = λ it. IsGivenBack planned entries level lane.spot.host lane.return_entry [] it in
+        let P : Option HostId → Type 0 = λ it. IsGivenBack planned entries level lane.spot.host lane.return_entry []
+        it in
         absurd ((subst P is known).1 refl)
 
-block_ends : (walked : Walked) (around : Around) (level : Level) (lane : Lane) (entries : List Entrance) (branches : List Position) →
+block_ends : (walked : Walked) (around : Around) (level : Level) (lane : Lane) (entries : List Entrance)
+    (branches : List Position) →
     IsLaneKnown walked.planned entries level lane [] →
     Leads walked.planned (known_at (lane_place walked.planned level lane []) entries branches)
     (end_emissions around lane) nowhere
@@ -313,11 +318,13 @@ block_typed walked method gives within may (set_local heading x value rest) ther
     let next = next_spot planned lane.spot heading.id (own_statements rest) in
     let trees = statements_of rest in
     statement_then walked around level lane (set_local heading x value done) trees entries branches methods
-    (own_trusted planned (set_local heading x value rest) trusted) known holds (own_statements rest) (own_numbers rest) _
+    (own_trusted planned (set_local heading x value rest) trusted) known holds (own_statements rest)
+    (own_numbers rest) _
     (λ counts lane_then. block_emissions walked around counts lane_then rest) _ refl
     (λ own lane_there entries_there methods_there known_there due_there spot_is many.
     leads_still planned _ _ entries_there branches _ (set_local_typed planned (site_at around next heading.id)
-    (lane_level level lane_there) heading x value (map run (ahead_at planned lane_there.spot trees)) own due_there entries_there
+    (lane_level level lane_there) heading x value (map run (ahead_at planned lane_there.spot trees)) own due_there
+    entries_there
     branches))
     (λ lane_there entries_there branches_there methods_there known_there holds_there.
     block_typed walked method gives within may rest there.2 returns trusted.1 in_it.1 around level at lane_there
@@ -328,7 +335,8 @@ block_typed walked method gives within may (set_field heading field value rest) 
     let next = next_spot planned lane.spot heading.id (own_statements rest) in
     let trees = statements_of rest in
     statement_then walked around level lane (set_field heading field value done) trees entries branches methods
-    (own_trusted planned (set_field heading field value rest) trusted) known holds (own_statements rest) (own_numbers rest) _
+    (own_trusted planned (set_field heading field value rest) trusted) known holds (own_statements rest)
+    (own_numbers rest) _
     (λ counts lane_then. block_emissions walked around counts lane_then rest) _ refl
     (λ own lane_there entries_there methods_there known_there due_there spot_is many.
     leads_still planned _ _ entries_there branches _ (set_field_typed planned (site_at around next heading.id)
@@ -347,7 +355,8 @@ block_typed walked method gives within may (set_element heading field index valu
     (own_numbers rest) _ (λ counts lane_then. block_emissions walked around counts lane_then rest) _ refl
     (λ own lane_there entries_there methods_there known_there due_there spot_is many.
     leads_still planned _ _ entries_there branches _ (set_element_typed planned (site_at around next heading.id)
-    (lane_level level lane_there) heading field index value (map run (ahead_at planned lane_there.spot trees)) own due_there
+    (lane_level level lane_there) heading field index value (map run (ahead_at planned lane_there.spot trees)) own
+    due_there
     entries_there branches))
     (λ lane_there entries_there branches_there methods_there known_there holds_there.
     block_typed walked method gives within may rest there.3 returns trusted.1 in_it.1 around level at lane_there
@@ -368,7 +377,8 @@ block_typed walked method gives within may (branch heading guard first second re
     next.host one two in
     let behind = counts_after counts moved in
     statement_then walked around level lane (branch heading guard first second done) trees entries branches methods
-    (own_trusted planned (branch heading guard first second rest) trusted) known holds others (own_numbers rest) (own behind)
+    (own_trusted planned (branch heading guard first second rest) trusted) known holds others (own_numbers rest)
+    (own behind)
     (λ it lane_then. block_emissions walked around it lane_then rest) (counts_after behind (own behind))
     (sym (counts_more counts moved (own behind)))
     (λ is_own lane_there entries_there methods_there known_there due_there spot_is many.
@@ -378,14 +388,16 @@ block_typed walked method gives within may (branch heading guard first second re
     (run (branch heading guard first second done) ∷ after))) entries_there branches) (own it)
     (here next.host (calm (lane_level level lane_there) after)) in
     subst P many (branch_typed walked around (lane_level level lane_there) heading guard first second next is_own after
-    due_there others (left_numbers planned lane_there next trees others spot_is (own_numbers rest)) one two entries_there
+    due_there others (left_numbers planned lane_there next trees others spot_is (own_numbers rest)) one two
+    entries_there
     branches methods_there
     (λ entries_in branches_in methods_in. block_typed walked method gives within false first there.1 returns.0 trusted.3
     (all_first (IsIn walked.planned.program method) (all_statements first) (all_statements second ++ all_statements
     rest) in_it.1)
     inside inner (λ no. absurd (true≢false (sym no))) (lane_on next.host) entries_in branches_in methods_in tt
     (inside_due planned next.host (branch heading guard first second done) first is_own trusted.1))
-    (λ entries_in branches_in methods_in. block_typed walked method gives within false second there.2 returns.1 trusted.4
+    (λ entries_in branches_in methods_in. block_typed walked method gives within false second there.2 returns.1
+    trusted.4
     (all_first (IsIn walked.planned.program method) (all_statements second) (all_statements rest)
     (all_second (IsIn walked.planned.program method) (all_statements first) (all_statements second ++ all_statements
     rest) in_it.1))
@@ -442,7 +454,8 @@ block_typed walked method gives within may (call heading site called arguments i
     let left = under_token planned next others in
     let own : Counts → List Emission = λ it. call_emissions walked it next.host around.pc heading.id site called
     arguments into left in
-    statement_then walked around level lane (call heading site called arguments into done) trees entries branches methods
+    statement_then walked around level lane (call heading site called arguments into done) trees entries branches
+    methods
     (own_trusted planned (call heading site called arguments into rest) trusted) known holds others (own_numbers rest)
     (own (counts_after counts moved)) (λ it lane_then. block_emissions walked around it lane_then rest) _ refl
     (λ is_own lane_there entries_there methods_there known_there due_there spot_is many.
@@ -457,7 +470,8 @@ block_typed walked method gives within may (call heading site called arguments i
     arguments into method_there.0 (subst Q (sym within.same) method_there.1) method_there.1 after is_own due_there
     (subst R method_there.1 (inside_due planned next.host (call heading site called arguments into done)
     (body_of (method_at planned.program called)) is_own trusted.1)) refl left
-    (left_numbers planned lane_there next trees others spot_is (own_numbers rest)) entries_there branches methods_there))
+    (left_numbers planned lane_there next trees others spot_is (own_numbers rest)) entries_there branches
+    methods_there))
     (λ lane_there entries_there branches_there methods_there known_there holds_there.
     block_typed walked method gives within may rest there.3 returns trusted.2 in_it.1 around level at lane_there
     entries_there branches_there methods_there known_there holds_there)

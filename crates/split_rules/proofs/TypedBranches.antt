@@ -30,7 +30,8 @@ use Rattle.split_rules.proofs.TypedCalls.{methods_still}
 -- what is given first, which names an entry and opens a branch, and what follows it
 front_then : (planned : PlannedShape) (entries : List Entrance) (branches : List Position) (place middle behind : Place)
     (one : Entrance) (two : Position) (front others : List Emission) →
-    AreTyped planned (known_at place entries branches) front (known_at middle (entries ++ one ∷ []) (branches ++ two ∷ [])) →
+    AreTyped planned (known_at place entries branches) front (known_at middle (entries ++ one ∷ [])
+    (branches ++ two ∷ [])) →
     Leads planned (known_at middle (entries ++ one ∷ []) (branches ++ two ∷ [])) others behind →
     Leads planned (known_at place entries branches) (front ++ others) behind
 front_then planned entries branches place middle behind one two front others begins leads =
@@ -79,7 +80,8 @@ BeginsTyped planned host level block emissions =
 -- ---- branches
 
 pub branch_typed : (walked : Walked) (around : Around) (level : Level) (heading : Heading) (guard : ExprTree)
-    (first second : BlockTree) (next : Spot) → is_on walked.planned next.host (branch heading guard first second done) ≡ true →
+    (first second : BlockTree) (next : Spot) → is_on walked.planned next.host (branch heading guard first second done)
+    ≡ true →
     (others : List Due) →
     AreDueOn walked.planned next.host (run (branch heading guard first second done) ∷ others) → (left : List StmtId) →
     under_token walked.planned next left ≡ due_numbers others → (one two : Counts → List Emission)
@@ -91,9 +93,11 @@ pub branch_typed : (walked : Walked) (around : Around) (level : Level) (heading 
     (known_at (here next.host (calm level (run (branch heading guard first second done) ∷ others))) entries branches)
     (branch_own (branch_front walked around counts heading guard next left) counts next.host one two)
     (here next.host (calm level others))
-branch_typed walked around level heading guard first second next own others trusted left left_is one two entries branches methods
+branch_typed walked around level heading guard first second next own others trusted left left_is one two entries
+    branches methods
     one_typed two_typed =
-    subst P (sym same) (front_then planned entries branches (here host (calm level due)) middle (here host (calm level others))
+    subst P (sym same) (front_then planned entries branches (here host (calm level due)) middle
+    (here host (calm level others))
     join target front inside begins
     (leads_on planned start (((one_there ++ between) ++ two_there)) (stands host number ∷ []) nowhere
     (here host (calm level others))
@@ -240,7 +244,8 @@ branch_typed walked around level heading guard first second next own others trus
     same : branch_own front counts host one two ≡ front ++ inside
     same =
         let last = stands host number ∷ [] in
-        let P : Counts → Type 0 = λ there. ((((front ++ one_there) ++ between) ++ two there) ++ last) ≡ front ++ inside in
+        let P : Counts → Type 0 = λ there. ((((front ++ one_there) ++ between) ++ two there) ++ last) ≡ front
+        ++ inside in
         subst P (sym (ap (λ it. counts_after counts it) (append_assoc front one_there between)
         ∙ counts_more counts front (one_there ++ between)))
         (ap (λ it. (it ++ two_there) ++ last) (append_assoc front one_there between)
@@ -355,7 +360,8 @@ loop_typed walked around level heading guard inner next own others trusted inner
       (
         known_at (here host head.position) headed branches,
         (head.position, head.need, at_last entries head [], inr refl, refl),
-        reads_then planned site level due (due_on planned site level statement others own trusted) headed branches guard refl
+        reads_then planned site level due (due_on planned site level statement others own trusted) headed branches guard
+            refl
             (emitted host site.label heading.id (op.Branch (nodes_of 0 guard) (length branches))
             ∷ emitted host site.label heading.id (op.Push (entry_id number)) ∷ []) start (
               known_at (here host again) headed opened,

@@ -1,5 +1,5 @@
--- A call: parameters are set in order, the entry behind the call has due what is left, and what the called method does is
--- due from then on.
+-- A call: parameters are set in order, the entry behind the call has due what is left, and what the called method does
+-- is due from then on.
 use Rattle.std.proofs.Common.{◌≡◌, ◌∙◌, ◌⊎◌, ℕ, suc, true, List, [], ◌∷◌, ◌++◌, length, refl, ap, sym, subst, inl, inr}
 use Rattle.std.proofs.Common.{append_assoc, append-nil}
 use Rattle.std.specs.Prelude.{Option, Some, None}
@@ -64,7 +64,8 @@ arguments_typed : (walked : Walked) (site : Site) (level : Level) (due : List Du
     (known_at (here site.me (arguing_at level due statement (set ++ left) [])) entries branches)
 arguments_typed walked site level due statement set on_due own trusted entries branches params [] among =
     none_left walked.planned site level due statement set entries branches
-arguments_typed walked site level due statement set on_due own trusted entries branches [] (argument ∷ arguments) among =
+arguments_typed walked site level due statement set on_due own trusted entries branches []
+    (argument ∷ arguments) among =
     none_left walked.planned site level due statement set entries branches
 arguments_typed walked site level due statement set on_due own trusted entries branches (param ∷ params)
     (argument ∷ arguments) among =
@@ -118,7 +119,8 @@ arguments_typed walked site level due statement set on_due own trusted entries b
           statement param (record { on_host = own; trusted = trusted; gives = among param (inl refl) }),
     ))
     (subst P (append_assoc set (one ∷ []) left)
-    (arguments_typed walked site level due statement (set ++ one ∷ []) on_due own trusted entries branches params arguments
+    (arguments_typed walked site level due statement (set ++ one ∷ []) on_due own trusted entries branches params
+    arguments
     (λ x is. among x (inr is))))
 
 -- ---- results
@@ -130,11 +132,14 @@ kept_typed : (walked : Walked) (site : Site) (level : Level) (heading : Heading)
     AreDueOn walked.planned site.me (run (call heading at method arguments into done) ∷ others) →
     (entries : List Entrance) (branches : List Position) →
     AreTyped walked.planned
-    (calm_at site level (kept_due walked.planned (call heading at method arguments into done) ++ others) entries branches)
+    (calm_at site level (kept_due walked.planned (call heading at method arguments into done)
+    ++ others) entries branches)
     (kept_emissions walked site.me site.label site.id result into) (calm_at site level others entries branches)
 kept_typed walked site level heading at method arguments None None is others own trusted entries branches = rw is refl
-kept_typed walked site level heading at method arguments (Some x) None is others own trusted entries branches = rw is refl
-kept_typed walked site level heading at method arguments None (Some result) is others own trusted entries branches = rw is refl
+kept_typed walked site level heading at method arguments (Some x) None is others own trusted entries branches =
+    rw is refl
+kept_typed walked site level heading at method arguments None (Some result) is others own trusted entries branches =
+    rw is refl
 kept_typed walked site level heading at method arguments (Some x) (Some result) is others own trusted entries branches =
     let planned = walked.planned in
     let statement = call heading at method arguments (Some x) done in
@@ -319,13 +324,15 @@ call_typed walked site level heading at method arguments into called is there ot
     entered : EntryIs more (suc method.0) (calm (body method) (all_due called.body))
         (need_of_method planned (method_at planned.program method))
     entered =
-        let P : Option MethodTree → Type 0 = λ it. EntryIs more (suc method.0) (calm (body method) (all_due called.body))
+        let P : Option MethodTree → Type 0 = λ it. EntryIs more (suc method.0)
+        (calm (body method) (all_due called.body))
         (need_of_method planned it) in
         subst P (sym there) (methods_still planned entries (behind ∷ []) methods method.0 called there)
 
     kept : AreTyped planned (calm_at site level (kept_due planned statement ++ others) more branches)
         (kept_emissions walked site.me site.label site.id called.result into) (calm_at site level others more branches)
-    kept = kept_typed walked site level heading at method arguments into called.result (rw there refl) others own trusted
+    kept = kept_typed walked site level heading at method arguments into called.result
+        (rw there refl) others own trusted
         more branches
 
     ends : AreTyped planned (calm_at site level (kept_due planned statement ++ others) more branches)

@@ -308,10 +308,12 @@ leave_typed : (planned : PlannedShape) (around : Around) (level : Level) (lane :
     AreTyped planned (known_at (lane_place planned level lane (tree ∷ trees)) entries branches)
     (leave_emissions around lane) (known_at (left_at level (end_of lane.spot) (tree ∷ trees)) entries branches)
 leave_typed planned around level lane tree trees apart entries branches known =
-    leave_from planned around level lane.spot.host lane.spot.back lane.return_entry tree trees apart entries branches known
+    leave_from planned around level lane.spot.host lane.spot.back lane.return_entry tree trees apart entries branches
+    known
 
 -- whoever has the token where a lane is left is trusted for all that is left
-end_due : (planned : PlannedShape) (level : Level) (host : HostId) (back : Option HostId) (number : ℕ) (tree : BlockTree)
+end_due : (planned : PlannedShape) (level : Level) (host : HostId) (back : Option HostId) (number : ℕ)
+    (tree : BlockTree)
     (trees : List BlockTree) → is_on planned host tree ≡ false → (entries : List Entrance) →
     let lane : Lane = record { spot = record { host = host; back = back }; return_entry = number } in
     IsLaneKnown planned entries level lane (tree ∷ trees) → IsLaneTrusted planned lane (tree ∷ trees) →

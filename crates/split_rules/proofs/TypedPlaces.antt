@@ -169,7 +169,8 @@ entries_many planned first (lands host number ∷ xs) last typed =
 -- ---- positions
 
 -- the positions of the instructions of a host
-unfoldable pub positions_on : (planned : PlannedShape) (host : HostId) (first : Known) (xs : List Emission) (last : Known) →
+unfoldable pub positions_on : (planned : PlannedShape) (host : HostId) (first : Known) (xs : List Emission)
+    (last : Known) →
     AreTyped planned first xs last → List Position
 positions_on planned host first [] last typed = []
 positions_on planned host first (instruction one ∷ xs) last typed =

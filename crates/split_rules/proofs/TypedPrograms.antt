@@ -29,7 +29,8 @@ use Rattle.split_rules.proofs.AllowedTyping.{body_of_method}
 
 -- ---- entries of methods
 
-entrances_there : (planned : PlannedShape) (methods : List MethodTree) (first place number : ℕ) (tree : MethodTree) → number ≡ first + place →
+entrances_there : (planned : PlannedShape) (methods : List MethodTree) (first place number : ℕ) (tree : MethodTree) →
+    number ≡ first + place →
     slice_get methods place ≡ Some tree →
     EntryIs (method_entrances planned first methods) place (calm (body (record { 0 = number })) (all_due tree.body))
     (need_of planned (tree.head ∷ []))
@@ -65,7 +66,8 @@ start_many planned number (method ∷ methods) = ap suc (start_many planned (suc
 -- ---- methods
 
 method_number : (program : ProgramTree) (method : MethodTree) (number : ℕ) →
-    slice_get program.methods number ≡ Some method → result_of (method_at program (record { 0 = number })) ≡ method.result
+    slice_get program.methods number ≡ Some method → result_of (method_at program (record { 0 = number }))
+    ≡ method.result
 method_number program method number is = rw is refl
 
 methods_typed : (principals : Declared) (labelled : Labelled) (planned : PlannedShape) →
@@ -91,7 +93,8 @@ methods_typed principals labelled planned same number (method ∷ methods) there
     let own = subst P none (there 0 method refl) in
     leads_on planned (known_at nowhere entries branches) (stands home (suc number) ∷ bodies)
     (methods_emissions principals labelled planned
-    (counts_after (counts_in entries branches) (stands home (suc number) ∷ bodies)) (suc number) methods) nowhere nowhere
+    (counts_after (counts_in entries branches) (stands home (suc number) ∷ bodies)) (suc number) methods) nowhere
+    nowhere
     (begins planned home (suc number) begin (need_of planned (method.head ∷ [])) entries branches bodies
     (known number method own)
     (block_typed walked (record { 0 = number }) (is_some method.result)
@@ -108,7 +111,8 @@ methods_typed principals labelled planned same number (method ∷ methods) there
     (methods_emissions principals labelled planned counts (suc number) methods) nowhere in
     subst Q is (methods_typed principals labelled planned same (suc number) methods
     (λ place tree at. let R : ℕ → Type 0 = λ one. slice_get planned.program.methods one ≡ Some tree in
-    let next : number + suc place ≡ suc number + place = omega arith in subst R next (there (suc place) tree at)) numbered.1 typable.1 (entries ++ more)
+    let next : number + suc place ≡ suc number + place = omega arith in
+    subst R next (there (suc place) tree at)) numbered.1 typable.1 (entries ++ more)
     (branches ++ ahead) (methods_still planned entries more known)))
   where
     begins : (planned : PlannedShape) (home : HostId) (number : ℕ) (position : Position) (need : ℕ)

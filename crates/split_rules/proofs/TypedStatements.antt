@@ -33,13 +33,15 @@ behind_reads site level due reads entries branches =
     known_at (here site.me (with_reads (calm level due) reads)) entries branches
 
 pub reads_then : (planned : PlannedShape) (site : Site) (level : Level) (due : List Due) →
-    (on_due : IsDueOn planned site.me (calm level due)) → (entries : List Entrance) (branches : List Position) (value : ExprTree) →
+    (on_due : IsDueOn planned site.me (calm level due)) → (entries : List Entrance) (branches : List Position)
+    (value : ExprTree) →
     own_reads (statement_due on_due.first) ≡ field_reads value → (others : List Emission) (last : Known) →
     AreTyped planned (behind_reads site level due (field_reads value) entries branches) others last →
     AreTyped planned (calm_at site level due entries branches)
     (expr_emissions site.me site.label site.id 0 value ++ others) last
 reads_then planned site level due on_due entries branches value is others last follows =
-    typed_on planned (calm_at site level due entries branches) (expr_emissions site.me site.label site.id 0 value) others
+    typed_on planned (calm_at site level due entries branches) (expr_emissions site.me site.label site.id 0 value)
+    others
     (behind_reads site level due (field_reads value) entries branches) last
     (expr_typed planned site (calm level due) on_due entries branches [] value []
     (is ∙ sym (append-nil (field_reads value)))) follows
@@ -63,7 +65,8 @@ set_local_typed planned site level heading x value others on_host trusted entrie
     let statement = set_local heading x value done in
     let due = run statement ∷ others in
     let next = with_forwards (calm level others) (forwards_of planned site.me statement x) in
-    reads_then planned site level due (due_on planned site level statement others on_host trusted) entries branches value
+    reads_then planned site level due (due_on planned site level statement others on_host trusted) entries branches
+    value
     refl _ _ (
       known_at (here site.me next) entries branches,
       (
@@ -98,7 +101,8 @@ pub set_field_typed : (planned : PlannedShape) (site : Site) (level : Level) (he
 set_field_typed planned site level heading field value others on_host trusted entries branches =
     let statement = set_field heading field value done in
     let due = run statement ∷ others in
-    reads_then planned site level due (due_on planned site level statement others on_host trusted) entries branches value
+    reads_then planned site level due (due_on planned site level statement others on_host trusted) entries branches
+    value
     refl _ _ (
       calm_at site level others entries branches,
       (
@@ -124,7 +128,8 @@ set_field_typed planned site level heading field value others on_host trusted en
 pub set_element_typed : (planned : PlannedShape) (site : Site) (level : Level) (heading : Heading) (field : FieldId)
     (index value : ExprTree) (others : List Due) →
     is_on planned site.me (set_element heading field index value done) ≡ true →
-    AreDueOn planned site.me (run (set_element heading field index value done) ∷ others) → (entries : List Entrance) (branches : List Position) →
+    AreDueOn planned site.me (run (set_element heading field index value done) ∷ others) →
+    (entries : List Entrance) (branches : List Position) →
     AreTyped planned (calm_at site level (run (set_element heading field index value done) ∷ others) entries branches)
     (expr_emissions site.me site.label site.id 0 index
     ++ expr_emissions site.me site.label site.id (reads_in index) value
@@ -143,7 +148,8 @@ set_element_typed planned site level heading field index value others on_host tr
     let P : ℕ → Type 0 = λ many. AreTyped planned middle (expr_emissions site.me site.label site.id many value)
     (known_at (here site.me all) entries branches) in
     typed_on planned first (one ++ two) (put ∷ []) (known_at (here site.me all) entries branches) _
-    (typed_on planned first one two middle _ (expr_typed planned site (calm level due) on_due entries branches [] index (field_reads value) refl)
+    (typed_on planned first one two middle _ (expr_typed planned site (calm level due) on_due entries branches [] index
+    (field_reads value) refl)
     (subst P (reads_many index)
     (expr_typed planned site (calm level due) on_due entries branches (field_reads index) value []
     (ap (λ reads. field_reads index ++ reads) (sym (append-nil (field_reads value))))))) (
@@ -173,7 +179,8 @@ pub give_back_typed : (planned : PlannedShape) (site : Site) (method : MethodId)
     (result : VarId) → result_of (method_at planned.program method) ≡ Some result →
     IsIn planned.program method (give_back heading value done) →
     is_on planned site.me (give_back heading value done) ≡ true →
-    AreDueOn planned site.me (run (give_back heading value done) ∷ []) → (entries : List Entrance) (branches : List Position) →
+    AreDueOn planned site.me (run (give_back heading value done) ∷ []) →
+    (entries : List Entrance) (branches : List Position) →
     AreTyped planned (calm_at site (body method) (run (give_back heading value done) ∷ []) entries branches)
     (expr_emissions site.me site.label site.id 0 value
     ++ emitted site.me site.label site.id (op.Ret result (nodes_of 0 value)) ∷ [])
@@ -181,7 +188,8 @@ pub give_back_typed : (planned : PlannedShape) (site : Site) (method : MethodId)
 give_back_typed planned site method heading value result is in_it on_host trusted entries branches =
     let statement = give_back heading value done in
     let due = run statement ∷ [] in
-    reads_then planned site (body method) due (due_on planned site (body method) statement [] on_host trusted) entries branches
+    reads_then planned site (body method) due (due_on planned site (body method) statement [] on_host trusted) entries
+    branches
     value refl _ _ (
       calm_at site (body method) [] entries branches,
       (

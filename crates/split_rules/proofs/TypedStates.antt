@@ -1,5 +1,5 @@
--- Typed walks in parts: one after another they go from the first place to the last, and what is known at the last counts
--- what the parts have.
+-- Typed walks in parts: one after another they go from the first place to the last, and what is known at the last
+-- counts what the parts have.
 use Rattle.std.proofs.Common.{◌≡◌, ◌∙◌, ℕ, suc, List, [], ◌∷◌, ◌++◌, length, ap, sym, subst, arith, append_assoc}
 use Rattle.std.proofs.Common.{length-append, append-nil}
 use Rattle.js_base.specs.declared.ids.HostId.{HostId}

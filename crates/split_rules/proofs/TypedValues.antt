@@ -96,7 +96,8 @@ one_read planned site base on_due entries branches inner field index nodes befor
 
 -- the reads of an expression are the next that are due
 pub expr_typed : (planned : PlannedShape) (site : Site) (base : Position) → (on_due : IsDueOn planned site.me base) →
-    (entries : List Entrance) (branches : List Position) (before : List FieldRead) (expr : ExprTree) (after : List FieldRead) →
+    (entries : List Entrance) (branches : List Position) (before : List FieldRead) (expr : ExprTree)
+    (after : List FieldRead) →
     reads_due base.calling (statement_due on_due.first) ≡ before ++ (field_reads expr ++ after) →
     ReadsFrom planned site base entries branches before
     (expr_emissions site.me site.label site.id (length before) expr) (before ++ field_reads expr)

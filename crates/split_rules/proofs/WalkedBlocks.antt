@@ -1,5 +1,5 @@
--- Blocks of a walk: where the token is on the host of its lane, all emissions of a block fit, and behind them nothing goes
--- on and no more is owed than before the lane.
+-- Blocks of a walk: where the token is on the host of its lane, all emissions of a block fit, and behind them nothing
+-- goes on and no more is owed than before the lane.
 use Rattle.std.proofs.Common.{◌≡◌, ◌∙◌, ℕ, suc, ◌+◌, ◌<◌, Bool}
 use Rattle.std.proofs.Common.{List, [], ◌∷◌, ◌++◌, length, refl, ap, sym, subst, append-nil}
 use Rattle.std.specs.Prelude.{Some, ⊤}
@@ -7,7 +7,8 @@ use Rattle.js_base.specs.declared.ids.HostId.{HostId}
 use Rattle.js_base.specs.declared.ids.MethodId.{MethodId}
 use Rattle.js_base.specs.declared.ids.StmtId.{StmtId}
 use Rattle.label_lattice.specs.declared.label.Label.{Label}
-use Rattle.jif_tree.specs.Trees.{ExprTree, Heading, BlockTree, done, set_local, set_field, set_element, branch, loop, call}
+use Rattle.jif_tree.specs.Trees.{ExprTree, Heading, BlockTree, done, set_local, set_field, set_element, branch, loop}
+use Rattle.jif_tree.specs.Trees.{call}
 use Rattle.jif_tree.specs.Trees.{give_back, ProgramTree}
 use Rattle.jif_tree.specs.LabelRules.{guarded}
 use Rattle.jif_tree.specs.WellNumbered.{HasOptionalVariable, IsExprIn, IsBlockIn, is_some}
@@ -23,7 +24,8 @@ use Rattle.split_rules.specs.Flow.{Scope, stopped, at, Pending, State}
 use Rattle.split_rules.specs.Walk.{Walked, Around, Lane, lane_on, lane_at, entry_id, need_of, under_token, emitted}
 use Rattle.split_rules.specs.Walk.{expr_emissions, leave_emissions, move_emissions, end_emissions}
 use Rattle.split_rules.specs.Walk.{call_emissions, block_emissions}
-use Rattle.split_rules.proofs.WalkedStates.{state_of, goes_on, counts_more, Reaches, reaches_flow, reaches_on, goes_then}
+use Rattle.split_rules.proofs.WalkedStates.{state_of, goes_on, counts_more, Reaches, reaches_flow, reaches_on}
+use Rattle.split_rules.proofs.WalkedStates.{goes_then}
 use Rattle.split_rules.proofs.WalkedExpressions.{own_nodes_fit, expr_goes}
 use Rattle.split_rules.proofs.WalkedMoves.{IsLaneOn, owed_by, entry_there, leave_goes, counts_at, MovesTo, move_goes}
 use Rattle.split_rules.proofs.WalkedCalls.{IsWalkable, AreNamed, named_more, set_local_goes, set_field_goes}
@@ -83,7 +85,8 @@ statement_then : (scope : Scope) (walked : Walked) → IsWalkable scope walked.l
 statement_then scope walked walkable around lane there statement others named branches owed opened are own rest left
     left_is owns follows =
     reaches_on scope first (moved ++ own) (rest left lane_there) (at next.host 0) stopped owed_there opened owed opened
-    (reaches_on scope first moved own (at next.host 0) (at next.host 0) owed_there opened owed_there opened moves.reaches
+    (reaches_on scope first moved own (at next.host 0) (at next.host 0) owed_there opened owed_there opened
+    moves.reaches
     (λ more branches_there is. owns moves.next_host (named ++ more) branches_there owed_there (are_more more) is))
     (λ more branches_there is.
     let P : HostId → Type 0 = λ host. Reaches scope
@@ -150,7 +153,8 @@ one_stands scope host number named branches owed opened =
 abbrev WalksOn : Scope → Walked → HostId → List Pending → List Pending → (Counts → List Emission) → Type 0
 WalksOn scope walked host owed opened block =
     (named : List HostId) (branches : ℕ) → AreNamed walked.labelled.program walked.planned named →
-    Reaches scope (state_of (at host 0) named branches owed opened) (block (counts_at named branches)) stopped owed opened
+    Reaches scope (state_of (at host 0) named branches owed opened) (block (counts_at named branches)) stopped owed
+    opened
 
 abbrev pub inside_of : Walked → Around → Heading → ExprTree → Around
 inside_of walked around heading guard = record {
@@ -197,7 +201,8 @@ branch_goes scope walked walkable method around heading guard there next within 
     (reaches_on scope start front one (at host 0) stopped owed_there opened_there owed_there opened_there begins
     (λ more many is.
     let P : Counts → Type 0 = λ counts. Reaches scope
-    (state_of (at host 0) (named ++ more) many owed_there opened_there) (first counts) stopped owed_there opened_there in
+    (state_of (at host 0) (named ++ more) many owed_there opened_there)
+    (first counts) stopped owed_there opened_there in
     subst P is (first_goes owed_there opened_there (named ++ more) many (are_more more))))
     (λ more many is. one_lands scope host branches (named ++ more) many owed_there opened))
     (λ more many is.
@@ -248,7 +253,8 @@ branch_goes scope walked walkable method around heading guard there next within 
               (expr_emissions next.host around.pc heading.id 0 guard)
               (emitted next.host around.pc heading.id (op.Branch (nodes_of 0 guard) branches) ∷ [])
               (state_of (at next.host (0 + reads_in guard)) (named ++ next.host ∷ []) branches owed_there opened) _
-              (expr_goes scope walked.labelled.program walked.planned walkable.scoped method guard there next.host around.pc
+              (expr_goes scope walked.labelled.program walked.planned walkable.scoped method guard there next.host
+              around.pc
               heading.id (named ++ next.host ∷ []) branches owed_there opened 0) (
                 (
                   refl,
@@ -388,7 +394,8 @@ block_goes scope walked method gives within (set_local heading x value rest) the
     (λ lane_then named_there many lane_is are_there.
     block_goes scope walked method gives within rest there.2 sites around lane_then lane_is named_there many owed opened
     are_there)
-block_goes scope walked method gives within (set_field heading field value rest) there sites around lane lane_there named
+block_goes scope walked method gives within (set_field heading field value rest) there sites around lane lane_there
+    named
     branches owed opened are =
     let program = walked.labelled.program in
     let planned = walked.planned in
@@ -443,7 +450,8 @@ block_goes scope walked method gives within (branch heading guard first second r
     (λ owed_in opened_in named_in many_in are_in. block_goes scope walked method gives within second there.2 sites.1
     inside (lane_on next.host) lane_is named_in many_in owed_in opened_in are_in)))
     (λ lane_then named_there many lane_is are_there.
-    block_goes scope walked method gives within rest there.3 sites.2 around lane_then lane_is named_there many owed opened
+    block_goes scope walked method gives within rest there.3 sites.2 around lane_then lane_is named_there many owed
+    opened
     are_there)
 block_goes scope walked method gives within (loop heading guard body rest) there sites around lane lane_there named
     branches owed opened are =
@@ -469,7 +477,8 @@ block_goes scope walked method gives within (loop heading guard body rest) there
     (λ owed_in opened_in named_in many_in are_in. block_goes scope walked method gives within body there.1 sites.0
     inside (lane_on next.host) lane_is named_in many_in owed_in opened_in are_in)))
     (λ lane_then named_there many lane_is are_there.
-    block_goes scope walked method gives within rest there.2 sites.1 around lane_then lane_is named_there many owed opened
+    block_goes scope walked method gives within rest there.2 sites.1 around lane_then lane_is named_there many owed
+    opened
     are_there)
 block_goes scope walked method gives within (call heading site called arguments into rest) there sites around lane
     lane_there named branches owed opened are =
@@ -491,7 +500,8 @@ block_goes scope walked method gives within (call heading site called arguments 
     next.host around.pc heading.id host_within (sites.0 ∙ ap Some (sym host_is)) named_there many owed_there opened
     are_there))
     (λ lane_then named_there many lane_is are_there.
-    block_goes scope walked method gives within rest there.3 sites.1 around lane_then lane_is named_there many owed opened
+    block_goes scope walked method gives within rest there.3 sites.1 around lane_then lane_is named_there many owed
+    opened
     are_there)
 block_goes scope walked method gives within (give_back heading value rest) there sites around lane lane_there named
     branches owed opened are =

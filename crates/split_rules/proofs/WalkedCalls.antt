@@ -92,7 +92,8 @@ pub set_field_goes : (scope : Scope) (program : ProgramTree) (planned : PlannedS
     (named : List HostId) (branches : ℕ) (owed opened : List Pending) →
     GoesOnAt scope host named branches owed opened (expr_emissions host label id 0 value
     ++ emitted host label id (op.Put field first_element (nodes_of 0 value)) ∷ [])
-set_field_goes scope program planned scoped method field value there value_there host label id named branches owed opened =
+set_field_goes scope program planned scoped method field value there value_there host label id named branches owed
+    opened =
     goes_on scope (state_of (at host 0) named branches owed opened) (expr_emissions host label id 0 value)
     (emitted host label id (op.Put field first_element (nodes_of 0 value)) ∷ [])
     (state_of (at host (0 + reads_in value)) named branches owed opened) _
@@ -134,7 +135,8 @@ set_element_goes scope program planned scoped method field index value there ind
         refl,
         (
           field_there scope program planned scoped true field there,
-          nodes_fit scope program planned scoped method index index_there 0 (reads_in index + reads_in value) (omega arith),
+          nodes_fit scope program planned scoped method index index_there 0 (reads_in index + reads_in value)
+              (omega arith),
           own_nodes_fit scope program planned scoped method value value_there (reads_in index),
         ),
       ),
@@ -220,7 +222,8 @@ kept_goes : (scope : Scope) (walked : Walked) → IsScopeOf scope walked.labelle
 kept_goes scope walked scoped caller called None None there into_there host label id named branches owed opened = refl
 kept_goes scope walked scoped caller called None (Some into) there into_there host label id named branches owed opened =
     refl
-kept_goes scope walked scoped caller called (Some result) None there into_there host label id named branches owed opened =
+kept_goes scope walked scoped caller called (Some result) None there into_there host label id named branches owed
+    opened =
     refl
 kept_goes scope walked scoped caller called (Some result) (Some into) there into_there host label id named branches owed
     opened =

@@ -1,5 +1,5 @@
--- What a walk gives for values goes on where it is: the reads of an expression, each of which leaves one temporary more, and
--- what is sent to those who read a variable.
+-- What a walk gives for values goes on where it is: the reads of an expression, each of which leaves one temporary
+-- more, and what is sent to those who read a variable.
 use Rattle.std.proofs.Common.{◌≡◌, ◌≢◌, ◌∙◌, ℕ, suc, zero, ◌+◌, ◌<◌, ◌≤◌, Bool, true, false, cond, ◌&&◌, not}
 use Rattle.std.proofs.Common.{List, [], ◌∷◌, ◌++◌, map, filter, length, refl, ap, sym, subst, arith, eq-eqb}
 use Rattle.std.proofs.lemmas.List.Elements.{All-nil, All-cons, All-append, All-head, All-tail}
@@ -40,7 +40,8 @@ field_there scope program planned scoped array field there =
     let P : ℕ → Type 0 = λ many. field.0 < many in
     subst P (sym scoped.fields) (slice_get_within program.fields field.0 there.0 there.1)
 
-pub variable_there : (scope : Scope) (program : ProgramTree) (planned : PlannedShape) → IsScopeOf scope program planned →
+pub variable_there : (scope : Scope) (program : ProgramTree) (planned : PlannedShape) →
+    IsScopeOf scope program planned →
     (method : MethodId) (variable : VarId) → HasVariable program method variable → IsVariable scope variable
 variable_there scope program planned scoped method variable there =
     let P : ℕ → Type 0 = λ many. variable.0 < many in

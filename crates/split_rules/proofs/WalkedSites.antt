@@ -23,7 +23,8 @@ HaveHosts sites (number ∷ numbers) (host ∷ hosts) =
 
 -- ---- sites that count up
 
-pub range_moved : (numbers : List ℕ) (first other : ℕ) → first ≡ other → numbers ≡ range_with_len first (length numbers) →
+pub range_moved : (numbers : List ℕ) (first other : ℕ) → first ≡ other →
+    numbers ≡ range_with_len first (length numbers) →
     numbers ≡ range_with_len other (length numbers)
 range_moved numbers first other same is =
     let P : ℕ → Type 0 = λ one. numbers ≡ range_with_len one (length numbers) in

@@ -1,5 +1,5 @@
--- Walks in parts: one after another they go from the first state to the last, and the state behind a part counts what the
--- part has.
+-- Walks in parts: one after another they go from the first state to the last, and the state behind a part counts what
+-- the part has.
 use Rattle.std.proofs.Common.{◌≡◌, ◌∙◌, ℕ, suc, List, [], ◌∷◌, ◌++◌, length, refl, ap, sym, subst, arith, append_assoc}
 use Rattle.std.proofs.Common.{length-append, append-nil}
 use Rattle.js_base.specs.declared.ids.HostId.{HostId}

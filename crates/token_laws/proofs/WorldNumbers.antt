@@ -105,7 +105,8 @@ numbers_act code world after from to made named step fits =
     record {
       states = states_after StateHasNumbers world after to step.state step.outcome.state step.obeys
           (act_puts code world after from to made step) fits.states outcome.state;
-      flying = subst (FlyWith MessageHasNumbers) (sym (moved_acted world to step.outcome after step.leaves).flying) fits.flying;
+      flying = subst (FlyWith MessageHasNumbers) (sym (moved_acted world to step.outcome after step.leaves).flying)
+          fits.flying;
     }
 
 numbers_step : (code : CodeShape) (world after : WorldShape) (event : Event) → CodeHasNumbers code →

@@ -25,7 +25,8 @@ use Rattle.host_code.specs.Thread.{ThreadShape}
 use Rattle.host_core.specs.Host.{after_step, after_clearing}
 use Rattle.host_core.specs.Values.{value_of_nodes}
 use Rattle.split_rules.specs.Positions as positions
-use Rattle.split_rules.specs.Positions.{Position, Due, Level, Argument, Calling, no_call, arguing, entering, arguments_of}
+use Rattle.split_rules.specs.Positions.{Position, Due, Level, Argument, Calling, no_call, arguing, entering}
+use Rattle.split_rules.specs.Positions.{arguments_of}
 use Rattle.split_rules.specs.Positions.{field_reads, statement_due, is_on}
 use Rattle.split_rules.specs.Typing as typing
 use Rattle.split_rules.specs.Typing.{Follows, Frames}

@@ -255,7 +255,8 @@ record Behind (split : Split) (call n : ℕ) (into result : Option VarId) (body 
   plainly : BeginsPlainly (to_run_all n body ++ owed)
   returned : AreReturned split (to_run_all n body ++ owed)
 
-behind_call : (split : Split) (call n : ℕ) (statement : Stmt) (site : SiteId) (method : MethodId) (args : Vec Expr Global)
+behind_call : (split : Split) (call n : ℕ) (statement : Stmt) (site : SiteId) (method : MethodId)
+    (args : Vec Expr Global)
     (into result : Option VarId) (body : List Stmt) (behind : List Owed) →
     statement.kind ≡ kind.Call site method args into → IsFit split.code split.planned (alone statement) →
     result ≡ result_of (method_at split.planned.program method) →
@@ -280,7 +281,8 @@ behind_call split call n statement site method args into None body behind is fit
     nothing_kept : (call : ℕ) (into : Option VarId) → source.kept call into None ≡ []
     nothing_kept call None = refl
     nothing_kept call (Some x) = refl
-behind_call split call n statement site method args None (Some x) body behind is fit result ends known plainly returned =
+behind_call split call n statement site method args None (Some x) body behind is fit result ends known plainly
+    returned =
     let heading : Heading = head_of statement in
     let own : IsFit split.code split.planned (trees.call heading site method (map expr_tree args.items) None done) =
     subst (λ k. IsFit split.code split.planned (statement_tree k heading done)) is fit in
@@ -379,7 +381,8 @@ call_made split c view host thread at entry statement set left is pushes =
     (place_of split host (suc thread.at))) args.is pushes in
     let found = source.method_at split.program args.method.0 in
     let method = called split args.method in
-    elim (front_of split c view.keeper call here.due (chain_due split view.chain) (positions.run block) law.others law.due
+    elim (front_of split c view.keeper call here.due (chain_due split view.chain)
+    (positions.run block) law.others law.due
     at.left) [
       | inl runs ↦
           let own = runs.statement in
@@ -390,7 +393,8 @@ call_made split c view host thread at entry statement set left is pushes =
           let plain = plainly_behind split (to_run call own) runs.behind runs.follows
           (λ returns. subst IsReturn what.is returns) in
           let behind = behind_call split call n own what.site args.method what.args args.into (source.result_of found)
-          (source.body_of found) runs.behind what.is runs.fit method.result method.ends runs.known plain runs.returned in
+          (source.body_of found) runs.behind what.is runs.fit method.result method.ends runs.known plain
+          runs.returned in
           let params = params_of (method_at split.planned.program args.method) in
           let P = λ (one : Argument). MayTree split.exposure c.store (source.variable c.calls call) one.value in
           let all_set = law.all_set ∙ ap (arguments_of params) what.arguments_are in
@@ -477,7 +481,8 @@ call_made split c view host thread at entry statement set left is pushes =
                         into = args.into;
                         others = law.others;
                         due = there ∙ ap (λ list. list ++ law.others)
-                            (kept_there split.planned args.heading args.site args.method args.arguments args.into x fit.1
+                            (kept_there split.planned args.heading args.site args.method args.arguments args.into x
+                            fit.1
                             gives);
                         caller = args.caller ∙ sym number;
                         method_is = args.method_is;
@@ -518,7 +523,8 @@ entered : (split : Split) (c : Configuration) (view : View) (host : HostId) (thr
 entered split c view host thread at entry token (entering (trees.call heading site method arguments into rest)) apart is
     held law =
     let here = place_of split host thread.at in
-    let calling = subst (IsCalling split c view.naming view.values view.sender host thread.frame thread.new_frame at.call
+    let calling = subst (IsCalling split c view.naming view.values view.sender host thread.frame thread.new_frame
+    at.call
     here.due) is at.calling in
     record {
       none_out = sym at.forwards ∙ law.3;
@@ -538,7 +544,8 @@ entered split c view host thread at entry token (arguing statement set left) apa
 entered split c view host thread at entry token (entering trees.done) apart is held law = absurd law
 entered split c view host thread at entry token (entering (trees.set_local heading x value rest)) apart is held law =
     absurd law
-entered split c view host thread at entry token (entering (trees.set_field heading field value rest)) apart is held law =
+entered split c view host thread at entry token (entering (trees.set_field heading field value rest)) apart is held
+    law =
     absurd law
 entered split c view host thread at entry token (entering (trees.set_element heading field index value rest)) apart is
     held law = absurd law

@@ -136,7 +136,8 @@ none_called split host at none = of_found (instruction_at split.code host at) re
   where
     of_law : (what : Op) → IsTypedOp split.planned split.table host at what → is_call what ≡ false
     of_law (op.Call there on) law =
-        absurd (subst (λ calling. Enters split.planned split.table.entries (place_of split host at) calling there.0) none
+        absurd (subst (λ calling. Enters split.planned split.table.entries (place_of split host at) calling there.0)
+        none
         law)
     of_law _ law = refl
 

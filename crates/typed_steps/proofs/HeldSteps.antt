@@ -1,4 +1,5 @@
--- What all hosts have of a configuration after a step of one of them, and after the step of the plain run that it makes.
+-- What all hosts have of a configuration after a step of one of them, and after the step of the plain run that it
+-- makes.
 use Rattle.std.proofs.Common.{◌≡◌, ◌≢◌, ◌∙◌, ℕ, suc, ◌+◌, ◌<◌, ◌≤◌, inl, inr, Bool, true, List, [], ◌∷◌, ◌++◌}
 use Rattle.std.proofs.Common.{length, Some, ap, sym, subst, arith}
 use Rattle.std.specs.Prelude.{ℤ, pos, ◌==◌, if◌then◌else◌, slice_get, slice_index, slice_set}
@@ -244,7 +245,8 @@ pub holds_forwarded : (split : Split) (c : Configuration) (view : View) (left : 
     state.frames ≡ old.frames → AreAlike split.exposure x value (view.values view.sender x.0) →
     view.sender < view.naming.count → NoneKept c →
     Holds split c (with_out view left) after
-holds_forwarded split c view left world after host old state flying x value source holds first obeys moved rows variables
+holds_forwarded split c view left world after host old state flying x value source holds first obeys moved rows
+    variables
     frames is within plainly = record {
       fields = fields_same split world after host old state flying c.store holds.fields obeys moved rows;
       known = holds.known;
@@ -387,7 +389,8 @@ holds_framed split c view world after host old state flying site caller method h
       ]
     ]
 
-    agree_there : Agree split now (λ k x. if k == naming.count then pos 0 else view.values k x) [] (length c.calls) after
+    agree_there : Agree split now (λ k x. if k == naming.count then pos 0 else view.values k x) []
+        (length c.calls) after
     agree_there call other there x within is reads = elim (cases_lt call naming.count) [
       | inl early ↦
           let before = agree_kept split naming view.values [] view.sender world after host old state flying
@@ -415,14 +418,16 @@ holds_framed split c view world after host old state flying site caller method h
     ]
 
     -- the frames that are still to be made, seen from the world before
-    before_it : (other : HostId) (there : HostShape) (another : SiteId) (count : ℕ) → state_at after other ≡ Some there →
+    before_it : (other : HostId) (there : HostShape) (another : SiteId) (count : ℕ) →
+        state_at after other ≡ Some there →
         site_at split.code another ≡ Some other → slice_index there.frames another.0 ≤ count →
         IsUnused split naming world (record { site = another; count = count })
     before_it other there another count is on_it least =
         elim (either world after host old state flying obeys moved other there is) [
           | inl mover ↦
               let here : site_at split.code another ≡ Some host = on_it ∙ ap Some mover.same in
-              let now : slice_index (slice_set old.frames site.0 (slice_index old.frames site.0 + 1)) another.0 ≤ count =
+              let now : slice_index (slice_set old.frames site.0 (slice_index old.frames site.0 + 1)) another.0
+              ≤ count =
               subst (λ list. slice_index list another.0 ≤ count)
               (ap (λ (s : HostShape). s.frames) mover.is ∙ frames) least in
               holds.fresh host old another count obeys here (lower another.0 count now)

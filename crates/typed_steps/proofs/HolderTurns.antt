@@ -15,7 +15,8 @@ use Rattle.host_code.specs.declared.instruction.Op.TheVariants as op
 use Rattle.host_code.specs.Code.{field_at, entry_at, instruction_at, part_of, host_of_site}
 use Rattle.host_code.specs.Sound.{IsEntryOn, OperationFits}
 use Rattle.host_core.specs.Host.{HostShape, Outcome, with_running}
-use Rattle.host_core.specs.Turn.{after_own_push, after_operation, PassesWith, IsRunning, IsTurn, IsTurnOf, label_of_turn}
+use Rattle.host_core.specs.Turn.{after_own_push, after_operation, PassesWith, IsRunning, IsTurn, IsTurnOf}
+use Rattle.host_core.specs.Turn.{label_of_turn}
 use Rattle.host_core.specs.Turn.{label_of_thread}
 use Rattle.split_rules.specs.Asking.{IsGranted}
 use Rattle.split_rules.specs.Pace.{IsPacedOp}

@@ -144,7 +144,8 @@ reads_known split c view host frame new_frame call here rest no_call first other
           (own_reads (statement_due d))) (sym (keeps.is ∙ ap positions.keep keeps.keeping.is)) tt
     ]
 reads_known split c view host frame new_frame call here rest (arguing statement set []) first others due left is = tt
-reads_known split c view host frame new_frame call here rest (arguing statement set (next ∷ others_left)) first others due left is =
+reads_known split c view host frame new_frame call here rest (arguing statement set (next ∷ others_left)) first others
+    due left is =
     let both : positions.run statement ∷ is.others ≡ first ∷ others = sym is.due_first ∙ due in
     let one : positions.run statement ≡ first = cc in
     let block = trees.call is.heading is.site is.method is.arguments is.into done in
@@ -541,7 +542,8 @@ put_at split c view host thread variables at agrees field index nodes law =
 
 -- ---- forwards
 
-pub record SendsNext (split : Split) (c : Configuration) (view : View) (host : HostId) (thread : ThreadShape) (x : VarId)
+pub record SendsNext (split : Split) (c : Configuration) (view : View) (host : HostId) (thread : ThreadShape)
+    (x : VarId)
     (to : HostId) : Type 0 where
   pub from : BlockTree
   pub left : List Forward

@@ -345,5 +345,6 @@ nobody_reads principals labelled planned are unread place method x is result wit
     ∙ ap (option_map (readers_of uses)) (number_there many x.0 within)
     ∙ ap Some none in
     let nobody : reads_on planned x host ≡ false =
-    ap (λ found. list_any (λ statement. nat_eq (statement_host planned.plan statement).0 host) (unwrap_or found [])) row in
+    ap (λ found. list_any (λ statement. nat_eq (statement_host planned.plan statement).0 host) (unwrap_or found []))
+    row in
     cc

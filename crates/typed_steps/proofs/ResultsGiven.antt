@@ -142,7 +142,8 @@ return_at split c view host thread variables at agrees is_chain named x nodes la
     subst (λ l. FitsOver split view.naming l call view.chain) law.5 at.fits x law.6 in
     let block = trees.call awaited.heading awaited.site method awaited.arguments awaited.into done in
     let top = awaited.top in
-    let is_top = top_linked split view.naming view.chain top awaited.below token block awaited.others is_chain awaited.is
+    let is_top = top_linked split view.naming view.chain top awaited.below token block awaited.others is_chain
+    awaited.is
     (sym at.held ∙ held) awaited.due in
     elim (front_of split c view.keeper call here.due (chain_due split view.chain) law.0 [] law.2.due at.left) [
       | inl runs ↦
@@ -209,7 +210,11 @@ return_at split c view host thread variables at agrees is_chain named x nodes la
                 ∙ ap (λ y. source.keep top.call kept.into y ∷ map item_of kept.others) result_x;
             sees = subst (λ y. MayReturn split.code (variable_at split.code y) token.host) result_x
                 (kept.keeping.sees token.host stands);
-            at = cleared split next (record view { values = values_set view.values top.call x.0 given; keeper = token.host })
+            at = cleared split next (record view {
+              values = values_set view.values top.call x.0 given;
+              keeper =
+                  token.host;
+            })
                 host thread _ call (subst (λ n. call < n) (sym long) at.made) at.held (record {
                   left = runs.behind;
                   pending = refl;

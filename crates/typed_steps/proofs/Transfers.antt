@@ -179,7 +179,8 @@ starts_at split c view chain call number there frame token is made count frame_i
       held = held;
       left = subst (λ list. IsLeft split c view.keeper (under call list ++ chain_due split chain)) due left;
       fits = subst (λ l. FitsOver split view.naming l call chain) level fits;
-      calling = subst (λ (p : Position). IsCalling split c view.naming view.values call there.host frame frame call p.due
+      calling = subst (λ (p : Position). IsCalling split c view.naming view.values call there.host frame frame call
+          p.due
           p.calling) (sym calm_there) (count, frame_is, refl);
       forwards = ap (λ (p : Position). p.forwards) calm_there;
       settled = inl refl;
@@ -387,7 +388,8 @@ divided split c host call thread variables agrees here holds statement behind _ 
 
 -- no result is given back by a guard
 guards_only : (here : Position) (what : StmtKind) (heading : Heading) (others : List Due) (nodes : List Node)
-    (next target : Position) → Branches here (positions.run (statement_tree what heading done)) others nodes next target →
+    (next target : Position) → Branches here (positions.run (statement_tree what heading done)) others nodes next
+    target →
     IsReturn what → ⊥
 guards_only here (kind.Return value) heading others nodes next target law returns = law
 guards_only here _ heading others nodes next target law returns = returns
@@ -406,7 +408,8 @@ at_either : (split : Split) (after : Configuration) (view : View) (host : HostId
     BeginsPlainly skipped → AreReturned split taken → AreReturned split skipped →
     after.pending ≡ map item_of (if b then skipped else taken) →
     IsAt split after view host (if b then record (after_clearing thread) { at = target } else after_clearing thread)
-at_either split after view host thread target call level taken skipped next aim true made held fits calling none is there
+at_either split after view host thread target call level taken skipped next aim true made held fits calling none is
+    there
     calm_next calm_aim one two known also plainly plainly_too returned returned_too pending =
     cleared split after view host thread aim call made held (record {
       left = skipped;
@@ -420,7 +423,8 @@ at_either split after view host thread target call level taken skipped next aim 
     thread.new_frame call p.due p.calling) (sym calm_aim) calling)
     (ap (λ (p : Position). p.forwards) calm_aim ∙ sym none) (inl none) (ap (λ (p : Position). p.reads) calm_aim) target
     there
-at_either split after view host thread target call level taken skipped next aim false made held fits calling none is there
+at_either split after view host thread target call level taken skipped next aim false made held fits calling none is
+    there
     calm_next calm_aim one two known also plainly plainly_too returned returned_too pending =
     cleared split after view host thread next call made held (record {
       left = taken;

@@ -21,13 +21,15 @@ use Rattle.jif_parse.proofs.OperandParts.{change_value_fails, change_label_fails
 use Rattle.jif_parse.proofs.OperandParts.{number_read, operand_unexpected, nothing_next, other_next}
 use Rattle.jif_parse.proofs.+expressions.Goals as goal
 
-pub expressions::expression-returns-in_err-take-clause-fails : goal.expressions::expression-returns-in_err-take-clause-fails
+pub expressions::expression-returns-in_err-take-clause-fails :
+    goal.expressions::expression-returns-in_err-take-clause-fails
 expressions::expression-returns-in_err-take-clause-fails t c =
     handed_on (FailsExpr c.args.cursor.now c.args.depth c.args.depth) c.in_err-take.field-0.0
     c.from_residual-in_err-take.result c.from_residual-in_err-take.ensures
     (operator_fails c.in-Some.operator c.loop-operator.invariant (c.in-Some.ensures.found).1 c.in_err-take.ensures.over)
 
-pub expressions::expression-returns-in_err-right-clause-fails : goal.expressions::expression-returns-in_err-right-clause-fails
+pub expressions::expression-returns-in_err-right-clause-fails :
+    goal.expressions::expression-returns-in_err-right-clause-fails
 expressions::expression-returns-in_err-right-clause-fails t c =
     handed_on (FailsExpr c.args.cursor.now c.args.depth c.args.depth) c.in_err-right.field-0.0
     c.from_residual-in_err-right.result c.from_residual-in_err-right.ensures
@@ -37,7 +39,8 @@ expressions::expression-returns-in_err-right-clause-fails t c =
 pub expressions::expression-loop-operator-preserved : goal.expressions::expression-loop-operator-preserved
 expressions::expression-loop-operator-preserved t c =
     with_right c.in-Some.operator c.in_ok-left-2.left c.loop-operator.invariant (c.in-Some.ensures.found).0
-    (c.in-Some.ensures.found).1 c.in_ok-take.ensures.counted (subst (λ n. ReadsExpr c.take.new.self c.expression.new.cursor (n + 1) c.args.depth c.args.depth
+    (c.in-Some.ensures.found).1 c.in_ok-take.ensures.counted
+    (subst (λ n. ReadsExpr c.take.new.self c.expression.new.cursor (n + 1) c.args.depth c.args.depth
     c.in_ok-right.right) c.level_of.ensures c.in_ok-right.ensures.read)
     c.in_ok-left-2.ensures.draft
 
@@ -50,7 +53,8 @@ pub expressions::up_to-returns-in_err-expect-clause-fails : goal.expressions::up
 expressions::up_to-returns-in_err-expect-clause-fails t c =
     handed_on (FailsUpTo c.args.cursor.now (closing_of c.args.ending) c.args.depth) c.in_err-expect.field-0.0
     c.from_residual-in_err-expect.result c.from_residual-in_err-expect.ensures
-    (up_to_fails (closing_of c.args.ending) (no_comma c.args.ending c.expression.new.cursor) c.in_ok-value.ensures.read (
+    (up_to_fails (closing_of c.args.ending) (no_comma c.args.ending c.expression.new.cursor)
+    c.in_ok-value.ensures.read (
       c.in_err-expect.ensures.other.0,
       subst (λ s. ¬ IsNextSymbol c.expression.new.cursor s) c.symbol.ensures
           c.in_err-expect.ensures.other.1,
@@ -68,13 +72,15 @@ operands::named-returns-then-not-is_next-clause-read t c =
 
 pub operands::named-returns-in_err-take-2-clause-fails : goal.operands::named-returns-in_err-take-2-clause-fails
 operands::named-returns-in_err-take-2-clause-fails t c =
-    handed_on (FailsExpr c.args.cursor.now c.args.depth c.args.inner) c.in_err-take-2.field-0.0 c.from_residual-in_err-take-2.result
+    handed_on (FailsExpr c.args.cursor.now c.args.depth c.args.inner) c.in_err-take-2.field-0.0
+    c.from_residual-in_err-take-2.result
     c.from_residual-in_err-take-2.ensures (bracket_over c.args.name.now c.requires.next c.in_ok-take.ensures.counted
     (c.is_next.ensures.0 c.if-not-is_next.false) c.in_err-take-2.ensures.over)
 
 pub operands::named-returns-in_err-index-clause-fails : goal.operands::named-returns-in_err-index-clause-fails
 operands::named-returns-in_err-index-clause-fails t c =
-    handed_on (FailsExpr c.args.cursor.now c.args.depth c.args.inner) c.in_err-index.field-0.0 c.from_residual-in_err-index.result
+    handed_on (FailsExpr c.args.cursor.now c.args.depth c.args.inner) c.in_err-index.field-0.0
+    c.from_residual-in_err-index.result
     c.from_residual-in_err-index.ensures (index_fails c.args.name.now c.requires.next c.in_ok-take.ensures.counted
     (c.is_next.ensures.0 c.if-not-is_next.false) c.in_ok-take-2.ensures.counted c.in_err-index.ensures.fails)
 
@@ -101,7 +107,8 @@ operands::operand-returns-in_ok-take-in-Number-clause-read t c =
 
 pub operands::operand-returns-in-Other-clause-fails : goal.operands::operand-returns-in-Other-clause-fails
 operands::operand-returns-in-Other-clause-fails t c =
-    operand_unexpected c.unexpected-in-Other.ensures (other_next c.args.cursor.now c.in-Some.token.now c.in-Some.ensures.there
+    operand_unexpected c.unexpected-in-Other.ensures
+    (other_next c.args.cursor.now c.in-Some.token.now c.in-Some.ensures.there
     c.in-Other.ensures)
 
 pub operands::parenthesized-returns-clause-read : goal.operands::parenthesized-returns-clause-read
@@ -116,15 +123,19 @@ operands::parenthesized-returns-clause-fails t c =
     (FailsExpr c.args.cursor.now c.args.depth c.args.inner)
     (λ error fails. parenthesized_fails c.requires.next c.in_ok-take.ensures.counted fails) c.up_to.ensures.fails
 
-pub operands::relabelled-returns-in_err-expect-clause-fails : goal.operands::relabelled-returns-in_err-expect-clause-fails
+pub operands::relabelled-returns-in_err-expect-clause-fails :
+    goal.operands::relabelled-returns-in_err-expect-clause-fails
 operands::relabelled-returns-in_err-expect-clause-fails t c =
-    handed_on (FailsExpr c.args.cursor.now c.args.depth c.args.inner) c.in_err-expect.field-0.0 c.from_residual-in_err-expect.result
-    c.from_residual-in_err-expect.ensures (change_open_fails (change_of c.args.change) c.requires.next c.in_ok-take.ensures.counted
+    handed_on (FailsExpr c.args.cursor.now c.args.depth c.args.inner) c.in_err-expect.field-0.0
+    c.from_residual-in_err-expect.result
+    c.from_residual-in_err-expect.ensures (change_open_fails
+    (change_of c.args.change) c.requires.next c.in_ok-take.ensures.counted
     c.in_err-expect.ensures.other)
 
 pub operands::relabelled-returns-in_err-value-clause-fails : goal.operands::relabelled-returns-in_err-value-clause-fails
 operands::relabelled-returns-in_err-value-clause-fails t c =
-    handed_on (FailsExpr c.args.cursor.now c.args.depth c.args.inner) c.in_err-value.field-0.0 c.from_residual-in_err-value.result
+    handed_on (FailsExpr c.args.cursor.now c.args.depth c.args.inner) c.in_err-value.field-0.0
+    c.from_residual-in_err-value.result
     c.from_residual-in_err-value.ensures (change_value_fails (change_of c.args.change) (record {
       first = c.take.new.self;
       is = c.requires.next;
@@ -134,7 +145,8 @@ operands::relabelled-returns-in_err-value-clause-fails t c =
 
 pub operands::relabelled-returns-in_err-label-clause-fails : goal.operands::relabelled-returns-in_err-label-clause-fails
 operands::relabelled-returns-in_err-label-clause-fails t c =
-    handed_on (FailsExpr c.args.cursor.now c.args.depth c.args.inner) c.in_err-label.field-0.0 c.from_residual-in_err-label.result
+    handed_on (FailsExpr c.args.cursor.now c.args.depth c.args.inner) c.in_err-label.field-0.0
+    c.from_residual-in_err-label.result
     c.from_residual-in_err-label.ensures (change_label_fails (change_of c.args.change) (record {
       first = c.take.new.self;
       is = c.requires.next;
@@ -143,9 +155,11 @@ operands::relabelled-returns-in_err-label-clause-fails t c =
     }) c.in_ok-value.ensures.read
     c.in_err-label.ensures.fails)
 
-pub operands::relabelled-returns-in_err-expect-2-clause-fails : goal.operands::relabelled-returns-in_err-expect-2-clause-fails
+pub operands::relabelled-returns-in_err-expect-2-clause-fails :
+    goal.operands::relabelled-returns-in_err-expect-2-clause-fails
 operands::relabelled-returns-in_err-expect-2-clause-fails t c =
-    handed_on (FailsExpr c.args.cursor.now c.args.depth c.args.inner) c.in_err-expect-2.field-0.0 c.from_residual-in_err-expect-2.result
+    handed_on (FailsExpr c.args.cursor.now c.args.depth c.args.inner) c.in_err-expect-2.field-0.0
+    c.from_residual-in_err-expect-2.result
     c.from_residual-in_err-expect-2.ensures (change_end_fails (change_of c.args.change) (record {
       first = c.take.new.self;
       is = c.requires.next;
@@ -169,8 +183,10 @@ operands::relabelled-returns-clause-read t c =
 
 pub operands::signed-returns-in_err-value-clause-fails : goal.operands::signed-returns-in_err-value-clause-fails
 operands::signed-returns-in_err-value-clause-fails t c =
-    handed_on (FailsExpr c.args.cursor.now c.args.depth c.args.inner) c.in_err-value.field-0.0 c.from_residual-in_err-value.result
-    c.from_residual-in_err-value.ensures (signed_fails (sign_of c.args.sign) c.requires.next c.in_ok-take.ensures.counted
+    handed_on (FailsExpr c.args.cursor.now c.args.depth c.args.inner) c.in_err-value.field-0.0
+    c.from_residual-in_err-value.result
+    c.from_residual-in_err-value.ensures (signed_fails
+    (sign_of c.args.sign) c.requires.next c.in_ok-take.ensures.counted
     c.in_err-value.ensures.fails)
 
 pub operands::signed-returns-clause-read : goal.operands::signed-returns-clause-read

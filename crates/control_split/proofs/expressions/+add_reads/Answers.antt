@@ -19,7 +19,8 @@ pub returns-in_ok-code_expr-in-Element-clause-trace :
 returns-in_ok-code_expr-in-Element-clause-trace t c =
     let place = c.args.place.now in
     rw c.in-Element.is
-    (on_ok_weaker c.read-in-Element.result (reads_both c.args.trace.now c.add_reads.new.trace c.read-in-Element.new.trace
+    (on_ok_weaker c.read-in-Element.result (reads_both c.args.trace.now c.add_reads.new.trace
+    c.read-in-Element.new.trace
     place.host place.label.now place.statement (readings_of c.args.first (expr_tree c.in-Element.index.value))
     (record { field = c.in-Element.field; index = nodes_of c.args.first (expr_tree c.in-Element.index.value) } ∷ [])
     (rw c.deref.ensures at c.in_ok-next-in-Element.ensures.trace))

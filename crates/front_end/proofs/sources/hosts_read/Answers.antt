@@ -10,4 +10,5 @@ pub returns-in-Err-clause-read : goal.returns-in-Err-clause-read
 returns-in-Err-clause-read c = λ h loaded.
     refusal_stops (RefusesHosts h) hosts_error.OutOfMemory
     (λ (why : HostsError). hosts_refused (refusal_shape why)) c.in-Err.why c.hosts_refused.result c.stopped.result
-    (c.in-Err.ensures.read h loaded) c.hosts_refused.ensures.refused c.hosts_refused.ensures.not_memory c.stopped.ensures
+    (c.in-Err.ensures.read h loaded) c.hosts_refused.ensures.refused c.hosts_refused.ensures.not_memory
+    c.stopped.ensures

@@ -18,7 +18,8 @@ push_block-returns t c =
 
 pub push_nested-returns-in_ok-push_block-in-If-2 : goal.push_nested-returns-in_ok-push_block-in-If-2
 push_nested-returns-in_ok-push_block-in-If-2 t c =
-    if_parts block_lines kind_lines lines_nest _ _ _ _ _ _ _ _ _ c.in-If.is (ap (λ (xs : List Stmt). block_lines (block_tree xs)) c.deref.ensures.value)
+    if_parts block_lines kind_lines lines_nest _ _ _ _ _ _ _ _ _ c.in-If.is
+    (ap (λ (xs : List Stmt). block_lines (block_tree xs)) c.deref.ensures.value)
     (ap (λ (xs : List Stmt). block_lines (block_tree xs)) c.deref-in-If.ensures.value)
     c.in_ok-push_block-in-If.ensures c.in_ok-push_block-in-If-2.ensures
 

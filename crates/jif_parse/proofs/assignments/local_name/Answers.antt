@@ -9,7 +9,11 @@ pub returns-in_err-label-clause-fails : goal.returns-in_err-label-clause-fails
 returns-in_err-label-clause-fails c =
     handed_on (FailsLocalName c.args.cursor.now) c.in_err-label.field-0.0 c.from_residual.result
     c.from_residual.ensures
-    (label_fails (record { is_next = c.if-is_next.ensures.0 refl; passes = c.pass.ensures }) c.in_err-label.ensures.fails)
+    (label_fails (record {
+      is_next = c.if-is_next.ensures.0 refl;
+      passes =
+          c.pass.ensures;
+    }) c.in_err-label.ensures.fails)
 
 pub returns-in_err-name-clause-fails : goal.returns-in_err-name-clause-fails
 returns-in_err-name-clause-fails c =

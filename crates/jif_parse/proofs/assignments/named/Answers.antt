@@ -25,12 +25,17 @@ returns-in_err-index-clause-fails c =
     handed_on (FailsStatement c.args.cursor.now c.args.depth) c.in_err-index.field-0.0
     c.from_residual-in_err-index.result c.from_residual-in_err-index.ensures
     (element_statement_fails c.requires.nested c.requires.next c.in_ok-take.ensures.counted
-    (record { is_next = c.if-is_next-2.ensures.0 refl; passes = c.pass-then-is_next-2.ensures }) c.in_err-index.ensures.fails)
+    (record { is_next = c.if-is_next-2.ensures.0 refl; passes = c.pass-then-is_next-2.ensures })
+    c.in_err-index.ensures.fails)
 
 pub returns-then-is_next-2-clause-read : goal.returns-then-is_next-2-clause-read
 returns-then-is_next-2-clause-read c =
     element_statement_read c.widths_of_phrases.ensures c.requires.nested c.requires.next c.in_ok-name.ensures.draft
-    c.in_ok-take.ensures.counted (record { is_next = c.if-is_next-2.ensures.0 refl; passes = c.pass-then-is_next-2.ensures })
+    c.in_ok-take.ensures.counted (record {
+      is_next = c.if-is_next-2.ensures.0 refl;
+      passes =
+          c.pass-then-is_next-2.ensures;
+    })
     c.in_ok-index.ensures.read
 
 pub returns-in_err-expect-clause-fails : goal.returns-in_err-expect-clause-fails

@@ -29,7 +29,8 @@ returns-in_err-expect-clause-fails c =
 
 pub returns-then-not-is_next-clause-read : goal.returns-then-not-is_next-clause-read
 returns-then-not-is_next-clause-read c =
-    args_end c.requires c.loop-args.invariant c.in_ok-arg.ensures.read c.in_ok-expect.ensures.passed c.push.new.self.items
+    args_end c.requires c.loop-args.invariant c.in_ok-arg.ensures.read c.in_ok-expect.ensures.passed
+    c.push.new.self.items
     c.in_ok-push.ensures.items
 
 pub loop-args-preserved : goal.loop-args-preserved

@@ -14,12 +14,21 @@ use Rattle.jif_parse.proofs.fields.first_value.Goals as goal
 pub returns-in_err-first-clause-fails : goal.returns-in_err-first-clause-fails
 returns-in_err-first-clause-fails c =
     handed_on (FailsFirst c.args.cursor.now) c.in_err-first.field-0.0 c.from_residual.result c.from_residual.ensures
-    (negative_fails (record { is_next = c.if-is_next.ensures.0 refl; passes = c.pass.ensures }) c.in_err-first.ensures.fails)
+    (negative_fails (record {
+      is_next = c.if-is_next.ensures.0 refl;
+      passes =
+          c.pass.ensures;
+    }) c.in_err-first.ensures.fails)
 
 pub returns-in_err-expect-clause-fails : goal.returns-in_err-expect-clause-fails
 returns-in_err-expect-clause-fails c =
-    handed_on (FailsFirst c.args.cursor.now) c.in_err-expect.field-0.0 c.from_residual-in_err-expect.result c.from_residual-in_err-expect.ensures
-    (negative_end_fails (record { is_next = c.if-is_next.ensures.0 refl; passes = c.pass.ensures }) c.in_ok-first.ensures.read
+    handed_on (FailsFirst c.args.cursor.now) c.in_err-expect.field-0.0 c.from_residual-in_err-expect.result
+    c.from_residual-in_err-expect.ensures
+    (negative_end_fails (record {
+      is_next = c.if-is_next.ensures.0 refl;
+      passes =
+          c.pass.ensures;
+    }) c.in_ok-first.ensures.read
     c.in_err-expect.ensures.other)
 
 pub returns-then-is_next-clause-read : goal.returns-then-is_next-clause-read
@@ -31,20 +40,28 @@ returns-then-is_next-clause-read c =
     let both : SFits w64 (neg_ℤ z) =
     subst (λ (x : ℤ). SFits w64 (neg_ℤ x)) (sym is)
     (neg_fits c.in_ok-first.ensures.read.number (subst (SFits w64) is fits)) in
-    rw (to_z-of_z w64 z fits, same, to_z-of_z w64 (neg_ℤ z) both) (negative_read (record { is_next = c.if-is_next.ensures.0 refl; passes = c.pass.ensures }) c.in_ok-first.ensures.read
+    rw (to_z-of_z w64 z fits, same, to_z-of_z w64 (neg_ℤ z) both)
+    (negative_read (record {
+      is_next = c.if-is_next.ensures.0 refl;
+      passes =
+          c.pass.ensures;
+    }) c.in_ok-first.ensures.read
     c.in_ok-expect.ensures.passed)
 
 pub returns-in_err-first-2-clause-fails : goal.returns-in_err-first-2-clause-fails
 returns-in_err-first-2-clause-fails c =
-    handed_on (FailsFirst c.args.cursor.now) c.in_err-first-2.field-0.0 c.from_residual-in_err-first-2.result c.from_residual-in_err-first-2.ensures
+    handed_on (FailsFirst c.args.cursor.now) c.in_err-first-2.field-0.0 c.from_residual-in_err-first-2.result
+    c.from_residual-in_err-first-2.ensures
     (first_fails (λ h. false≢true (c.if-is_next.ensures.1 h)) c.in_err-first-2.ensures.fails)
 
 pub returns-in_err-expect-2-clause-fails : goal.returns-in_err-expect-2-clause-fails
 returns-in_err-expect-2-clause-fails c =
-    handed_on (FailsFirst c.args.cursor.now) c.in_err-expect-2.field-0.0 c.from_residual-in_err-expect-2.result c.from_residual-in_err-expect-2.ensures
+    handed_on (FailsFirst c.args.cursor.now) c.in_err-expect-2.field-0.0 c.from_residual-in_err-expect-2.result
+    c.from_residual-in_err-expect-2.ensures
     (first_end_fails c.in_ok-first-2.ensures.read c.in_err-expect-2.ensures.other)
 
 pub returns-clause-read : goal.returns-clause-read
 returns-clause-read c =
     let fits : SFits w64 c.in_ok-first-2.first = search rules in
-    rw (to_z-of_z w64 c.in_ok-first-2.first fits) (first_read c.in_ok-first-2.ensures.read c.in_ok-expect-2.ensures.passed)
+    rw (to_z-of_z w64 c.in_ok-first-2.first fits)
+    (first_read c.in_ok-first-2.ensures.read c.in_ok-expect-2.ensures.passed)

@@ -16,19 +16,22 @@ returns-in_err-label-clause-fails c =
 
 pub returns-in_err-take-clause-fails : goal.returns-in_err-take-clause-fails
 returns-in_err-take-clause-fails c =
-    handed_on (FailsWhole c.args.cursor.now) c.in_err-take.field-0.0 c.from_residual-in_err-take.result c.from_residual-in_err-take.ensures
+    handed_on (FailsWhole c.args.cursor.now) c.in_err-take.field-0.0 c.from_residual-in_err-take.result
+    c.from_residual-in_err-take.ensures
     (int_method_over c.requires c.pass.ensures c.in_ok-label.ensures.read (c.if-is_next.ensures.0 refl)
     c.in_err-take.ensures.over)
 
 pub returns-in_err-begin-clause-fails : goal.returns-in_err-begin-clause-fails
 returns-in_err-begin-clause-fails c =
-    handed_on (FailsWhole c.args.cursor.now) c.in_err-begin.field-0.0 c.from_residual-in_err-begin.result c.from_residual-in_err-begin.ensures
+    handed_on (FailsWhole c.args.cursor.now) c.in_err-begin.field-0.0 c.from_residual-in_err-begin.result
+    c.from_residual-in_err-begin.ensures
     (begin_fails c.requires c.pass.ensures c.in_ok-label.ensures.read (c.if-is_next.ensures.0 refl)
     c.in_ok-take.ensures.counted c.in_err-begin.ensures.fails)
 
 pub returns-in_err-tail-clause-fails : goal.returns-in_err-tail-clause-fails
 returns-in_err-tail-clause-fails c =
-    handed_on (FailsWhole c.args.cursor.now) c.in_err-tail.field-0.0 c.from_residual-in_err-tail.result c.from_residual-in_err-tail.ensures
+    handed_on (FailsWhole c.args.cursor.now) c.in_err-tail.field-0.0 c.from_residual-in_err-tail.result
+    c.from_residual-in_err-tail.ensures
     (int_tail_fails c.requires c.pass.ensures c.in_ok-label.ensures.read (c.if-is_next.ensures.0 refl)
     c.in_ok-take.ensures.counted c.in_ok-begin.ensures.read c.in_err-tail.ensures.fails)
 
@@ -40,10 +43,13 @@ returns-then-is_next-clause-read c =
 
 pub returns-in_err-ending-clause-fails : goal.returns-in_err-ending-clause-fails
 returns-in_err-ending-clause-fails c =
-    handed_on (FailsWhole c.args.cursor.now) c.in_err-ending.field-0.0 c.from_residual-in_err-ending.result c.from_residual-in_err-ending.ensures
+    handed_on (FailsWhole c.args.cursor.now) c.in_err-ending.field-0.0 c.from_residual-in_err-ending.result
+    c.from_residual-in_err-ending.ensures
     (field_end_fails c.requires c.pass.ensures c.in_ok-label.ensures.read c.in_err-ending.ensures.fails)
 
 pub returns-clause-read : goal.returns-clause-read
 returns-clause-read c =
     let fits : SFits w64 c.in_ok-ending.ending.first = search rules in
-    rw (to_z-of_z w64 c.in_ok-ending.ending.first fits) (field_read c.widths_of_phrases.ensures c.requires c.pass.ensures c.in_ok-label.ensures.read c.in_ok-ending.ensures.read)
+    rw (to_z-of_z w64 c.in_ok-ending.ending.first fits)
+    (field_read c.widths_of_phrases.ensures c.requires c.pass.ensures c.in_ok-label.ensures.read
+    c.in_ok-ending.ensures.read)

@@ -18,7 +18,8 @@ loop-alloc-smaller c =
 
 pub loop-alloc-preserved : goal.loop-alloc-preserved
 loop-alloc-preserved c =
-    item_more c.loop-alloc.draft c.add.new.draft c.loop-alloc.invariant c.in_ok-next.ensures.read c.in_ok-add.ensures.added
+    item_more c.loop-alloc.draft c.add.new.draft c.loop-alloc.invariant c.in_ok-next.ensures.read
+    c.in_ok-add.ensures.added
 
 pub returns-clause-read : goal.returns-clause-read
 returns-clause-read c =

@@ -23,7 +23,8 @@ returns-in_err-policy-clause-fails c =
 
 pub returns-then-not-more-clause-read : goal.returns-then-not-more-clause-read
 returns-then-not-more-clause-read c =
-    parts_end c.loop-cursor.invariant (subst (ReadsPolicy c.loop-cursor.cursor c.policy.new.cursor c.in_ok-policy.policy) c.if-not-more.true
+    parts_end c.loop-cursor.invariant (subst (ReadsPolicy c.loop-cursor.cursor c.policy.new.cursor
+    c.in_ok-policy.policy) c.if-not-more.true
     c.in_ok-policy.ensures.read)
     (record { policies = c.push.new.self; trust = None }) c.push.new.self.items c.in_ok-push.ensures.items refl
 

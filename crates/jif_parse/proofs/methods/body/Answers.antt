@@ -12,7 +12,8 @@ returns-in_err-body-clause-fails c =
 
 pub returns-in_err-last-clause-fails : goal.returns-in_err-last-clause-fails
 returns-in_err-last-clause-fails c =
-    handed_on (FailsBody c.args.cursor.now) c.in_err-last.field-0.0 c.from_residual-in_err-last.result c.from_residual-in_err-last.ensures
+    handed_on (FailsBody c.args.cursor.now) c.in_err-last.field-0.0 c.from_residual-in_err-last.result
+    c.from_residual-in_err-last.ensures
     (body_return_fails c.in_ok-body.ensures.read c.in_err-last.ensures.fails)
 
 pub returns-then-is_word_next-clause-read : goal.returns-then-is_word_next-clause-read
@@ -21,7 +22,8 @@ returns-then-is_word_next-clause-read c =
 
 pub returns-in_err-expect-clause-fails : goal.returns-in_err-expect-clause-fails
 returns-in_err-expect-clause-fails c =
-    handed_on (FailsBody c.args.cursor.now) c.in_err-expect.field-0.0 c.from_residual-in_err-expect.result c.from_residual-in_err-expect.ensures
+    handed_on (FailsBody c.args.cursor.now) c.in_err-expect.field-0.0 c.from_residual-in_err-expect.result
+    c.from_residual-in_err-expect.ensures
     (body_end_fails c.in_ok-body.ensures.read (λ h. false≢true (c.if-is_word_next.ensures.1 h))
     c.in_err-expect.ensures.other)
 

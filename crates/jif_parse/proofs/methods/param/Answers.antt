@@ -16,7 +16,8 @@ returns-in_err-take-clause-fails c =
 
 pub returns-in_err-label-clause-fails : goal.returns-in_err-label-clause-fails
 returns-in_err-label-clause-fails c =
-    handed_on (FailsParam c.args.cursor.now) c.in_err-label.field-0.0 c.from_residual-in_err-label.result c.from_residual-in_err-label.ensures
+    handed_on (FailsParam c.args.cursor.now) c.in_err-label.field-0.0 c.from_residual-in_err-label.result
+    c.from_residual-in_err-label.ensures
     (param_fails (c.if-not-is_word_next.ensures.0 refl) c.in_ok-take.ensures.counted c.in_err-label.ensures.fails)
 
 pub returns-clause-read : goal.returns-clause-read

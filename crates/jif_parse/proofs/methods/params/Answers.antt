@@ -2,7 +2,8 @@ use Rattle.std.proofs.Common.{refl}
 use Rattle.std.proofs.lemmas.Bool.{false≢true}
 use Rattle.jif_parse.proofs.Exits.{handed_on}
 use Rattle.jif_parse.specs.Methods.{FailsParams}
-use Rattle.jif_parse.proofs.MethodParts.{params_none_read, no_params, params_fail, params_end_fail, params_end, params_more}
+use Rattle.jif_parse.proofs.MethodParts.{params_none_read, no_params, params_fail, params_end_fail, params_end}
+use Rattle.jif_parse.proofs.MethodParts.{params_more}
 use Rattle.jif_parse.proofs.MethodParts.{params_fall}
 use Rattle.jif_parse.proofs.methods.params.Goals as goal
 
@@ -22,7 +23,8 @@ returns-in_err-param-clause-fails c =
 
 pub returns-in_err-expect-clause-fails : goal.returns-in_err-expect-clause-fails
 returns-in_err-expect-clause-fails c =
-    handed_on (FailsParams c.args.cursor.now) c.in_err-expect.field-0.0 c.from_residual-in_err-expect.result c.from_residual-in_err-expect.ensures
+    handed_on (FailsParams c.args.cursor.now) c.in_err-expect.field-0.0 c.from_residual-in_err-expect.result
+    c.from_residual-in_err-expect.ensures
     (params_end_fail c.loop-params.invariant c.in_ok-param.ensures.read
     (λ h. false≢true (c.if-not-is_next.ensures.1 h)) c.in_err-expect.ensures.other)
 

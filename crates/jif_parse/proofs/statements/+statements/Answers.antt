@@ -56,7 +56,8 @@ pub guarded-returns-in_err-block-clause-fails : goal.guarded-returns-in_err-bloc
 guarded-returns-in_err-block-clause-fails t c =
     handed_on (FailsGuarded c.args.cursor.now c.args.depth) c.in_err-block.field-0.0
     c.from_residual-in_err-block.result c.from_residual-in_err-block.ensures
-    (guarded_block_fails c.requires c.in_ok-expect.ensures.passed c.in_ok-guard.ensures.read c.in_err-block.ensures.fails)
+    (guarded_block_fails c.requires c.in_ok-expect.ensures.passed c.in_ok-guard.ensures.read
+    c.in_err-block.ensures.fails)
 
 pub guarded-returns-clause-read : goal.guarded-returns-clause-read
 guarded-returns-clause-read t c =
@@ -76,7 +77,8 @@ branch-returns-in_err-guard-clause-fails t c =
 pub branch-returns-then-not-is_word_next-clause-read :
     goal.branch-returns-then-not-is_word_next-clause-read
 branch-returns-then-not-is_word_next-clause-read t c =
-    if_read c.in_ok-guard.yes c.new-no.result c.widths_of_phrases.ensures c.requires.next c.in_ok-take.ensures.counted c.in_ok-guard.ensures.read
+    if_read c.in_ok-guard.yes c.new-no.result c.widths_of_phrases.ensures c.requires.next c.in_ok-take.ensures.counted
+    c.in_ok-guard.ensures.read
     (λ h. false≢true (c.if-not-is_word_next.ensures.1 h)) c.new-no.ensures.items
 
 pub branch-braced-requires : goal.branch-braced-requires
@@ -91,7 +93,8 @@ branch-returns-in_err-no-clause-fails t c =
 
 pub branch-returns-clause-read : goal.branch-returns-clause-read
 branch-returns-clause-read t c =
-    else_read c.in_ok-guard.yes c.in_ok-no.no c.widths_of_phrases.ensures c.requires.nested c.requires.next c.in_ok-take.ensures.counted
+    else_read c.in_ok-guard.yes c.in_ok-no.no c.widths_of_phrases.ensures c.requires.nested c.requires.next
+    c.in_ok-take.ensures.counted
     c.in_ok-guard.ensures.read (c.if-not-is_word_next.ensures.0 refl) c.pass.ensures c.in_ok-no.ensures.read
 
 -- ---- `while`
@@ -108,7 +111,8 @@ repetition-returns-in_err-guard-clause-fails t c =
 
 pub repetition-returns-clause-read : goal.repetition-returns-clause-read
 repetition-returns-clause-read t c =
-    while_read c.in_ok-guard.body c.widths_of_phrases.ensures c.requires.next c.in_ok-take.ensures.counted c.in_ok-guard.ensures.read
+    while_read c.in_ok-guard.body c.widths_of_phrases.ensures c.requires.next c.in_ok-take.ensures.counted
+    c.in_ok-guard.ensures.read
 
 -- ---- statements
 

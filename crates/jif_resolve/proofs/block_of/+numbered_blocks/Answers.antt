@@ -24,7 +24,8 @@ block_of-statement_of-requires t c =
       omega (arith, count),
       (
         made_clean x c.loop-draft.invariant c.loop-draft-test.true c.draft-item.is,
-        made_counted x c.requires.clean c.requires.counted c.loop-draft.invariant c.loop-draft-test.true c.draft-item.is,
+        made_counted x c.requires.clean c.requires.counted c.loop-draft.invariant c.loop-draft-test.true
+            c.draft-item.is,
       ),
     )
 

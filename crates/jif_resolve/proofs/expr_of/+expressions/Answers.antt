@@ -71,7 +71,8 @@ expr_of-negation_of-requires t c =
 
 pub expr_of-binary_of-requires : goal.expr_of-binary_of-requires
 expr_of-binary_of-requires t c =
-    let smaller : nodes_in (expr_shape c.deref-in-Binary.result.now) + nodes_in (expr_shape c.deref-in-Binary-2.result.now)
+    let smaller : nodes_in (expr_shape c.deref-in-Binary.result.now) + nodes_in
+    (expr_shape c.deref-in-Binary-2.result.now)
     < nodes_in (expr_shape c.args.draft.now) =
     rw (c.deref-in-Binary.ensures, c.deref-in-Binary-2.ensures)
     (rw c.in-Binary.is (both_fall (expr_shape c.in-Binary.left.value) (expr_shape c.in-Binary.right.value))) in (

@@ -23,4 +23,5 @@ loop-number-preserved c =
 
 pub returns : goal.returns
 returns c =
-    added_all c.loop-number.invariant (no_methods c.args.methods.now c.loop-number.number c.loop-number-test.false) [] tt
+    added_all c.loop-number.invariant (no_methods c.args.methods.now c.loop-number.number c.loop-number-test.false) []
+    tt

@@ -4,7 +4,8 @@ use Rattle.label_check.proofs.assignments.assign_field.Goals as goal
 
 pub returns-in_err-from-clause-err : goal.returns-in_err-from-clause-err
 returns-in_err-from-clause-err c =
-    handed_on c.from_residual.result c.from_residual.ensures (asked_before c.args.statement _ _ c.in_err-from.ensures.err)
+    handed_on c.from_residual.result c.from_residual.ensures
+    (asked_before c.args.statement _ _ c.in_err-from.ensures.err)
 
 pub returns-clause-ok : goal.returns-clause-ok
 returns-clause-ok c =

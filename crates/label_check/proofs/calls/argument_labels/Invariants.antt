@@ -9,7 +9,9 @@ use Rattle.label_check.proofs.calls.argument_labels.Given as goal
 -- the arguments so far have these labels, and what they ask for is met
 abbrev pub invariant-loop-arg : goal.invariant-loop-arg
 invariant-loop-arg l = record {
-  labels : l.found.items ≡ map (expr_label (setting_at l.place) l.pc l.labels) (map expr_tree (take l.arg-index l.args));
+  labels : l.found.items ≡ map (expr_label (setting_at l.place) l.pc l.labels)
+      (map expr_tree (take l.arg-index l.args));
   met : AreMet l.place.principals.now
-      (asked l.statement (asked_for_all (expr_constraints (setting_at l.place) l.pc l.labels) (take l.arg-index l.args)));
+      (asked l.statement (asked_for_all (expr_constraints (setting_at l.place) l.pc l.labels)
+      (take l.arg-index l.args)));
 }

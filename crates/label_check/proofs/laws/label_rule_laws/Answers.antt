@@ -5,7 +5,8 @@ use Rattle.label_check.proofs.laws.label_rule_laws.Goals as goal
 pub returns : goal.returns
 returns c =
     let laws = c.label_laws.ensures in
-    let order : (principals : Declared) → IsDeclared principals → LabelOrder principals = λ principals declared. record {
+    let order : (principals : Declared) → IsDeclared principals → LabelOrder principals =
+    λ principals declared. record {
       same = laws.reflexive;
       on = laws.transitive;
       above = λ first second one other.

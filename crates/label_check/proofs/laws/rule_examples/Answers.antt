@@ -12,7 +12,8 @@ use Rattle.label_check.proofs.laws.rule_examples.Goals as goal
 not_both : (bit : ℕ) → bit ≡ 0 → bit ≡ 1 → ⊥
 not_both bit clear set = omega arith
 
-forbidden : Forbids (join_of (bottom_of only_alice) (join_of empty_label (join_of secret (bottom_of only_alice)))) 0 outsider
+forbidden : Forbids (join_of (bottom_of only_alice) (join_of empty_label (join_of secret (bottom_of only_alice)))) 0
+    outsider
 unfolding join_of bottom_of empty_label
 forbidden = refl
 

@@ -9,7 +9,8 @@ use Rattle.label_check.proofs.permissions.is_trusted.Goals as goal
 
 pub loop-member-preserved : goal.loop-member-preserved
 loop-member-preserved c =
-    All-more (λ member. Trusts c.args.label.now member.0) c.args.authority.now c.loop-member.member-index _ (omega arith)
+    All-more (λ member. Trusts c.args.label.now member.0) c.args.authority.now c.loop-member.member-index _
+    (omega arith)
     c.loop-member.invariant (c.trusts.ensures.0 c.if-not-trusts.false)
 
 pub returns-then-not-trusts : goal.returns-then-not-trusts

@@ -15,7 +15,8 @@ use Rattle.label_check.proofs.Arguments.{call_asks}
 use Rattle.label_check.specs.Places.{asks_of, PassesTo, setting_at}
 use Rattle.label_check.proofs.Asked.{refused_before}
 use Rattle.label_check.proofs.Exits.{handed_on}
-use Rattle.label_check.proofs.Passing.{refused_for_rest, handed_on_rest, passes_none, passes_on, refused_left, loop_passes, loop_refused}
+use Rattle.label_check.proofs.Passing.{refused_for_rest, handed_on_rest, passes_none, passes_on, refused_left}
+use Rattle.label_check.proofs.Passing.{loop_passes, loop_refused}
 use Rattle.label_check.proofs.Passing.{branch_passes, first_refused, second_refused}
 use Rattle.label_check.proofs.statements.+blocks.Goals as goal
 
@@ -30,7 +31,8 @@ check_block-returns-in_err-check_statement-clause-err t c =
     let rest = drop (suc c.loop-statement.statement-index) c.args.statements.now in
     let Q : List Stmt → Type 0 = λ left.
     Refuses c.args.place.now.principals.now
-    (asks_of c.args.place.now c.args.pc.now c.loop-statement.found (block_tree left)) c.in_err-check_statement.field-0.0 in
+    (asks_of c.args.place.now c.args.pc.now c.loop-statement.found (block_tree left))
+    c.in_err-check_statement.field-0.0 in
     handed_on c.from_residual.result c.from_residual.ensures
     (refused_left c.loop-statement.invariant
     (subst Q (sym (next_of c.args.statements.now c.loop-statement.statement-index c.statement-item.result
@@ -61,23 +63,29 @@ check_block-returns-clause-ok t c =
 pub check_statement-returns-in_err-assign_variable-in-Let-clause-err :
     goal.check_statement-returns-in_err-assign_variable-in-Let-clause-err
 check_statement-returns-in_err-assign_variable-in-Let-clause-err t c =
-    handed_on_rest (λ (rest : BlockTree). asks_of c.args.place.now c.args.pc.now c.args.found.now (tree_before c.args.statement.now rest))
+    handed_on_rest (λ (rest : BlockTree). asks_of c.args.place.now c.args.pc.now c.args.found.now
+    (tree_before c.args.statement.now rest))
     c.from_residual.result c.from_residual.ensures
     (λ rest. rw c.in-Let.is (refused_before _ (c.in_err-assign_variable-in-Let.ensures.err)))
 
 pub check_statement-returns-in_err-assign_field-in-SetField-clause-err :
     goal.check_statement-returns-in_err-assign_field-in-SetField-clause-err
 check_statement-returns-in_err-assign_field-in-SetField-clause-err t c =
-    handed_on_rest (λ (rest : BlockTree). asks_of c.args.place.now c.args.pc.now c.args.found.now (tree_before c.args.statement.now rest))
+    handed_on_rest (λ (rest : BlockTree). asks_of c.args.place.now c.args.pc.now c.args.found.now
+    (tree_before c.args.statement.now rest))
     c.from_residual-in_err-assign_field-in-SetField.result c.from_residual-in_err-assign_field-in-SetField.ensures
-    (λ rest. rw c.in-SetField.is (refused_before _ (rw c.deref.ensures.value at c.in_err-assign_field-in-SetField.ensures.err)))
+    (λ rest. rw c.in-SetField.is (refused_before _
+    (rw c.deref.ensures.value at c.in_err-assign_field-in-SetField.ensures.err)))
 
 pub check_statement-returns-in_err-assign_element-in-SetElement-clause-err :
     goal.check_statement-returns-in_err-assign_element-in-SetElement-clause-err
 check_statement-returns-in_err-assign_element-in-SetElement-clause-err t c =
-    handed_on_rest (λ (rest : BlockTree). asks_of c.args.place.now c.args.pc.now c.args.found.now (tree_before c.args.statement.now rest))
-    c.from_residual-in_err-assign_element-in-SetElement.result c.from_residual-in_err-assign_element-in-SetElement.ensures
-    (λ rest. rw c.in-SetElement.is (refused_before _ (rw c.deref-in-SetElement.ensures.value at c.in_err-assign_element-in-SetElement.ensures.err)))
+    handed_on_rest (λ (rest : BlockTree). asks_of c.args.place.now c.args.pc.now c.args.found.now
+    (tree_before c.args.statement.now rest))
+    c.from_residual-in_err-assign_element-in-SetElement.result
+    c.from_residual-in_err-assign_element-in-SetElement.ensures
+    (λ rest. rw c.in-SetElement.is (refused_before _
+    (rw c.deref-in-SetElement.ensures.value at c.in_err-assign_element-in-SetElement.ensures.err)))
 
 pub check_statement-returns-in_err-check_call-in-Call-clause-err :
     goal.check_statement-returns-in_err-check_call-in-Call-clause-err
@@ -91,32 +99,38 @@ check_statement-returns-in_err-check_call-in-Call-clause-err t c =
     = subst (λ (args : List Expr). Q c.args.found.now.labels.items args) c.deref-in-Call-2.ensures.value
     (subst (λ (labels : VariableLabels). Q labels c.deref-in-Call-2.result.now) c.deref-in-Call.ensures.value
     c.in_err-check_call-in-Call.ensures.err) in
-    handed_on_rest (λ (rest : BlockTree). asks_of c.args.place.now c.args.pc.now c.args.found.now (tree_before c.args.statement.now rest))
+    handed_on_rest (λ (rest : BlockTree). asks_of c.args.place.now c.args.pc.now c.args.found.now
+    (tree_before c.args.statement.now rest))
     c.from_residual-in_err-check_call-in-Call.result c.from_residual-in_err-check_call-in-Call.ensures
     (λ rest. rw c.in-Call.is (refused_before _ refused))
 
 pub check_statement-returns-in_err-give_back-in-Return-clause-err :
     goal.check_statement-returns-in_err-give_back-in-Return-clause-err
 check_statement-returns-in_err-give_back-in-Return-clause-err t c =
-    handed_on_rest (λ (rest : BlockTree). asks_of c.args.place.now c.args.pc.now c.args.found.now (tree_before c.args.statement.now rest))
+    handed_on_rest (λ (rest : BlockTree). asks_of c.args.place.now c.args.pc.now c.args.found.now
+    (tree_before c.args.statement.now rest))
     c.from_residual-in_err-give_back-in-Return.result c.from_residual-in_err-give_back-in-Return.ensures
-    (λ rest. rw c.in-Return.is (refused_before _ (rw c.deref-in-Return.ensures.value at c.in_err-give_back-in-Return.ensures.err)))
+    (λ rest. rw c.in-Return.is (refused_before _
+    (rw c.deref-in-Return.ensures.value at c.in_err-give_back-in-Return.ensures.err)))
 
 -- ---- branches and loops
 
 pub check_statement-returns-in_err-inside-in-If-clause-err :
     goal.check_statement-returns-in_err-inside-in-If-clause-err
 check_statement-returns-in_err-inside-in-If-clause-err t c =
-    handed_on_rest (λ (rest : BlockTree). asks_of c.args.place.now c.args.pc.now c.args.found.now (tree_before c.args.statement.now rest))
+    handed_on_rest (λ (rest : BlockTree). asks_of c.args.place.now c.args.pc.now c.args.found.now
+    (tree_before c.args.statement.now rest))
     c.from_residual-in_err-inside-in-If.result c.from_residual-in_err-inside-in-If.ensures
     (λ rest. rw c.in-If.is (refused_before _ (rw c.deref-in-If.ensures.value at c.in_err-inside-in-If.ensures.err)))
 
 pub check_statement-returns-in_err-inside-in-While-clause-err :
     goal.check_statement-returns-in_err-inside-in-While-clause-err
 check_statement-returns-in_err-inside-in-While-clause-err t c =
-    handed_on_rest (λ (rest : BlockTree). asks_of c.args.place.now c.args.pc.now c.args.found.now (tree_before c.args.statement.now rest))
+    handed_on_rest (λ (rest : BlockTree). asks_of c.args.place.now c.args.pc.now c.args.found.now
+    (tree_before c.args.statement.now rest))
     c.from_residual-in_err-inside-in-While.result c.from_residual-in_err-inside-in-While.ensures
-    (λ rest. rw c.in-While.is (refused_before _ (rw c.deref-in-While.ensures.value at c.in_err-inside-in-While.ensures.err)))
+    (λ rest. rw c.in-While.is (refused_before _
+    (rw c.deref-in-While.ensures.value at c.in_err-inside-in-While.ensures.err)))
 
 pub check_statement-check_block-requires : goal.check_statement-check_block-requires
 check_statement-check_block-requires t c =
@@ -151,10 +165,12 @@ check_statement-returns-in_err-check_block-in-If-clause-err t c =
     let met = rw c.deref-in-If.ensures.value at c.in_ok-inside-in-If.ensures.ok in
     let refused = rw (c.in_ok-inside-in-If.ensures.label, c.deref-in-If.ensures.value, c.deref-in-If-2.ensures.value) at
     c.in_err-check_block-in-If.ensures.err in
-    handed_on_rest (λ (rest : BlockTree). asks_of c.args.place.now c.args.pc.now c.args.found.now (tree_before c.args.statement.now rest))
+    handed_on_rest (λ (rest : BlockTree). asks_of c.args.place.now c.args.pc.now c.args.found.now
+    (tree_before c.args.statement.now rest))
     c.from_residual-in_err-check_block-in-If.result c.from_residual-in_err-check_block-in-If.ensures
     (λ rest. first_refused (setting_at c.args.place.now) c.args.pc.now c.args.found.now.labels.items
-    (head_of c.args.statement.now) (expr_tree c.in-If.guard) (block_tree c.in-If.yes.items) (block_tree c.in-If.no.items)
+    (head_of c.args.statement.now) (expr_tree c.in-If.guard) (block_tree c.in-If.yes.items)
+    (block_tree c.in-If.no.items)
     rest (tree_before c.args.statement.now rest)
     (if_is c.args.statement.now c.in-If.guard c.in-If.yes c.in-If.no rest c.in-If.is c.tree_laws.ensures.branches)
     met refused)
@@ -174,7 +190,8 @@ check_statement-returns-in_ok-check_block-in-If-clause-ok t c =
     on_ok_weaker c.check_block-in-If.result (λ also. λ rest.
     branch_passes (setting_at c.args.place.now) c.args.pc.now c.args.found.now.labels.items
     c.check_block.new.found.labels.items
-    (head_of c.args.statement.now) (expr_tree c.in-If.guard) (block_tree c.in-If.yes.items) (block_tree c.in-If.no.items)
+    (head_of c.args.statement.now) (expr_tree c.in-If.guard) (block_tree c.in-If.yes.items)
+    (block_tree c.in-If.no.items)
     rest (tree_before c.args.statement.now rest)
     (if_is c.args.statement.now c.in-If.guard c.in-If.yes c.in-If.no rest c.in-If.is c.tree_laws.ensures.branches)
     met passes also) last
@@ -191,11 +208,13 @@ check_statement-returns-in_ok-check_block-in-If-clause-err t c =
     ) at c.in_ok-check_block-in-If.ensures.ok in
     let last = rw (c.in_ok-inside-in-If.ensures.label, c.deref-in-If.ensures.value, c.deref-in-If-3.ensures.value) at
     c.check_block-in-If.ensures.err in
-    refused_for_rest (λ (rest : BlockTree). asks_of c.args.place.now c.args.pc.now c.args.found.now (tree_before c.args.statement.now rest))
+    refused_for_rest (λ (rest : BlockTree). asks_of c.args.place.now c.args.pc.now c.args.found.now
+    (tree_before c.args.statement.now rest))
     c.check_block-in-If.result (λ why refused rest.
     second_refused (setting_at c.args.place.now) c.args.pc.now c.args.found.now.labels.items
     c.check_block.new.found.labels.items
-    (head_of c.args.statement.now) (expr_tree c.in-If.guard) (block_tree c.in-If.yes.items) (block_tree c.in-If.no.items)
+    (head_of c.args.statement.now) (expr_tree c.in-If.guard) (block_tree c.in-If.yes.items)
+    (block_tree c.in-If.no.items)
     rest (tree_before c.args.statement.now rest)
     (if_is c.args.statement.now c.in-If.guard c.in-If.yes c.in-If.no rest c.in-If.is c.tree_laws.ensures.branches)
     met passes refused) last
@@ -227,7 +246,8 @@ check_statement-returns-in_ok-inside-in-While-clause-err t c =
       c.deref-in-While.ensures.value,
       c.deref-in-While-2.ensures.value,
     ) at c.check_block-in-While.ensures.err in
-    refused_for_rest (λ (rest : BlockTree). asks_of c.args.place.now c.args.pc.now c.args.found.now (tree_before c.args.statement.now rest))
+    refused_for_rest (λ (rest : BlockTree). asks_of c.args.place.now c.args.pc.now c.args.found.now
+    (tree_before c.args.statement.now rest))
     c.check_block-in-While.result (λ why refused rest.
     loop_refused (setting_at c.args.place.now) c.args.pc.now c.args.found.now.labels.items
     (head_of c.args.statement.now) (expr_tree c.in-While.guard) (block_tree c.in-While.body.items)

@@ -7,7 +7,8 @@ use Rattle.label_check.proofs.statements.+blocks.Given as goal
 -- the statements so far are passed
 abbrev pub invariant-check_block-loop-statement : goal.invariant-check_block-loop-statement
 invariant-check_block-loop-statement l =
-    PassesTo l.place l.pc l.fn.found (block_tree l.statements) l.found (block_tree (drop l.statement-index l.statements))
+    PassesTo l.place l.pc l.fn.found (block_tree l.statements) l.found
+    (block_tree (drop l.statement-index l.statements))
 
 abbrev pub decreases-check_block : goal.decreases-check_block
 decreases-check_block l = 2 * count_in (block_tree l.statements.now) + 1

@@ -11,5 +11,6 @@ returns c =
     c.in_ok-format.ensures.ok
     ∙ ap (λ (inside : List ℕ). 123 ∷ inside ++ 125 ∷ [])
     (c.in_ok-inside.ensures.ok
-    ∙ joined_same string_bytes printed_part (59 ∷ 32 ∷ []) c.deref.result.now (printed_parts principals c.args.label.now)
+    ∙ joined_same string_bytes printed_part (59 ∷ 32 ∷ []) c.deref.result.now
+    (printed_parts principals c.args.label.now)
     (ap (map string_bytes) c.deref.ensures.value ∙ parts))

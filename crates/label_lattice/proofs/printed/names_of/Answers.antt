@@ -15,14 +15,17 @@ loop-place-preserved c =
       | then-has_bit+in_ok-owned_text+in_ok-push w ↦
           let added = each_with (λ principal. bit_at c.args.word principal == 1) (λ principal name. name)
           c.args.principals.now.names c.loop-place.place w.name.result.now w.name.ensures (test ∙ w.if-has_bit.true) in
-          rw w.names-is (made_more string_bytes _ _ w.in_ok-push.ensures.items c.loop-place.invariant w.in_ok-owned_text.ensures ∙ sym added)
+          rw w.names-is (made_more string_bytes _ _ w.in_ok-push.ensures.items c.loop-place.invariant
+          w.in_ok-owned_text.ensures ∙ sym added)
       | else-has_bit w ↦
           rw w.names-is
           (c.loop-place.invariant ∙ sym (each_without (λ principal. bit_at c.args.word principal == 1)
-          (λ principal name. name) c.args.principals.now.names c.loop-place.place (omega (arith, c.loop-place-test.true, c.count-place-end.ensures.count))
+          (λ principal name. name) c.args.principals.now.names c.loop-place.place
+          (omega (arith, c.loop-place-test.true, c.count-place-end.ensures.count))
           (test ∙ w.if-has_bit.false)))
     ]
 
 pub returns : goal.returns
 returns c = c.loop-place.invariant ∙ each_all (λ principal. bit_at c.args.word principal == 1) (λ principal name. name)
-    c.args.principals.now.names c.loop-place.place (omega (arith, c.loop-place-test.false, c.count-place-end.ensures.count))
+    c.args.principals.now.names c.loop-place.place
+    (omega (arith, c.loop-place-test.false, c.count-place-end.ensures.count))

@@ -25,6 +25,7 @@ loop-place-preserved c =
           ∙ sym (ap (map printed_part) added ∙ map-append printed_part _ (make place some.0 ∷ [])))
       | else-forbids_some w ↦
           rw w.texts-is
-          (c.loop-place.invariant ∙ ap (map printed_part) (sym (each_without (forbids_some label) make names place within
+          (c.loop-place.invariant ∙ ap (map printed_part)
+          (sym (each_without (forbids_some label) make names place within
           (sym c.forbids_some.ensures ∙ w.if-forbids_some.false))))
     ]

@@ -9,7 +9,8 @@ between : (c : goal.After-note) →
 between c =
     let planned = seated_shape c.args.planned.now in
     let end = c.trusted_to-end.result in
-    let later : max c.noted_at-known.result c.args.place ≤ end = omega (arith, c.max.ensures, c.trusted_to-end.ensures.later) in
+    let later : max c.noted_at-known.result c.args.place ≤ end =
+    omega (arith, c.max.ensures, c.trusted_to-end.ensures.later) in
     joined planned c.args.host c.args.block.now c.args.place c.noted_at-known.result end later
     (subst (IsTrustedBetween planned c.args.host c.args.block.now c.args.place) (sym c.noted_at-known.ensures)
     (c.requires c.args.host))

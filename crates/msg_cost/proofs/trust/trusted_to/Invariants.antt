@@ -6,4 +6,5 @@ use Rattle.msg_cost.proofs.trust.trusted_to.Given as goal
 -- the host is trusted for the statements so far
 abbrev pub invariant-loop-place : goal.invariant-loop-place
 invariant-loop-place l =
-    (l.end ≡ l.place) × ((l.fn.first ≤ l.place) × IsTrustedBetween (seated_shape l.planned) l.host l.block l.fn.first l.place)
+    (l.end ≡ l.place) × ((l.fn.first ≤ l.place) × IsTrustedBetween (seated_shape l.planned) l.host l.block l.fn.first
+    l.place)

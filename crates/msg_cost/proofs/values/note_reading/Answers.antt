@@ -13,7 +13,8 @@ loop-number-preserved c =
     let within : c.loop-number.number < length c.loop-number.words = omega (arith, long) in
     record {
       long = length-set c.loop-number.words c.loop-number.number c.reading_hosts.result ∙ long;
-      found = words_more (seated_shape c.args.planned.now) c.loop-number.words c.loop-number.number c.reading_hosts.result
+      found = words_more (seated_shape c.args.planned.now) c.loop-number.words c.loop-number.number
+          c.reading_hosts.result
           within c.reading_hosts.ensures c.loop-number.invariant.found;
     }
 

@@ -16,7 +16,8 @@ loop-method-init c =
 
 pub add_method-requires : goal.add_method-requires
 add_method-requires c =
-    authority_of c.args.principals.now c.args.checked.now.program.methods.items c.loop-method.method-index c.method-item.result
+    authority_of c.args.principals.now c.args.checked.now.program.methods.items c.loop-method.method-index
+    c.method-item.result
     c.requires (rw c.deref-method-items.ensures.value at c.loop-method-test.true)
     (rw c.deref-method-items.ensures.value at c.method-item.is)
 

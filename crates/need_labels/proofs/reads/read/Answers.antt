@@ -4,7 +4,9 @@ use Rattle.js_base.specs.declared.ids.StmtId.{StmtId}
 use Rattle.std.proofs.lemmas.List.{get_or_read}
 use Rattle.need_labels.proofs.ReadRows.{read_past, read_again, read_first}
 use Rattle.need_labels.proofs.reads.read.Goals as goal
-use Rattle.need_labels.proofs.reads.read.Goals.{else-place-len-via-then-place-len+then-place-len-2+else-index-turn, else-place-len-via-then-place-len+else-place-len-2, else-place-len-via-else-place-len}
+use Rattle.need_labels.proofs.reads.read.Goals.{else-place-len-via-then-place-len+then-place-len-2+else-index-turn}
+use Rattle.need_labels.proofs.reads.read.Goals.{else-place-len-via-then-place-len+else-place-len-2}
+use Rattle.need_labels.proofs.reads.read.Goals.{else-place-len-via-else-place-len}
 
 pub returns-in_ok-push : goal.returns-in_ok-push
 returns-in_ok-push c principals labelled =

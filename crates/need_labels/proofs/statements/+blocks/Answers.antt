@@ -15,7 +15,8 @@ add_block-loop-statement-init t c =
 
 pub add_block-loop-statement-preserved : goal.add_block-loop-statement-preserved
 add_block-loop-statement-preserved t c =
-    next_added (labelled_at c.args.place.now) (setting_at c.args.place.now) c.args.statements.now c.loop-statement.statement-index c.statement-item.result
+    next_added (labelled_at c.args.place.now) (setting_at c.args.place.now) c.args.statements.now
+    c.loop-statement.statement-index c.statement-item.result
     c.loop-statement-test.true c.statement-item.is c.meet_integrity-backing.ensures.sets c.loop-statement.invariant
     c.in_ok-one.ensures
 
@@ -90,4 +91,5 @@ add_statement-returns-in_ok-inside-in-While t c =
     loop_added (setting_at place) head (expr_tree c.in-While.guard) (block_tree c.in-While.body.items)
     (tree_before c.args.statement.now done)
     (while_is c.args.statement.now c.in-While.guard c.in-While.body done c.in-While.is c.tree_laws.ensures.loops)
-    (c.enclose-in-While.ensures place.principals.now (labelled_at place) c.args.found.now _ _ _ (search rules) own inside)
+    (c.enclose-in-While.ensures place.principals.now (labelled_at place) c.args.found.now _ _ _
+    (search rules) own inside)

@@ -7,13 +7,15 @@ pub returns-clause-start : goal.returns-clause-start
 returns-clause-start c = λ code rows bad store sound same. shape_at_start code rows bad store sound same
 
 pub returns-clause-step : goal.returns-clause-step
-returns-clause-step c = λ code world after event sound fits own step. shape_step code world after event sound fits own step
+returns-clause-step c = λ code world after event sound fits own step. shape_step code world after event sound fits own
+    step
 
 pub returns-clause-world : goal.returns-clause-world
 returns-clause-world c = λ code world fits. shape_of_world code world fits
 
 pub returns-clause-run : goal.returns-clause-run
-returns-clause-run c = λ code world after events sound fits own run. shape_run code world after events sound fits own run
+returns-clause-run c = λ code world after events sound fits own run. shape_run code world after events sound fits own
+    run
 
 pub returns-clause-own_at_start : goal.returns-clause-own_at_start
 returns-clause-own_at_start c = λ code rows bad store event are own. own_at_start code store bad rows are event own

@@ -17,4 +17,5 @@ pub returns : goal.returns
 returns c =
     let l = c.loop-label in
     let all : length c.args.code.now.labels ≤ l.label = search rules in
-    tells_all c.args.code.now (states_of c.args.hosts.now) l.readable.items l.label l.invariant.count all l.invariant.each
+    tells_all c.args.code.now (states_of c.args.hosts.now) l.readable.items l.label l.invariant.count all
+    l.invariant.each

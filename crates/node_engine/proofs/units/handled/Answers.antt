@@ -27,5 +27,10 @@ returns-in_ok-noted-in-Dropped-clause-ok g c =
 
 pub returns-in_ok-heard-in-Done-clause-ok : goal.returns-in_ok-heard-in-Done-clause-ok
 returns-in_ok-heard-in-Done-clause-ok g c =
-    rw c.in-Done.is
-    (_, refl, heard_works _ _ _ _ _ (c.in_ok-heard-in-Done.ensures.ok _), λ world not_yet. rw c.root.ensures.root (heard_ended _ _ world not_yet))
+    rw c.in-Done.is (
+      _,
+      refl,
+      heard_works _ _ _ _ _ (c.in_ok-heard-in-Done.ensures.ok _),
+      λ world not_yet. rw c.root.ensures.root
+          (heard_ended _ _ world not_yet),
+    )

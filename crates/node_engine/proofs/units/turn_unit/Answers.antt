@@ -9,7 +9,12 @@ use Rattle.node_engine.proofs.units.turn_unit.Goals as goal
 pub returns-in-Ok-clause-ok : goal.returns-in-Ok-clause-ok
 returns-in-Ok-clause-ok g c =
     on_ok_weaker c.stepped.result
-    (λ does. (step_parts c.args.code.now c.args.me turn_line _, (_, c.in-Ok.ensures.ok, refl), step_works _ _ _ _ _ does))
+    (λ does. (
+      step_parts c.args.code.now c.args.me turn_line _,
+      (_, c.in-Ok.ensures.ok, refl),
+      step_works _ _ _ _ _
+          does,
+    ))
     c.stepped.ensures.ok
 
 pub returns-in-Ok-clause-err : goal.returns-in-Ok-clause-err

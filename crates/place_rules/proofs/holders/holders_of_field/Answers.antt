@@ -16,7 +16,8 @@ loop-place-init c = word_none (λ host. MayHoldField (field_tree c.args.field.no
 pub loop-place-preserved : goal.loop-place-preserved
 loop-place-preserved c =
     let may : HostShape → Type 0 = (λ host. MayHoldField (field_tree c.args.field.now, c.args.told.now) host) in
-    let Holds : Label → Type 0 = λ label. ConfFlows (join_of c.args.field.now.label c.args.told.now) label × IntegFlows label c.args.field.now.label in
+    let Holds : Label → Type 0 = λ label. ConfFlows (join_of c.args.field.now.label c.args.told.now) label
+    × IntegFlows label c.args.field.now.label in
     let Stands : ℕ → Type 0 = λ word. IsWordOf may (take (c.loop-place.place + 1) c.args.hosts.now) word in
     let host : HostShape = c.index-hosts-place.result in
     elim c.if-may_hold_field.branch [
@@ -34,5 +35,6 @@ loop-place-preserved c =
 
 pub returns : goal.returns
 returns c =
-    holders_all (λ host. MayHoldField (field_tree c.args.field.now, c.args.told.now) host) c.args.hosts.now c.loop-place.place c.loop-place.word
+    holders_all (λ host. MayHoldField (field_tree c.args.field.now, c.args.told.now) host) c.args.hosts.now
+    c.loop-place.place c.loop-place.word
     c.loop-place-test.false c.loop-place.invariant

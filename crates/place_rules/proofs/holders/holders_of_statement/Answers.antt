@@ -32,5 +32,6 @@ loop-place-preserved c =
 
 pub returns : goal.returns
 returns c =
-    holders_all (λ host. MayHoldStatement (c.args.used.now, c.args.need) host) c.args.hosts.now c.loop-place.place c.loop-place.word
+    holders_all (λ host. MayHoldStatement (c.args.used.now, c.args.need) host) c.args.hosts.now c.loop-place.place
+    c.loop-place.word
     c.loop-place-test.false c.loop-place.invariant

@@ -31,5 +31,6 @@ returns c =
     let count = zip_end c.args.fields.now c.args.told.now c.loop-field.yielded c.into_iter-field-iterator.result
     c.loop-field.field-iterator c.next.new.self c.next.result (cc) (cc) c.loop-field.yielded_by c.in-None.is
     c.next.ensures.steps in
-    pairs_all R (map field_tree c.args.fields.now) c.args.told.now (length c.loop-field.yielded) c.loop-field.words.items
+    pairs_all R (map field_tree c.args.fields.now) c.args.told.now
+    (length c.loop-field.yielded) c.loop-field.words.items
     (rw length-map count) c.loop-field.invariant

@@ -1,6 +1,7 @@
 use Rattle.std.proofs.Common.{sym, ◌∙◌}
 use Rattle.std.proofs.lemmas.Bool.{false≢true}
-use Rattle.split_cli.proofs.AlikeLists.{alike_by_length, events_of, go_apart, past_events, same_events_more, within_both}
+use Rattle.split_cli.proofs.AlikeLists.{alike_by_length, events_of, go_apart, past_events, same_events_more}
+use Rattle.split_cli.proofs.AlikeLists.{within_both}
 use Rattle.split_cli.proofs.comparing.going_apart.Goals as goal
 
 pub returns-then-not-is_same_event : goal.returns-then-not-is_same_event

@@ -11,6 +11,7 @@ returns-then-not-is_same_parts c =
 
 pub returns : goal.returns
 returns c =
-    tells_rest _ _ _ _ _ _ _ _ c.is_same_token_made.result c.parts_made-here.ensures c.parts_made-there.ensures c.token_made.ensures c.token_made-2.ensures
+    tells_rest _ _ _ _ _ _ _ _ c.is_same_token_made.result c.parts_made-here.ensures c.parts_made-there.ensures
+    c.token_made.ensures c.token_made-2.ensures
     (c.is_same_parts.ensures.0 c.if-not-is_same_parts.false) c.is_same_token_made.ensures
     (one_made c.args.one.now c.args.other.now)

@@ -11,6 +11,7 @@ returns-then-not-is_same_parts c =
 
 pub returns : goal.returns
 returns c =
-    tells_rest _ _ _ _ _ _ _ _ c.is_same_token.result c.parts_of-here.ensures c.parts_of-there.ensures c.token_of.ensures c.token_of-2.ensures
+    tells_rest _ _ _ _ _ _ _ _ c.is_same_token.result c.parts_of-here.ensures c.parts_of-there.ensures
+    c.token_of.ensures c.token_of-2.ensures
     (c.is_same_parts.ensures.0 c.if-not-is_same_parts.false) c.is_same_token.ensures
     (one_message c.args.one.now c.args.other.now)

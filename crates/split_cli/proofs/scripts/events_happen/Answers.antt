@@ -12,7 +12,8 @@ returns-in-Ok-clause-happen c = happened (world_of c.replay.new.world) c.in-Ok.e
 pub returns-in-Err-clause-happen : goal.returns-in-Err-clause-happen
 returns-in-Err-clause-happen c =
     let Stops : VerdictShape → Type 0 =
-    λ verdict. EventsHappen c.args.name.now c.args.code.now (world_of c.args.from) c.args.events.now (stopped verdict) in
+    λ verdict. EventsHappen c.args.name.now c.args.code.now (world_of c.args.from) c.args.events.now
+    (stopped verdict) in
     stops_weaker (AreRefused c.args.name.now c.args.code.now (world_of c.args.from) c.args.events.now) Stops
     c.events_refused.result (λ verdict was. subst Stops (sym was.3) (refused was.0 was.1 was.2))
     (c.events_refused.ensures c.args.code.now (world_of c.args.from) c.args.events.now c.in-Err.ensures.refused)

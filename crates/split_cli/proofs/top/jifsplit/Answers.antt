@@ -70,5 +70,6 @@ returns-clause-compared g c = λ program hosts one other asked success.
 
 pub returns-clause-complete : goal.returns-clause-complete
 returns-clause-complete g c = λ holds number status text tells due calm below quiet under.
-    complete c.due_laws.ensures.one_verdict _ _ _ _ _ holds number status text (returns-clause-answer g c) tells due calm
+    complete c.due_laws.ensures.one_verdict _ _ _ _ _ holds number status text
+    (returns-clause-answer g c) tells due calm
     below quiet under

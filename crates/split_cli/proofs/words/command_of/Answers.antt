@@ -51,10 +51,13 @@ five_words : (c : goal.After-command_of_five) → map string_bytes c.args.words.
     ∷ c.deref-in-len5-4.result.now ∷ c.deref-in-len5-5.result.now ∷ []
 five_words c =
     five_same _ (string_bytes c.verb-item-then-words-lt6.result) (string_bytes c.program-item-then-words-lt6.result)
-    (string_bytes c.hosts-item-then-words-lt6.result) (string_bytes c.third-item.result) (string_bytes c.last-item-then-words-lt6.result)
+    (string_bytes c.hosts-item-then-words-lt6.result) (string_bytes c.third-item.result)
+    (string_bytes c.last-item-then-words-lt6.result)
     _ _ _ _ _
-    (five c.args.words.now c.verb-item-then-words-lt6.result c.program-item-then-words-lt6.result c.hosts-item-then-words-lt6.result
-    c.third-item.result c.last-item-then-words-lt6.result (omega arith) c.verb-item-then-words-lt6.is c.program-item-then-words-lt6.is
+    (five c.args.words.now c.verb-item-then-words-lt6.result c.program-item-then-words-lt6.result
+    c.hosts-item-then-words-lt6.result
+    c.third-item.result c.last-item-then-words-lt6.result
+    (omega arith) c.verb-item-then-words-lt6.is c.program-item-then-words-lt6.is
     c.hosts-item-then-words-lt6.is c.third-item.is c.last-item-then-words-lt6.is)
     (sym c.deref-in-len5.ensures) c.deref-in-len5-2.ensures c.deref-in-len5-3.ensures c.deref-in-len5-4.ensures
     c.deref-in-len5-5.ensures

@@ -5,4 +5,5 @@ use Rattle.split_file.proofs.starts.site_rows_of.Given as goal
 
 abbrev pub invariant-loop : goal.invariant-loop
 invariant-loop l =
-    items_at (λ _. host_id_at l.hosts) l.sites.items (l.count - l.counter) l.rest ≡ items_at (λ _. host_id_at l.hosts) [] (l.count) l.bytes
+    items_at (λ _. host_id_at l.hosts) l.sites.items (l.count - l.counter) l.rest
+    ≡ items_at (λ _. host_id_at l.hosts) [] (l.count) l.bytes

@@ -33,6 +33,7 @@ loop-preserved c =
     record {
       read = rw c.in_ok-push.ensures.items (items_more item c.loop.fields.items c.args.count c.loop.counter _
           c.loop.rest.now _ _ c.loop-test.true next c.loop.invariant.read);
-      elements = rw c.in_ok-push.ensures.items (rw sum (rw (← c.loop.invariant.elements, c.size-elements.ensures) refl));
+      elements = rw c.in_ok-push.ensures.items
+          (rw sum (rw (← c.loop.invariant.elements, c.size-elements.ensures) refl));
       within = rw c.size-elements.ensures c.in_ok-field.ensures.within;
     }

@@ -11,7 +11,8 @@ pub returns-in_err-row : goal.returns-in_err-row
 returns-in_err-row c =
     let p = err_from_is_err_and c.from_residual.result c.from_residual.ensures.1 in
     rw (p.1, p.2) (items_fail (λ _. number_at w64) (take c.loop-owner.owner c.loop-owner.rows) PRINCIPALS
-    c.loop-owner.owner _ c.loop-owner.rest.now _ c.loop-owner-test.true c.in_err-row.ensures c.loop-owner.invariant.read)
+    c.loop-owner.owner _ c.loop-owner.rest.now _ c.loop-owner-test.true c.in_err-row.ensures
+    c.loop-owner.invariant.read)
 
 pub loop-owner-preserved : goal.loop-owner-preserved
 loop-owner-preserved c =

@@ -6,15 +6,18 @@ use Rattle.split_file.proofs.tables.variable_rows_of.Goals as goal
 pub returns-in_err-var : goal.returns-in_err-var
 returns-in_err-var c =
     let p = err_from_is_err_and c.from_residual.result c.from_residual.ensures.1 in
-    rw (p.1, p.2) (items_fail (λ _. variable_row_at c.args.labels) c.loop.vars.items (c.args.count) c.loop.counter _ c.loop.rest.now _
+    rw (p.1, p.2) (items_fail (λ _. variable_row_at c.args.labels) c.loop.vars.items
+    (c.args.count) c.loop.counter _ c.loop.rest.now _
     c.loop-test.true c.in_err-var.ensures c.loop.invariant)
 
 pub loop-preserved : goal.loop-preserved
 loop-preserved c =
-    rw c.in_ok-push.ensures.items (items_more (λ _. variable_row_at c.args.labels) c.loop.vars.items (c.args.count) c.loop.counter _
+    rw c.in_ok-push.ensures.items (items_more (λ _. variable_row_at c.args.labels) c.loop.vars.items
+    (c.args.count) c.loop.counter _
     c.loop.rest.now _ _ c.loop-test.true c.in_ok-var.ensures c.loop.invariant)
 
 pub returns : goal.returns
 returns c =
-    items_done (λ _. variable_row_at c.args.labels) c.loop.vars.items (c.args.count) c.loop.counter c.loop.rest.now _ c.loop-test.false
+    items_done (λ _. variable_row_at c.args.labels) c.loop.vars.items (c.args.count) c.loop.counter c.loop.rest.now _
+    c.loop-test.false
     c.loop.invariant

@@ -6,5 +6,6 @@ use Rattle.split_file.proofs.writing.put_hosts.Goals as goal
 
 pub loop-host-preserved : goal.loop-host-preserved
 loop-host-preserved c =
-    item_more host_bytes (λ host. IsLabel host.label) c.args.hosts.now c.loop-host.host-index c.host-item.result _ _ _ (omega arith) c.host-item.is
+    item_more host_bytes (λ host. IsLabel host.label) c.args.hosts.now c.loop-host.host-index c.host-item.result _ _ _
+    (omega arith) c.host-item.is
     c.loop-host.invariant c.in_ok-put_host.ensures.bytes c.in_ok-put_host.ensures.real

@@ -50,7 +50,8 @@ statement_text-returns-in_ok-format-in-If t c = record {
 pub statement_text-returns-in_ok-format-in-While : goal.statement_text-returns-in_ok-format-in-While
 statement_text-returns-in_ok-format-in-While t c = record {
   text = λ rest. loop_prints (naming_of c.args.names.now) c.args.seen.now (head_of c.args.statement.now)
-      (expr_tree c.in-While.guard) (block_tree c.in-While.body.items) rest (tree_before c.args.statement.now rest) _ _ _ _
+      (expr_tree c.in-While.guard) (block_tree c.in-While.body.items) rest (tree_before c.args.statement.now rest) _ _ _
+      _
       (while_is c.args.statement.now c.in-While.guard c.in-While.body rest c.in-While.is c.tree_laws.ensures.loops)
       c.in_ok-format-in-While.ensures.ok c.in_ok-guard-in-While.ensures
       (rw c.deref-in-While.ensures.value at c.in_ok-body-in-While.ensures.text)

@@ -13,4 +13,5 @@ returns-in-Some c =
 pub returns-in-None : goal.returns-in-None
 returns-in-None c =
     to_z-of_z w64 c.value_in.result (search rules) ∙ (c.value_in.ensures
-    ∙ sym (value-others c.args.self.now.own.now c.args.self.now.first c.args.var.0 c.args.self.now.others.now c.in-None.ensures))
+    ∙ sym (value-others c.args.self.now.own.now c.args.self.now.first c.args.var.0 c.args.self.now.others.now
+    c.in-None.ensures))

@@ -254,7 +254,8 @@ returns c =
             inl (
               tt,
               c.in_ok-is_prompt-2.ensures (world_of c.in_ok-other_run.other_run.world),
-              compared_as (placed_shape c.args.placed.now) _ _ _ _ _ c.sent.ensures c.sent-2.ensures c.in_ok-compared.ensures,
+              compared_as (placed_shape c.args.placed.now) _ _ _ _ _ c.sent.ensures c.sent-2.ensures
+                  c.in_ok-compared.ensures,
             ),
           ),
         ),

@@ -9,5 +9,6 @@ returns-then-secret c = λ last. hidden (c.secret.ensures.exact.0 c.if-secret.tr
 
 pub returns : goal.returns
 returns c =
-    added_on_ok _ _ _ c.args.self.now c.push.new.self _ _ (λ secret. false≢true (sym c.if-secret.false ∙ c.secret.ensures.exact.1 secret))
+    added_on_ok _ _ _ c.args.self.now c.push.new.self _ _ (λ secret. false≢true (sym c.if-secret.false
+    ∙ c.secret.ensures.exact.1 secret))
     c.quiet-quiet.ensures.exact c.push.ensures.events c.push.ensures.late
