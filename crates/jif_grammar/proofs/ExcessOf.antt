@@ -1,7 +1,10 @@
 -- The first limit that is passed, and that no limit is passed where there is none.
-use Rattle.std.proofs.Common.{◌≡◌, ◌<◌, ◌⊎◌, inl, inr, ℕ, Bool, true, false, ◌||◌, refl, subst, arith}
-use Rattle.std.proofs.Common.{Option, Some, None, ltb-true, ltb-false}
-use Rattle.std.specs.Prelude.{nat_lt, if◌then◌else◌}
+use Rattle.std.proofs.Common.{◌≡◌, ◌<◌, inl, inr, ℕ, suc, Bool, true, false, ◌||◌, refl, sym, subst, arith, List, []}
+use Rattle.std.proofs.Common.{◌∷◌}
+use Rattle.std.proofs.Common.{Option, Some, None}
+use Rattle.std.specs.Prelude.{Decides, nat_lt, if◌then◌else◌, ⊤}
+use Rattle.std.proofs.lemmas.Bool.{cases_lt}
+use Rattle.std.proofs.lemmas.Bool.Decides.{Decides-ltb, Decides-or, not_from_Decides}
 use Rattle.js_base.specs.declared.limits.TheConstants.{FIELDS, METHODS, PARAMETERS, VARIABLES, STATEMENTS}
 use Rattle.js_base.specs.declared.limits.TheConstants.{EXPRESSION_NODES, ARRAY_SIZE, ELEMENTS, NESTING}
 use Rattle.jif_grammar.specs.declared.what.What.{What}
@@ -9,6 +12,7 @@ use Rattle.jif_grammar.specs.declared.what.What.TheVariants as counted
 use Rattle.jif_grammar.specs.Marks.{Tally, IsTooDeep, HasTooMany}
 use Rattle.jif_grammar.specs.Programs.{rank_of_what, IsWithin}
 use Rattle.jif_grammar.specs.Verdicts.{Excess, of_nesting, of_count, excess}
+use Rattle.jif_grammar.proofs.OneRefusal.{one_rank, rank_within}
 
 -- a limit that is passed, and none that comes before it
 abbrev pub IsExcess : Tally → Excess → Type 0
@@ -17,197 +21,91 @@ IsExcess t (of_count what) =
     HasTooMany what t × (¬ IsTooDeep t)
     × ((other : What) → rank_of_what other < rank_of_what what → ¬ HasTooMany other t)
 
--- the tests in their order
-abbrev of_tests : Bool → Bool → Bool → Bool → Bool → Bool → Bool → Bool → Option Excess
-of_tests deep methods statements parameters locals nodes fields elements =
-    if deep then Some of_nesting
-    else if methods then Some (of_count counted.Methods)
-    else if statements then Some (of_count counted.Statements)
-    else if parameters then Some (of_count counted.Parameters)
-    else if locals then Some (of_count counted.Locals)
-    else if nodes then Some (of_count counted.Nodes)
-    else if fields then Some (of_count counted.Fields)
-    else if elements then Some (of_count counted.Elements)
-    else None
+-- the first limit, or none
+abbrev pub IsFirst : Tally → Option Excess → Type 0
+IsFirst t None = IsWithin t
+IsFirst t (Some found) = IsExcess t found
 
-record AreTests (t : Tally) (deep methods statements parameters locals nodes fields elements : Bool) : Type 0 where
-  deep_is : nat_lt NESTING t.nesting ≡ deep
-  methods_is : nat_lt METHODS t.methods ≡ methods
-  statements_is : nat_lt STATEMENTS t.statements ≡ statements
-  parameters_is : nat_lt PARAMETERS t.parameters ≡ parameters
-  locals_is : nat_lt VARIABLES t.variables ≡ locals
-  nodes_is : nat_lt EXPRESSION_NODES t.nodes ≡ nodes
-  fields_is : nat_lt FIELDS t.fields ≡ fields
-  elements_is : nat_lt ARRAY_SIZE t.size || nat_lt ELEMENTS t.elements ≡ elements
+-- ---- the limits as a table
 
-either_false : (a b : Bool) → a || b ≡ false → (a ≡ false) × (b ≡ false)
-either_false true b is = absurd (cc)
-either_false false b is = (refl, is)
+abbrev passes : Tally → What → Bool
+passes t counted.Fields = nat_lt FIELDS t.fields
+passes t counted.Methods = nat_lt METHODS t.methods
+passes t counted.Parameters = nat_lt PARAMETERS t.parameters
+passes t counted.Locals = nat_lt VARIABLES t.variables
+passes t counted.Statements = nat_lt STATEMENTS t.statements
+passes t counted.Nodes = nat_lt EXPRESSION_NODES t.nodes
+passes t counted.Elements = nat_lt ARRAY_SIZE t.size || nat_lt ELEMENTS t.elements
 
-either_true : (a b : Bool) → a || b ≡ true → (a ≡ true) ⊎ (b ≡ true)
-either_true true b is = inl refl
-either_true false b is = inr is
+passes_told : (t : Tally) (what : What) → Decides (passes t what) (HasTooMany what t)
+passes_told t counted.Fields = Decides-ltb FIELDS t.fields
+passes_told t counted.Methods = Decides-ltb METHODS t.methods
+passes_told t counted.Parameters = Decides-ltb PARAMETERS t.parameters
+passes_told t counted.Locals = Decides-ltb VARIABLES t.variables
+passes_told t counted.Statements = Decides-ltb STATEMENTS t.statements
+passes_told t counted.Nodes = Decides-ltb EXPRESSION_NODES t.nodes
+passes_told t counted.Elements =
+    Decides-or (nat_lt ARRAY_SIZE t.size) (nat_lt ELEMENTS t.elements) (Decides-ltb ARRAY_SIZE t.size)
+    (Decides-ltb ELEMENTS t.elements)
 
-no_elements : (t : Tally) → nat_lt ARRAY_SIZE t.size || nat_lt ELEMENTS t.elements ≡ false →
-    ¬ HasTooMany counted.Elements t
-no_elements t is many =
-    let both = either_false (nat_lt ARRAY_SIZE t.size) (nat_lt ELEMENTS t.elements) is in
-    elim many [
-      | inl large ↦ omega (arith, large, ltb-false ARRAY_SIZE t.size both.0)
-      | inr more ↦ omega (arith, more, ltb-false ELEMENTS t.elements both.1)
-    ]
+-- in the order in which they come at one token
+abbrev in_order : List What
+in_order =
+    counted.Methods ∷ counted.Statements ∷ counted.Parameters ∷ counted.Locals ∷ counted.Nodes ∷ counted.Fields
+    ∷ counted.Elements ∷ []
 
-some_elements : (t : Tally) → nat_lt ARRAY_SIZE t.size || nat_lt ELEMENTS t.elements ≡ true →
-    HasTooMany counted.Elements t
-some_elements t is = elim (either_true (nat_lt ARRAY_SIZE t.size) (nat_lt ELEMENTS t.elements) is) [
-  | inl large ↦ inl (ltb-true ARRAY_SIZE t.size large)
-  | inr more ↦ inr (ltb-true ELEMENTS t.elements more)
+-- their ranks are the numbers from n to 7
+abbrev AreRanked : ℕ → List What → Type 0
+AreRanked n [] = n ≡ 8
+AreRanked n (what ∷ later) = (rank_of_what what ≡ n) × AreRanked (suc n) later
+
+abbrev first_passed : Tally → List What → Option Excess
+first_passed t [] = None
+first_passed t (what ∷ later) = if passes t what then Some (of_count what) else first_passed t later
+
+-- no limit before the n-th is passed
+abbrev NoneBefore : Tally → ℕ → Type 0
+NoneBefore t n = (other : What) → rank_of_what other < n → ¬ HasTooMany other t
+
+none_here : (t : Tally) (what : What) → ¬ HasTooMany what t → NoneBefore t (rank_of_what what) →
+    NoneBefore t (suc (rank_of_what what))
+none_here t what not_many none other less many = elim (cases_lt (rank_of_what other) (rank_of_what what)) [
+  | inl sooner ↦ none other sooner many
+  | inr later ↦
+      let same : other ≡ what = one_rank other what (omega (arith, less, later)) in
+      not_many (subst (λ (one : What). HasTooMany one t) same many)
 ]
 
-not_over : (most count : ℕ) → nat_lt most count ≡ false → ¬ (most < count)
-not_over most count is over = omega (arith, over, ltb-false most count is)
-
-within_of : (t : Tally) (deep methods statements parameters locals nodes fields elements : Bool) → AreTests t deep methods statements parameters locals nodes fields elements →
-    of_tests deep methods statements parameters locals nodes fields elements ≡ None → IsWithin t
-within_of t true methods statements parameters locals nodes fields elements tests is = absurd (cc)
-within_of t false true statements parameters locals nodes fields elements tests is = absurd (cc)
-within_of t false false true parameters locals nodes fields elements tests is = absurd (cc)
-within_of t false false false true locals nodes fields elements tests is = absurd (cc)
-within_of t false false false false true nodes fields elements tests is = absurd (cc)
-within_of t false false false false false true fields elements tests is = absurd (cc)
-within_of t false false false false false false true elements tests is = absurd (cc)
-within_of t false false false false false false false true tests is = absurd (cc)
-within_of t false false false false false false false false tests is = record {
-  nesting = not_over NESTING t.nesting tests.deep_is;
-  counts = not_many;
+first_of : (t : Tally) (n : ℕ) (list : List What) → AreRanked n list → ¬ IsTooDeep t → NoneBefore t n →
+    IsFirst t (first_passed t list)
+first_of t n [] ranked shallow none = record {
+  nesting = shallow;
+  counts = λ what. none what (omega (arith, (rank_within what).1, ranked));
 }
+first_of t n (what ∷ later) ranked shallow none =
+    by (passes t what) (passes_told t what) (λ not_many.
+    first_of t (suc n) later ranked.1 shallow
+    (subst (λ (k : ℕ). NoneBefore t (suc k)) ranked.0 (none_here t what not_many sooner)))
   where
-    not_many : (what : What) → ¬ HasTooMany what t
-    not_many counted.Fields = not_over FIELDS t.fields tests.fields_is
-    not_many counted.Methods = not_over METHODS t.methods tests.methods_is
-    not_many counted.Parameters = not_over PARAMETERS t.parameters tests.parameters_is
-    not_many counted.Locals = not_over VARIABLES t.variables tests.locals_is
-    not_many counted.Statements = not_over STATEMENTS t.statements tests.statements_is
-    not_many counted.Nodes = not_over EXPRESSION_NODES t.nodes tests.nodes_is
-    not_many counted.Elements = no_elements t tests.elements_is
+    sooner : NoneBefore t (rank_of_what what)
+    sooner = subst (NoneBefore t) (sym ranked.0) none
 
-excess_of : (t : Tally) (found : Excess) (deep methods statements parameters locals nodes fields elements : Bool) →
-    AreTests t deep methods statements parameters locals nodes fields elements →
-    of_tests deep methods statements parameters locals nodes fields elements ≡ Some found → IsExcess t found
-excess_of t found true methods statements parameters locals nodes fields elements tests is =
-    let same : of_nesting ≡ found = (cc) in
-    subst (IsExcess t) same (ltb-true NESTING t.nesting tests.deep_is)
-excess_of t found false true statements parameters locals nodes fields elements tests is =
-    let same : of_count counted.Methods ≡ found = (cc) in
-    subst (IsExcess t) same (ltb-true METHODS t.methods tests.methods_is, not_over NESTING t.nesting tests.deep_is, sooner)
-  where
-    sooner : (other : What) → rank_of_what other < 1 → ¬ HasTooMany other t
-    sooner counted.Fields less = absurd (omega (arith, less))
-    sooner counted.Methods less = absurd (omega (arith, less))
-    sooner counted.Parameters less = absurd (omega (arith, less))
-    sooner counted.Locals less = absurd (omega (arith, less))
-    sooner counted.Statements less = absurd (omega (arith, less))
-    sooner counted.Nodes less = absurd (omega (arith, less))
-    sooner counted.Elements less = absurd (omega (arith, less))
-excess_of t found false false true parameters locals nodes fields elements tests is =
-    let same : of_count counted.Statements ≡ found = (cc) in
-    subst (IsExcess t) same (ltb-true STATEMENTS t.statements tests.statements_is, not_over NESTING t.nesting tests.deep_is, sooner)
-  where
-    sooner : (other : What) → rank_of_what other < 2 → ¬ HasTooMany other t
-    sooner counted.Fields less = absurd (omega (arith, less))
-    sooner counted.Methods less = not_over METHODS t.methods tests.methods_is
-    sooner counted.Parameters less = absurd (omega (arith, less))
-    sooner counted.Locals less = absurd (omega (arith, less))
-    sooner counted.Statements less = absurd (omega (arith, less))
-    sooner counted.Nodes less = absurd (omega (arith, less))
-    sooner counted.Elements less = absurd (omega (arith, less))
-excess_of t found false false false true locals nodes fields elements tests is =
-    let same : of_count counted.Parameters ≡ found = (cc) in
-    subst (IsExcess t) same (ltb-true PARAMETERS t.parameters tests.parameters_is, not_over NESTING t.nesting tests.deep_is, sooner)
-  where
-    sooner : (other : What) → rank_of_what other < 3 → ¬ HasTooMany other t
-    sooner counted.Fields less = absurd (omega (arith, less))
-    sooner counted.Methods less = not_over METHODS t.methods tests.methods_is
-    sooner counted.Parameters less = absurd (omega (arith, less))
-    sooner counted.Locals less = absurd (omega (arith, less))
-    sooner counted.Statements less = not_over STATEMENTS t.statements tests.statements_is
-    sooner counted.Nodes less = absurd (omega (arith, less))
-    sooner counted.Elements less = absurd (omega (arith, less))
-excess_of t found false false false false true nodes fields elements tests is =
-    let same : of_count counted.Locals ≡ found = (cc) in
-    subst (IsExcess t) same (ltb-true VARIABLES t.variables tests.locals_is, not_over NESTING t.nesting tests.deep_is, sooner)
-  where
-    sooner : (other : What) → rank_of_what other < 4 → ¬ HasTooMany other t
-    sooner counted.Fields less = absurd (omega (arith, less))
-    sooner counted.Methods less = not_over METHODS t.methods tests.methods_is
-    sooner counted.Parameters less = not_over PARAMETERS t.parameters tests.parameters_is
-    sooner counted.Locals less = absurd (omega (arith, less))
-    sooner counted.Statements less = not_over STATEMENTS t.statements tests.statements_is
-    sooner counted.Nodes less = absurd (omega (arith, less))
-    sooner counted.Elements less = absurd (omega (arith, less))
-excess_of t found false false false false false true fields elements tests is =
-    let same : of_count counted.Nodes ≡ found = (cc) in
-    subst (IsExcess t) same (ltb-true EXPRESSION_NODES t.nodes tests.nodes_is, not_over NESTING t.nesting tests.deep_is, sooner)
-  where
-    sooner : (other : What) → rank_of_what other < 5 → ¬ HasTooMany other t
-    sooner counted.Fields less = absurd (omega (arith, less))
-    sooner counted.Methods less = not_over METHODS t.methods tests.methods_is
-    sooner counted.Parameters less = not_over PARAMETERS t.parameters tests.parameters_is
-    sooner counted.Locals less = not_over VARIABLES t.variables tests.locals_is
-    sooner counted.Statements less = not_over STATEMENTS t.statements tests.statements_is
-    sooner counted.Nodes less = absurd (omega (arith, less))
-    sooner counted.Elements less = absurd (omega (arith, less))
-excess_of t found false false false false false false true elements tests is =
-    let same : of_count counted.Fields ≡ found = (cc) in
-    subst (IsExcess t) same (ltb-true FIELDS t.fields tests.fields_is, not_over NESTING t.nesting tests.deep_is, sooner)
-  where
-    sooner : (other : What) → rank_of_what other < 6 → ¬ HasTooMany other t
-    sooner counted.Fields less = absurd (omega (arith, less))
-    sooner counted.Methods less = not_over METHODS t.methods tests.methods_is
-    sooner counted.Parameters less = not_over PARAMETERS t.parameters tests.parameters_is
-    sooner counted.Locals less = not_over VARIABLES t.variables tests.locals_is
-    sooner counted.Statements less = not_over STATEMENTS t.statements tests.statements_is
-    sooner counted.Nodes less = not_over EXPRESSION_NODES t.nodes tests.nodes_is
-    sooner counted.Elements less = absurd (omega (arith, less))
-excess_of t found false false false false false false false true tests is =
-    let same : of_count counted.Elements ≡ found = (cc) in
-    subst (IsExcess t) same (some_elements t tests.elements_is, not_over NESTING t.nesting tests.deep_is, sooner)
-  where
-    sooner : (other : What) → rank_of_what other < 7 → ¬ HasTooMany other t
-    sooner counted.Fields less = not_over FIELDS t.fields tests.fields_is
-    sooner counted.Methods less = not_over METHODS t.methods tests.methods_is
-    sooner counted.Parameters less = not_over PARAMETERS t.parameters tests.parameters_is
-    sooner counted.Locals less = not_over VARIABLES t.variables tests.locals_is
-    sooner counted.Statements less = not_over STATEMENTS t.statements tests.statements_is
-    sooner counted.Nodes less = not_over EXPRESSION_NODES t.nodes tests.nodes_is
-    sooner counted.Elements less = absurd (omega (arith, less))
-excess_of t found false false false false false false false false tests is = absurd (cc)
+    by : (passed : Bool) → Decides passed (HasTooMany what t) →
+        (¬ HasTooMany what t → IsFirst t (first_passed t later)) →
+        IsFirst t (if passed then Some (of_count what) else first_passed t later)
+    by true told further = (told.0 refl, shallow, sooner)
+    by false told further = further (not_from_Decides false told refl)
 
--- the tests as they come out
-pub no_excess : (t : Tally) → excess t ≡ None → IsWithin t
-no_excess t is = within_of t (nat_lt NESTING t.nesting) (nat_lt METHODS t.methods) (nat_lt STATEMENTS t.statements)
-    (nat_lt PARAMETERS t.parameters) (nat_lt VARIABLES t.variables) (nat_lt EXPRESSION_NODES t.nodes)
-    (nat_lt FIELDS t.fields) (nat_lt ARRAY_SIZE t.size || nat_lt ELEMENTS t.elements) record {
-      deep_is = refl;
-      methods_is = refl;
-      statements_is = refl;
-      parameters_is = refl;
-      locals_is = refl;
-      nodes_is = refl;
-      fields_is = refl;
-      elements_is = refl;
-    } is
+-- what the tests find
+pub excess_first : (t : Tally) → IsFirst t (excess t)
+excess_first t = by (nat_lt NESTING t.nesting) (Decides-ltb NESTING t.nesting)
+  where
+    none : NoneBefore t 1
+    none other less many = omega (arith, less, (rank_within other).0)
 
-pub some_excess : (t : Tally) (found : Excess) → excess t ≡ Some found → IsExcess t found
-some_excess t found is = excess_of t found (nat_lt NESTING t.nesting) (nat_lt METHODS t.methods) (nat_lt STATEMENTS t.statements)
-    (nat_lt PARAMETERS t.parameters) (nat_lt VARIABLES t.variables) (nat_lt EXPRESSION_NODES t.nodes)
-    (nat_lt FIELDS t.fields) (nat_lt ARRAY_SIZE t.size || nat_lt ELEMENTS t.elements) record {
-      deep_is = refl;
-      methods_is = refl;
-      statements_is = refl;
-      parameters_is = refl;
-      locals_is = refl;
-      nodes_is = refl;
-      fields_is = refl;
-      elements_is = refl;
-    } is
+    by : (deep : Bool) → Decides deep (IsTooDeep t) →
+        IsFirst t (if deep then Some of_nesting else first_passed t in_order)
+    by true told = told.0 refl
+    by false told =
+        first_of t 1 in_order (refl, (refl, (refl, (refl, (refl, (refl, (refl, refl)))))))
+        (not_from_Decides false told refl) none

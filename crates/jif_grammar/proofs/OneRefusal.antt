@@ -18,7 +18,7 @@ use Rattle.jif_grammar.specs.DraftShapes.{DraftShape}
 
 -- ---- places and ranks determine refusals
 
-one_rank : (first second : What) → rank_of_what first ≡ rank_of_what second → first ≡ second
+pub one_rank : (first second : What) → rank_of_what first ≡ rank_of_what second → first ≡ second
 one_rank counted.Fields counted.Fields same = refl
 one_rank counted.Methods counted.Methods same = refl
 one_rank counted.Parameters counted.Parameters same = refl

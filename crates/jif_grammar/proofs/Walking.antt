@@ -19,7 +19,7 @@ use Rattle.jif_grammar.specs.Verdicts.{Excess, of_nesting, of_count, excess_at, 
 use Rattle.jif_grammar.specs.Verdicts.{walk_within, walk_behind, refusal_from, refusal_of}
 use Rattle.jif_grammar.proofs.ExprMarks.{Goes}
 use Rattle.jif_grammar.proofs.ProgramMarks.{goes_program}
-use Rattle.jif_grammar.proofs.ExcessOf.{IsExcess, no_excess, some_excess}
+use Rattle.jif_grammar.proofs.ExcessOf.{IsExcess, IsFirst, excess_first}
 use Rattle.jif_grammar.proofs.SameMarks.{one_step}
 use Rattle.jif_grammar.proofs.OneRefusal.{kinds_length, same_length}
 use Rattle.jif_grammar.proofs.Refusing.{too_deep_at, too_many_at, unexpected_at}
@@ -213,7 +213,7 @@ reached_on front token first next t marked reached is fits = record {
       | inl before ↦ step.within m before
       | inr here ↦ subst (λ n. IsWithin (tally_at program n)) (sym here)
           (subst IsWithin (sym (tally_here program (length front) (after_token t marked) step.tally_is))
-          (no_excess (after_token t marked) fits))
+          (subst (IsFirst (after_token t marked)) fits (excess_first (after_token t marked))))
     ]
 
     on_way : (program : ProgramPhrase) → GoesOn (front ++ token ∷ []) program →
@@ -342,7 +342,8 @@ walked (token ∷ more) front first t program reached =
         Verdict (front ++ token ∷ more) program
         (refusal_from (walk_within found next (after_token t marked) (length front)) (length front + 1) (kinds more))
     by_excess behind marked next (Some found) is passes =
-        passed front token more first next t marked found reached is (some_excess (after_token t marked) found passes)
+        passed front token more first next t marked found reached is
+        (subst (IsFirst (after_token t marked)) passes (excess_first (after_token t marked)))
     by_excess behind marked next None is fits =
         let one_more : length (front ++ token ∷ []) ≡ length front + 1 = omega (arith, length_then front token) in
         subst (λ n. Verdict (front ++ token ∷ more) program
