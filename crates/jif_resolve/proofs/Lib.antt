@@ -14,6 +14,7 @@ mod FirstFault
 mod GlobalLists
 mod HasProgram
 mod KnownLists
+mod KnownLabels
 mod LabelledBlocks
 mod LabelledPrograms
 mod LabelledValues

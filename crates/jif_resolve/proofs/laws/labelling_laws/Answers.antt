@@ -1,7 +1,6 @@
 use Rattle.jif_resolve.proofs.BeginLabels.{begins_over, readers}
 use Rattle.jif_resolve.proofs.DeclaredLabels.{results_labelled}
-use Rattle.jif_resolve.proofs.LabelledValues.{values_are_labelled}
-use Rattle.jif_resolve.proofs.LabelledPrograms.{methods_are_labelled}
+use Rattle.jif_resolve.proofs.LabelledPrograms.{values_are_labelled, methods_are_labelled}
 use Rattle.jif_resolve.proofs.Returning.{returns_last}
 use Rattle.jif_resolve.proofs.laws.labelling_laws.Goals as goal
 
