@@ -1,5 +1,6 @@
 -- Laws of the readers of expressions.
-use Rattle.std.proofs.Common.{◌≡◌, ℕ, ◌^◌, ◌<◌, ◌≤◌, true, false, List, [], ◌∷◌, ◌++◌, length, Option, Some, None, refl, sym, ap, subst, ◌∙◌, arith}
+use Rattle.std.proofs.Common.{◌≡◌, ℕ, ◌^◌, ◌<◌, ◌≤◌, true, false, List, [], ◌∷◌, ◌++◌, length, Option, Some, None, refl}
+use Rattle.std.proofs.Common.{sym, ap, subst, ◌∙◌, arith}
 use Rattle.std.specs.Prelude.{FitsSigned, All, ⊤, ◌==◌, nat_le}
 use Rattle.std.specs.List.{flat_map}
 use Rattle.std.specs.Option.{option_map_or}
@@ -13,12 +14,19 @@ use Rattle.host_code.specs.declared.code_expr.Node.{Node}
 use Rattle.host_code.specs.declared.code_expr.Node.TheVariants as node
 use Rattle.host_code.specs.declared.code_expr.TheConstants.{MOST_NODES}
 use Rattle.host_code.specs.CodeExpr.{depth_after}
+use Rattle.byte_format.specs.Numbers.{number_bytes}
+use Rattle.byte_format.specs.Reader.{sequel, given, require}
+use Rattle.byte_format.proofs.NumberLaws.{byte_reads, byte_again, number_reads, number_again, integer_reads}
+use Rattle.byte_format.proofs.NumberLaws.{integer_again}
+use Rattle.byte_format.proofs.Sequels.{Reads, Again, reads_then, reads_given, reads_last, reads_require, reads_refused}
+use Rattle.byte_format.proofs.Sequels.{reads_if, again_then, again_given, again_last, again_require}
 use Rattle.split_file.specs.declared.fault.Fault.TheVariants as fault
-use Rattle.split_file.specs.Spelling.{number_bytes, operator_byte, node_bytes, expression_bytes}
-use Rattle.split_file.specs.Reader.{Reader, sequel, given, require, byte_at, items_at}
-use Rattle.split_file.specs.Reading.{operator_of, number_node_at, variable_id_at, variable_node_at, temporary_node_at, operator_node_at, node_of, node_at, leave_one, expression_at}
-use Rattle.split_file.proofs.Sequels.{Reads, Again, reads_then, reads_given, reads_last, reads_place, reads_require, reads_refused, reads_if, reads_in_range, again_then, again_given, again_last, again_place, again_require, again_in_range}
-use Rattle.split_file.proofs.NumberLaws.{byte_reads, byte_again, number_reads, number_again, integer_reads, integer_again, index_reads, index_again}
+use Rattle.split_file.specs.Spelling.{operator_byte, node_bytes, expression_bytes}
+use Rattle.split_file.specs.Reader.{Reader, byte_at, items_at}
+use Rattle.split_file.specs.Reading.{operator_of, number_node_at, variable_id_at, variable_node_at, temporary_node_at}
+use Rattle.split_file.specs.Reading.{operator_node_at, node_of, node_at, leave_one, expression_at}
+use Rattle.split_file.proofs.Sequels.{reads_place, reads_in_range, again_place, again_in_range}
+use Rattle.split_file.proofs.NumberLaws.{index_reads, index_again}
 use Rattle.split_file.proofs.ItemLaws.{all_of, in_all, all_weaker, all_read, items_again}
 
 -- ---- operators
@@ -93,7 +101,7 @@ operator_first variables temporaries at byte =
 number_first : (variables temporaries : ℕ) → Reads number_node_at
     (λ n text. (1 ∷ text ≡ node_bytes n) × NodeIs variables temporaries n)
 unfolding number_node_at
-number_first variables temporaries = reads_last _ integer_reads (λ n fits. (refl, fits))
+number_first variables temporaries = reads_last _ (integer_reads _) (λ n fits. (refl, fits))
 
 variable_first : (variables temporaries : ℕ) → Reads (variable_node_at variables)
     (λ n text. (2 ∷ text ≡ node_bytes n) × NodeIs variables temporaries n)
@@ -120,7 +128,7 @@ pub node_reads : (variables temporaries : ℕ) → Reads (node_at variables temp
     (λ n text. (text ≡ node_bytes n) × NodeIs variables temporaries n)
 unfolding node_at
 node_reads variables temporaries =
-    reads_place (λ at. reads_then byte_reads (λ byte lt. node_tail variables temporaries at byte))
+    reads_place (λ at. reads_then (byte_reads _) (λ byte lt. node_tail variables temporaries at byte))
 
 operator_node_again : (variables temporaries at : ℕ) (operator : BinOp) →
     Again (node_of variables temporaries at (operator_byte operator)) (node.Binary operator) []
@@ -150,19 +158,19 @@ node_behind : (variables temporaries at : ℕ) (n : Node) → variables < 2 ^ 32
     Again (sequel byte_at (λ byte. node_of variables temporaries at byte)) n (node_bytes n)
 unfolding node_of number_node_at variable_node_at temporary_node_at
 node_behind variables temporaries at (node.Number n) few short is =
-    again_then (node_of variables temporaries at) (byte_again 1) (again_last node.Number (integer_again n is))
+    again_then (node_of variables temporaries at) (byte_again _ 1) (again_last node.Number (integer_again _ n is))
 node_behind variables temporaries at (node.Var variable) few short is =
-    again_then (node_of variables temporaries at) (byte_again 2)
+    again_then (node_of variables temporaries at) (byte_again _ 2)
     (again_last node.Var (variable_id_again variables variable few is))
 node_behind variables temporaries at (node.Temp temporary) few short is =
-    again_then (node_of variables temporaries at) (byte_again 3)
+    again_then (node_of variables temporaries at) (byte_again _ 3)
     (again_last node.Temp (index_again temporaries temporary short is))
 node_behind variables temporaries at node.Not few short is =
-    again_then (node_of variables temporaries at) (byte_again 4) (again_given node.Not)
+    again_then (node_of variables temporaries at) (byte_again _ 4) (again_given node.Not)
 node_behind variables temporaries at node.Negate few short is =
-    again_then (node_of variables temporaries at) (byte_again 5) (again_given node.Negate)
+    again_then (node_of variables temporaries at) (byte_again _ 5) (again_given node.Negate)
 node_behind variables temporaries at (node.Binary operator) few short is =
-    again_then (node_of variables temporaries at) (byte_again (operator_byte operator))
+    again_then (node_of variables temporaries at) (byte_again _ (operator_byte operator))
     (operator_node_again variables temporaries at operator)
 
 pub node_again : (variables temporaries : ℕ) (n : Node) → variables < 2 ^ 32 → temporaries < 2 ^ 32 →
@@ -189,7 +197,7 @@ pub expression_reads : (variables temporaries : ℕ) → Reads (expression_at va
     (λ nodes text. (text ≡ expression_bytes nodes) × ExpressionIs variables temporaries nodes)
 unfolding expression_at
 expression_reads variables temporaries =
-    reads_place (λ at. reads_then (reads_in_range number_reads) (λ count count_is.
+    reads_place (λ at. reads_then (reads_in_range (number_reads _)) (λ count count_is.
     reads_then (all_read (λ _. node_at variables temporaries) node_bytes (λ _ n. NodeIs variables temporaries n)
     (λ _. node_reads variables temporaries) count) (λ nodes nodes_are.
     reads_require (fault.BadField at) (λ leaves. reads_given nodes (
@@ -212,7 +220,7 @@ expression_again variables temporaries nodes few short is =
     (λ _ n there. node_again variables temporaries n few short there) [] nodes
     (in_all (NodeIs variables temporaries) [] nodes is.each) in
     let count = again_in_range (λ count. nat_le count MOST_NODES) (le-leb _ _ is.few)
-    (number_again (length nodes) (omega (arith, is.few))) in
+    (number_again _ (length nodes) (omega (arith, is.few))) in
     let behind : (at : ℕ) → Again (sequel (items_at (λ _. node_at variables temporaries) [] (length nodes))
     (λ found. sequel (require (leave_one found) (fault.BadField at)) (λ _. given found)))
     nodes (flat_map node_bytes nodes) =

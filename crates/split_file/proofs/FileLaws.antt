@@ -1,5 +1,6 @@
 -- Laws of split files: what is read is spelled so, and what is spelled so is read.
-use Rattle.std.proofs.Common.{◌≡◌, ◌≢◌, ◌⊎◌, inl, inr, ℕ, ◌+◌, ◌*◌, List, [], ◌∷◌, ◌++◌, length, Result, Ok, Err, refl, sym, ap, subst, ◌∙◌, append_assoc, arith}
+use Rattle.std.proofs.Common.{◌≡◌, ◌≢◌, ◌⊎◌, inl, inr, ℕ, ◌+◌, ◌*◌, List, [], ◌∷◌, ◌++◌, length, Result, Ok, Err, refl}
+use Rattle.std.proofs.Common.{sym, ap, subst, ◌∙◌, append_assoc, arith}
 use Rattle.std.specs.Prelude.{⊤}
 use Rattle.std.specs.List.{concat, flat_map}
 use Rattle.std.specs.Int.{w16, to_be_bytes}
@@ -8,6 +9,10 @@ use Rattle.std.proofs.lemmas.List.{append-nil}
 use Rattle.host_code.specs.declared.code.Entry.{Entry}
 use Rattle.host_code.specs.declared.instruction.Instr.{Instr}
 use Rattle.host_code.specs.Code.{CodeShape}
+use Rattle.byte_format.specs.Numbers.{AreBytes}
+use Rattle.byte_format.specs.Reader.{handed_on, sequel, given}
+use Rattle.byte_format.proofs.Sequels.{Reads, Again, read_as, ok_is, handed, reads_given, reads_require, reads_weaker}
+use Rattle.byte_format.proofs.Sequels.{again_given, again_require}
 use Rattle.split_file.specs.declared.fault.Fault.{Fault}
 use Rattle.split_file.specs.declared.fault.Fault.TheVariants as fault
 use Rattle.split_file.specs.declared.fault.ReadError.{ReadError}
@@ -15,10 +20,10 @@ use Rattle.split_file.specs.declared.fault.ReadError.TheVariants as error
 use Rattle.split_file.specs.declared.error.SplitError.{SplitError}
 use Rattle.split_file.specs.declared.error.SplitError.TheVariants as refusal
 use Rattle.split_file.specs.Spelling.{magic, version_of, table_bytes, start_bytes, part_bytes, split_file}
-use Rattle.split_file.specs.Reader.{Reader, Fails, handed_on, sequel, given, items_at}
-use Rattle.split_file.specs.Reading.{next_part_at, front_at, with_parts, ended, PLACE_BYTES, ENTRY_BYTES, entries_stand, code_at}
+use Rattle.split_file.specs.Reader.{Reader, Fails, items_at}
+use Rattle.split_file.specs.Reading.{next_part_at, front_at, with_parts, ended, PLACE_BYTES, ENTRY_BYTES, entries_stand}
+use Rattle.split_file.specs.Reading.{code_at}
 use Rattle.split_file.specs.File.{IsRealCode, IsRefusal, refusal_of, outcome, file_code}
-use Rattle.split_file.proofs.Sequels.{AreBytes, Reads, Again, read_as, ok_is, handed, reads_given, reads_require, reads_weaker, again_given, again_require}
 use Rattle.split_file.proofs.PartLaws.{parts_reads, parts_again}
 use Rattle.split_file.proofs.FrontLaws.{front_bytes, front_reads, front_again}
 use Rattle.split_file.proofs.SoundCodes.{Stand, sound_code, front_is, few_items, parts_are, entries_there}
@@ -96,7 +101,8 @@ unfolding code_at sequel
 code_read bytes code rest fits is =
     let step = handed (front_at bytes) behind_front code rest is in
     let front = front_reads.taken bytes step.0 step.1 fits step.2 in
-    let next = handed (items_at (next_part_at step.0.0) [] (length step.0.0.hosts) step.1) (behind_parts step.0) code rest
+    let next = handed (items_at (next_part_at step.0.0) [] (length step.0.0.hosts) step.1)
+    (behind_parts step.0) code rest
     step.3 in
     let parts = (parts_reads step.0.0 (length step.0.0.hosts)).taken step.1 next.0 next.1 front.left next.2 in
     let end = end_read step.0 next.0 next.1 code rest next.3 in

@@ -8,12 +8,13 @@ use Rattle.std.proofs.lemmas.Bool.{eqb-true}
 use Rattle.std.proofs.lemmas.List.{append-nil}
 use Rattle.std.proofs.lemmas.Slice.Eq.{bytes_eq-Decides}
 use Rattle.host_code.specs.Code.{CodeShape}
+use Rattle.byte_format.specs.Reader.{require}
+use Rattle.byte_format.proofs.NumberLaws.{bytes_reads, bytes_again, short_reads, short_again}
+use Rattle.byte_format.proofs.Sequels.{Reads, Again, reads_then, reads_given, reads_weaker, again_then, again_given}
 use Rattle.split_file.specs.declared.fault.Fault.TheVariants as fault
 use Rattle.split_file.specs.Spelling.{magic, version_of, table_bytes, start_bytes}
-use Rattle.split_file.specs.Reader.{require}
 use Rattle.split_file.specs.Reading.{magic_at, version_at, TablesShape, StartsShape, code_with, front_at, with_parts}
-use Rattle.split_file.proofs.Sequels.{Reads, Again, AgainSome, reads_then, reads_given, reads_weaker, require_reads, require_again, again_then, again_given, some_then, some_some, some_same}
-use Rattle.split_file.proofs.NumberLaws.{bytes_reads, bytes_again, short_reads, short_again}
+use Rattle.split_file.proofs.Sequels.{AgainSome, require_reads, require_again, some_then, some_some, some_same}
 use Rattle.split_file.proofs.TableLaws.{TablesAre, tables_read, tables_again}
 use Rattle.split_file.proofs.StartLaws.{StartsAre, IsStart, starts_read, starts_again}
 
@@ -22,13 +23,13 @@ use Rattle.split_file.proofs.StartLaws.{StartsAre, IsStart, starts_read, starts_
 magic_reads : Reads magic_at (λ _ text. (text ≡ magic) × ⊤)
 unfolding magic_at
 magic_reads =
-    reads_then (bytes_reads 8) (λ bytes long. reads_weaker (require_reads (bytes_eq bytes magic) fault.BadMagic)
+    reads_then (bytes_reads _ 8) (λ bytes long. reads_weaker (require_reads (bytes_eq bytes magic) fault.BadMagic)
     (λ _ more is. (ap (λ t. bytes ++ t) is.0 ∙ append-nil bytes ∙ (bytes_eq-Decides bytes magic).0 is.1, tt)))
 
 magic_again : Again magic_at tt magic
 unfolding magic_at
 magic_again =
-    again_then (λ bytes. require (bytes_eq bytes magic) fault.BadMagic) (bytes_again magic 8 refl)
+    again_then (λ bytes. require (bytes_eq bytes magic) fault.BadMagic) (bytes_again _ magic 8 refl)
     (require_again (bytes_eq magic magic) fault.BadMagic ((bytes_eq-Decides magic magic).1 refl))
 
 abbrev version_bytes : List ℕ
@@ -37,13 +38,13 @@ version_bytes = to_be_bytes w16 1
 version_reads : Reads version_at (λ _ text. (text ≡ version_bytes) × ⊤)
 unfolding version_at
 version_reads =
-    reads_then short_reads (λ version short. reads_weaker (require_reads (version == 1) fault.BadVersion)
+    reads_then (short_reads _) (λ version short. reads_weaker (require_reads (version == 1) fault.BadVersion)
     (λ _ more is. (ap (λ t. to_be_bytes w16 version ++ t) is.0 ∙ ap (to_be_bytes w16) (eqb-true _ _ is.1), tt)))
 
 version_again : Again version_at tt version_bytes
 unfolding version_at
 version_again =
-    again_then (λ version. require (version == 1) fault.BadVersion) (short_again 1 (omega arith))
+    again_then (λ version. require (version == 1) fault.BadVersion) (short_again _ 1 (omega arith))
     (require_again true fault.BadVersion refl)
 
 -- ---- tables and starts

@@ -1,13 +1,15 @@
 -- Laws of items one after another.
-use Rattle.std.proofs.Common.{◌≡◌, ℕ, zero, suc, ◌^◌, ◌<◌, List, [], ◌∷◌, ◌++◌, length, take, Some, refl, sym, ap, ◌∙◌, append_assoc, subst}
+use Rattle.std.proofs.Common.{◌≡◌, ℕ, zero, suc, ◌^◌, ◌<◌, List, [], ◌∷◌, ◌++◌, length, take, Some, refl, sym, ap, ◌∙◌}
+use Rattle.std.proofs.Common.{append_assoc, subst}
 use Rattle.std.specs.Prelude.{⊤, slice_get, All}
 use Rattle.std.specs.List.{flat_map, AllByRecursion}
 use Rattle.std.proofs.lemmas.List.{append-nil}
 use Rattle.std.proofs.lemmas.List.Elements.{All-from_recursion, recursion_from_All}
-use Rattle.split_file.specs.Spelling.{number_bytes, list_bytes}
+use Rattle.byte_format.specs.Numbers.{number_bytes}
+use Rattle.byte_format.proofs.NumberLaws.{number_reads, number_again}
+use Rattle.byte_format.proofs.Sequels.{Reads, Again, reads_then, reads_given, reads_weaker, again_then, again_given}
+use Rattle.split_file.specs.Spelling.{list_bytes}
 use Rattle.split_file.specs.Reader.{Reader, items_at, list_at}
-use Rattle.split_file.proofs.Sequels.{Reads, Again, reads_then, reads_given, reads_weaker, again_then, again_given}
-use Rattle.split_file.proofs.NumberLaws.{number_reads, number_again}
 
 -- a fact for each item of a list behind some others, which may speak of what stands before it
 abbrev pub AllIn : {A : Type 0} → (List A → A → Type 0) → List A → List A → Type 0
@@ -70,7 +72,14 @@ pub items_read : {A : Type 0} (item : List A → Reader A) (s : A → List ℕ) 
     Reads (items_at item before count) (NewItems s P before count)
 unfolding items_at
 items_read item s P one before zero =
-    reads_given before (record { new = []; whole = sym (append-nil before); count_is = refl; text_is = refl; each = tt })
+    reads_given before (record {
+      new = [];
+      whole = sym (append-nil before);
+      count_is = refl;
+      text_is = refl;
+      each =
+          tt;
+    })
 items_read item s P one before (suc count) =
     reads_then (one before) (λ x is. reads_weaker (items_read item s P one (before ++ x ∷ []) count) (λ all text rest.
     record {
@@ -95,7 +104,7 @@ pub list_read : {A : Type 0} (item : List A → Reader A) (s : A → List ℕ) (
     Reads (list_at item) (λ all text. (text ≡ list_bytes s all) × ((length all < 2 ^ 32) × AllIn P [] all))
 unfolding list_at
 list_read item s P one =
-    reads_then number_reads (λ count few. reads_weaker (all_read item s P one count) (λ all text is. (
+    reads_then (number_reads _) (λ count few. reads_weaker (all_read item s P one count) (λ all text is. (
       ap (λ t. number_bytes count ++ t) is.0 ∙ ap (λ n. number_bytes n ++ flat_map s all) (sym is.1.0),
       (subst (λ n. n < 2 ^ 32) (sym is.1.0) few, is.1.1),
     )))
@@ -118,4 +127,4 @@ pub list_again : {A : Type 0} (item : List A → Reader A) (s : A → List ℕ) 
     AllIn (λ front x. Again (item front) x (s x)) [] xs → Again (list_at item) xs (list_bytes s xs)
 unfolding list_at
 list_again item s xs few all =
-    again_then (λ count. items_at item [] count) (number_again (length xs) few) (items_again item s [] xs all)
+    again_then (λ count. items_at item [] count) (number_again _ (length xs) few) (items_again item s [] xs all)

@@ -1,9 +1,11 @@
 -- Items one after another, as a loop reads them.
-use Rattle.std.proofs.Common.{◌≡◌, ℕ, suc, ◌-◌, ◌+◌, ◌≤◌, ◌<◌, false, List, [], ◌∷◌, ◌++◌, Result, Ok, Err, refl, sym, ◌∙◌, arith}
+use Rattle.std.proofs.Common.{◌≡◌, ℕ, suc, ◌-◌, ◌+◌, ◌≤◌, ◌<◌, false, List, [], ◌∷◌, ◌++◌, Result, Ok, Err, refl, sym}
+use Rattle.std.proofs.Common.{◌∙◌, arith}
+use Rattle.byte_format.specs.Reader.{handed_on, sequel, given}
 use Rattle.split_file.specs.declared.fault.Fault.{Fault}
 use Rattle.split_file.specs.declared.fault.ReadError.{ReadError}
 use Rattle.split_file.specs.declared.fault.ReadError.TheVariants as error
-use Rattle.split_file.specs.Reader.{Reader, handed_on, sequel, given, Fails, items_at}
+use Rattle.split_file.specs.Reader.{Reader, Fails, items_at}
 use Rattle.split_file.specs.Reading.{is_empty}
 
 -- one more item

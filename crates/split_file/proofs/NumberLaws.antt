@@ -1,205 +1,34 @@
--- Laws of the readers of numbers and texts.
-use Rattle.std.proofs.Common.{◌≡◌, ℕ, zero, suc, ◌+◌, ◌^◌, ◌<◌, ◌≤◌, Bool, true, false, List, [], ◌∷◌, ◌++◌, length, take, drop, Ok, Err, refl, sym, ap, subst, ◌∙◌, arith, inl, inr}
-use Rattle.std.specs.Prelude.{if◌then◌else◌, ℤ, FitsSigned, nat_lt, nat_le, ◌==◌, ⊤}
-use Rattle.std.specs.Int.{Width, w16, w32, w64, byte_len, from_be_bytes, to_be_bytes, cast_signed, cast_unsigned}
-use Rattle.std.proofs.lemmas.Bool.{cases_lt, ltb-false, ltb-true, le-ltb, lt-ltb, leb-true}
-use Rattle.std.proofs.lemmas.List.{take_at, drop_at, take-append-drop, length-append, length-take, get_or-drop, get_or-take, get_or_past}
-use Rattle.std.proofs.lemmas.Nat.{be_bytes_2, be_bytes_4, be_bytes_8, from_be_bytes-to_be_bytes_2, from_be_bytes-to_be_bytes_4, from_be_bytes-to_be_bytes_8}
-use Rattle.std.proofs.lemmas.Int.{of_z-to_z, to_z-of_z}
-use Rattle.std.proofs.Math.Facts.{sfits_to_z, Fits-of_z}
-use Rattle.split_file.specs.declared.fault.Fault.{Fault}
-use Rattle.split_file.specs.declared.fault.Fault.TheVariants as fault
-use Rattle.split_file.specs.Spelling.{number_bytes, word_bytes, integer_bytes, text_bytes, flag_bytes}
-use Rattle.split_file.specs.Reader.{byte_at, bytes_at, number_at, text_at}
-use Rattle.split_file.specs.Reading.{integer_at, flag_at, index_at}
-use Rattle.split_file.proofs.Sequels.{AreBytes, Taken, Reads, Again, ok_is, reads_then, reads_last, reads_in_range, reads_weaker, again_then, again_last, again_in_range}
-
-bytes_behind : (n : ℕ) (bytes : List ℕ) → AreBytes bytes → AreBytes (drop n bytes)
-bytes_behind n bytes h i = rw get_or-drop (h (n + i))
-
-bytes_before : (n : ℕ) (bytes : List ℕ) → AreBytes bytes → AreBytes (take n bytes)
-bytes_before n bytes h i =
-    elim (cases_lt i n) [
-      | inl lt ↦ rw (get_or-take n bytes i 0 lt) (h i)
-      | inr le ↦ rw (get_or_past (take n bytes) i 0 (omega (arith, length-take n bytes))) (omega arith)
-    ]
-
--- a test that did not fail
-passed : {A : Type 0} (test : Bool) (what : Fault) (x y : A) → (if test then Err what else Ok x) ≡ Ok y →
-    (test ≡ false) × (x ≡ y)
-passed true what x y is = absurd cc
-passed false what x y is = (refl, cc)
-
-pub bytes_reads : (count : ℕ) → Reads (bytes_at count) (λ xs text. (text ≡ xs) × (length xs ≡ count))
-unfolding bytes_at
-bytes_reads count = record {
-  taken = λ bytes xs rest fits is.
-      let g = passed (nat_lt (length bytes) count) fault.Short (take count bytes, drop count bytes) (xs, rest) is in
-      let long : count ≤ length bytes = ltb-false _ _ g.0 in
-      let front : take count bytes ≡ xs = ap (λ (p : List ℕ × List ℕ). p.0) g.1 in
-      let back : drop count bytes ≡ rest = ap (λ (p : List ℕ × List ℕ). p.1) g.1 in
-      record {
-        text = take count bytes;
-        parts = sym (take-append-drop count bytes) ∙ ap (λ r. take count bytes ++ r) back;
-        left = subst AreBytes back (bytes_behind count bytes fits);
-        is = (front, ap length (sym front) ∙ length-take count bytes ∙ omega arith);
-      };
-}
-
-pub bytes_again : (xs : List ℕ) (count : ℕ) → length xs ≡ count → Again (bytes_at count) xs xs
-unfolding bytes_at
-bytes_again xs count len = record {
-  again = λ rest.
-      let long : nat_lt (length (xs ++ rest)) count ≡ false = le-ltb _ _ (omega (arith, length-append xs rest)) in
-      rw (long, take_at xs rest count len, drop_at xs rest count len) refl;
-}
-
--- ---- numbers
-
-pub record IsWide (width : Width) (limit : ℕ) : Type 0 where
-  pub len : (n : ℕ) → length (to_be_bytes width n) ≡ byte_len width
-  pub back : (bytes : List ℕ) → length bytes ≡ byte_len width → AreBytes bytes →
-      to_be_bytes width (from_be_bytes width bytes) ≡ bytes
-  pub again : (n : ℕ) → n < limit → from_be_bytes width (to_be_bytes width n) ≡ n
-  pub below : (bytes : List ℕ) → AreBytes bytes → from_be_bytes width bytes < limit
-
-wide16 : IsWide w16 (2 ^ 16)
-wide16 = record {
-  len = λ n. refl;
-  back = λ bytes len fits. be_bytes_2 bytes _ len fits refl;
-  again = λ n lt. from_be_bytes-to_be_bytes_2 n lt;
-  below = λ bytes fits. omega (arith, fits 0, fits 1);
-}
-
-wide32 : IsWide w32 (2 ^ 32)
-wide32 = record {
-  len = λ n. refl;
-  back = λ bytes len fits. be_bytes_4 bytes _ len fits refl;
-  again = λ n lt. from_be_bytes-to_be_bytes_4 n lt;
-  below = λ bytes fits. omega (arith, fits 0, fits 1, fits 2, fits 3);
-}
-
-wide64 : IsWide w64 (2 ^ 64)
-wide64 = record {
-  len = λ n. refl;
-  back = λ bytes len fits. be_bytes_8 bytes _ len fits refl;
-  again = λ n lt. from_be_bytes-to_be_bytes_8 n lt;
-  below = λ bytes fits. omega (arith, fits 0, fits 1, fits 2, fits 3, fits 4, fits 5, fits 6, fits 7);
-}
-
-wide_reads : (width : Width) (limit : ℕ) → IsWide width limit →
-    Reads (number_at width) (λ n text. (text ≡ to_be_bytes width n) × (n < limit))
-unfolding number_at
-wide_reads width limit wide = record {
-  taken = λ bytes n rest fits is.
-      let len = byte_len width in
-      let g = passed (nat_lt (length bytes) len) fault.Short
-      (from_be_bytes width (take len bytes), drop len bytes) (n, rest) is in
-      let long : len ≤ length bytes = ltb-false _ _ g.0 in
-      let number : from_be_bytes width (take len bytes) ≡ n = ap (λ (p : ℕ × List ℕ). p.0) g.1 in
-      let back : drop len bytes ≡ rest = ap (λ (p : ℕ × List ℕ). p.1) g.1 in
-      let short : length (take len bytes) ≡ len = length-take len bytes ∙ omega arith in
-      record {
-        text = take len bytes;
-        parts = sym (take-append-drop len bytes) ∙ ap (λ r. take len bytes ++ r) back;
-        left = subst AreBytes back (bytes_behind len bytes fits);
-        is = (
-          sym (wide.back (take len bytes) short (bytes_before len bytes fits)) ∙ ap (to_be_bytes width) number,
-          subst (λ m. m < limit) number (wide.below (take len bytes) (bytes_before len bytes fits)),
-        );
-      };
-}
-
-wide_again : (width : Width) (limit : ℕ) → IsWide width limit → (n : ℕ) → n < limit →
-    Again (number_at width) n (to_be_bytes width n)
-unfolding number_at
-wide_again width limit wide n lt = record {
-  again = λ rest.
-      let len = wide.len n in
-      let long : nat_lt (length (to_be_bytes width n ++ rest)) (byte_len width) ≡ false =
-      le-ltb _ _ (omega (arith, length-append (to_be_bytes width n) rest)) in
-      rw (
-        long,
-        take_at (to_be_bytes width n) rest (byte_len width) len,
-        drop_at (to_be_bytes width n) rest (byte_len width) len,
-        wide.again n lt,
-      ) refl;
-}
-
-pub short_reads : Reads (number_at w16) (λ n text. (text ≡ to_be_bytes w16 n) × (n < 2 ^ 16))
-short_reads = wide_reads w16 (2 ^ 16) wide16
-
-pub short_again : (n : ℕ) → n < 2 ^ 16 → Again (number_at w16) n (to_be_bytes w16 n)
-short_again n lt = wide_again w16 (2 ^ 16) wide16 n lt
-
-pub number_reads : Reads (number_at w32) (λ n text. (text ≡ number_bytes n) × (n < 2 ^ 32))
-unfolding number_bytes
-number_reads = wide_reads w32 (2 ^ 32) wide32
-
-pub number_again : (n : ℕ) → n < 2 ^ 32 → Again (number_at w32) n (number_bytes n)
-unfolding number_bytes
-number_again n lt = wide_again w32 (2 ^ 32) wide32 n lt
-
-pub word_reads : Reads (number_at w64) (λ n text. (text ≡ word_bytes n) × (n < 2 ^ 64))
-unfolding word_bytes
-word_reads = wide_reads w64 (2 ^ 64) wide64
-
-pub word_again : (n : ℕ) → n < 2 ^ 64 → Again (number_at w64) n (word_bytes n)
-unfolding word_bytes
-word_again n lt = wide_again w64 (2 ^ 64) wide64 n lt
-
--- ---- bytes
-
-first_taken : (bytes : List ℕ) (x : ℕ) (rest : List ℕ) → AreBytes bytes → byte_at bytes ≡ Ok (x, rest) →
-    Taken bytes rest (λ text. (text ≡ x ∷ []) × (x < 256))
-unfolding byte_at
-first_taken [] x rest fits is = absurd cc
-first_taken (byte ∷ bytes) x rest fits is =
-    let same = ok_is (byte, bytes) (x, rest) is in
-    let first : byte ≡ x = ap (λ (p : ℕ × List ℕ). p.0) same in
-    let back : bytes ≡ rest = ap (λ (p : ℕ × List ℕ). p.1) same in
-    record {
-      text = byte ∷ [];
-      parts = ap (λ r. byte ∷ r) back;
-      left = subst AreBytes back (λ i. fits (suc i));
-      is = (ap (λ b. b ∷ []) first, subst (λ b. b < 256) first (fits 0));
-    }
-
-pub byte_reads : Reads byte_at (λ byte text. (text ≡ byte ∷ []) × (byte < 256))
-byte_reads = record { taken = λ bytes x rest fits is. first_taken bytes x rest fits is }
-
-pub byte_again : (byte : ℕ) → Again byte_at byte (byte ∷ [])
-unfolding byte_at
-byte_again byte = record { again = λ rest. refl }
-
--- ---- signed numbers, flags, texts and indices
-
-pub integer_reads : Reads integer_at (λ z text. (text ≡ integer_bytes z) × FitsSigned w64 z)
-unfolding integer_at
-integer_reads = reads_last _ word_reads (λ n lt. (ap word_bytes (sym (of_z-to_z w64 n lt)), sfits_to_z {w = w64} {n = n} (record { fits = lt })))
-
-pub integer_again : (z : ℤ) → FitsSigned w64 z → Again integer_at z (integer_bytes z)
-unfolding integer_at
-integer_again z fits =
-    subst (λ (y : ℤ). Again integer_at y (integer_bytes z)) (to_z-of_z w64 z fits)
-    (again_last (cast_signed w64) (word_again (cast_unsigned w64 z) (Fits-of_z fits).fits))
+-- Laws of the readers of texts, indices and flags.
+use Rattle.std.proofs.Common.{◌≡◌, ℕ, zero, suc, ◌^◌, ◌<◌, Bool, true, false, List, [], ◌∷◌, ◌++◌, length, refl, sym}
+use Rattle.std.proofs.Common.{ap, ◌∙◌, arith}
+use Rattle.std.specs.Prelude.{nat_le, ◌==◌, ⊤}
+use Rattle.std.proofs.lemmas.Bool.{ltb-true, lt-ltb, leb-true}
+use Rattle.byte_format.specs.Numbers.{number_bytes}
+use Rattle.byte_format.proofs.Sequels.{Reads, Again, reads_then, reads_last, reads_weaker, again_then, again_last}
+use Rattle.byte_format.proofs.NumberLaws.{byte_reads, byte_again, bytes_reads, bytes_again, number_reads, number_again}
+use Rattle.split_file.specs.Spelling.{text_bytes, flag_bytes}
+use Rattle.split_file.specs.Reader.{text_at}
+use Rattle.split_file.specs.Reading.{flag_at, index_at}
+use Rattle.split_file.proofs.Sequels.{reads_in_range, again_in_range}
 
 pub text_reads : Reads text_at (λ text bytes. (bytes ≡ text_bytes text) × (length text < 2 ^ 32))
 unfolding text_at
-text_reads = reads_then number_reads (λ count lt. reads_weaker (bytes_reads count) (λ text bytes is.
-    (ap (λ b. number_bytes count ++ b) is.0 ∙ ap (λ n. number_bytes n ++ text) (sym is.1), omega (arith, is.1))))
+text_reads = reads_then (number_reads _) (λ count lt. reads_weaker (bytes_reads _ count) (λ text bytes is. (
+  ap (λ b. number_bytes count ++ b) is.0 ∙ ap (λ n. number_bytes n ++ text) (sym is.1.0),
+  omega (arith, is.1.0),
+)))
 
 pub text_again : (text : List ℕ) → length text < 2 ^ 32 → Again text_at text (text_bytes text)
 unfolding text_at
-text_again text lt = again_then _ (number_again (length text) lt) (bytes_again text (length text) refl)
+text_again text lt = again_then _ (number_again _ (length text) lt) (bytes_again _ text (length text) refl)
 
 pub index_reads : (count : ℕ) → Reads (index_at count) (λ n text. (text ≡ number_bytes n) × (n < count))
 unfolding index_at
-index_reads count = reads_weaker (reads_in_range number_reads) (λ n text is. (is.0, ltb-true _ _ is.1.1))
+index_reads count = reads_weaker (reads_in_range (number_reads _)) (λ n text is. (is.0, ltb-true _ _ is.1.1))
 
 pub index_again : (count n : ℕ) → count < 2 ^ 32 → n < count → Again (index_at count) n (number_bytes n)
 unfolding index_at
-index_again count n few lt = again_in_range _ (lt-ltb n count lt) (number_again n (omega arith))
+index_again count n few lt = again_in_range _ (lt-ltb n count lt) (number_again _ n (omega arith))
 
 flag_is : (byte : ℕ) → nat_le byte 1 ≡ true → byte ∷ [] ≡ flag_bytes (byte == 1)
 flag_is zero few = refl
@@ -208,9 +37,9 @@ flag_is (suc (suc byte)) few = absurd (omega (arith, leb-true _ _ few))
 
 pub flag_reads : Reads flag_at (λ flag text. (text ≡ flag_bytes flag) × ⊤)
 unfolding flag_at
-flag_reads = reads_last _ (reads_in_range byte_reads) (λ byte is. (flag_is byte is.1, tt))
+flag_reads = reads_last _ (reads_in_range (byte_reads _)) (λ byte is. (flag_is byte is.1, tt))
 
 pub flag_again : (flag : Bool) → Again flag_at flag (flag_bytes flag)
 unfolding flag_at
-flag_again false = again_last (λ byte. byte == 1) (again_in_range _ refl (byte_again 0))
-flag_again true = again_last (λ byte. byte == 1) (again_in_range _ refl (byte_again 1))
+flag_again false = again_last (λ byte. byte == 1) (again_in_range _ refl (byte_again _ 0))
+flag_again true = again_last (λ byte. byte == 1) (again_in_range _ refl (byte_again _ 1))

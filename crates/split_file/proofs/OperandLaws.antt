@@ -1,5 +1,6 @@
 -- Laws of the readers of what operations name.
-use Rattle.std.proofs.Common.{◌≡◌, ◌≢◌, ℕ, zero, suc, ◌^◌, ◌<◌, ◌≤◌, Bool, true, false, not, ◌&&◌, List, [], ◌∷◌, length, Option, Some, None, refl, ap, arith}
+use Rattle.std.proofs.Common.{◌≡◌, ◌≢◌, ℕ, zero, suc, ◌^◌, ◌<◌, ◌≤◌, Bool, true, false, not, ◌&&◌, List, [], ◌∷◌}
+use Rattle.std.proofs.Common.{length, Option, Some, None, refl, ap, arith}
 use Rattle.std.specs.Prelude.{IsSomeAnd, slice_get, nat_lt, ◌==◌}
 use Rattle.std.specs.Option.{option_map_or}
 use Rattle.std.proofs.lemmas.Bool.{eqb-true, eq-eqb, ne_eqb, ltb-true, lt-ltb, and_parts}
@@ -10,10 +11,14 @@ use Rattle.js_base.specs.declared.ids.SiteId.{SiteId}
 use Rattle.host_code.specs.declared.code.Entry.{Entry}
 use Rattle.host_code.specs.Code.{CodeShape, halt, entry_at, site_at, host_of_site}
 use Rattle.host_code.specs.Sound.{IsHost, IsOther, IsEntryOn}
-use Rattle.split_file.specs.Spelling.{number_bytes, host_id_bytes}
-use Rattle.split_file.specs.Reading.{is_entry_on, field_id_at, other_host_at, own_site_at, own_entry_at, some_entry_at, host_of_entry_at, other_host_of_entry_at}
-use Rattle.split_file.proofs.Sequels.{Reads, Again, reads_last, reads_in_range, again_last, again_in_range}
-use Rattle.split_file.proofs.NumberLaws.{byte_reads, byte_again, number_reads, number_again, index_reads, index_again}
+use Rattle.byte_format.specs.Numbers.{number_bytes}
+use Rattle.byte_format.proofs.NumberLaws.{byte_reads, byte_again, number_reads, number_again}
+use Rattle.byte_format.proofs.Sequels.{Reads, Again, reads_last, again_last}
+use Rattle.split_file.specs.Spelling.{host_id_bytes}
+use Rattle.split_file.specs.Reading.{is_entry_on, field_id_at, other_host_at, own_site_at, own_entry_at, some_entry_at}
+use Rattle.split_file.specs.Reading.{host_of_entry_at, other_host_of_entry_at}
+use Rattle.split_file.proofs.Sequels.{reads_in_range, again_in_range}
+use Rattle.split_file.proofs.NumberLaws.{index_reads, index_again}
 
 -- ---- tests
 
@@ -54,7 +59,8 @@ pub entry_there_again : (entries : List Entry) (n : ℕ) (host : HostId) →
 entry_there_again entries n host is = entry_on_again (slice_get entries n) host is
 
 -- what is there is within
-pub some_within : (entries : List Entry) (n : ℕ) (P : Entry → Type 0) → IsSomeAnd (slice_get entries n) P → n < length entries
+pub some_within : (entries : List Entry) (n : ℕ) (P : Entry → Type 0) → IsSomeAnd (slice_get entries n) P →
+    n < length entries
 some_within [] n P is = absurd is
 some_within (e ∷ entries) zero P is = omega arith
 some_within (e ∷ entries) (suc n) P is = omega (arith, some_within entries n P is)
@@ -94,12 +100,13 @@ field_id_reads code = reads_last _ (index_reads (length code.fields)) (λ field 
 pub field_id_again : (code : CodeShape) (field : FieldId) → IsFew code → field.0 < length code.fields →
     Again (field_id_at code) field (number_bytes field.0)
 unfolding field_id_at
-field_id_again code field few lt = again_last (λ n. record { 0 = n }) (index_again (length code.fields) field.0 few.fields lt)
+field_id_again code field few lt = again_last (λ n. record { 0 = n })
+    (index_again (length code.fields) field.0 few.fields lt)
 
 pub other_host_reads : (code : CodeShape) (me : HostId) → Reads (other_host_at code me)
     (λ host text. (text ≡ host_id_bytes host) × IsOther code me host)
 unfolding other_host_at
-other_host_reads code me = reads_last _ (reads_in_range byte_reads) (λ host is.
+other_host_reads code me = reads_last _ (reads_in_range (byte_reads _)) (λ host is.
     let parts = and_parts (nat_lt host (length code.hosts)) (not (host == me.0)) is.1 in
     (refl, (ltb-true _ _ parts.0, other_than (record { 0 = host }) me parts.1)))
 
@@ -111,13 +118,13 @@ pub other_host_again : (code : CodeShape) (me host : HostId) → IsOther code me
 unfolding other_host_at
 other_host_again code me host is =
     again_last (λ n. record { 0 = n }) (again_in_range (λ n. nat_lt n (length code.hosts) && not (n == me.0))
-    (both _ _ (lt-ltb _ _ is.0) (differs host.0 me.0 (apart_numbers host me is.1))) (byte_again host.0))
+    (both _ _ (lt-ltb _ _ is.0) (differs host.0 me.0 (apart_numbers host me is.1))) (byte_again _ host.0))
 
 pub own_site_reads : (code : CodeShape) (me : HostId) → Reads (own_site_at code me)
     (λ site text. (text ≡ number_bytes site.0) × (site_at code site ≡ Some me))
 unfolding own_site_at
 own_site_reads code me =
-    reads_last _ (reads_in_range number_reads) (λ site is. (refl, site_is (host_of_site code.sites site) me is.1))
+    reads_last _ (reads_in_range (number_reads _)) (λ site is. (refl, site_is (host_of_site code.sites site) me is.1))
 
 pub own_site_again : (code : CodeShape) (me : HostId) (site : SiteId) → IsFew code → site_at code site ≡ Some me →
     Again (own_site_at code me) site (number_bytes site.0)
@@ -126,7 +133,7 @@ own_site_again code me site few is =
     let within = site_few code.sites site.0 me is in
     again_last (λ n. record { 0 = n })
     (again_in_range (λ n. option_map_or (λ host. host.0 == me.0) (host_of_site code.sites n) false)
-    (site_is_again (host_of_site code.sites site.0) me is) (number_again site.0 (omega (arith, within, few.sites))))
+    (site_is_again (host_of_site code.sites site.0) me is) (number_again _ site.0 (omega (arith, within, few.sites))))
 
 not_halt : (entry : EntryId) → not (entry.0 == 0) ≡ true → entry ≢ halt
 not_halt entry is same = unlike (entry.0 == 0) true is (eq-eqb entry.0 0 (ap (λ (e : EntryId). e.0) same))
@@ -139,7 +146,7 @@ halt_apart entry apart same =
 pub own_entry_reads : (code : CodeShape) (me : HostId) → Reads (own_entry_at code me)
     (λ entry text. (text ≡ number_bytes entry.0) × IsEntryOn code me entry)
 unfolding own_entry_at
-own_entry_reads code me = reads_last _ (reads_in_range number_reads) (λ entry is.
+own_entry_reads code me = reads_last _ (reads_in_range (number_reads _)) (λ entry is.
     let parts = and_parts (not (entry == 0)) (is_entry_on code.entries entry me.0) is.1 in
     (refl, (not_halt (record { 0 = entry }) parts.0, entry_there code.entries entry me parts.1)))
 
@@ -151,12 +158,12 @@ own_entry_again code me entry few is =
     again_last (λ n. record { 0 = n })
     (again_in_range (λ n. not (n == 0) && is_entry_on code.entries n me.0)
     (both _ _ (differs entry.0 0 (halt_apart entry is.0)) (entry_there_again code.entries entry.0 me is.1))
-    (number_again entry.0 (omega (arith, within, few.entries))))
+    (number_again _ entry.0 (omega (arith, within, few.entries))))
 
 pub some_entry_reads : (code : CodeShape) → Reads (some_entry_at code)
     (λ entry text. (text ≡ number_bytes entry.0) × (entry ≢ halt))
 unfolding some_entry_at
-some_entry_reads code = reads_last _ (reads_in_range number_reads) (λ entry is.
+some_entry_reads code = reads_last _ (reads_in_range (number_reads _)) (λ entry is.
     let parts = and_parts (not (entry == 0)) (nat_lt entry (length code.entries)) is.1 in
     (refl, not_halt (record { 0 = entry }) parts.0))
 
@@ -168,28 +175,29 @@ some_entry_again code host entry few is =
     again_last (λ n. record { 0 = n })
     (again_in_range (λ n. not (n == 0) && nat_lt n (length code.entries))
     (both _ _ (differs entry.0 0 (halt_apart entry is.0)) (lt-ltb _ _ within))
-    (number_again entry.0 (omega (arith, within, few.entries))))
+    (number_again _ entry.0 (omega (arith, within, few.entries))))
 
 pub host_of_entry_reads : (code : CodeShape) (entry : EntryId) → Reads (host_of_entry_at code entry)
     (λ on text. (text ≡ host_id_bytes on) × (IsHost code on × IsSomeAnd (entry_at code entry) (λ e. e.host ≡ on)))
 unfolding host_of_entry_at
-host_of_entry_reads code entry = reads_last _ (reads_in_range byte_reads) (λ host is.
+host_of_entry_reads code entry = reads_last _ (reads_in_range (byte_reads _)) (λ host is.
     let parts = and_parts (nat_lt host (length code.hosts)) (is_entry_on code.entries entry.0 host) is.1 in
     (refl, (ltb-true _ _ parts.0, entry_there code.entries entry.0 (record { 0 = host }) parts.1)))
 
-pub host_of_entry_again : (code : CodeShape) (entry : EntryId) (on : HostId) → IsHost code on → IsEntryOn code on entry →
+pub host_of_entry_again : (code : CodeShape) (entry : EntryId) (on : HostId) → IsHost code on →
+    IsEntryOn code on entry →
     Again (host_of_entry_at code entry) on (host_id_bytes on)
 unfolding host_of_entry_at
 host_of_entry_again code entry on is_host is =
     again_last (λ n. record { 0 = n })
     (again_in_range (λ n. nat_lt n (length code.hosts) && is_entry_on code.entries entry.0 n)
-    (both _ _ (lt-ltb _ _ is_host) (entry_there_again code.entries entry.0 on is.1)) (byte_again on.0))
+    (both _ _ (lt-ltb _ _ is_host) (entry_there_again code.entries entry.0 on is.1)) (byte_again _ on.0))
 
 pub other_host_of_entry_reads : (code : CodeShape) (me : HostId) (entry : EntryId) →
     Reads (other_host_of_entry_at code me entry)
     (λ on text. (text ≡ host_id_bytes on) × (IsOther code me on × IsSomeAnd (entry_at code entry) (λ e. e.host ≡ on)))
 unfolding other_host_of_entry_at
-other_host_of_entry_reads code me entry = reads_last _ (reads_in_range byte_reads) (λ host is.
+other_host_of_entry_reads code me entry = reads_last _ (reads_in_range (byte_reads _)) (λ host is.
     let parts = and_parts (nat_lt host (length code.hosts) && not (host == me.0))
     (is_entry_on code.entries entry.0 host) is.1 in
     let front = and_parts (nat_lt host (length code.hosts)) (not (host == me.0)) parts.0 in (
@@ -207,4 +215,4 @@ other_host_of_entry_again code me entry on other is =
     again_last (λ n. record { 0 = n })
     (again_in_range (λ n. nat_lt n (length code.hosts) && not (n == me.0) && is_entry_on code.entries entry.0 n)
     (both _ _ (both _ _ (lt-ltb _ _ other.0) (differs on.0 me.0 (apart_numbers on me other.1)))
-    (entry_there_again code.entries entry.0 on is.1)) (byte_again on.0))
+    (entry_there_again code.entries entry.0 on is.1)) (byte_again _ on.0))

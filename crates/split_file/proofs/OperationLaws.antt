@@ -9,14 +9,25 @@ use Rattle.host_code.specs.declared.instruction.Op.TheVariants as op
 use Rattle.host_code.specs.declared.code_expr.Node.{Node}
 use Rattle.host_code.specs.Code.{CodeShape, site_at}
 use Rattle.host_code.specs.Sound.{IsHost, IsField, IsVariable, IsOther, IsEntryOn}
+use Rattle.byte_format.specs.Numbers.{number_bytes}
+use Rattle.byte_format.specs.Reader.{sequel}
+use Rattle.byte_format.proofs.NumberLaws.{byte_reads, byte_again}
+use Rattle.byte_format.proofs.Sequels.{Reads, Again, reads_then, reads_given, reads_last, reads_refused, reads_if}
+use Rattle.byte_format.proofs.Sequels.{again_then, again_given, again_last}
 use Rattle.split_file.specs.declared.fault.Fault.TheVariants as fault
-use Rattle.split_file.specs.Spelling.{number_bytes, host_id_bytes, expression_bytes, operation_bytes}
-use Rattle.split_file.specs.Reader.{Reader, sequel, byte_at}
-use Rattle.split_file.specs.Reading.{valued_at, sent_at, entered_at, read_at, let_at, put_at, send_at, frame_at, arg_at, pass_at, push_at, ask_at, go_at, call_at, ret_at, branch_at, operation_of, operation_at}
-use Rattle.split_file.proofs.Sequels.{Reads, Again, reads_then, reads_given, reads_last, reads_place, reads_refused, reads_if, again_then, again_given, again_last, again_place}
-use Rattle.split_file.proofs.NumberLaws.{byte_reads, byte_again, index_reads, index_again}
-use Rattle.split_file.proofs.ExpressionLaws.{ExpressionIs, reads_tag, variable_id_reads, variable_id_again, expression_reads, expression_again}
-use Rattle.split_file.proofs.OperandLaws.{IsFew, field_id_reads, field_id_again, other_host_reads, other_host_again, own_site_reads, own_site_again, own_entry_reads, own_entry_again, some_entry_reads, some_entry_again, host_of_entry_reads, host_of_entry_again, other_host_of_entry_reads, other_host_of_entry_again}
+use Rattle.split_file.specs.Spelling.{host_id_bytes, expression_bytes, operation_bytes}
+use Rattle.split_file.specs.Reader.{Reader, byte_at}
+use Rattle.split_file.specs.Reading.{valued_at, sent_at, entered_at, read_at, let_at, put_at, send_at, frame_at, arg_at}
+use Rattle.split_file.specs.Reading.{pass_at, push_at, ask_at, go_at, call_at, ret_at, branch_at, operation_of}
+use Rattle.split_file.specs.Reading.{operation_at}
+use Rattle.split_file.proofs.Sequels.{reads_place, again_place}
+use Rattle.split_file.proofs.NumberLaws.{index_reads, index_again}
+use Rattle.split_file.proofs.ExpressionLaws.{ExpressionIs, reads_tag, variable_id_reads, variable_id_again}
+use Rattle.split_file.proofs.ExpressionLaws.{expression_reads, expression_again}
+use Rattle.split_file.proofs.OperandLaws.{IsFew, field_id_reads, field_id_again, other_host_reads, other_host_again}
+use Rattle.split_file.proofs.OperandLaws.{own_site_reads, own_site_again, own_entry_reads, own_entry_again}
+use Rattle.split_file.proofs.OperandLaws.{some_entry_reads, some_entry_again, host_of_entry_reads, host_of_entry_again}
+use Rattle.split_file.proofs.OperandLaws.{other_host_of_entry_reads, other_host_of_entry_again}
 
 abbrev pub ExpressionFor : CodeShape → ℕ → List Node → Type 0
 ExpressionFor code temporaries nodes = ExpressionIs (length code.variables) temporaries nodes
@@ -211,7 +222,7 @@ pub operation_reads : (code : CodeShape) (me : HostId) (temporaries places : ℕ
     (λ o text. (text ≡ operation_bytes o) × OperationIs code me temporaries places o)
 unfolding operation_at
 operation_reads code me temporaries places =
-    reads_place (λ at. reads_then byte_reads (λ byte lt. operation_tail code me temporaries places at byte))
+    reads_place (λ at. reads_then (byte_reads _) (λ byte lt. operation_tail code me temporaries places at byte))
 
 -- ---- what is read again
 
@@ -221,53 +232,54 @@ Tail code me temporaries places at = sequel byte_at (λ byte. operation_of code 
 operation_behind : (code : CodeShape) (me : HostId) (temporaries places at : ℕ) (o : Op) → IsFew code →
     temporaries < 2 ^ 32 → places < 2 ^ 32 → OperationIs code me temporaries places o →
     Again (Tail code me temporaries places at) o (operation_bytes o)
-unfolding operation_of read_at let_at put_at send_at frame_at arg_at pass_at push_at ask_at go_at call_at ret_at branch_at
+unfolding operation_of read_at let_at put_at send_at frame_at arg_at pass_at push_at ask_at go_at call_at ret_at
+    branch_at
 operation_behind code me temporaries places at (op.Read field index) few short limit is =
-    again_then (operation_of code me temporaries places at) (byte_again 1)
+    again_then (operation_of code me temporaries places at) (byte_again _ 1)
     (again_then _ (field_id_again code field few is.0)
     (again_last (op.Read field) (expression_again (length code.variables) temporaries index few.variables short is.1)))
 operation_behind code me temporaries places at (op.Let variable value) few short limit is =
-    again_then (operation_of code me temporaries places at) (byte_again 2)
+    again_then (operation_of code me temporaries places at) (byte_again _ 2)
     (again_last (λ p. op.Let p.0 p.1) (valued_again code temporaries variable value few short is.0 is.1))
 operation_behind code me temporaries places at (op.Put field index value) few short limit is =
-    again_then (operation_of code me temporaries places at) (byte_again 3)
+    again_then (operation_of code me temporaries places at) (byte_again _ 3)
     (again_then _ (field_id_again code field few is.0)
     (again_then _ (expression_again (length code.variables) temporaries index few.variables short is.1.0)
     (again_last (op.Put field index)
     (expression_again (length code.variables) temporaries value few.variables short is.1.1))))
 operation_behind code me temporaries places at (op.Send variable to) few short limit is =
-    again_then (operation_of code me temporaries places at) (byte_again 4)
+    again_then (operation_of code me temporaries places at) (byte_again _ 4)
     (again_last (λ p. op.Send p.0 p.1) (sent_again code me variable to few is.0 is.1))
 operation_behind code me temporaries places at (op.Frame site) few short limit is =
-    again_then (operation_of code me temporaries places at) (byte_again 5)
+    again_then (operation_of code me temporaries places at) (byte_again _ 5)
     (again_last op.Frame (own_site_again code me site few is))
 operation_behind code me temporaries places at (op.Arg variable value) few short limit is =
-    again_then (operation_of code me temporaries places at) (byte_again 6)
+    again_then (operation_of code me temporaries places at) (byte_again _ 6)
     (again_last (λ p. op.Arg p.0 p.1) (valued_again code temporaries variable value few short is.0 is.1))
 operation_behind code me temporaries places at (op.Pass variable to) few short limit is =
-    again_then (operation_of code me temporaries places at) (byte_again 7)
+    again_then (operation_of code me temporaries places at) (byte_again _ 7)
     (again_last (λ p. op.Pass p.0 p.1) (sent_again code me variable to few is.0 is.1))
 operation_behind code me temporaries places at (op.Push entry) few short limit is =
-    again_then (operation_of code me temporaries places at) (byte_again 8)
+    again_then (operation_of code me temporaries places at) (byte_again _ 8)
     (again_last op.Push (own_entry_again code me entry few is))
 operation_behind code me temporaries places at (op.Ask entry on) few short limit is =
-    again_then (operation_of code me temporaries places at) (byte_again 9)
+    again_then (operation_of code me temporaries places at) (byte_again _ 9)
     (again_last (λ p. op.Ask p.0 p.1) (entered_again code me entry on few is.0 is.1))
 operation_behind code me temporaries places at (op.Go entry on) few short limit is =
-    again_then (operation_of code me temporaries places at) (byte_again 10)
+    again_then (operation_of code me temporaries places at) (byte_again _ 10)
     (again_last (λ p. op.Go p.0 p.1) (entered_again code me entry on few is.0 is.1))
 operation_behind code me temporaries places at (op.Call entry on) few short limit is =
-    again_then (operation_of code me temporaries places at) (byte_again 11)
+    again_then (operation_of code me temporaries places at) (byte_again _ 11)
     (again_then _ (some_entry_again code on entry few is.0)
     (again_last (op.Call entry) (host_of_entry_again code entry on is.1 is.0)))
 operation_behind code me temporaries places at (op.Ret variable value) few short limit is =
-    again_then (operation_of code me temporaries places at) (byte_again 12)
+    again_then (operation_of code me temporaries places at) (byte_again _ 12)
     (again_last (λ p. op.Ret p.0 p.1) (valued_again code temporaries variable value few short is.0 is.1))
 operation_behind code me temporaries places at op.Back few short limit is =
-    again_then (operation_of code me temporaries places at) (byte_again 13)
+    again_then (operation_of code me temporaries places at) (byte_again _ 13)
     (again_given op.Back)
 operation_behind code me temporaries places at (op.Branch guard target) few short limit is =
-    again_then (operation_of code me temporaries places at) (byte_again 14)
+    again_then (operation_of code me temporaries places at) (byte_again _ 14)
     (again_then _ (expression_again (length code.variables) temporaries guard few.variables short is.0)
     (again_last (op.Branch guard) (index_again places target limit is.1)))
 

@@ -1,5 +1,6 @@
 -- Laws of the readers of instructions and parts.
-use Rattle.std.proofs.Common.{◌≡◌, ℕ, suc, ◌^◌, ◌<◌, true, ◌||◌, List, [], ◌∷◌, ◌++◌, length, refl, sym, ap, subst, ◌∙◌, append_assoc, arith}
+use Rattle.std.proofs.Common.{◌≡◌, ℕ, suc, ◌^◌, ◌<◌, true, ◌||◌, List, [], ◌∷◌, ◌++◌, length, refl, sym, ap, subst, ◌∙◌}
+use Rattle.std.proofs.Common.{append_assoc, arith}
 use Rattle.std.specs.Prelude.{nat_lt}
 use Rattle.std.specs.List.{flat_map}
 use Rattle.std.proofs.lemmas.List.{length-append}
@@ -7,12 +8,16 @@ use Rattle.js_base.specs.declared.ids.HostId.{HostId}
 use Rattle.host_code.specs.declared.instruction.Instr.{Instr}
 use Rattle.host_code.specs.Code.{CodeShape}
 use Rattle.host_code.specs.Sound.{temporaries_at}
+use Rattle.byte_format.specs.Numbers.{number_bytes}
+use Rattle.byte_format.proofs.NumberLaws.{number_reads, number_again}
+use Rattle.byte_format.proofs.Sequels.{Reads, Again, reads_then, reads_given, reads_require, reads_weaker, again_then}
+use Rattle.byte_format.proofs.Sequels.{again_given, again_require}
 use Rattle.split_file.specs.declared.fault.Fault.TheVariants as fault
-use Rattle.split_file.specs.Spelling.{number_bytes, instruction_bytes, part_bytes}
+use Rattle.split_file.specs.Spelling.{instruction_bytes, part_bytes}
 use Rattle.split_file.specs.Reader.{items_at}
 use Rattle.split_file.specs.Reading.{is_leaving, instruction_at, next_instruction_at, part_at, next_part_at}
-use Rattle.split_file.proofs.Sequels.{Reads, Again, reads_then, reads_given, reads_place, reads_require, reads_weaker, again_then, again_given, again_place, again_require}
-use Rattle.split_file.proofs.NumberLaws.{number_reads, number_again, index_reads, index_again}
+use Rattle.split_file.proofs.Sequels.{reads_place, again_place}
+use Rattle.split_file.proofs.NumberLaws.{index_reads, index_again}
 use Rattle.split_file.proofs.ItemLaws.{AllIn, all_weaker, all_read, items_again}
 use Rattle.split_file.proofs.OperandLaws.{IsFew}
 use Rattle.split_file.proofs.OperationLaws.{OperationIs, operation_reads, operation_again}
@@ -34,7 +39,7 @@ pub instruction_reads : (code : CodeShape) (me : HostId) (places temporaries num
 unfolding instruction_at
 instruction_reads code me places temporaries number =
     reads_place (λ at. reads_then (index_reads (length code.labels)) (λ label label_is.
-    reads_then number_reads (λ statement short. reads_then (operation_reads code me temporaries places) (λ o o_is.
+    reads_then (number_reads _) (λ statement short. reads_then (operation_reads code me temporaries places) (λ o o_is.
     reads_require (fault.BadField at) (λ ends. reads_given _
     (refl, record { label = label_is; statement = short; operation = o_is; end = ends }))))))
 
@@ -44,7 +49,7 @@ pub instruction_again : (code : CodeShape) (me : HostId) (places temporaries num
 unfolding instruction_at
 instruction_again code me places temporaries number i few short limit is =
     again_place (λ at. again_then _ (index_again (length code.labels) i.label few.labels is.label)
-    (again_then _ (number_again i.statement.0 is.statement)
+    (again_then _ (number_again _ i.statement.0 is.statement)
     (again_then _ (operation_again code me temporaries places i.op few short limit is.operation)
     (again_require (fault.BadField at) is.end (again_given i)))))
 
@@ -69,7 +74,7 @@ pub part_reads : (code : CodeShape) (me : HostId) → Reads (part_at code me)
     (λ part text. (text ≡ part_bytes part) × PartIs code me part)
 unfolding part_at
 part_reads code me =
-    reads_then number_reads (λ places short. reads_weaker
+    reads_then (number_reads _) (λ places short. reads_weaker
     (all_read (next_instruction_at code me places) instruction_bytes (InstructionBehind code me places)
     (next_reads code me places) places) (λ part text is. (
       ap (λ t. number_bytes places ++ t) is.0
@@ -96,7 +101,8 @@ short_fronts P limit before [] short all = tt
 short_fronts P limit before (x ∷ xs) short all =
     let long = length-append before (x ∷ xs) in (
       (omega (arith, short, long), all.0),
-      short_fronts P limit (before ++ x ∷ []) xs (subst (λ w. length w < limit) (sym (append_assoc before (x ∷ []) xs)) short)
+      short_fronts P limit (before ++ x ∷ []) xs (subst (λ w. length w < limit)
+          (sym (append_assoc before (x ∷ []) xs)) short)
           all.1,
     )
 
@@ -109,7 +115,8 @@ part_again code me part few is =
     (λ front i. Again (next_instruction_at code me (length part) front) i (instruction_bytes i))
     (λ front i here. next_again code me (length part) front i few here.0 is.short here.1) [] part
     (short_fronts (InstructionBehind code me (length part)) (2 ^ 32) [] part is.short is.each) in
-    again_then (λ places. items_at (next_instruction_at code me places) [] places) (number_again (length part) is.short)
+    again_then (λ places. items_at (next_instruction_at code me places) [] places)
+    (number_again _ (length part) is.short)
     (items_again (next_instruction_at code me (length part)) instruction_bytes [] part each)
 
 -- ---- the parts of all hosts

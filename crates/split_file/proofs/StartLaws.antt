@@ -6,10 +6,16 @@ use Rattle.std.proofs.lemmas.Bool.{eqb-true}
 use Rattle.js_base.specs.declared.ids.HostId.{HostId}
 use Rattle.js_base.specs.declared.ids.EntryId.{EntryId}
 use Rattle.host_code.specs.declared.code.Entry.{Entry}
-use Rattle.split_file.specs.Spelling.{number_bytes, host_id_bytes, entry_bytes, list_bytes}
-use Rattle.split_file.specs.Reading.{host_id_at, is_empty, entry_row_at, is_entry_on, root_at, main_at, StartsShape, starts_at}
-use Rattle.split_file.proofs.Sequels.{Reads, Again, AgainSome, reads_then, reads_given, reads_last, reads_place, reads_in_range, again_then, again_given, again_last, again_in_range, some_then, some_place, some_same}
-use Rattle.split_file.proofs.NumberLaws.{byte_reads, byte_again, number_reads, number_again, word_reads, word_again, index_reads, index_again}
+use Rattle.byte_format.specs.Numbers.{number_bytes}
+use Rattle.byte_format.proofs.NumberLaws.{byte_reads, byte_again, number_reads, number_again, word_reads, word_again}
+use Rattle.byte_format.proofs.Sequels.{Reads, Again, reads_then, reads_given, reads_last, again_then, again_given}
+use Rattle.byte_format.proofs.Sequels.{again_last}
+use Rattle.split_file.specs.Spelling.{host_id_bytes, entry_bytes, list_bytes}
+use Rattle.split_file.specs.Reading.{host_id_at, is_empty, entry_row_at, is_entry_on, root_at, main_at, StartsShape}
+use Rattle.split_file.specs.Reading.{starts_at}
+use Rattle.split_file.proofs.Sequels.{AgainSome, reads_place, reads_in_range, again_in_range, some_then, some_place}
+use Rattle.split_file.proofs.Sequels.{some_same}
+use Rattle.split_file.proofs.NumberLaws.{index_reads, index_again}
 use Rattle.split_file.proofs.ItemLaws.{AllIn, all_of, in_all, all_weaker, list_read, list_again}
 use Rattle.split_file.proofs.TableLaws.{host_id_reads, host_id_again}
 
@@ -34,8 +40,8 @@ pub entry_reads : (hosts labels : ℕ) (is_first : Bool) → Reads (entry_row_at
     (λ entry text. (text ≡ entry_bytes entry) × EntryIs hosts labels is_first entry)
 unfolding entry_row_at
 entry_reads hosts labels is_first =
-    reads_then (host_id_reads hosts) (λ host host_is. reads_then (reads_in_range number_reads) (λ at at_is.
-    reads_then (index_reads labels) (λ label label_is. reads_then word_reads (λ need need_is. reads_given _ (
+    reads_then (host_id_reads hosts) (λ host host_is. reads_then (reads_in_range (number_reads _)) (λ at at_is.
+    reads_then (index_reads labels) (λ label label_is. reads_then (word_reads _) (λ need need_is. reads_given _ (
       refl,
       record {
         host = host_is;
@@ -52,34 +58,34 @@ unfolding entry_row_at
 entry_again hosts labels is_first entry few is =
     again_then _ (host_id_again hosts entry.host is.host)
     (again_then _ (again_in_range (λ at. not is_first || at == 0) (first_again is_first entry.at is.first)
-    (number_again entry.at is.short))
+    (number_again _ entry.at is.short))
     (again_then _ (index_again labels entry.label few is.label)
-    (again_then _ (word_again entry.need is.need) (again_given entry))))
+    (again_then _ (word_again _ entry.need is.need) (again_given entry))))
 
 -- ---- the root host and main
 
 pub root_reads : (entries : List Entry) → Reads (root_at entries)
     (λ root text. (text ≡ host_id_bytes root) × (is_entry_on entries 0 root.0 ≡ true))
 unfolding root_at
-root_reads entries = reads_last _ (reads_in_range byte_reads) (λ root is. (refl, is.1))
+root_reads entries = reads_last _ (reads_in_range (byte_reads _)) (λ root is. (refl, is.1))
 
 pub root_again : (entries : List Entry) (root : HostId) → is_entry_on entries 0 root.0 ≡ true →
     Again (root_at entries) root (host_id_bytes root)
 unfolding root_at
 root_again entries root is =
-    again_last (λ n. record { 0 = n }) (again_in_range (is_entry_on entries 0) is (byte_again root.0))
+    again_last (λ n. record { 0 = n }) (again_in_range (is_entry_on entries 0) is (byte_again _ root.0))
 
 pub main_reads : (entries : List Entry) (root : HostId) → Reads (main_at entries root)
     (λ main text. (text ≡ number_bytes main.0) × ((main.0 < 2 ^ 32) × (is_entry_on entries main.0 root.0 ≡ true)))
 unfolding main_at
-main_reads entries root = reads_last _ (reads_in_range number_reads) (λ main is. (refl, is))
+main_reads entries root = reads_last _ (reads_in_range (number_reads _)) (λ main is. (refl, is))
 
 pub main_again : (entries : List Entry) (root : HostId) (main : EntryId) → main.0 < 2 ^ 32 →
     is_entry_on entries main.0 root.0 ≡ true → Again (main_at entries root) main (number_bytes main.0)
 unfolding main_at
 main_again entries root main short is =
     again_last (λ n. record { 0 = n }) (again_in_range (λ main. is_entry_on entries main root.0) is
-    (number_again main.0 short))
+    (number_again _ main.0 short))
 
 -- ---- where threads and calls start
 
@@ -107,7 +113,8 @@ starts_read hosts labels =
     (λ before. entry_reads hosts labels (is_empty before))) (λ entries entries_are. reads_place (λ behind.
     reads_then (list_read (λ _. host_id_at hosts) host_id_bytes (λ _ site. site.0 < hosts) (λ _. host_id_reads hosts))
     (λ sites sites_are.
-    reads_then (root_reads entries) (λ root root_is. reads_then (main_reads entries root) (λ main main_is. reads_given _ (
+    reads_then (root_reads entries) (λ root root_is. reads_then (main_reads entries root) (λ main main_is.
+    reads_given _ (
       refl,
       record {
         few_entries = entries_are.0;

@@ -1,5 +1,6 @@
 -- Laws of the readers of hosts, labels, fields and variables.
-use Rattle.std.proofs.Common.{◌≡◌, ℕ, ◌+◌, ◌^◌, ◌<◌, ◌≤◌, ◌⊎◌, inl, inr, Bool, true, false, ◌||◌, ◌&&◌, List, [], ◌∷◌, ◌++◌, length, refl, sym, ap, subst, ◌∙◌, append_assoc, arith}
+use Rattle.std.proofs.Common.{◌≡◌, ℕ, ◌+◌, ◌^◌, ◌<◌, ◌≤◌, ◌⊎◌, inl, inr, Bool, true, false, ◌||◌, ◌&&◌, List, [], ◌∷◌}
+use Rattle.std.proofs.Common.{◌++◌, length, refl, sym, ap, subst, ◌∙◌, append_assoc, arith}
 use Rattle.std.specs.Prelude.{FitsSigned, All, nat_lt, nat_le, ◌==◌}
 use Rattle.std.specs.List.{flat_map, concat}
 use Rattle.std.specs.Int.{w64}
@@ -12,12 +13,21 @@ use Rattle.label_lattice.specs.declared.label.Label.{Label}
 use Rattle.label_lattice.specs.Label.{IsLabel}
 use Rattle.host_code.specs.Code.{CodeHostShape, CodeFieldShape, CodeVariableShape}
 use Rattle.host_code.specs.Sound.{IsVariableName}
+use Rattle.byte_format.specs.Numbers.{word_bytes, number_bytes, integer_bytes}
+use Rattle.byte_format.specs.Reader.{sequel, given, require}
+use Rattle.byte_format.proofs.NumberLaws.{byte_reads, byte_again, number_reads, number_again, word_reads, word_again}
+use Rattle.byte_format.proofs.NumberLaws.{integer_reads, integer_again}
+use Rattle.byte_format.proofs.Sequels.{Reads, Again, reads_then, reads_given, reads_last, reads_require, reads_weaker}
+use Rattle.byte_format.proofs.Sequels.{again_then, again_given, again_last, again_require}
 use Rattle.split_file.specs.declared.fault.Fault.TheVariants as fault
-use Rattle.split_file.specs.Spelling.{word_bytes, text_bytes, number_bytes, integer_bytes, flag_bytes, label_bytes, host_bytes, host_id_bytes, field_bytes, variable_bytes, list_bytes}
-use Rattle.split_file.specs.Reader.{sequel, given, require, number_at, items_at}
-use Rattle.split_file.specs.Reading.{name_at, is_variable_name, host_id_at, label_at, host_row_at, hosts_at, flag_at, elements_of, is_size, shape_at, field_row_at, variable_row_at, TablesShape, tables_at}
-use Rattle.split_file.proofs.Sequels.{Reads, Again, reads_then, reads_given, reads_last, reads_place, reads_require, reads_in_range, reads_weaker, again_then, again_given, again_last, again_place, again_require, again_in_range}
-use Rattle.split_file.proofs.NumberLaws.{byte_reads, byte_again, number_reads, number_again, word_reads, word_again, integer_reads, integer_again, text_reads, text_again, index_reads, index_again, flag_reads, flag_again}
+use Rattle.split_file.specs.Spelling.{text_bytes, flag_bytes, label_bytes, host_bytes, host_id_bytes, field_bytes}
+use Rattle.split_file.specs.Spelling.{variable_bytes, list_bytes}
+use Rattle.split_file.specs.Reader.{number_at, items_at}
+use Rattle.split_file.specs.Reading.{name_at, is_variable_name, host_id_at, label_at, host_row_at, hosts_at, flag_at}
+use Rattle.split_file.specs.Reading.{elements_of, is_size, shape_at, field_row_at, variable_row_at, TablesShape}
+use Rattle.split_file.specs.Reading.{tables_at}
+use Rattle.split_file.proofs.Sequels.{reads_place, reads_in_range, again_place, again_in_range}
+use Rattle.split_file.proofs.NumberLaws.{text_reads, text_again, index_reads, index_again, flag_reads, flag_again}
 use Rattle.split_file.proofs.ItemLaws.{AllIn, all_of, in_all, all_weaker, all_read, list_read, items_again, list_again}
 use Rattle.split_file.proofs.VariableNames.{variable_name_is, variable_name_again}
 
@@ -33,30 +43,32 @@ name_again name short is = again_in_range is_name is (text_again name short)
 
 pub host_id_reads : (hosts : ℕ) → Reads (host_id_at hosts) (λ host text. (text ≡ host_id_bytes host) × (host.0 < hosts))
 unfolding host_id_at
-host_id_reads hosts = reads_last _ (reads_in_range byte_reads) (λ host is. (refl, ltb-true _ _ is.1))
+host_id_reads hosts = reads_last _ (reads_in_range (byte_reads _)) (λ host is. (refl, ltb-true _ _ is.1))
 
 pub host_id_again : (hosts : ℕ) (host : HostId) → host.0 < hosts → Again (host_id_at hosts) host (host_id_bytes host)
 unfolding host_id_at
 host_id_again hosts host lt =
-    again_last (λ n. record { 0 = n }) (again_in_range (λ n. nat_lt n hosts) (lt-ltb host.0 hosts lt) (byte_again host.0))
+    again_last (λ n. record { 0 = n }) (again_in_range (λ n. nat_lt n hosts) (lt-ltb host.0 hosts lt)
+    (byte_again _ host.0))
 
 -- ---- labels and hosts
 
 pub label_reads : Reads label_at (λ label text. (text ≡ label_bytes label) × IsLabel label)
 unfolding label_at
 label_reads =
-    reads_then (all_read (λ _. number_at w64) word_bytes (λ _ row. row < 2 ^ 64) (λ _. word_reads) PRINCIPALS)
-    (λ rows is. reads_last _ word_reads (λ trust lt.
+    reads_then (all_read (λ _. number_at w64) word_bytes (λ _ row. row < 2 ^ 64) (λ _. word_reads _) PRINCIPALS)
+    (λ rows is. reads_last _ (word_reads _) (λ trust lt.
     (refl, record { long = is.0; words = all_of (λ row. row < 2 ^ 64) [] rows is.1; trust = lt })))
 
 pub label_again : (label : Label) → IsLabel label → Again label_at label (label_bytes label)
 unfolding label_at
 label_again label is =
     let words = all_weaker (λ _ row. row < 2 ^ 64) (λ _ row. Again (number_at w64) row (word_bytes row))
-    (λ _ row lt. word_again row lt) [] label.rows (in_all (λ row. row < 2 ^ 64) [] label.rows is.words) in
+    (λ _ row lt. word_again _ row lt) [] label.rows (in_all (λ row. row < 2 ^ 64) [] label.rows is.words) in
     let rows = subst (λ n. Again (items_at (λ _. number_at w64) [] n) label.rows (flat_map word_bytes label.rows))
     is.long (items_again (λ _. number_at w64) word_bytes [] label.rows words) in
-    again_then _ rows (again_last (λ trust. record { rows = label.rows; trust = trust }) (word_again label.trust is.trust))
+    again_then _ rows (again_last (λ trust. record { rows = label.rows; trust = trust })
+    (word_again _ label.trust is.trust))
 
 pub record HostIs (host : CodeHostShape) : Type 0 where
   pub short : length host.name < 2 ^ 32
@@ -83,7 +95,7 @@ pub record HostsAre (hosts : List CodeHostShape) : Type 0 where
 pub hosts_reads : Reads hosts_at (λ hosts text. (text ≡ list_bytes host_bytes hosts) × HostsAre hosts)
 unfolding hosts_at
 hosts_reads =
-    reads_then (reads_in_range number_reads) (λ count in'. reads_weaker
+    reads_then (reads_in_range (number_reads _)) (λ count in'. reads_weaker
     (all_read (λ _. host_row_at) host_bytes (λ _ host. HostIs host) (λ _. host_reads) count) (λ hosts text is.
     let parts = and_parts (nat_lt 0 count) (nat_le count HOSTS) in'.1 in (
       ap (λ t. number_bytes count ++ t) is.0 ∙ ap (λ n. number_bytes n ++ flat_map host_bytes hosts) (sym is.1.0),
@@ -104,7 +116,7 @@ hosts_again hosts are =
     (λ _ host is. host_again host is) [] hosts (in_all HostIs [] hosts are.each) in
     again_then (λ count. items_at (λ _. host_row_at) [] count)
     (again_in_range (λ count. nat_lt 0 count && nat_le count HOSTS)
-    (both _ _ (lt-ltb _ _ are.some) (le-leb _ _ are.few)) (number_again (length hosts) (omega (arith, are.few))))
+    (both _ _ (lt-ltb _ _ are.some) (le-leb _ _ are.few)) (number_again _ (length hosts) (omega (arith, are.few))))
     (items_again (λ _. host_row_at) host_bytes [] hosts each)
 
 -- ---- fields
@@ -131,7 +143,7 @@ pub shape_reads : (before : ℕ) → Reads (shape_at before)
     (λ shape text. (text ≡ number_bytes shape.0 ++ flag_bytes shape.1) × ShapeIs before shape)
 unfolding shape_at
 shape_reads before =
-    reads_place (λ at. reads_then (reads_in_range number_reads) (λ size is. reads_then flag_reads (λ array any.
+    reads_place (λ at. reads_then (reads_in_range (number_reads _)) (λ size is. reads_then flag_reads (λ array any.
     reads_require (fault.BadField at) (λ plain. reads_given (size, array)
     (let parts = and_parts (nat_lt 0 size && nat_le size ARRAY_SIZE) (nat_le (before + size) ELEMENTS) is.1 in
     let bounds = and_parts (nat_lt 0 size) (nat_le size ARRAY_SIZE) parts.0 in (
@@ -150,7 +162,7 @@ unfolding shape_at
 shape_again before shape is =
     let size_is = both _ _ (both _ _ (lt-ltb 0 shape.0 is.some) (le-leb shape.0 ARRAY_SIZE is.few))
     (le-leb (before + shape.0) ELEMENTS is.within) in
-    let size = again_in_range (is_size before) size_is (number_again shape.0 (omega (arith, is.few))) in
+    let size = again_in_range (is_size before) size_is (number_again _ shape.0 (omega (arith, is.few))) in
     again_place (λ at.
     again_then (λ size. sequel flag_at (λ array. sequel (require (array || size == 1) (fault.BadField at))
     (λ _. given (size, array)))) size
@@ -173,10 +185,11 @@ pub field_reads : (hosts labels before : ℕ) → Reads (field_row_at hosts labe
 unfolding field_row_at
 field_reads hosts labels before =
     reads_then name_reads (λ name name_is. reads_then (index_reads labels) (λ label label_is.
-    reads_then (shape_reads before) (λ shape shape_is. reads_then integer_reads (λ first fits.
+    reads_then (shape_reads before) (λ shape shape_is. reads_then (integer_reads _) (λ first fits.
     reads_then (host_id_reads hosts) (λ host host_is. reads_given _ (
       ap (λ t. text_bytes name ++ (number_bytes label ++ t))
-          (append_assoc (number_bytes shape.0) (flag_bytes shape.1) (integer_bytes first ++ (host_id_bytes host ++ []))),
+          (append_assoc (number_bytes shape.0) (flag_bytes shape.1) (integer_bytes first
+          ++ (host_id_bytes host ++ []))),
       record {
         short = name_is.0;
         name = name_is.1;
@@ -198,7 +211,7 @@ field_again hosts labels before field few is =
     (again_then _ (name_again field.name is.short is.name)
     (again_then _ (index_again labels field.label few is.label)
     (again_then _ (shape_again before (field.size, field.array) is.shape)
-    (again_then _ (integer_again field.first is.first)
+    (again_then _ (integer_again _ field.first is.first)
     (again_then _ (host_id_again hosts field.host is.host) (again_given field))))))
 
 -- ---- variables
@@ -221,7 +234,8 @@ unfolding variable_row_at
 variable_again labels variable few is =
     again_then _
     (again_in_range is_variable_name (variable_name_again variable.name is.name) (text_again variable.name is.short))
-    (again_last (λ label. record { name = variable.name; label = label }) (index_again labels variable.label few is.label))
+    (again_last (λ label. record { name = variable.name; label = label })
+    (index_again labels variable.label few is.label))
 
 -- ---- all that instructions name
 
@@ -244,7 +258,8 @@ pub tables_read : Reads tables_at (λ tables text. (text ≡ tables_bytes tables
 unfolding tables_at
 tables_read =
     reads_then hosts_reads (λ hosts hosts_are.
-    reads_then (list_read (λ _. label_at) label_bytes (λ _ label. IsLabel label) (λ _. label_reads)) (λ labels labels_are.
+    reads_then (list_read (λ _. label_at) label_bytes (λ _ label. IsLabel label) (λ _. label_reads))
+    (λ labels labels_are.
     reads_then (list_read (λ before. field_row_at (length hosts) (length labels) (elements_of before)) field_bytes
     (λ before field. FieldIs (length hosts) (length labels) (elements_of before) field)
     (λ before. field_reads (length hosts) (length labels) (elements_of before))) (λ fields fields_are.

@@ -1,7 +1,8 @@
--- Reading bytes from the front, up to the first fault.
-use Rattle.std.specs.Prelude.{◌≡◌, ℕ, zero, suc, Bool, true, false, if◌then◌else◌, List, [], ◌∷◌, ◌++◌, length}
-use Rattle.std.specs.Prelude.{take, drop, nat_lt, Result, Ok, Err, ⊤}
-use Rattle.std.specs.Int.{Width, w32, byte_len, from_be_bytes}
+-- Reading the bytes of a split file from the front, up to the first fault.
+use Rattle.std.specs.Prelude.{◌≡◌, ℕ, zero, suc, ℤ, Bool, List, [], ◌∷◌, ◌++◌, length, Result, Ok, Err}
+use Rattle.std.specs.Int.{Width, w32}
+use Rattle.byte_format.specs.Reader as shared
+use Rattle.byte_format.specs.Reader.{◌>>=◌, given, require}
 use Rattle.split_file.specs.declared.fault.Fault.{Fault}
 use Rattle.split_file.specs.declared.fault.Fault.TheVariants as fault
 use Rattle.split_file.specs.declared.fault.ReadError.{ReadError}
@@ -9,38 +10,11 @@ use Rattle.split_file.specs.declared.fault.ReadError.TheVariants as error
 
 -- what is read from the front of bytes, and what is left of them
 abbrev pub Reader : Type 0 → Type 0
-Reader A = List ℕ → Result (A × List ℕ) Fault
-
--- ---- readers in a row
-
-abbrev pub handed_on : {A B : Type 0} → Result (A × List ℕ) Fault → (A → Reader B) → Result (B × List ℕ) Fault
-handed_on (Ok x) next = next x.0 x.1
-handed_on (Err what) next = Err what
-
--- the second reads what the first leaves
-unfoldable pub sequel : {A B : Type 0} → Reader A → (A → Reader B) → Reader B
-sequel first next bytes = handed_on (first bytes) next
-
-infixl 10 ◌>>=◌
-abbrev pub ◌>>=◌ : {A B : Type 0} → Reader A → (A → Reader B) → Reader B
-first >>= next = sequel first next
-
--- reads nothing
-unfoldable pub given : {A : Type 0} → A → Reader A
-given x bytes = Ok (x, bytes)
-
--- reads nothing, and refuses
-unfoldable pub refused : {A : Type 0} → Fault → Reader A
-refused what bytes = Err what
+Reader A = shared.Reader Fault A
 
 -- reads nothing: a place is known by how many bytes there are from it on
 unfoldable pub place : Reader ℕ
 place bytes = Ok (length bytes, bytes)
-
--- reads nothing, and refuses where the test fails
-unfoldable pub require : Bool → Fault → Reader ⊤
-require true what bytes = Ok (tt, bytes)
-require false what bytes = Err what
 
 -- an item that has to pass a test, or is out of range at its first byte
 unfoldable pub in_range : {A : Type 0} → (A → Bool) → Reader A → Reader A
@@ -50,22 +24,19 @@ in_range test item = do
   _ ← require (test x) (fault.BadField at)
   given x
 
--- ---- numbers and texts
+-- ---- numbers and texts, which bytes that end too soon do not hold
 
-unfoldable pub byte_at : Reader ℕ
-byte_at [] = Err fault.Short
-byte_at (byte ∷ bytes) = Ok (byte, bytes)
+abbrev pub byte_at : Reader ℕ
+byte_at = shared.byte_at fault.Short
 
-unfoldable pub bytes_at : ℕ → Reader (List ℕ)
-bytes_at count bytes =
-    if nat_lt (length bytes) count then Err fault.Short else Ok (take count bytes, drop count bytes)
+abbrev pub bytes_at : ℕ → Reader (List ℕ)
+bytes_at count = shared.bytes_at fault.Short count
 
--- with its highest byte first
-unfoldable pub number_at : Width → Reader ℕ
-number_at width bytes =
-    if nat_lt (length bytes) (byte_len width)
-    then Err fault.Short
-    else Ok (from_be_bytes width (take (byte_len width) bytes), drop (byte_len width) bytes)
+abbrev pub number_at : Width → Reader ℕ
+number_at width = shared.number_at fault.Short width
+
+abbrev pub integer_at : Reader ℤ
+integer_at = shared.integer_at fault.Short
 
 unfoldable pub text_at : Reader (List ℕ)
 text_at = do

@@ -1,8 +1,7 @@
--- The bytes of a split file: one spelling for each code. All numbers have their highest byte first, signed ones in
--- two's complement.
-use Rattle.std.specs.Prelude.{ℕ, ℤ, Bool, false, true, List, [], ◌∷◌, ◌++◌, length, codes}
+-- The bytes of a split file: one spelling for each code.
+use Rattle.std.specs.Prelude.{ℕ, Bool, false, true, List, [], ◌∷◌, ◌++◌, length, codes}
 use Rattle.std.specs.List.{flat_map, concat}
-use Rattle.std.specs.Int.{w16, w32, w64, to_be_bytes, cast_unsigned}
+use Rattle.std.specs.Int.{w16, to_be_bytes}
 use Rattle.js_base.specs.declared.binary_operator.BinOp.{BinOp}
 use Rattle.js_base.specs.declared.binary_operator.BinOp.TheVariants as binary
 use Rattle.js_base.specs.declared.ids.HostId.{HostId}
@@ -14,19 +13,9 @@ use Rattle.host_code.specs.declared.instruction.Op.TheVariants as op
 use Rattle.host_code.specs.declared.code_expr.Node.{Node}
 use Rattle.host_code.specs.declared.code_expr.Node.TheVariants as node
 use Rattle.host_code.specs.Code.{CodeShape, CodeHostShape, CodeFieldShape, CodeVariableShape}
+use Rattle.byte_format.specs.Numbers.{number_bytes, word_bytes, integer_bytes}
 
--- ---- numbers, texts and lists
-
--- a number of four bytes
-unfoldable pub number_bytes : ℕ → List ℕ
-number_bytes n = to_be_bytes w32 n
-
--- a word of 64 bits
-unfoldable pub word_bytes : ℕ → List ℕ
-word_bytes n = to_be_bytes w64 n
-
-abbrev pub integer_bytes : ℤ → List ℕ
-integer_bytes z = word_bytes (cast_unsigned w64 z)
+-- ---- texts and lists
 
 -- how many bytes it has, and the bytes
 abbrev pub text_bytes : List ℕ → List ℕ

@@ -1,50 +1,18 @@
-//! Numbers, texts and labels at the end of some bytes.
-#![tactic(auto, using(crate::proofs::Appends::appends), unfolding(crate::specs::Spelling::number_bytes, crate::specs::Spelling::word_bytes))]
+//! Flags, texts and labels at the end of some bytes.
+#![tactic(auto, using(crate::proofs::Appends::appends))]
 
-ghost use Rattle.std.specs.Prelude.{◌≡◌, ◌++◌, ◌∷◌, [], ◌≤◌, ◌<◌, ◌^◌, length, OnOk};
+ghost use Rattle.std.specs.Prelude.{◌≡◌, ◌++◌, ◌≤◌, ◌<◌, ◌^◌, length, OnOk};
 ghost use Rattle.std.specs.List.{flat_map};
 ghost use Rattle.js_base.specs.declared.bits.TheConstants.{WORD_BITS};
 ghost use Rattle.label_lattice.specs.Label.{IsLabel};
 ghost use Rattle.host_code.specs.declared.code.TheConstants.{MOST_ITEMS};
+ghost use Rattle.byte_format.specs.Numbers.{number_bytes, word_bytes};
 ghost use Rattle.split_file.specs.Put.{ArePut};
-ghost use Rattle.split_file.specs.Spelling.{number_bytes, word_bytes, integer_bytes, text_bytes, flag_bytes};
-ghost use Rattle.split_file.specs.Spelling.{host_id_bytes, label_bytes};
+ghost use Rattle.split_file.specs.Spelling.{text_bytes, flag_bytes, host_id_bytes, label_bytes};
 
+use byte_format::{put_byte, put_number, put_word};
 use js_base::{HostId, OutOfMemory};
 use label_lattice::Label;
-
-/// Adds a byte.
-pub fn put_byte(out: &mut Vec<u8>, byte: u8) -> Result<(), OutOfMemory>
-    ensures { OnOk result (out.new.items ≡ out.old.items ++ byte ∷ []) }
-{
-    out.push(byte)?;
-    Ok(())
-}
-
-/// Adds a number of four bytes.
-pub fn put_number(out: &mut Vec<u8>, number: u32) -> Result<(), OutOfMemory>
-    ensures { OnOk result (out.new.items ≡ out.old.items ++ number_bytes number) }
-{
-    out.extend_from_slice(&number.to_be_bytes())?;
-    Ok(())
-}
-
-/// Adds a number of eight bytes.
-pub fn put_word(out: &mut Vec<u8>, word: u64) -> Result<(), OutOfMemory>
-    ensures bytes { OnOk result (out.new.items ≡ out.old.items ++ word_bytes word) }
-    ensures fits { word < 2 ^ WORD_BITS }
-{
-    out.extend_from_slice(&word.to_be_bytes())?;
-    Ok(())
-}
-
-/// Adds a signed number of eight bytes.
-pub fn put_integer(out: &mut Vec<u8>, number: i64) -> Result<(), OutOfMemory>
-    ensures { OnOk result (out.new.items ≡ out.old.items ++ integer_bytes number) }
-{
-    out.extend_from_slice(&number.to_be_bytes())?;
-    Ok(())
-}
 
 /// Adds a byte that says yes or no.
 pub fn put_flag(out: &mut Vec<u8>, flag: bool) -> Result<(), OutOfMemory>
@@ -70,7 +38,6 @@ pub fn put_count(out: &mut Vec<u8>, count: usize) -> Result<(), OutOfMemory>
 }
 
 /// Adds a text, behind its length.
-#[tactic(auto, using(crate::proofs::Appends::appends))]
 pub fn put_text(out: &mut Vec<u8>, text: &[u8]) -> Result<(), OutOfMemory>
     requires { length text.now ≤ MOST_ITEMS }
     ensures { OnOk result (out.new.items ≡ out.old.items ++ text_bytes text.now) }
@@ -81,7 +48,6 @@ pub fn put_text(out: &mut Vec<u8>, text: &[u8]) -> Result<(), OutOfMemory>
 }
 
 /// Adds words.
-#[tactic(auto, using(crate::proofs::Appends::appends))]
 fn put_words(out: &mut Vec<u8>, words: &[u64]) -> Result<(), OutOfMemory>
     ensures { OnOk result (ArePut word_bytes (λ word. word < 2 ^ WORD_BITS) out.old.items words.now out.new.items) }
 {
@@ -92,7 +58,6 @@ fn put_words(out: &mut Vec<u8>, words: &[u64]) -> Result<(), OutOfMemory>
 }
 
 /// Adds a label.
-#[tactic(auto, using(crate::proofs::Appends::appends))]
 pub fn put_label(out: &mut Vec<u8>, label: &Label) -> Result<(), OutOfMemory>
     ensures bytes { OnOk result (out.new.items ≡ out.old.items ++ label_bytes label.now) }
     ensures real { OnOk result (IsLabel label.now) }

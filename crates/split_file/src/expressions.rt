@@ -1,5 +1,5 @@
 //! Readers of expressions.
-#![tactic(auto, unfolding(crate::specs::Reader::sequel, crate::specs::Reader::given, crate::specs::Reader::refused, crate::specs::Reader::place, crate::specs::Reader::require, crate::specs::Reader::in_range, crate::specs::Reading::operator_of, crate::specs::Reading::number_node_at, crate::specs::Reading::variable_id_at, crate::specs::Reading::variable_node_at, crate::specs::Reading::temporary_node_at, crate::specs::Reading::operator_node_at, crate::specs::Reading::node_of, crate::specs::Reading::node_at, crate::specs::Reading::expression_at, crate::specs::Reader::items_at,))]
+#![tactic(auto, unfolding(byte_format::specs::Reader::sequel, byte_format::specs::Reader::given, byte_format::specs::Reader::refused, crate::specs::Reader::place, byte_format::specs::Reader::require, crate::specs::Reader::in_range, crate::specs::Reading::operator_of, crate::specs::Reading::number_node_at, crate::specs::Reading::variable_id_at, crate::specs::Reading::variable_node_at, crate::specs::Reading::temporary_node_at, crate::specs::Reading::operator_node_at, crate::specs::Reading::node_of, crate::specs::Reading::node_at, crate::specs::Reading::expression_at, crate::specs::Reader::items_at,))]
 
 ghost use Rattle.std.specs.Prelude.{◌≡◌, ◌≤◌, ℕ, List, length, nat_le, [], IfOk};
 ghost use Rattle.std.specs.Int.{w32};

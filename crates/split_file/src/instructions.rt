@@ -1,5 +1,5 @@
 //! Readers of the instructions of hosts.
-#![tactic(auto, unfolding(crate::specs::Reader::sequel, crate::specs::Reader::given, crate::specs::Reader::refused, crate::specs::Reader::place, crate::specs::Reader::require, crate::specs::Reader::in_range, crate::specs::Reader::items_at, crate::specs::Reading::instruction_at, crate::specs::Reading::part_at,))]
+#![tactic(auto, unfolding(byte_format::specs::Reader::sequel, byte_format::specs::Reader::given, byte_format::specs::Reader::refused, crate::specs::Reader::place, byte_format::specs::Reader::require, crate::specs::Reader::in_range, crate::specs::Reader::items_at, crate::specs::Reading::instruction_at, crate::specs::Reading::part_at,))]
 
 ghost use Rattle.std.specs.Prelude.{◌≡◌, ◌+◌, ◌≤◌, ◌<◌, ◌^◌, ◌||◌, ℕ, List, [], length, suc, nat_lt};
 ghost use Rattle.std.specs.Prelude.{if◌then◌else◌, IfOk};

@@ -1,12 +1,12 @@
 //! Readers of numbers and texts: what stands at the front of some bytes, and the bytes behind it.
-#![tactic(auto, unfolding(crate::specs::Reader::sequel, crate::specs::Reader::given, crate::specs::Reader::place, crate::specs::Reader::require, crate::specs::Reader::in_range, crate::specs::Reader::byte_at, crate::specs::Reader::bytes_at, crate::specs::Reader::number_at, crate::specs::Reader::text_at, crate::specs::Reading::integer_at, crate::specs::Reading::flag_at, crate::specs::Reading::index_at,))]
+#![tactic(auto, unfolding(byte_format::specs::Reader::sequel, byte_format::specs::Reader::given, crate::specs::Reader::place, byte_format::specs::Reader::require, crate::specs::Reader::in_range, byte_format::specs::Reader::byte_at, byte_format::specs::Reader::bytes_at, byte_format::specs::Reader::number_at, crate::specs::Reader::text_at, byte_format::specs::Reader::integer_at, crate::specs::Reading::flag_at, crate::specs::Reading::index_at,))]
 
 ghost use Rattle.std.specs.Prelude.{◌≡◌, length, nat_lt};
 ghost use Rattle.std.specs.Int.{w16, w32, w64};
 ghost use Rattle.split_file.specs.declared.fault.Fault.TheVariants as fault;
 ghost use Rattle.split_file.specs.declared.fault.ReadError.TheVariants as error;
-ghost use Rattle.split_file.specs.Reader.{Gives, byte_at, bytes_at, number_at, text_at};
-ghost use Rattle.split_file.specs.Reading.{integer_at, flag_at, index_at};
+ghost use Rattle.split_file.specs.Reader.{Gives, byte_at, bytes_at, number_at, integer_at, text_at};
+ghost use Rattle.split_file.specs.Reading.{flag_at, index_at};
 
 use crate::fault::{Fault, ReadError};
 

@@ -1,5 +1,5 @@
 //! Readers of what operations name.
-#![tactic(auto, unfolding(crate::specs::Reader::sequel, crate::specs::Reader::given, crate::specs::Reader::refused, crate::specs::Reader::place, crate::specs::Reader::require, crate::specs::Reader::in_range, crate::specs::Reading::field_id_at, crate::specs::Reading::other_host_at, crate::specs::Reading::own_site_at, crate::specs::Reading::own_entry_at, crate::specs::Reading::some_entry_at, crate::specs::Reading::host_of_entry_at, crate::specs::Reading::other_host_of_entry_at, crate::specs::Reading::valued_at, crate::specs::Reading::sent_at, crate::specs::Reading::entered_at,))]
+#![tactic(auto, unfolding(byte_format::specs::Reader::sequel, byte_format::specs::Reader::given, byte_format::specs::Reader::refused, crate::specs::Reader::place, byte_format::specs::Reader::require, crate::specs::Reader::in_range, crate::specs::Reading::field_id_at, crate::specs::Reading::other_host_at, crate::specs::Reading::own_site_at, crate::specs::Reading::own_entry_at, crate::specs::Reading::some_entry_at, crate::specs::Reading::host_of_entry_at, crate::specs::Reading::other_host_of_entry_at, crate::specs::Reading::valued_at, crate::specs::Reading::sent_at, crate::specs::Reading::entered_at,))]
 
 ghost use Rattle.std.specs.Prelude.{◌≡◌, ◌==◌, ℕ, List, length, false};
 ghost use Rattle.std.specs.Option.{option_map_or};

@@ -1,5 +1,5 @@
 //! Reading a split file.
-#![tactic(auto, unfolding(crate::specs::Reader::sequel, crate::specs::Reader::given, crate::specs::Reader::refused, crate::specs::Reader::place, crate::specs::Reader::require, crate::specs::Reading::magic_at, crate::specs::Reading::version_at, crate::specs::Reading::ended, crate::specs::Reading::entries_stand, crate::specs::Reading::front_at, crate::specs::Reading::code_at, crate::specs::File::file_code,))]
+#![tactic(auto, unfolding(byte_format::specs::Reader::sequel, byte_format::specs::Reader::given, byte_format::specs::Reader::refused, crate::specs::Reader::place, byte_format::specs::Reader::require, crate::specs::Reading::magic_at, crate::specs::Reading::version_at, crate::specs::Reading::ended, crate::specs::Reading::entries_stand, crate::specs::Reading::front_at, crate::specs::Reading::code_at, crate::specs::File::file_code,))]
 
 ghost use Rattle.std.specs.Prelude.{◌≡◌, ℕ, ◌≤◌, ◌<◌, ◌^◌, ◌⊎◌, List, length, MatchResult, IfOk, Ok, Err};
 ghost use Rattle.host_code.specs.declared.code.TheConstants.{MOST_ITEMS};

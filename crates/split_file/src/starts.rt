@@ -1,5 +1,5 @@
 //! Readers of where threads and calls start.
-#![tactic(auto, unfolding(crate::specs::Reader::sequel, crate::specs::Reader::given, crate::specs::Reader::refused, crate::specs::Reader::place, crate::specs::Reader::require, crate::specs::Reader::in_range, crate::specs::Reading::entry_row_at, crate::specs::Reading::root_at, crate::specs::Reading::main_at, crate::specs::Reading::starts_at, crate::specs::Reader::items_at, crate::specs::Reader::list_at,))]
+#![tactic(auto, unfolding(byte_format::specs::Reader::sequel, byte_format::specs::Reader::given, byte_format::specs::Reader::refused, crate::specs::Reader::place, byte_format::specs::Reader::require, crate::specs::Reader::in_range, crate::specs::Reading::entry_row_at, crate::specs::Reading::root_at, crate::specs::Reading::main_at, crate::specs::Reading::starts_at, crate::specs::Reader::items_at, crate::specs::Reader::list_at,))]
 
 ghost use Rattle.std.specs.Prelude.{◌≡◌, ◌≤◌, ◌<◌, ◌^◌, ◌==◌, ◌||◌, not, length, [], IfOk};
 ghost use Rattle.std.specs.Int.{w32};
@@ -28,7 +28,7 @@ pub struct Starts {
 }
 
 /// The place of an entry, which is 0 for the first of all.
-#[tactic(auto, unfolding(crate::specs::Reader::sequel, crate::specs::Reader::given, crate::specs::Reader::place, crate::specs::Reader::require, crate::specs::Reader::in_range,))]
+#[tactic(auto, unfolding(byte_format::specs::Reader::sequel, byte_format::specs::Reader::given, crate::specs::Reader::place, byte_format::specs::Reader::require, crate::specs::Reader::in_range,))]
 fn entry_place_of(is_first: bool, bytes: &[u8]) -> Result<(u32, &[u8]), ReadError>
     ensures { Gives (λ x. (x.0, x.1.now)) result
         (in_range (λ at. not is_first || at == 0) (number_at w32) bytes.now) }

@@ -1,5 +1,5 @@
 //! Readers of what instructions name: hosts, labels, fields and variables.
-#![tactic(auto, unfolding(crate::specs::Reader::sequel, crate::specs::Reader::given, crate::specs::Reader::refused, crate::specs::Reader::place, crate::specs::Reader::require, crate::specs::Reader::in_range, crate::specs::Reading::host_id_at, crate::specs::Reading::label_at, crate::specs::Reading::host_row_at, crate::specs::Reading::hosts_at, crate::specs::Reading::shape_at, crate::specs::Reading::field_row_at, crate::specs::Reading::variable_row_at, crate::specs::Reading::tables_at, crate::specs::Reader::items_at, crate::specs::Reader::list_at,))]
+#![tactic(auto, unfolding(byte_format::specs::Reader::sequel, byte_format::specs::Reader::given, byte_format::specs::Reader::refused, crate::specs::Reader::place, byte_format::specs::Reader::require, crate::specs::Reader::in_range, crate::specs::Reading::host_id_at, crate::specs::Reading::label_at, crate::specs::Reading::host_row_at, crate::specs::Reading::hosts_at, crate::specs::Reading::shape_at, crate::specs::Reading::field_row_at, crate::specs::Reading::variable_row_at, crate::specs::Reading::tables_at, crate::specs::Reader::items_at, crate::specs::Reader::list_at,))]
 
 ghost use Rattle.std.specs.Prelude.{◌≡◌, ◌+◌, ◌≤◌, length, [], IfOk};
 ghost use Rattle.std.specs.Int.{w32, w64};

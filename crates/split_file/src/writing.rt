@@ -11,11 +11,10 @@ ghost use Rattle.split_file.specs.File.{IsRealInstruction, IsRealCode, file_code
 ghost use Rattle.split_file.specs.Spelling.{host_id_bytes, host_bytes, label_bytes, field_bytes, variable_bytes};
 ghost use Rattle.split_file.specs.Spelling.{entry_bytes, part_bytes, list_bytes, table_bytes, start_bytes, split_file};
 
-use crate::appending::{
-    put_count, put_flag, put_host_id, put_integer, put_label, put_number, put_text, put_word,
-};
+use crate::appending::{put_count, put_flag, put_host_id, put_label, put_text};
 use crate::operation_bytes::put_part;
 use crate::reading::{MAGIC, VERSION};
+use byte_format::{put_integer, put_number, put_word};
 use host_code::{Code, CodeField, CodeHost, CodeVar, Entry};
 use js_base::{HostId, OutOfMemory};
 use label_lattice::Label;

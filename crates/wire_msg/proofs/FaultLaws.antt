@@ -1,17 +1,20 @@
 -- The first fault is what reading refuses bytes for.
-use Rattle.std.proofs.Common.{◌≡◌, inl, inr, ℕ, Bool, true, false, List, [], ◌∷◌, length, take, drop, Option, Some, None, Result, Ok, Err, refl, sym, ap, ◌∙◌}
+use Rattle.std.proofs.Common.{◌≡◌, inl, inr, ℕ, Bool, true, false, List, [], ◌∷◌, length, take, drop, Option, Some}
+use Rattle.std.proofs.Common.{None, Result, Ok, Err, refl, sym, ap, ◌∙◌}
 use Rattle.std.specs.Prelude.{if◌then◌else◌, nat_lt, nat_le}
 use Rattle.std.specs.Int.{w32, from_be_bytes}
 use Rattle.std.proofs.lemmas.Bool.{cases_lt, lt-ltb, le-ltb}
 use Rattle.js_base.specs.declared.ids.HostId.{HostId}
 use Rattle.js_base.specs.declared.limits.TheConstants.{HOSTS, FRAME_BYTES}
+use Rattle.byte_format.specs.Reader.{handed_on, sequel, given, require, byte_at, bytes_at, number_at}
 use Rattle.wire_msg.specs.declared.error.WireError.{WireError}
 use Rattle.wire_msg.specs.declared.error.WireError.TheVariants as refusal
 use Rattle.wire_msg.specs.declared.frame.Frame.{Frame}
 use Rattle.wire_msg.specs.Frames.{has_host}
-use Rattle.wire_msg.specs.Reader.{Reader, Gives, handed_on, sequel, given, require, known, byte_at, bytes_at, number_at, to_the_end, whole}
+use Rattle.wire_msg.specs.Reader.{Reader, Gives, known, to_the_end, whole}
 use Rattle.wire_msg.specs.Reading.{fields_at, sent_at, body_at, frame_at, reading_of}
-use Rattle.wire_msg.specs.Faults.{Layout, layout_of, left_fault, fields_fault, body_fault, or_else, sized_fault, first_fault, fault_in}
+use Rattle.wire_msg.specs.Faults.{Layout, layout_of, left_fault, fields_fault, body_fault, or_else, sized_fault}
+use Rattle.wire_msg.specs.Faults.{first_fault, fault_in}
 use Rattle.wire_msg.proofs.Sizes.{IsLayout, fields_sized}
 
 -- ---- a body
@@ -84,8 +87,8 @@ there_is false body rest =
     left_is (whole sent_at body) rest ∙ ap (λ fault. or_else fault (left_fault rest)) (body_is body)
 
 sized_is : (test : Bool) (len : ℕ) (rest : List ℕ) →
-    fault_in (to_the_end (handed_on (handed_on (require test refusal.TooLong rest) (λ _. bytes_at len)) opened))
-    ≡ (if test then (if nat_lt (length rest) len then Some refusal.Short
+    fault_in (to_the_end (handed_on (handed_on (require test refusal.TooLong rest) (λ _. bytes_at refusal.Short len))
+    opened)) ≡ (if test then (if nat_lt (length rest) len then Some refusal.Short
     else or_else (body_fault (take len rest)) (left_fault (drop len rest))) else Some refusal.TooLong)
 unfolding require bytes_at
 sized_is true len rest = there_is (nat_lt (length rest) len) (take len rest) (drop len rest)
@@ -93,7 +96,7 @@ sized_is false len rest = refl
 
 -- what is read behind the length
 abbrev body_behind : ℕ → Reader (List ℕ)
-body_behind len = sequel (require (nat_le len FRAME_BYTES) refusal.TooLong) (λ _. bytes_at len)
+body_behind len = sequel (require (nat_le len FRAME_BYTES) refusal.TooLong) (λ _. bytes_at refusal.Short len)
 
 length_is : (test : Bool) (len : ℕ) (rest : List ℕ) →
     fault_in (to_the_end (handed_on (handed_on (if test then Err refusal.Short else Ok (len, rest)) body_behind)

@@ -1,5 +1,6 @@
 -- Laws of frames: what is read is spelled so, and what is spelled so is read.
-use Rattle.std.proofs.Common.{◌≡◌, ◌≢◌, ◌⊎◌, inl, inr, ℕ, ◌<◌, ◌≤◌, true, false, List, [], ◌∷◌, ◌++◌, length, Result, Ok, Err, refl, sym, ap, subst, ◌∙◌, arith}
+use Rattle.std.proofs.Common.{◌≡◌, ◌≢◌, ◌⊎◌, inl, inr, ℕ, ◌<◌, ◌≤◌, true, false, List, [], ◌∷◌, ◌++◌, length, Result}
+use Rattle.std.proofs.Common.{Ok, Err, refl, sym, ap, subst, ◌∙◌, arith}
 use Rattle.std.specs.Prelude.{◌==◌, nat_lt, drop, IfOk}
 use Rattle.std.proofs.lemmas.Bool.{ltb-true, lt-ltb, leb-true, le-leb, eqb-true}
 use Rattle.std.proofs.lemmas.List.{append-nil}
@@ -9,16 +10,20 @@ use Rattle.host_code.specs.declared.message.Message.{Message}
 use Rattle.host_code.specs.declared.message.Message.TheVariants as message
 use Rattle.host_code.specs.Code.{CodeShape}
 use Rattle.host_code.specs.Messages.{MessageFits}
+use Rattle.byte_format.specs.Numbers.{AreBytes, number_bytes, word_bytes}
+use Rattle.byte_format.specs.Reader.{sequel, given, require}
+use Rattle.byte_format.proofs.NumberLaws.{byte_reads, byte_again, bytes_reads, bytes_again, number_reads, number_again}
+use Rattle.byte_format.proofs.Sequels.{Reads, Again, ok_is, reads_then, reads_given, reads_last, reads_weaker}
+use Rattle.byte_format.proofs.Sequels.{reads_require, reads_if, again_then, again_given, again_last, again_require}
 use Rattle.wire_msg.specs.declared.error.WireError.{WireError}
 use Rattle.wire_msg.specs.declared.error.WireError.TheVariants as refusal
 use Rattle.wire_msg.specs.declared.frame.Frame.{Frame}
 use Rattle.wire_msg.specs.declared.frame.Frame.TheVariants as frame
-use Rattle.wire_msg.specs.Frames.{AreBytes, has_host, IsMessage, IsFrame, IsSent}
-use Rattle.wire_msg.specs.Spelling.{number_bytes, word_bytes, message_bytes, kinded_bytes, body_bytes, frame_bytes}
-use Rattle.wire_msg.specs.Reader.{Reader, Gives, sequel, given, require, known, whole}
+use Rattle.wire_msg.specs.Frames.{has_host, IsMessage, IsFrame, IsSent}
+use Rattle.wire_msg.specs.Spelling.{message_bytes, kinded_bytes, body_bytes, frame_bytes}
+use Rattle.wire_msg.specs.Reader.{Reader, Gives, known, whole}
 use Rattle.wire_msg.specs.Reading.{message_at, some_message_at, fields_at, sent_at, body_at, frame_at, reading_of}
-use Rattle.wire_msg.proofs.Sequels.{Reads, Again, ok_is, reads_then, reads_given, reads_last, reads_weaker, reads_require, reads_if, reads_known, whole_reads, again_then, again_given, again_last, again_require, again_known, whole_again}
-use Rattle.wire_msg.proofs.NumberLaws.{byte_reads, byte_again, bytes_reads, bytes_again, number_reads, number_again}
+use Rattle.wire_msg.proofs.Sequels.{reads_known, whole_reads, again_known, whole_again}
 use Rattle.wire_msg.proofs.MessageLaws.{message_reads, message_again}
 
 -- ---- what may be sent
@@ -70,7 +75,7 @@ fields_are kind = behind_kind kind kinded_bytes IsFrame (fields_reads kind)
 pub sent_reads : Reads sent_at (λ x text. (text ≡ body_bytes x.0 x.1) × IsSent x.0 x.1)
 unfolding sent_at
 sent_reads =
-    reads_then byte_reads (λ from _. reads_then byte_reads (λ kind _.
+    reads_then (byte_reads _) (λ from _. reads_then (byte_reads _) (λ kind _.
     reads_require refusal.BadField (λ is_host. reads_then (fields_are kind) (λ sent is.
     reads_require refusal.BadField (λ is_named. reads_given _ (
       ap (λ bytes. from ∷ kind ∷ bytes) (append-nil (drop 1 (kinded_bytes sent))) ∙ ap (λ bytes. from ∷ bytes) is.0,
@@ -81,8 +86,8 @@ pub body_reads : Reads body_at (λ body text. (text ≡ number_bytes (length bod
     × (AreBytes body × (length body ≤ FRAME_BYTES)))
 unfolding body_at
 body_reads =
-    reads_then number_reads (λ len _. reads_require refusal.TooLong (λ is_short.
-    reads_weaker (bytes_reads len) (λ body text is. (
+    reads_then (number_reads _) (λ len _. reads_require refusal.TooLong (λ is_short.
+    reads_weaker (bytes_reads _ len) (λ body text is. (
       ap (λ bytes. number_bytes len ++ bytes) is.0 ∙ ap (λ n. number_bytes n ++ body) (sym is.1.0),
       (is.1.1, subst (λ n. n ≤ FRAME_BYTES) (sym is.1.0) (leb-true _ _ is_short)),
     ))))
@@ -129,15 +134,15 @@ unfolding sent_at
 sent_again from sent is =
     let found = kinded_again sent is.1 in
     subst (λ bytes. Again sent_at (from, sent) (from.0 ∷ bytes)) found.2
-    (again_then _ (byte_again from.0) (again_then _ (byte_again found.0)
+    (again_then _ (byte_again _ from.0) (again_then _ (byte_again _ found.0)
     (again_require refusal.BadField (lt-ltb _ _ is.0.0)
     (behind_again from found.0 sent found.1 is.0.1 found.3))))
 
 body_again : (body : List ℕ) → length body ≤ FRAME_BYTES → Again body_at body (number_bytes (length body) ++ body)
 unfolding body_at
 body_again body short =
-    again_then _ (number_again (length body) (omega arith))
-    (again_require refusal.TooLong (le-leb _ _ short) (bytes_again body (length body) refl))
+    again_then _ (number_again _ (length body) (omega arith))
+    (again_require refusal.TooLong (le-leb _ _ short) (bytes_again _ body (length body) refl))
 
 -- ---- lengths
 

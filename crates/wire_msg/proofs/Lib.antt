@@ -3,6 +3,5 @@ pub mod FaultLaws
 pub mod FieldLaws
 pub mod FrameLaws
 pub mod MessageLaws
-pub mod NumberLaws
 pub mod Sequels
 pub mod Sizes

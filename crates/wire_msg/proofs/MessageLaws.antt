@@ -4,14 +4,18 @@ use Rattle.std.specs.Prelude.{◌==◌}
 use Rattle.std.proofs.lemmas.Bool.{eqb-true}
 use Rattle.host_code.specs.declared.message.Message.{Message}
 use Rattle.host_code.specs.declared.message.Message.TheVariants as message
+use Rattle.byte_format.proofs.NumberLaws.{integer_reads, integer_again}
+use Rattle.byte_format.proofs.Sequels.{Reads, Again, reads_then, reads_last, reads_if, reads_refused, again_then}
+use Rattle.byte_format.proofs.Sequels.{again_last}
 use Rattle.wire_msg.specs.declared.error.WireError.TheVariants as refusal
 use Rattle.wire_msg.specs.Frames.{IsMessage}
 use Rattle.wire_msg.specs.Spelling.{message_bytes}
 use Rattle.wire_msg.specs.Reader.{Reader}
-use Rattle.wire_msg.specs.Reading.{get_at, set_at, forward_at, sync_at, rgoto_at, lgoto_at, value_at, ack_at, answer_at, message_at}
-use Rattle.wire_msg.proofs.Sequels.{Reads, Again, reads_then, reads_last, reads_if, reads_refused, again_then, again_last}
-use Rattle.wire_msg.proofs.NumberLaws.{integer_reads, integer_again}
-use Rattle.wire_msg.proofs.FieldLaws.{field_reads, field_again, variable_reads, variable_again, entry_reads, entry_again, request_reads, request_again, frame_id_reads, frame_id_again, token_reads, token_again}
+use Rattle.wire_msg.specs.Reading.{get_at, set_at, forward_at, sync_at, rgoto_at, lgoto_at, value_at, ack_at, answer_at}
+use Rattle.wire_msg.specs.Reading.{message_at}
+use Rattle.wire_msg.proofs.FieldLaws.{field_reads, field_again, variable_reads, variable_again, entry_reads}
+use Rattle.wire_msg.proofs.FieldLaws.{entry_again, request_reads, request_again, frame_id_reads, frame_id_again}
+use Rattle.wire_msg.proofs.FieldLaws.{token_reads, token_again}
 
 -- ---- what is read
 
@@ -23,20 +27,20 @@ get_reads : Reads get_at (IsBehind 1)
 unfolding get_at
 get_reads =
     reads_then request_reads (λ request request_is. reads_then field_reads (λ field field_is.
-    reads_last _ integer_reads (λ index is. (refl, (request_is, (field_is, is))))))
+    reads_last _ (integer_reads _) (λ index is. (refl, (request_is, (field_is, is))))))
 
 set_reads : Reads set_at (IsBehind 2)
 unfolding set_at
 set_reads =
     reads_then request_reads (λ request request_is. reads_then field_reads (λ field field_is.
-    reads_then integer_reads (λ index index_is. reads_last _ integer_reads (λ value is.
+    reads_then (integer_reads _) (λ index index_is. reads_last _ (integer_reads _) (λ value is.
     (refl, (request_is, (field_is, (index_is, is))))))))
 
 forward_reads : Reads forward_at (IsBehind 3)
 unfolding forward_at
 forward_reads =
     reads_then request_reads (λ request request_is. reads_then frame_id_reads (λ id id_is.
-    reads_then variable_reads (λ variable variable_is. reads_last _ integer_reads (λ value is.
+    reads_then variable_reads (λ variable variable_is. reads_last _ (integer_reads _) (λ value is.
     (refl, (request_is, (id_is, (variable_is, is))))))))
 
 sync_reads : Reads sync_at (IsBehind 4)
@@ -59,7 +63,8 @@ lgoto_reads = reads_last _ token_reads (λ token is. (refl, is))
 value_reads : Reads value_at (IsBehind 7)
 unfolding value_at
 value_reads =
-    reads_then request_reads (λ request request_is. reads_last _ integer_reads (λ value is. (refl, (request_is, is))))
+    reads_then request_reads (λ request request_is. reads_last _ (integer_reads _) (λ value is.
+    (refl, (request_is, is))))
 
 ack_reads : Reads ack_at (IsBehind 8)
 unfolding ack_at
@@ -107,15 +112,15 @@ pub message_again : (sent : Message) → IsMessage sent → HasKind sent
 unfolding message_at get_at set_at forward_at sync_at rgoto_at lgoto_at value_at ack_at answer_at
 message_again (message.Get request field index) is =
     has_kind 1 refl refl (again_then _ (request_again request is.0) (again_then _ (field_again field is.1.0)
-    (again_last (message.Get request field) (integer_again index is.1.1))))
+    (again_last (message.Get request field) (integer_again _ index is.1.1))))
 message_again (message.Set request field index value) is =
     has_kind 2 refl refl (again_then _ (request_again request is.0) (again_then _ (field_again field is.1.0)
-    (again_then _ (integer_again index is.1.1.0)
-    (again_last (message.Set request field index) (integer_again value is.1.1.1)))))
+    (again_then _ (integer_again _ index is.1.1.0)
+    (again_last (message.Set request field index) (integer_again _ value is.1.1.1)))))
 message_again (message.Forward request id variable value) is =
     has_kind 3 refl refl (again_then _ (request_again request is.0) (again_then _ (frame_id_again id is.1.0)
     (again_then _ (variable_again variable is.1.1.0)
-    (again_last (message.Forward request id variable) (integer_again value is.1.1.1)))))
+    (again_last (message.Forward request id variable) (integer_again _ value is.1.1.1)))))
 message_again (message.Sync request id entry token) is =
     has_kind 4 refl refl (again_then _ (request_again request is.0) (again_then _ (frame_id_again id is.1.0)
     (again_then _ (entry_again entry is.1.1.0)
@@ -126,7 +131,7 @@ message_again (message.Rgoto id entry token) is =
 message_again (message.Lgoto token) is = has_kind 6 refl refl (again_last message.Lgoto (token_again token is))
 message_again (message.Value request value) is =
     has_kind 7 refl refl (again_then _ (request_again request is.0)
-    (again_last (message.Value request) (integer_again value is.1)))
+    (again_last (message.Value request) (integer_again _ value is.1)))
 message_again (message.Ack request) is = has_kind 8 refl refl (again_last message.Ack (request_again request is))
 message_again (message.Token request token) is =
     has_kind 9 refl refl (again_then _ (request_again request is.0)

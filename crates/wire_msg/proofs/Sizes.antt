@@ -1,5 +1,6 @@
 -- How many bytes each reader takes, and that it refuses only fewer.
-use Rattle.std.proofs.Common.{◌≡◌, inl, inr, ℕ, ◌+◌, ◌<◌, ◌≤◌, Bool, true, false, List, [], ◌∷◌, length, take, drop, Option, Some, None, Ok, Err, refl, ap, ◌∙◌, arith}
+use Rattle.std.proofs.Common.{◌≡◌, inl, inr, ℕ, ◌+◌, ◌<◌, ◌≤◌, Bool, true, false, List, [], ◌∷◌, length, take, drop}
+use Rattle.std.proofs.Common.{Option, Some, None, Ok, Err, refl, ap, ◌∙◌, arith}
 use Rattle.std.specs.Prelude.{if◌then◌else◌, ⊤, ◌==◌, nat_lt, slice_index}
 use Rattle.std.specs.Int.{Width, w32, w64, byte_len, from_be_bytes}
 use Rattle.std.proofs.lemmas.Bool.{cases_lt, lt-ltb, le-ltb}
@@ -8,12 +9,15 @@ use Rattle.js_base.specs.declared.limits.TheConstants.{HOSTS}
 use Rattle.capability.specs.declared.tags.TheConstants.{TAG_BYTES}
 use Rattle.capability.specs.declared.token.Token.{Token}
 use Rattle.host_code.specs.declared.message.Message.{Message}
+use Rattle.byte_format.specs.Reader.{handed_on, sequel, given, refused, byte_at, bytes_at, number_at, integer_at}
 use Rattle.wire_msg.specs.declared.error.WireError.TheVariants as refusal
 use Rattle.wire_msg.specs.declared.frame.Frame.{Frame}
 use Rattle.wire_msg.specs.declared.frame.Frame.TheVariants as frame
 use Rattle.wire_msg.specs.Frames.{has_host}
-use Rattle.wire_msg.specs.Reader.{Reader, handed_on, sequel, given, refused, byte_at, bytes_at, number_at, integer_at}
-use Rattle.wire_msg.specs.Reading.{field_at, variable_at, entry_at, request_at, frame_id_at, token_at, get_at, set_at, forward_at, sync_at, rgoto_at, lgoto_at, value_at, ack_at, answer_at, message_at, some_message_at, fields_at}
+use Rattle.wire_msg.specs.Reader.{Reader}
+use Rattle.wire_msg.specs.Reading.{field_at, variable_at, entry_at, request_at, frame_id_at, token_at, get_at, set_at}
+use Rattle.wire_msg.specs.Reading.{forward_at, sync_at, rgoto_at, lgoto_at, value_at, ack_at, answer_at, message_at}
+use Rattle.wire_msg.specs.Reading.{some_message_at, fields_at}
 use Rattle.wire_msg.specs.Faults.{Layout, message_layout, layout_of, has_host_at}
 
 -- a reader takes so many of these bytes, of which what it reads is known, or finds too few
@@ -78,19 +82,19 @@ any_last f one = sized_last f Any one (λ x bytes p. tt)
 
 -- ---- numbers
 
-byte_sized : Sized byte_at 1 (λ byte bytes. byte ≡ slice_index bytes 0)
+byte_sized : Sized (byte_at refusal.Short) 1 (λ byte bytes. byte ≡ slice_index bytes 0)
 unfolding byte_at
 byte_sized [] = record { short = λ lt. refl; long = λ le. absurd (omega arith) }
 byte_sized (byte ∷ bytes) = record { short = λ lt. absurd (omega arith); long = λ le. (byte, refl, refl) }
 
-pub bytes_sized : (count : ℕ) → Sized (bytes_at count) count (λ xs bytes. xs ≡ take count bytes)
+pub bytes_sized : (count : ℕ) → Sized (bytes_at refusal.Short count) count (λ xs bytes. xs ≡ take count bytes)
 unfolding bytes_at
 bytes_sized count bytes = record {
   short = λ lt. rw (lt-ltb (length bytes) count lt) refl;
   long = λ le. (take count bytes, rw (le-ltb (length bytes) count le) refl, refl);
 }
 
-number_sized : (width : Width) → Sized (number_at width) (byte_len width) Any
+number_sized : (width : Width) → Sized (number_at refusal.Short width) (byte_len width) Any
 unfolding number_at
 number_sized width bytes = record {
   short = λ lt. rw (lt-ltb (length bytes) (byte_len width) lt) refl;
@@ -101,13 +105,13 @@ number_sized width bytes = record {
   );
 }
 
-four : Sized (number_at w32) 4 Any
+four : Sized (number_at refusal.Short w32) 4 Any
 four = number_sized w32
 
-eight : Sized (number_at w64) 8 Any
+eight : Sized (number_at refusal.Short w64) 8 Any
 eight = number_sized w64
 
-integer_sized : Sized integer_at 8 Any
+integer_sized : Sized (integer_at refusal.Short) 8 Any
 unfolding integer_at
 integer_sized = any_last _ eight
 
@@ -290,4 +294,7 @@ pub fields_sized : (kind : ℕ) (bytes : List ℕ) → HasLayout has_host (layou
 unfolding fields_at some_message_at
 fields_sized kind bytes =
     layout_if (kind == 10) (record { is = nothing_sized bytes })
-    (record { is = some_message_sized (message_layout kind bytes) (message_at kind) bytes (message_sized kind bytes).is })
+    (record {
+      is = some_message_sized (message_layout kind bytes) (message_at kind) bytes
+          (message_sized kind bytes).is;
+    })

@@ -1,5 +1,5 @@
 -- Which frames there are.
-use Rattle.std.specs.Prelude.{◌≡◌, ℕ, ◌<◌, ◌^◌, Bool, true, List, length, nat_lt, slice_index, FitsSigned, ⊤}
+use Rattle.std.specs.Prelude.{◌≡◌, ℕ, ◌<◌, ◌^◌, Bool, true, List, length, nat_lt, FitsSigned, ⊤}
 use Rattle.std.specs.Prelude.{Option, Some, None}
 use Rattle.std.specs.Option.{option_map_or}
 use Rattle.std.specs.Int.{w64}
@@ -11,6 +11,7 @@ use Rattle.capability.specs.declared.tags.TheConstants.{TAG_BYTES}
 use Rattle.capability.specs.declared.token.Token.{Token}
 use Rattle.host_code.specs.declared.message.Message.{Message}
 use Rattle.host_code.specs.declared.message.Message.TheVariants as message
+use Rattle.byte_format.specs.Numbers.{AreBytes}
 use Rattle.wire_msg.specs.declared.frame.Frame.{Frame}
 use Rattle.wire_msg.specs.declared.frame.Frame.TheVariants as frame
 
@@ -30,9 +31,6 @@ has_host (frame.Message sent) = option_map_or (λ token. nat_lt token.host.0 HOS
 has_host frame.Done = true
 
 -- ---- what the types of a frame keep
-
-abbrev pub AreBytes : List ℕ → Type 0
-AreBytes bytes = (i : ℕ) → slice_index bytes i < 256
 
 abbrev pub IsRequest : RequestId → Type 0
 IsRequest request = (request.at < 2 ^ 32) × (request.count < 2 ^ 64)

@@ -1,67 +1,32 @@
--- Reading bytes from the front, up to the first fault.
-use Rattle.std.specs.Prelude.{◌≡◌, ℕ, Bool, true, false, if◌then◌else◌, List, [], ◌∷◌, length, take, drop, nat_lt}
-use Rattle.std.specs.Prelude.{ℤ, Result, Ok, Err, MatchResult, ⊤}
-use Rattle.std.specs.Int.{Width, w64, byte_len, from_be_bytes, cast_signed}
+-- Reading the bytes of a frame from the front, up to the first fault.
+use Rattle.std.specs.Prelude.{◌≡◌, ℕ, ℤ, List, [], ◌∷◌, Result, Ok, Err, MatchResult}
+use Rattle.std.specs.Int.{Width}
+use Rattle.byte_format.specs.Reader as shared
 use Rattle.wire_msg.specs.declared.error.WireError.{WireError}
 use Rattle.wire_msg.specs.declared.error.WireError.TheVariants as refusal
 
 -- what is read from the front of bytes, and what is left of them
 abbrev pub Reader : Type 0 → Type 0
-Reader A = List ℕ → Result (A × List ℕ) WireError
-
--- ---- readers in a row
-
-abbrev pub handed_on : {A B : Type 0} → Result (A × List ℕ) WireError → (A → Reader B) → Result (B × List ℕ) WireError
-handed_on (Ok x) next = next x.0 x.1
-handed_on (Err what) next = Err what
-
--- the second reads what the first leaves
-unfoldable pub sequel : {A B : Type 0} → Reader A → (A → Reader B) → Reader B
-sequel first next bytes = handed_on (first bytes) next
-
-infixl 10 ◌>>=◌
-abbrev pub ◌>>=◌ : {A B : Type 0} → Reader A → (A → Reader B) → Reader B
-first >>= next = sequel first next
-
--- reads nothing
-unfoldable pub given : {A : Type 0} → A → Reader A
-given x bytes = Ok (x, bytes)
-
--- reads nothing, and refuses
-unfoldable pub refused : {A : Type 0} → WireError → Reader A
-refused what bytes = Err what
-
--- reads nothing, and refuses where the test fails
-unfoldable pub require : Bool → WireError → Reader ⊤
-require true what bytes = Ok (tt, bytes)
-require false what bytes = Err what
+Reader A = shared.Reader WireError A
 
 -- reads nothing: what was read of other bytes
 unfoldable pub known : {A : Type 0} → Result A WireError → Reader A
 known (Ok x) bytes = Ok (x, bytes)
 known (Err what) bytes = Err what
 
--- ---- numbers
+-- ---- numbers, which bytes that end too soon do not hold
 
-unfoldable pub byte_at : Reader ℕ
-byte_at [] = Err refusal.Short
-byte_at (byte ∷ bytes) = Ok (byte, bytes)
+abbrev pub byte_at : Reader ℕ
+byte_at = shared.byte_at refusal.Short
 
-unfoldable pub bytes_at : ℕ → Reader (List ℕ)
-bytes_at count bytes =
-    if nat_lt (length bytes) count then Err refusal.Short else Ok (take count bytes, drop count bytes)
+abbrev pub bytes_at : ℕ → Reader (List ℕ)
+bytes_at count = shared.bytes_at refusal.Short count
 
--- with its highest byte first
-unfoldable pub number_at : Width → Reader ℕ
-number_at width bytes =
-    if nat_lt (length bytes) (byte_len width)
-    then Err refusal.Short
-    else Ok (from_be_bytes width (take (byte_len width) bytes), drop (byte_len width) bytes)
+abbrev pub number_at : Width → Reader ℕ
+number_at width = shared.number_at refusal.Short width
 
-unfoldable pub integer_at : Reader ℤ
-integer_at = do
-  word ← number_at w64
-  given (cast_signed w64 word)
+abbrev pub integer_at : Reader ℤ
+integer_at = shared.integer_at refusal.Short
 
 -- ---- to the end
 

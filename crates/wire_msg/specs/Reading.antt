@@ -13,12 +13,13 @@ use Rattle.capability.specs.declared.tags.TheConstants.{TAG_BYTES}
 use Rattle.capability.specs.declared.token.Token.{Token}
 use Rattle.host_code.specs.declared.message.Message.{Message}
 use Rattle.host_code.specs.declared.message.Message.TheVariants as message
+use Rattle.byte_format.specs.Reader.{◌>>=◌, given, refused, require}
 use Rattle.wire_msg.specs.declared.error.WireError.{WireError}
 use Rattle.wire_msg.specs.declared.error.WireError.TheVariants as refusal
 use Rattle.wire_msg.specs.declared.frame.Frame.{Frame}
 use Rattle.wire_msg.specs.declared.frame.Frame.TheVariants as frame
 use Rattle.wire_msg.specs.Frames.{has_host}
-use Rattle.wire_msg.specs.Reader.{Reader, ◌>>=◌, given, refused, require, known, byte_at, bytes_at, number_at}
+use Rattle.wire_msg.specs.Reader.{Reader, known, byte_at, bytes_at, number_at}
 use Rattle.wire_msg.specs.Reader.{integer_at, whole}
 
 -- ---- what messages name

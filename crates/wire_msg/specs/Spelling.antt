@@ -1,28 +1,14 @@
--- The bytes of a frame: one spelling for each. All numbers have their highest byte first, signed ones in two's
--- complement.
-use Rattle.std.specs.Prelude.{ℕ, ℤ, List, [], ◌∷◌, ◌++◌, length}
-use Rattle.std.specs.Int.{w32, w64, to_be_bytes, cast_unsigned}
+-- The bytes of a frame: one spelling for each.
+use Rattle.std.specs.Prelude.{ℕ, List, [], ◌∷◌, ◌++◌, length}
 use Rattle.js_base.specs.declared.ids.HostId.{HostId}
 use Rattle.js_base.specs.declared.ids.FrameId.{FrameId}
 use Rattle.js_base.specs.declared.ids.RequestId.{RequestId}
 use Rattle.capability.specs.declared.token.Token.{Token}
 use Rattle.host_code.specs.declared.message.Message.{Message}
 use Rattle.host_code.specs.declared.message.Message.TheVariants as message
+use Rattle.byte_format.specs.Numbers.{number_bytes, word_bytes, integer_bytes}
 use Rattle.wire_msg.specs.declared.frame.Frame.{Frame}
 use Rattle.wire_msg.specs.declared.frame.Frame.TheVariants as frame
-
--- ---- numbers
-
--- a number of four bytes
-unfoldable pub number_bytes : ℕ → List ℕ
-number_bytes n = to_be_bytes w32 n
-
--- a number of eight bytes
-unfoldable pub word_bytes : ℕ → List ℕ
-word_bytes n = to_be_bytes w64 n
-
-abbrev pub integer_bytes : ℤ → List ℕ
-integer_bytes z = word_bytes (cast_unsigned w64 z)
 
 -- ---- what messages name
 

@@ -1,47 +1,14 @@
-//! Numbers and what messages name at the end of some bytes.
-#![tactic(auto, using(crate::proofs::Appends::appends), unfolding(crate::specs::Spelling::number_bytes, crate::specs::Spelling::word_bytes))]
+//! What messages name at the end of some bytes.
+#![tactic(auto, using(crate::proofs::Appends::appends))]
 
-ghost use Rattle.std.specs.Prelude.{◌≡◌, ◌++◌, ◌∷◌, [], OnOk};
-ghost use Rattle.wire_msg.specs.Spelling.{number_bytes, word_bytes, integer_bytes, request_bytes, frame_id_bytes};
-ghost use Rattle.wire_msg.specs.Spelling.{token_bytes};
+ghost use Rattle.std.specs.Prelude.{◌≡◌, ◌++◌, OnOk};
+ghost use Rattle.wire_msg.specs.Spelling.{request_bytes, frame_id_bytes, token_bytes};
 
+use byte_format::{put_byte, put_number, put_word};
 use capability::Token;
 use js_base::{FrameId, OutOfMemory, RequestId};
 
-/// Adds a byte.
-pub fn put_byte(out: &mut Vec<u8>, byte: u8) -> Result<(), OutOfMemory>
-    ensures { OnOk result (out.new.items ≡ out.old.items ++ byte ∷ []) }
-{
-    out.push(byte)?;
-    Ok(())
-}
-
-/// Adds a number of four bytes.
-pub fn put_number(out: &mut Vec<u8>, number: u32) -> Result<(), OutOfMemory>
-    ensures { OnOk result (out.new.items ≡ out.old.items ++ number_bytes number) }
-{
-    out.extend_from_slice(&number.to_be_bytes())?;
-    Ok(())
-}
-
-/// Adds a number of eight bytes.
-pub fn put_word(out: &mut Vec<u8>, word: u64) -> Result<(), OutOfMemory>
-    ensures { OnOk result (out.new.items ≡ out.old.items ++ word_bytes word) }
-{
-    out.extend_from_slice(&word.to_be_bytes())?;
-    Ok(())
-}
-
-/// Adds a signed number of eight bytes.
-pub fn put_integer(out: &mut Vec<u8>, number: i64) -> Result<(), OutOfMemory>
-    ensures { OnOk result (out.new.items ≡ out.old.items ++ integer_bytes number) }
-{
-    out.extend_from_slice(&number.to_be_bytes())?;
-    Ok(())
-}
-
 /// Adds a request.
-#[tactic(auto, using(crate::proofs::Appends::appends))]
 pub fn put_request(out: &mut Vec<u8>, request: RequestId) -> Result<(), OutOfMemory>
     ensures { OnOk result (out.new.items ≡ out.old.items ++ request_bytes request) }
 {
@@ -50,7 +17,6 @@ pub fn put_request(out: &mut Vec<u8>, request: RequestId) -> Result<(), OutOfMem
 }
 
 /// Adds a frame of the program.
-#[tactic(auto, using(crate::proofs::Appends::appends))]
 pub fn put_frame_id(out: &mut Vec<u8>, frame: FrameId) -> Result<(), OutOfMemory>
     ensures { OnOk result (out.new.items ≡ out.old.items ++ frame_id_bytes frame) }
 {
@@ -59,7 +25,6 @@ pub fn put_frame_id(out: &mut Vec<u8>, frame: FrameId) -> Result<(), OutOfMemory
 }
 
 /// Adds a token.
-#[tactic(auto, using(crate::proofs::Appends::appends))]
 pub fn put_token(out: &mut Vec<u8>, token: &Token) -> Result<(), OutOfMemory>
     ensures { OnOk result (out.new.items ≡ out.old.items ++ token_bytes token.now) }
 {

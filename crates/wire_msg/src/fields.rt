@@ -1,5 +1,5 @@
 //! Readers of what messages name.
-#![tactic(auto, unfolding(crate::specs::Reader::sequel, crate::specs::Reader::given, crate::specs::Reading::field_at, crate::specs::Reading::variable_at, crate::specs::Reading::entry_at, crate::specs::Reading::request_at, crate::specs::Reading::frame_id_at, crate::specs::Reading::token_at))]
+#![tactic(auto, unfolding(byte_format::specs::Reader::sequel, byte_format::specs::Reader::given, crate::specs::Reading::field_at, crate::specs::Reading::variable_at, crate::specs::Reading::entry_at, crate::specs::Reading::request_at, crate::specs::Reading::frame_id_at, crate::specs::Reading::token_at))]
 
 ghost use Rattle.wire_msg.specs.Reader.{Gives};
 ghost use Rattle.wire_msg.specs.Reading.{field_at, variable_at, entry_at, request_at, frame_id_at, token_at};

@@ -5,7 +5,8 @@ ghost use Rattle.std.specs.Prelude.{◌≡◌, ◌++◌, OnOk};
 ghost use Rattle.host_code.specs.declared.message.Message.TheVariants as message;
 ghost use Rattle.wire_msg.specs.Spelling.{message_bytes};
 
-use crate::appending::{put_byte, put_frame_id, put_integer, put_number, put_request, put_token};
+use crate::appending::{put_frame_id, put_request, put_token};
+use byte_format::{put_byte, put_integer, put_number};
 use capability::Token;
 use host_code::Message;
 use js_base::{EntryId, FieldId, FrameId, OutOfMemory, RequestId, VarId};

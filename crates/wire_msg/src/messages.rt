@@ -1,5 +1,5 @@
 //! Readers of messages.
-#![tactic(auto, unfolding(crate::specs::Reader::sequel, crate::specs::Reader::given, crate::specs::Reader::refused, crate::specs::Reading::get_at, crate::specs::Reading::set_at, crate::specs::Reading::forward_at, crate::specs::Reading::sync_at, crate::specs::Reading::rgoto_at, crate::specs::Reading::lgoto_at, crate::specs::Reading::value_at, crate::specs::Reading::ack_at, crate::specs::Reading::answer_at, crate::specs::Reading::message_at))]
+#![tactic(auto, unfolding(byte_format::specs::Reader::sequel, byte_format::specs::Reader::given, byte_format::specs::Reader::refused, crate::specs::Reading::get_at, crate::specs::Reading::set_at, crate::specs::Reading::forward_at, crate::specs::Reading::sync_at, crate::specs::Reading::rgoto_at, crate::specs::Reading::lgoto_at, crate::specs::Reading::value_at, crate::specs::Reading::ack_at, crate::specs::Reading::answer_at, crate::specs::Reading::message_at))]
 
 ghost use Rattle.wire_msg.specs.Reader.{Gives};
 ghost use Rattle.wire_msg.specs.Reading.{get_at, set_at, forward_at, sync_at, rgoto_at, lgoto_at, value_at, ack_at};

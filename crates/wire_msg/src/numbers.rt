@@ -1,5 +1,5 @@
 //! Readers of numbers: what stands at the front of some bytes, and the bytes behind it.
-#![tactic(auto, unfolding(crate::specs::Reader::sequel, crate::specs::Reader::given, crate::specs::Reader::byte_at, crate::specs::Reader::bytes_at, crate::specs::Reader::number_at, crate::specs::Reader::integer_at))]
+#![tactic(auto, unfolding(byte_format::specs::Reader::sequel, byte_format::specs::Reader::given, byte_format::specs::Reader::byte_at, byte_format::specs::Reader::bytes_at, byte_format::specs::Reader::number_at, byte_format::specs::Reader::integer_at))]
 
 ghost use Rattle.std.specs.Int.{w32, w64};
 ghost use Rattle.capability.specs.declared.tags.TheConstants.{TAG_BYTES};

@@ -1,5 +1,5 @@
 //! Reading a frame.
-#![tactic(auto, unfolding(crate::specs::Reader::sequel, crate::specs::Reader::given, crate::specs::Reader::require, crate::specs::Reader::known, crate::specs::Reader::whole, crate::specs::Reading::some_message_at, crate::specs::Reading::fields_at, crate::specs::Reading::sent_at, crate::specs::Reading::body_at, crate::specs::Reading::frame_at, crate::specs::Reading::reading_of))]
+#![tactic(auto, unfolding(byte_format::specs::Reader::sequel, byte_format::specs::Reader::given, byte_format::specs::Reader::require, crate::specs::Reader::known, crate::specs::Reader::whole, crate::specs::Reading::some_message_at, crate::specs::Reading::fields_at, crate::specs::Reading::sent_at, crate::specs::Reading::body_at, crate::specs::Reading::frame_at, crate::specs::Reading::reading_of))]
 
 ghost use Rattle.std.specs.Prelude.{◌≡◌, IfOk, Ok};
 ghost use Rattle.js_base.specs.declared.ids.HostId.{HostId};

@@ -6,11 +6,11 @@ ghost use Rattle.wire_msg.specs.Frames.{NamesHosts};
 ghost use Rattle.wire_msg.specs.Reading.{reading_of};
 ghost use Rattle.wire_msg.specs.Spelling.{kinded_bytes, body_bytes, frame_bytes};
 
-use crate::appending::{put_byte, put_number};
 use crate::frame::Frame;
 use crate::message_bytes::put_message;
 use crate::ranges::frame_law;
 use crate::reading::DONE;
+use byte_format::{put_byte, put_number};
 use js_base::{HostId, OutOfMemory};
 use std::alloc::Global;
 

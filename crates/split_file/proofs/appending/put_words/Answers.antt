@@ -1,6 +1,6 @@
 use Rattle.std.proofs.Common.{◌<◌, ◌^◌, arith}
 use Rattle.js_base.specs.declared.bits.TheConstants.{WORD_BITS}
-use Rattle.split_file.specs.Spelling.{word_bytes}
+use Rattle.byte_format.specs.Numbers.{word_bytes}
 use Rattle.split_file.proofs.Appends.{put_more}
 use Rattle.split_file.proofs.appending.put_words.Goals as goal
 

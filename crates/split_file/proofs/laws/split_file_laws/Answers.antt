@@ -1,7 +1,10 @@
 use Rattle.std.proofs.Common.{refl}
-use Rattle.split_file.specs.Spelling.{number_bytes, word_bytes, split_file}
-use Rattle.split_file.specs.Reader.{text_at, bytes_at, number_at, in_range, place, require, given, sequel, items_at, list_at}
-use Rattle.split_file.specs.Reading.{code_at, front_at, magic_at, version_at, tables_at, hosts_at, host_row_at, name_at, label_at}
+use Rattle.byte_format.specs.Numbers.{number_bytes, word_bytes}
+use Rattle.byte_format.specs.Reader.{bytes_at, number_at, require, given, sequel}
+use Rattle.split_file.specs.Spelling.{split_file}
+use Rattle.split_file.specs.Reader.{text_at, in_range, place, items_at, list_at}
+use Rattle.split_file.specs.Reading.{code_at, front_at, magic_at, version_at, tables_at, hosts_at, host_row_at, name_at}
+use Rattle.split_file.specs.Reading.{label_at}
 use Rattle.split_file.specs.File.{file_code}
 use Rattle.split_file.proofs.FileLaws.{file_again, file_read, code_or_refusal, spelled_once}
 use Rattle.split_file.proofs.laws.split_file_laws.Goals as goal
@@ -51,46 +54,55 @@ unfolding number_bytes word_bytes
 returns-clause-worked_parts c = (refl, refl)
 
 pub returns-clause-worked_short : goal.returns-clause-worked_short
-unfolding file_code code_at front_at magic_at version_at tables_at hosts_at host_row_at name_at label_at text_at bytes_at
+unfolding file_code code_at front_at magic_at version_at tables_at hosts_at host_row_at name_at label_at text_at
+    bytes_at
     number_at in_range place require given sequel items_at list_at
 returns-clause-worked_short c = refl
 
 pub returns-clause-worked_magic : goal.returns-clause-worked_magic
-unfolding file_code code_at front_at magic_at version_at tables_at hosts_at host_row_at name_at label_at text_at bytes_at
+unfolding file_code code_at front_at magic_at version_at tables_at hosts_at host_row_at name_at label_at text_at
+    bytes_at
     number_at in_range place require given sequel items_at list_at
 returns-clause-worked_magic c = refl
 
 pub returns-clause-worked_half_version : goal.returns-clause-worked_half_version
-unfolding file_code code_at front_at magic_at version_at tables_at hosts_at host_row_at name_at label_at text_at bytes_at
+unfolding file_code code_at front_at magic_at version_at tables_at hosts_at host_row_at name_at label_at text_at
+    bytes_at
     number_at in_range place require given sequel items_at list_at
 returns-clause-worked_half_version c = refl
 
 pub returns-clause-worked_version : goal.returns-clause-worked_version
-unfolding file_code code_at front_at magic_at version_at tables_at hosts_at host_row_at name_at label_at text_at bytes_at
+unfolding file_code code_at front_at magic_at version_at tables_at hosts_at host_row_at name_at label_at text_at
+    bytes_at
     number_at in_range place require given sequel items_at list_at
 returns-clause-worked_version c = refl
 
 pub returns-clause-worked_no_host : goal.returns-clause-worked_no_host
-unfolding file_code code_at front_at magic_at version_at tables_at hosts_at host_row_at name_at label_at text_at bytes_at
+unfolding file_code code_at front_at magic_at version_at tables_at hosts_at host_row_at name_at label_at text_at
+    bytes_at
     number_at in_range place require given sequel items_at list_at
 returns-clause-worked_no_host c = refl
 
 pub returns-clause-worked_many_hosts : goal.returns-clause-worked_many_hosts
-unfolding file_code code_at front_at magic_at version_at tables_at hosts_at host_row_at name_at label_at text_at bytes_at
+unfolding file_code code_at front_at magic_at version_at tables_at hosts_at host_row_at name_at label_at text_at
+    bytes_at
     number_at in_range place require given sequel items_at list_at
 returns-clause-worked_many_hosts c = refl
 
 pub returns-clause-worked_no_name : goal.returns-clause-worked_no_name
-unfolding file_code code_at front_at magic_at version_at tables_at hosts_at host_row_at name_at label_at text_at bytes_at
+unfolding file_code code_at front_at magic_at version_at tables_at hosts_at host_row_at name_at label_at text_at
+    bytes_at
     number_at in_range place require given sequel items_at list_at
 returns-clause-worked_no_name c = refl
 
 pub returns-clause-worked_half_name : goal.returns-clause-worked_half_name
-unfolding file_code code_at front_at magic_at version_at tables_at hosts_at host_row_at name_at label_at text_at bytes_at
+unfolding file_code code_at front_at magic_at version_at tables_at hosts_at host_row_at name_at label_at text_at
+    bytes_at
     number_at in_range place require given sequel items_at list_at
 returns-clause-worked_half_name c = refl
 
 pub returns-clause-worked_half_label : goal.returns-clause-worked_half_label
-unfolding file_code code_at front_at magic_at version_at tables_at hosts_at host_row_at name_at label_at text_at bytes_at
+unfolding file_code code_at front_at magic_at version_at tables_at hosts_at host_row_at name_at label_at text_at
+    bytes_at
     number_at in_range place require given sequel items_at list_at
 returns-clause-worked_half_label c = refl

@@ -1,10 +1,10 @@
 use Rattle.std.proofs.Common.{◌≡◌, sym, ap, subst, ◌∙◌, List, [], ℕ}
 use Rattle.host_code.specs.Code.{CodeShape}
 use Rattle.host_code.specs.CodeParts.{shape_of}
+use Rattle.byte_format.proofs.Sequels.{ok_is}
 use Rattle.split_file.specs.Spelling.{split_file}
 use Rattle.split_file.specs.Reading.{code_at}
 use Rattle.split_file.specs.File.{IsRealCode}
-use Rattle.split_file.proofs.Sequels.{ok_is}
 use Rattle.split_file.proofs.FileLaws.{code_read, code_again, only_memory}
 use Rattle.split_file.proofs.reading.read.Goals as goal
 

@@ -1,6 +1,6 @@
 use Rattle.std.proofs.Common.{refl}
 use Rattle.std.proofs.lemmas.Result.{err_from_is_err_and}
-use Rattle.split_file.specs.Reader.{sequel, given}
+use Rattle.byte_format.specs.Reader.{sequel, given}
 use Rattle.split_file.specs.Reading.{tables_at}
 use Rattle.split_file.proofs.Items.{fails_on}
 use Rattle.split_file.proofs.tables.tables_of.Goals as goal

@@ -1,7 +1,10 @@
 use Rattle.std.proofs.Common.{refl, arith}
-use Rattle.wire_msg.specs.Spelling.{number_bytes, word_bytes, frame_bytes}
-use Rattle.wire_msg.specs.Reader.{sequel, given, refused, require, known, byte_at, bytes_at, number_at, whole}
-use Rattle.wire_msg.specs.Reading.{entry_at, frame_id_at, token_at, lgoto_at, message_at, some_message_at, fields_at, sent_at, body_at, frame_at, reading_of}
+use Rattle.byte_format.specs.Numbers.{number_bytes, word_bytes}
+use Rattle.byte_format.specs.Reader.{sequel, given, refused, require, byte_at, bytes_at, number_at}
+use Rattle.wire_msg.specs.Spelling.{frame_bytes}
+use Rattle.wire_msg.specs.Reader.{known, whole}
+use Rattle.wire_msg.specs.Reading.{entry_at, frame_id_at, token_at, lgoto_at, message_at, some_message_at, fields_at}
+use Rattle.wire_msg.specs.Reading.{sent_at, body_at, frame_at, reading_of}
 use Rattle.wire_msg.proofs.FrameLaws.{fitting, spelled_once, read_again, frame_read, frame_or_refusal}
 use Rattle.wire_msg.proofs.FaultLaws.{first_fault_is}
 use Rattle.wire_msg.proofs.laws.wire_laws.Goals as goal
@@ -101,33 +104,41 @@ unfolding reading_of frame_at body_at whole sequel number_at require bytes_at kn
 returns-clause-worked_sender c = refl
 
 pub returns-clause-worked_first_kind : goal.returns-clause-worked_first_kind
-unfolding reading_of frame_at body_at whole sequel number_at require bytes_at known sent_at byte_at fields_at some_message_at message_at refused
+unfolding reading_of frame_at body_at whole sequel number_at require bytes_at known sent_at byte_at fields_at
+    some_message_at message_at refused
 returns-clause-worked_first_kind c = refl
 
 pub returns-clause-worked_last_kind : goal.returns-clause-worked_last_kind
-unfolding reading_of frame_at body_at whole sequel number_at require bytes_at known sent_at byte_at fields_at some_message_at message_at refused
+unfolding reading_of frame_at body_at whole sequel number_at require bytes_at known sent_at byte_at fields_at
+    some_message_at message_at refused
 returns-clause-worked_last_kind c = refl
 
 pub returns-clause-worked_fields : goal.returns-clause-worked_fields
-unfolding reading_of frame_at body_at whole sequel number_at require bytes_at known sent_at byte_at fields_at some_message_at message_at refused lgoto_at token_at frame_id_at entry_at given
+unfolding reading_of frame_at body_at whole sequel number_at require bytes_at known sent_at byte_at fields_at
+    some_message_at message_at refused lgoto_at token_at frame_id_at entry_at given
 returns-clause-worked_fields c = refl
 
 pub returns-clause-worked_cut_token : goal.returns-clause-worked_cut_token
-unfolding reading_of frame_at body_at whole sequel number_at require bytes_at known sent_at byte_at fields_at some_message_at message_at refused lgoto_at token_at frame_id_at entry_at given
+unfolding reading_of frame_at body_at whole sequel number_at require bytes_at known sent_at byte_at fields_at
+    some_message_at message_at refused lgoto_at token_at frame_id_at entry_at given
 returns-clause-worked_cut_token c = refl
 
 pub returns-clause-worked_token_host : goal.returns-clause-worked_token_host
-unfolding reading_of frame_at body_at whole sequel number_at require bytes_at known sent_at byte_at fields_at some_message_at message_at refused lgoto_at token_at frame_id_at entry_at given
+unfolding reading_of frame_at body_at whole sequel number_at require bytes_at known sent_at byte_at fields_at
+    some_message_at message_at refused lgoto_at token_at frame_id_at entry_at given
 returns-clause-worked_token_host c = refl
 
 pub returns-clause-worked_left : goal.returns-clause-worked_left
-unfolding reading_of frame_at body_at whole sequel number_at require bytes_at known sent_at byte_at fields_at some_message_at message_at refused given
+unfolding reading_of frame_at body_at whole sequel number_at require bytes_at known sent_at byte_at fields_at
+    some_message_at message_at refused given
 returns-clause-worked_left c = refl
 
 pub returns-clause-worked_behind : goal.returns-clause-worked_behind
-unfolding reading_of frame_at body_at whole sequel number_at require bytes_at known sent_at byte_at fields_at some_message_at message_at refused given
+unfolding reading_of frame_at body_at whole sequel number_at require bytes_at known sent_at byte_at fields_at
+    some_message_at message_at refused given
 returns-clause-worked_behind c = refl
 
 pub returns-clause-worked_read : goal.returns-clause-worked_read
-unfolding reading_of frame_at body_at whole sequel number_at require bytes_at known sent_at byte_at fields_at some_message_at message_at refused given
+unfolding reading_of frame_at body_at whole sequel number_at require bytes_at known sent_at byte_at fields_at
+    some_message_at message_at refused given
 returns-clause-worked_read c = refl
