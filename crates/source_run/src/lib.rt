@@ -8,8 +8,6 @@ mod laws;
 mod machine;
 mod plain;
 mod tasks;
-#[cfg(test)]
-mod tests;
 mod values;
 mod windows;
 

@@ -2,6 +2,8 @@
 #![tactic(auto)]
 
 #[cfg(test)]
+mod built_runs;
+#[cfg(test)]
 mod label_tables;
 #[cfg(test)]
 mod labels;

@@ -1,9 +1,9 @@
-//! Programs that are run, with what they leave in their first field.
+//! Programs that are built as trees, also as no text gives them, and what their runs leave in their first field.
 
-use crate::{RunEnd, run};
 use jif_tree::{Expr, Field, Method, Program, Stmt, StmtKind, Store, Var};
 use js_base::{BinOp, FieldId, MethodId, SiteId, StmtId, VarId};
 use label_lattice::Label;
+use source_run::{RunEnd, run};
 use std::alloc::{AllocGlobal, Global};
 use std::process::Abort;
 use std::test::Fail;
