@@ -1,13 +1,12 @@
 -- An answer that is awaited keeps what holds of a host of the code.
-use Rattle.std.proofs.Common.{◌≡◌, ℕ, suc, ◌<◌, Bool, true, List, length, get_or, take, drop, sym, subst, refl}
+use Rattle.std.proofs.Common.{◌≡◌, ℕ, suc, ◌<◌, Bool, true, List, length, take, drop, sym, subst, refl}
 use Rattle.std.specs.Prelude.{Option, Some, None, IfSome, IsSomeAnd, slice_get, position, ◌&&◌}
 use Rattle.std.specs.Option.{option_map}
-use Rattle.std.specs.List.{position_or_len}
-use Rattle.std.proofs.lemmas.Option.{cond_some, slice_get_within, get_or_from_slice_get}
+use Rattle.std.proofs.lemmas.Option.{slice_get_within, get_or_from_slice_get}
 use Rattle.std.proofs.lemmas.List.Elements.{All-append, All-take, All-drop, All-get_or}
-use Rattle.std.proofs.lemmas.List.Sums.{passes_at_first}
 use Rattle.js_base.specs.declared.ids.HostId.{HostId}
 use Rattle.js_base.specs.declared.ids.RequestId.{RequestId}
+use Rattle.js_base.proofs.Lists.{first_passing}
 use Rattle.host_code.specs.Thread.{ThreadShape, Awaited, WaitingShape}
 use Rattle.host_code.specs.Thread.Awaited.{value_of_field, acknowledgement, token_of_entry}
 use Rattle.host_code.specs.Code.{CodeShape, part_of}
@@ -21,12 +20,9 @@ use Rattle.host_core.specs.Fits.{StateFits, RunningFits, WaitingFits, HeldFits, 
 passes_at : {X : Type 0} (p : X → Bool) (xs : List X) (place : ℕ) (x : X) → position p xs ≡ Some place
     → slice_get xs place ≡ Some x → p x ≡ true
 passes_at {X} p xs place x is at =
-    let found = cond_some _ (position_or_len p xs) place is in
-    let within : place < length xs = slice_get_within xs place x at in
-    let first : position_or_len p xs < length xs = subst (λ (k : ℕ). k < length xs) (sym found.1) within in
-    let passes = passes_at_first p xs x first in
-    let here : p (get_or xs place x) ≡ true = subst (λ (k : ℕ). p (get_or xs k x) ≡ true) found.1 passes in
-    subst (λ (y : X). p y ≡ true) (get_or_from_slice_get xs place x x at) here
+    let found = first_passing p xs place is in
+    let same : found.0 ≡ x = cc in
+    subst (λ (y : X). p y ≡ true) same found.2
 
 -- a thread that waits for a value or an acknowledgement holds a token
 value_holds : (code : CodeShape) (waits awaited : Awaited) (held : Option Token) (request from : Bool)

@@ -2,8 +2,10 @@ pub mod Answered
 pub mod CallsKept
 pub mod CodeFacts
 pub mod Kept
+pub mod OneOutcome
 pub mod Rooms
 pub mod SomeOutcome
 pub mod StartKept
 pub mod TakingKept
 pub mod TurnKept
+pub mod WrittenCode

@@ -37,7 +37,7 @@ same_frame first second =
     (λ same. (ap (λ (frame : FrameId). frame.site) same, ap (λ (frame : FrameId). frame.count) same))
     (both _ _ (same_site first.site second.site) (cases_eq first.count second.count))
 
-same_token : (first second : Token) → Decided (first ≡ second)
+pub same_token : (first second : Token) → Decided (first ≡ second)
 same_token first second =
     as_well _ _
     (λ same i. record {
@@ -62,9 +62,9 @@ same_token first second =
     (both _ _ (same_entry first.entry second.entry)
     (both _ _ (cases_eq first.serial second.serial) (same_text first.tag second.tag)))))
 
-is_token : (found : Option Token) (token : Token) → Decided (found ≡ Some token)
-is_token None token = inr (λ same. cc)
-is_token (Some found) token = as_well _ _ (ap (λ one. Some one)) (λ same. cc) (same_token found token)
+pub some_token : (found : Option Token) (token : Token) → Decided (found ≡ Some token)
+some_token None token = inr (λ same. cc)
+some_token (Some found) token = as_well _ _ (ap (λ one. Some one)) (λ same. cc) (same_token found token)
 
 -- ---- taking a message
 
@@ -79,7 +79,7 @@ passes code host from (message.Set request field index value) = may code host.me
 passes code host from (message.Forward request frame variable value) = may code host.me (ask.Forward variable) from
 passes code host from (message.Sync request frame entry token) = may code host.me (ask.Enter entry) from
 passes code host from (message.Rgoto frame entry token) = may code host.me (ask.Enter entry) from
-passes code host from (message.Lgoto token) = is_token (top_token host.entries) token
+passes code host from (message.Lgoto token) = some_token (top_token host.entries) token
 passes code host from (message.Value request value) = is_some _
 passes code host from (message.Ack request) = is_some _
 passes code host from (message.Token request token) = is_some _
@@ -107,7 +107,7 @@ passes_with : (code : CodeShape) (host : HostShape) (operation : Op) (held : Opt
 passes_with code host (op.Ret variable value) (Some held) =
     implied _ _ (never _ (cases_eq held.host.0 host.me.0)) (may_return code (variable_at code variable) held.host)
 passes_with code host op.Back (Some held) =
-    implied _ _ (cases_eq held.host.0 host.me.0) (is_token (top_token host.entries) held)
+    implied _ _ (cases_eq held.host.0 host.me.0) (some_token (top_token host.entries) held)
 passes_with code host operation held = inl tt
 
 some_running : (code : CodeShape) (host : HostShape) (thread : ThreadShape) (instruction : Option Instr) →

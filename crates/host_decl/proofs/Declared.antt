@@ -2,10 +2,10 @@
 use Rattle.std.proofs.Common.{ℕ, ◌<◌, List, [], ◌∷◌, All, length, sym, subst}
 use Rattle.std.proofs.lemmas.Option.{slice_get_within}
 use Rattle.std.specs.List.{AllByRecursion, AllZip}
+use Rattle.std.proofs.lemmas.List.Elements.{All-from_recursion}
 use Rattle.js_base.specs.Name.{IsName}
 use Rattle.principals.specs.ActsFor.{Declared, AreDeclarable, IsDeclared}
 use Rattle.principals.specs.Declaring.{AreDeclaredAs, IsPairOf}
-use Rattle.host_decl.proofs.Lists.{all_of}
 
 -- both are declared
 abbrev IsWithin : ℕ → ℕ × ℕ → Type 0
@@ -26,7 +26,7 @@ pairs_within names (pair ∷ pairs) (id ∷ ids) all = (
 pub are_declared : (names : List (List ℕ)) (pairs : List (List ℕ × List ℕ)) (principals : Declared) → All IsName names
     → AreDeclaredAs names pairs principals → IsDeclared principals
 are_declared names pairs principals spelled declared =
-    let within = all_of (IsWithin (length names)) principals.pairs
+    let within = All-from_recursion (IsWithin (length names)) principals.pairs
     (pairs_within names pairs principals.pairs declared.pairs_are) in
     record {
       spelled = subst (All IsName) (sym declared.names_are) spelled;

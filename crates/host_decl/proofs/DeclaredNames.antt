@@ -5,6 +5,7 @@ use Rattle.std.proofs.lemmas.Bool.{and_parts, false≢true}
 use Rattle.std.proofs.lemmas.List.{get_or-map, length-map}
 use Rattle.std.specs.List.{AllByRecursion}
 use Rattle.std.specs.Option.{option_map_or, option_and_then}
+use Rattle.std.proofs.lemmas.List.Elements.{All-from_recursion}
 use Rattle.js_base.specs.Name.{IsName, is_name}
 use Rattle.toml.specs.Data.{Data, Items, no_items, item, Members, get_member, as_str, as_array}
 use Rattle.host_decl.specs.declared.schema.TableKind.TheVariants.{File, Host}
@@ -15,7 +16,6 @@ use Rattle.host_decl.specs.Draft.{texts_of, or_empty, host_of, draft_of}
 use Rattle.host_decl.specs.DraftView.{hosts_draft}
 use Rattle.host_decl.specs.Meaning.{host_names}
 use Rattle.host_decl.proofs.BadKeys.{sound_hosts}
-use Rattle.host_decl.proofs.Lists.{all_of}
 use Rattle.host_decl.proofs.Meanings.{written_names}
 
 one_more : (found : Option (List ℕ)) (rest : List (List ℕ)) → option_map_or is_name found false ≡ true
@@ -52,7 +52,7 @@ each names all place d within =
 
 pub principal_names : (file : Members) → IsSound File file → All IsName (texts_of (items_at (codes "principals") file))
 principal_names file sound =
-    all_of IsName _ (at_the_key (get_member (codes "principals") file) (sound (codes "principals")))
+    All-from_recursion IsName _ (at_the_key (get_member (codes "principals") file) (sound (codes "principals")))
 
 pub names_are_names : (file : Members) (names : List (String Global)) → IsSound File file
     → map string_bytes names ≡ texts_of (items_at (codes "principals") file)
@@ -80,5 +80,6 @@ host_names_of (table ∷ tables) sound =
 pub host_names_are_names : (file : Members) (draft : HostsDraft) → IsSoundFile file
     → hosts_draft draft ≡ draft_of file → All IsName (map (λ host. string_bytes host.name) draft.hosts.items)
 host_names_are_names file draft sound are =
-    all_of IsName _ (subst (AllByRecursion IsName) (sym (written_names draft.hosts.items ∙ ap host_names are))
+    All-from_recursion IsName _ (subst (AllByRecursion IsName)
+    (sym (written_names draft.hosts.items ∙ ap host_names are))
     (host_names_of (tables_of (items_at (codes "host") file)) (sound_hosts file sound)))

@@ -1,11 +1,6 @@
--- Facts on the elements of a list.
-use Rattle.std.proofs.Common.{◌≡◌, zero, suc, Bool, ◌||◌, List, [], ◌∷◌, All, map, refl, ap, arith}
-use Rattle.std.specs.List.{AllByRecursion, list_any}
-
-pub all_of : {A : Type 0} (P : A → Type 0) (xs : List A) → AllByRecursion P xs → All P xs
-all_of P [] all place d within = absurd (omega arith)
-all_of P (x ∷ xs) all zero d within = all.0
-all_of P (x ∷ xs) all (suc place) d within = all_of P xs all.1 place d (omega arith)
+-- Tests of the elements of a list.
+use Rattle.std.proofs.Common.{◌≡◌, Bool, ◌||◌, List, [], ◌∷◌, map, refl, ap}
+use Rattle.std.specs.List.{list_any}
 
 -- a test of what each is mapped to
 pub any_of_map : {X Y : Type 0} (test : Y → Bool) (f : X → Y) (xs : List X)

@@ -12,6 +12,7 @@ use Rattle.std.proofs.lemmas.Bool.{cases_Bool, cases_lt, false≢true}
 use Rattle.std.proofs.lemmas.List.{take_all, take_more}
 use Rattle.std.proofs.lemmas.Option.{slice_get_within, slice_get-get_or, get_or_from_slice_get}
 use Rattle.std.proofs.lemmas.Str.{IsUtf8-from_is_utf8, is_utf8-from_IsUtf8}
+use Rattle.std.proofs.lemmas.List.Elements.{All-from_recursion}
 use Rattle.js_base.specs.Name.{IsName}
 use Rattle.js_base.specs.Named.{IsFirstRepeated}
 use Rattle.js_base.specs.declared.limits.TheConstants.{HOSTS, HOSTS_BYTES, PRINCIPALS, PROGRAM_BYTES}
@@ -51,7 +52,6 @@ use Rattle.host_decl.proofs.LabelTexts.{OneReading, no_label, bad_byte_is_none, 
 use Rattle.host_decl.proofs.Least.{IsIn, IsFound, found_later, is_not_after_itself, not_after_trans, equal_texts}
 use Rattle.host_decl.proofs.Least.{before_from_test}
 use Rattle.host_decl.proofs.Least.{before_from_no_test, in_from_any}
-use Rattle.host_decl.proofs.Lists.{all_of}
 use Rattle.host_decl.proofs.OwnedTexts.{IsText, owned}
 use Rattle.host_decl.proofs.SoundLinks.{sound_costs}
 
@@ -745,6 +745,6 @@ short_rows principals (text ∷ others) (row ∷ rows) all texts = (
 pub short_names : AreDocumentTexts → (bytes : List ℕ) (hosts : HostsShape) → ReadsHosts bytes hosts →
     All (λ host. length host.name ≤ HOSTS_BYTES) hosts.hosts
 short_names texts bytes hosts (file, document, sound, means) =
-    all_of (λ host. length host.name ≤ HOSTS_BYTES) hosts.hosts
+    All-from_recursion (λ host. length host.name ≤ HOSTS_BYTES) hosts.hosts
     (short_rows hosts.principals (draft_of file).hosts hosts.hosts means.rows
     (says_texts file (texts bytes file document) sound).hosts)

@@ -1,6 +1,7 @@
 -- What a file means keeps what all hosts keep.
 use Rattle.std.proofs.Common.{◌≡◌, ℕ, List, All, length, sym, subst, ap, ◌∙◌, codes}
 use Rattle.std.proofs.lemmas.List.{length-map}
+use Rattle.std.proofs.lemmas.List.Elements.{All-from_recursion}
 use Rattle.js_base.specs.Name.{IsName}
 use Rattle.label_lattice.specs.Over.{IsLabelOver}
 use Rattle.host_decl.specs.declared.key.TheConstants.{KEY_BYTES}
@@ -14,7 +15,6 @@ use Rattle.host_decl.proofs.Costs.{table_of_costs}
 use Rattle.host_decl.proofs.Declared.{are_declared}
 use Rattle.host_decl.proofs.DeclaredNames.{principal_names, host_names_of}
 use Rattle.host_decl.proofs.HostRows.{HaveWholeKeys, labels_over, same_names, whole_keys}
-use Rattle.host_decl.proofs.Lists.{all_of}
 use Rattle.host_decl.proofs.SoundLinks.{sound_costs}
 use Rattle.host_decl.proofs.WholeKeys.{keys_written}
 
@@ -35,9 +35,9 @@ hosts_of_meaning file hosts spelled means =
       declared = are_declared file.names file.pairs hosts.principals spelled.principals means.principals;
       names = subst AreHostNames (sym same) means.names;
       named = subst (All IsName) (sym same) spelled.hosts;
-      labels = all_of (λ host. IsLabelOver hosts.principals host.label) hosts.hosts
+      labels = All-from_recursion (λ host. IsLabelOver hosts.principals host.label) hosts.hosts
           (labels_over hosts.principals file.hosts hosts.hosts means.rows);
-      keys = all_of (λ host. length host.key ≡ KEY_BYTES) hosts.hosts
+      keys = All-from_recursion (λ host. length host.key ≡ KEY_BYTES) hosts.hosts
           (whole_keys hosts.principals file.hosts hosts.hosts means.rows spelled.keys);
       table = subst (λ many. AreCosts many hosts.costs) count costs;
     }
@@ -50,7 +50,7 @@ hosts_read bytes hosts reads =
     hosts_of_meaning (draft_of file) hosts
     (record {
       principals = principal_names file reads.2.0;
-      hosts = all_of IsName _ (host_names_of tables sound);
+      hosts = All-from_recursion IsName _ (host_names_of tables sound);
       keys = keys_written tables sound;
     })
     reads.3

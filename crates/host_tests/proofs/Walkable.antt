@@ -6,6 +6,7 @@ use Rattle.std.specs.Prelude.{slice_get, ⊤, ℤ, All}
 use Rattle.std.specs.List.{AllByRecursion}
 use Rattle.std.proofs.lemmas.Bool.{cases_lt}
 use Rattle.std.proofs.lemmas.List.Elements.{All-cons, All-nil}
+use Rattle.std.proofs.lemmas.List.Elements.{All-from_recursion}
 use Rattle.label_lattice.specs.declared.label.Label.{Label}
 use Rattle.js_base.specs.declared.ids.HostId.{HostId}
 use Rattle.js_base.specs.declared.ids.EntryId.{EntryId}
@@ -17,52 +18,26 @@ use Rattle.host_code.specs.declared.instruction.Instr.{Instr}
 use Rattle.host_code.specs.Code.{CodeShape, CodeHostShape, halt}
 use Rattle.host_code.specs.Sound.{IsSoundCode, PartFits, InstructionFits, FieldFits, VariableFits, EntryFits, IsHost}
 use Rattle.host_code.specs.Sound.{NodeFits, ExpressionFits, IsVariable}
+use Rattle.host_core.proofs.WrittenCode.{FitsFrom, fits_at}
 use Rattle.host_tests.specs.Walked.{walked, hosts, fields, variables, entries, of_a, of_b, a, b, v, w, e}
 use Rattle.host_tests.specs.Walked.{sum_of_temporaries, one_more}
-
--- ---- lists, item by item
-
--- the instructions from a place on fit
-abbrev FitsFrom : CodeShape → HostId → ℕ → List Instr → Type 0
-FitsFrom code me at [] = ⊤
-FitsFrom code me at (instruction ∷ others) =
-    InstructionFits code me at instruction × FitsFrom code me (suc at) others
-
--- so each at its place does
-fits_at : (code : CodeShape) (me : HostId) (first : ℕ) (part : List Instr) → FitsFrom code me first part →
-    (at : ℕ) (found : Instr) → slice_get part at ≡ Some found → InstructionFits code me (first + at) found
-fits_at code me first [] fit at found is = absurd (let e : None ≡ Some found = is in cc)
-fits_at code me first (instruction ∷ others) fit zero found is =
-    let same : instruction ≡ found = (let e : Some instruction ≡ Some found = is in cc) in
-    let here : first ≡ first + zero = omega arith in
-    let P : ℕ → Type 0 = λ k. InstructionFits code me k found in
-    subst P here (subst (InstructionFits code me first) same fit.0)
-fits_at code me first (instruction ∷ others) fit (suc at) found is =
-    let here : suc first + at ≡ first + suc at = omega arith in
-    let P : ℕ → Type 0 = λ k. InstructionFits code me k found in
-    subst P here (fits_at code me (suc first) others fit.1 at found is)
-
--- what holds of each element, one after the other
-All-each : {X : Type 0} (P : X → Type 0) (xs : List X) → AllByRecursion P xs → All P xs
-All-each P [] each = All-nil P
-All-each P (x ∷ xs) each = All-cons P x xs each.0 (All-each P xs each.1)
 
 -- ---- expressions
 
 number_fits : (code : CodeShape) (count : ℕ) (value : ℤ) → ExpressionFits code count (node.Number value ∷ [])
-number_fits code count value = All-each (NodeFits code count) (node.Number value ∷ []) (tt, tt)
+number_fits code count value = All-from_recursion (NodeFits code count) (node.Number value ∷ []) (tt, tt)
 
 variable_fits : (code : CodeShape) (count : ℕ) (variable : VarId) → IsVariable code variable →
     ExpressionFits code count (node.Var variable ∷ [])
-variable_fits code count variable there = All-each (NodeFits code count) (node.Var variable ∷ []) (there, tt)
+variable_fits code count variable there = All-from_recursion (NodeFits code count) (node.Var variable ∷ []) (there, tt)
 
 one_more_fits : (code : CodeShape) (count : ℕ) (variable : VarId) → IsVariable code variable →
     ExpressionFits code count (one_more variable)
 one_more_fits code count variable there =
-    All-each (NodeFits code count) (one_more variable) (there, (tt, (tt, tt)))
+    All-from_recursion (NodeFits code count) (one_more variable) (there, (tt, (tt, tt)))
 
 sum_fits : (code : CodeShape) (count : ℕ) → 0 < count → 1 < count → ExpressionFits code count sum_of_temporaries
-sum_fits code count one two = All-each (NodeFits code count) sum_of_temporaries (one, (two, (tt, tt)))
+sum_fits code count one two = All-from_recursion (NodeFits code count) sum_of_temporaries (one, (two, (tt, tt)))
 
 -- ---- instructions
 
@@ -269,7 +244,7 @@ true_is_not_false : true ≡ false → ⊥
 true_is_not_false is = cc
 
 fields_fit : (both secret trusted : Label) → All (FieldFits (walked both secret trusted)) fields
-fields_fit both secret trusted = All-each (FieldFits (walked both secret trusted)) fields (
+fields_fit both secret trusted = All-from_recursion (FieldFits (walked both secret trusted)) fields (
   record {
     name = refl;
     short = omega arith;
@@ -299,7 +274,7 @@ fields_fit both secret trusted = All-each (FieldFits (walked both secret trusted
 )
 
 variables_fit : (both secret trusted : Label) → All (VariableFits (walked both secret trusted)) variables
-variables_fit both secret trusted = All-each (VariableFits (walked both secret trusted)) variables (
+variables_fit both secret trusted = All-from_recursion (VariableFits (walked both secret trusted)) variables (
   record {
     name = (codes "main", codes "v", refl, inl refl, refl);
     short = omega arith;
@@ -323,7 +298,7 @@ variables_fit both secret trusted = All-each (VariableFits (walked both secret t
 )
 
 entries_fit : (both secret trusted : Label) → All (EntryFits (walked both secret trusted)) entries
-entries_fit both secret trusted = All-each (EntryFits (walked both secret trusted)) entries (
+entries_fit both secret trusted = All-from_recursion (EntryFits (walked both secret trusted)) entries (
   record { host = omega arith; at = omega arith; label = omega arith },
   (
     record { host = omega arith; at = omega arith; label = omega arith },
@@ -363,7 +338,7 @@ entries_fit both secret trusted = All-each (EntryFits (walked both secret truste
 
 names_fit : (both : Label) → All (λ host. IsName host.name × (length host.name ≤ MOST_ITEMS)) (hosts both)
 names_fit both =
-    All-each (λ (host : CodeHostShape). IsName host.name × (length host.name ≤ MOST_ITEMS)) (hosts both)
+    All-from_recursion (λ (host : CodeHostShape). IsName host.name × (length host.name ≤ MOST_ITEMS)) (hosts both)
     ((refl, omega arith), ((refl, omega arith), ((refl, omega arith), tt)))
 
 pub sound : (both secret trusted : Label) → IsSoundCode (walked both secret trusted)
@@ -382,7 +357,7 @@ sound both secret trusted =
       few_entries = omega arith;
       entries = entries_fit both secret trusted;
       few_sites = omega arith;
-      sites = All-each (IsHost code) (a ∷ []) (omega arith, tt);
+      sites = All-from_recursion (IsHost code) (a ∷ []) (omega arith, tt);
       a_part_each = refl;
       parts = part both secret trusted;
       halt_first = (refl, refl);

@@ -1,8 +1,11 @@
 -- Lists in general.
-use Rattle.std.proofs.Common.{◌≡◌, ℕ, suc, ◌<◌, List, [], ◌∷◌, ◌++◌, length, get_or, drop, refl, ap, sym, ◌∙◌, arith}
-use Rattle.std.specs.Prelude.{Contains}
+use Rattle.std.proofs.Common.{◌≡◌, ℕ, suc, ◌<◌, Bool, true, List, [], ◌∷◌, ◌++◌, length, get_or, drop, Some}
+use Rattle.std.proofs.Common.{refl, ap, sym, ◌∙◌, arith}
+use Rattle.std.specs.Prelude.{Contains, position, slice_get}
 use Rattle.std.specs.List.{AllZip}
 use Rattle.std.proofs.Math.Seq.{drop-cons}
+use Rattle.std.proofs.lemmas.Option.{slice_get-get_or}
+use Rattle.std.proofs.lemmas.List.Quantifiers.{position-Some}
 
 -- ---- elements
 
@@ -15,6 +18,14 @@ Contains-tail x xs c found = (suc found.0, omega (arith, found.1), found.2)
 pub Contains-middle : {X : Type 0} (a : List X) (c : X) (x : List X) → Contains (a ++ c ∷ x) c
 Contains-middle [] c x = (0, omega arith, refl)
 Contains-middle (h ∷ a) c x = Contains-tail h (a ++ c ∷ x) c (Contains-middle a c x)
+
+-- the element at a first place, and that it passes the test
+pub first_passing : {X : Type 0} (p : X → Bool) (xs : List X) (place : ℕ) → position p xs ≡ Some place →
+    (x : X) × (slice_get xs place ≡ Some x) × (p x ≡ true)
+first_passing p [] place is = absurd (cc)
+first_passing p (first ∷ xs) place is =
+    let at = position-Some p (first ∷ xs) place first is in
+    (get_or (first ∷ xs) place first, slice_get-get_or (first ∷ xs) place first at.0, at.1)
 
 -- ---- two lists in step
 

@@ -14,6 +14,7 @@ use Rattle.host_code.specs.Thread.{ThreadShape}
 use Rattle.host_core.specs.Host.{HostShape, Outcome, Letter, with_running}
 use Rattle.host_core.specs.Taking.{IsTaking, after_taking}
 use Rattle.host_core.specs.Turn.{IsTurn, IsTurnOf, IsRunning, after_operation, label_of_turn}
+use Rattle.host_core.proofs.OneOutcome.{one_taking, one_turn_of}
 use Rattle.net_world.specs.Flying.{Flight}
 use Rattle.net_world.specs.Told.{SentMessage, message_made}
 use Rattle.net_world.specs.World.{WorldShape, IsStep, IsRun, IsTakeStep, IsTurnStep, IsActStep, refusal_of, mover}
@@ -24,30 +25,6 @@ use Rattle.net_world.proofs.Present.{get_other}
 use Rattle.net_world.proofs.StepsOf.{take_not_refused, act_not_refused}
 
 -- ---- one outcome
-
-one_bool : (b c : Bool) (P : Type 0) → (IsTrue b ↔ P) → (IsTrue c ↔ P) → b ≡ c
-one_bool true true P b_is c_is = refl
-one_bool true false P b_is c_is = sym (c_is.1 (b_is.0 refl))
-one_bool false true P b_is c_is = b_is.1 (c_is.0 refl)
-one_bool false false P b_is c_is = refl
-
-one_taking : (code : CodeShape) (host : HostShape) (from : HostId) (m : Message) (first second : Outcome) →
-    IsTaking code host from m first → IsTaking code host from m second → first ≡ second
-one_taking code host from m first second takes also =
-    sym takes.2 ∙ ap (after_taking code host from m) (one_bool takes.0 also.0 _ takes.1 also.1) ∙ also.2
-
-one_running : (code : CodeShape) (host : HostShape) (thread : ThreadShape) (instruction : Option Instr)
-    (first second : Outcome) → IsRunning code host thread instruction first →
-    IsRunning code host thread instruction second → first ≡ second
-one_running code host thread None first second runs also = sym runs ∙ also
-one_running code host thread (Some instruction) first second runs also =
-    sym runs.2 ∙ ap (after_operation code host thread instruction.op) (one_bool runs.0 also.0 _ runs.1 also.1) ∙ also.2
-
-one_turn_of : (code : CodeShape) (host : HostShape) (running : Option ThreadShape) (first second : Outcome) →
-    IsTurnOf code host running first → IsTurnOf code host running second → first ≡ second
-one_turn_of code host None first second turns also = sym turns ∙ also
-one_turn_of code host (Some thread) first second turns also =
-    one_running code (with_running host None) thread (instruction_at code host.me thread.at) first second turns also
 
 one_take : (code : CodeShape) (world first second : WorldShape) (from to : HostId) (place : ℕ) →
     IsTakeStep code world from to place first → IsTakeStep code world from to place second → first ≡ second

@@ -1,15 +1,12 @@
 -- A unit has one list of parts.
-use Rattle.std.proofs.Common.{◌≡◌, inl, inr, ℕ, Bool, true, false, List, [], ◌∷◌, Option, Some, None, refl, sym, ap, ◌∙◌, subst}
+use Rattle.std.proofs.Common.{◌≡◌, inl, inr, ℕ, List, [], ◌∷◌, Option, Some, None, sym, ap}
+use Rattle.std.proofs.Common.{◌∙◌, subst}
 use Rattle.std.proofs.Common.{Result, Ok, Err}
-use Rattle.std.specs.Prelude.{IsTrue, ◌↔◌}
 use Rattle.js_base.specs.declared.ids.HostId.{HostId}
-use Rattle.host_code.specs.declared.instruction.Instr.{Instr}
-use Rattle.host_code.specs.declared.message.Message.{Message}
-use Rattle.host_code.specs.Code.{CodeShape, instruction_at}
+use Rattle.host_code.specs.Code.{CodeShape}
 use Rattle.host_code.specs.Thread.{ThreadShape}
-use Rattle.host_core.specs.Host.{HostShape, Outcome, with_running}
-use Rattle.host_core.specs.Taking.{IsTaking, after_taking}
-use Rattle.host_core.specs.Turn.{IsRunning, IsTurnOf, after_operation}
+use Rattle.host_core.specs.Host.{HostShape}
+use Rattle.host_core.proofs.OneOutcome.{one_taking, one_turn_of}
 use Rattle.wire_msg.specs.declared.error.WireError.{WireError}
 use Rattle.wire_msg.specs.declared.frame.Frame.{Frame}
 use Rattle.wire_msg.specs.Reading.{reading_of}
@@ -20,32 +17,6 @@ use Rattle.node_engine.specs.JournalLines.{take_line, turn_line}
 use Rattle.node_engine.specs.NodeWorlds.{NodeWorld, Part, Taking}
 use Rattle.node_engine.specs.Units.{AreArrivalParts, AreTakingParts, AreTurnParts, AreUnitParts, AreUnitPartsOf}
 use Rattle.node_engine.specs.Units.{step_parts}
-
--- ---- steps
-
-one_bool : (b c : Bool) (P : Type 0) → (IsTrue b ↔ P) → (IsTrue c ↔ P) → b ≡ c
-one_bool true true P b_is c_is = refl
-one_bool true false P b_is c_is = sym (c_is.1 (b_is.0 refl))
-one_bool false true P b_is c_is = b_is.1 (c_is.0 refl)
-one_bool false false P b_is c_is = refl
-
-one_taking : (code : CodeShape) (host : HostShape) (from : HostId) (message : Message) (first second : Outcome) →
-    IsTaking code host from message first → IsTaking code host from message second → first ≡ second
-one_taking code host from message first second takes also =
-    sym takes.2 ∙ ap (after_taking code host from message) (one_bool takes.0 also.0 _ takes.1 also.1) ∙ also.2
-
-one_running : (code : CodeShape) (host : HostShape) (thread : ThreadShape) (instruction : Option Instr)
-    (first second : Outcome) → IsRunning code host thread instruction first →
-    IsRunning code host thread instruction second → first ≡ second
-one_running code host thread None first second runs also = sym runs ∙ also
-one_running code host thread (Some instruction) first second runs also =
-    sym runs.2 ∙ ap (after_operation code host thread instruction.op) (one_bool runs.0 also.0 _ runs.1 also.1) ∙ also.2
-
-one_turn_of : (code : CodeShape) (host : HostShape) (running : Option ThreadShape) (first second : Outcome) →
-    IsTurnOf code host running first → IsTurnOf code host running second → first ≡ second
-one_turn_of code host None first second turns also = sym turns ∙ also
-one_turn_of code host (Some thread) first second turns also =
-    one_running code (with_running host None) thread (instruction_at code host.me thread.at) first second turns also
 
 -- ---- arrivals
 

@@ -29,10 +29,11 @@ use Rattle.token_laws.proofs.Held.{AreHeld, held_step, held_start, fresh_is, non
 use Rattle.token_laws.proofs.OneToken.{only_one, only_serial, token_itself}
 use Rattle.token_laws.proofs.Places.{one_place, held_once_or_more, some_place}
 use Rattle.token_laws.proofs.Walks.{reached}
+use Rattle.token_laws.proofs.Tests.{some_found}
 
 -- ---- what was sent
 
-unsent_none : (world : WorldShape) (token : Token) → ¬ IsSent world token → worth_sent (one_of token) world ≡ 0
+pub unsent_none : (world : WorldShape) (token : Token) → ¬ IsSent world token → worth_sent (one_of token) world ≡ 0
 unsent_none world token unsent =
     let le =
     sum_by-le (one_of token) 0 (tokens_sent world) (λ k d lt.
@@ -47,7 +48,7 @@ unsent_none world token unsent =
     omega arith) in
     omega arith
 
-sent_some : (world : WorldShape) (token : Token) → IsSent world token → 0 < worth_sent (one_of token) world
+pub sent_some : (world : WorldShape) (token : Token) → IsSent world token → 0 < worth_sent (one_of token) world
 sent_some world token sent =
     let le = get_or-le-sum_by (one_of token) (tokens_sent world) sent.0 token sent.1 in
     let is : one_of token (get_or (tokens_sent world) sent.0 token) ≡ 1 =
@@ -55,10 +56,6 @@ sent_some world token sent =
     omega arith
 
 -- ---- the laws
-
-pub has_state : (o : Option host_state.HostShape) → IsSome o → (state : host_state.HostShape) × (o ≡ Some state)
-has_state None is = absurd (cc)
-has_state (Some state) is = (state, refl)
 
 is_old : (world : WorldShape) (token : Token) (state : host_state.HostShape) → state_at world token.host ≡ Some state →
     token.serial < slice_index state.serials token.entry.0 → IsOld world token
@@ -84,7 +81,7 @@ pub held_once : (code : CodeShape) (world : WorldShape) (token : Token) (first s
     IsSome (state_at world token.host) → ¬ IsSent world token → HoldsAt world token first →
     HoldsAt world token second → first ≡ second
 held_once code world token first second is obeys unsent holds also =
-    let state = has_state (state_at world token.host) obeys in
+    let state = some_found (state_at world token.host) obeys in
     let most =
     is.held.one (one_of token) token state.0 (only_one token) state.1 (unsent_none world token unsent) in
     one_place code world token first second is.fits most holds also
@@ -93,7 +90,7 @@ held_once code world token first second is obeys unsent holds also =
 made_before : (world : WorldShape) (token : Token) → AreHeld world → IsSome (state_at world token.host) →
     token.entry ≢ halt → 0 < worth_world (one_of token) world + worth_sent (one_of token) world → IsOld world token
 made_before world token held obeys named some =
-    let state = has_state (state_at world token.host) obeys in
+    let state = some_found (state_at world token.host) obeys in
     elim (cases_lt token.serial (slice_index state.0.serials token.entry.0)) [
       | inl passed ↦ is_old world token state.0 state.1 passed
       | inr past ↦
@@ -157,7 +154,7 @@ same_place code world host state first second one other fits obeys there also sa
     ]
 
 -- a new token is none that was made before
-fresh_none : (world : WorldShape) (token : Token) (old : host_state.HostShape) (host : HostId) (serials : List ℕ)
+pub fresh_none : (world : WorldShape) (token : Token) (old : host_state.HostShape) (host : HostId) (serials : List ℕ)
     (fresh : Option Token) → old.me ≡ host → state_at world host ≡ Some old → Counts old serials fresh →
     IsOld world token → worth_held (one_of token) fresh ≡ 0
 fresh_none world token old host serials None me obeys counts before = refl

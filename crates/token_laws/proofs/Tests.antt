@@ -1,6 +1,6 @@
 -- What tests of numbers and parts of tests tell.
-use Rattle.std.proofs.Common.{◌≡◌, ◌≢◌, ◌<◌, ◌≤◌, ℕ, Bool, true, false, refl, arith}
-use Rattle.std.specs.Prelude.{◌==◌, ◌&&◌}
+use Rattle.std.proofs.Common.{◌≡◌, ◌≢◌, ◌<◌, ◌≤◌, ℕ, Bool, true, false, Option, Some, None, refl, arith}
+use Rattle.std.specs.Prelude.{◌==◌, ◌&&◌, IsSome}
 use Rattle.std.proofs.lemmas.Bool.Decides.{nat_tests}
 use Rattle.token_laws.proofs.Counting.{one_if}
 
@@ -32,3 +32,7 @@ one_at_most false = omega arith
 pub some_true : (b : Bool) → 0 < one_if b → b ≡ true
 some_true true more = refl
 some_true false more = absurd (omega arith)
+
+pub some_found : {X : Type 0} (found : Option X) → IsSome found → (x : X) × (found ≡ Some x)
+some_found None is = absurd (cc)
+some_found (Some x) is = (x, refl)

@@ -6,6 +6,7 @@ use Rattle.std.specs.Prelude.{slice_get, ⊤, All}
 use Rattle.std.specs.List.{AllByRecursion}
 use Rattle.std.proofs.lemmas.Bool.{cases_lt}
 use Rattle.std.proofs.lemmas.List.Elements.{All-cons, All-nil}
+use Rattle.std.proofs.lemmas.List.Elements.{All-from_recursion}
 use Rattle.js_base.specs.declared.binary_operator.BinOp.{BinOp}
 use Rattle.js_base.specs.declared.ids.EntryId.{EntryId}
 use Rattle.js_base.specs.declared.ids.HostId.{HostId}
@@ -16,50 +17,24 @@ use Rattle.host_code.specs.declared.instruction.Instr.{Instr}
 use Rattle.host_code.specs.Code.{CodeShape, CodeHostShape, halt}
 use Rattle.host_code.specs.Sound.{IsSoundCode, PartFits, InstructionFits, FieldFits, VariableFits, EntryFits}
 use Rattle.host_code.specs.Sound.{IsHost, NodeFits, ExpressionFits}
+use Rattle.host_core.proofs.WrittenCode.{FitsFrom, fits_at}
 use Rattle.world_tests.specs.Programs.{t, other, head, return_point, segment, number, first_and, sum_of_temporaries}
 use Rattle.world_tests.specs.Programs.{summing, summing_hosts, summing_fields, summing_entries}
 use Rattle.world_tests.specs.Programs.{summing_on_t, summing_on_a, counting_on_t, counting_on_p}
 use Rattle.world_tests.specs.Programs.{counting, counting_hosts, counting_fields, counting_entries}
 
--- ---- lists, item by item
-
--- the instructions from a place on fit
-abbrev FitsFrom : CodeShape → HostId → ℕ → List Instr → Type 0
-FitsFrom code me at [] = ⊤
-FitsFrom code me at (instruction ∷ others) =
-    InstructionFits code me at instruction × FitsFrom code me (suc at) others
-
--- so each at its place does
-fits_at : (code : CodeShape) (me : HostId) (first : ℕ) (part : List Instr) → FitsFrom code me first part →
-    (at : ℕ) (found : Instr) → slice_get part at ≡ Some found → InstructionFits code me (first + at) found
-fits_at code me first [] fit at found is = absurd (let e : None ≡ Some found = is in cc)
-fits_at code me first (instruction ∷ others) fit zero found is =
-    let same : instruction ≡ found = (let e : Some instruction ≡ Some found = is in cc) in
-    let here : first ≡ first + zero = omega arith in
-    let P : ℕ → Type 0 = λ k. InstructionFits code me k found in
-    subst P here (subst (InstructionFits code me first) same fit.0)
-fits_at code me first (instruction ∷ others) fit (suc at) found is =
-    let here : suc first + at ≡ first + suc at = omega arith in
-    let P : ℕ → Type 0 = λ k. InstructionFits code me k found in
-    subst P here (fits_at code me (suc first) others fit.1 at found is)
-
--- what holds of each element, one after the other
-All-each : {X : Type 0} (P : X → Type 0) (xs : List X) → AllByRecursion P xs → All P xs
-All-each P [] each = All-nil P
-All-each P (x ∷ xs) each = All-cons P x xs each.0 (All-each P xs each.1)
-
 -- ---- expressions
 
 number_fits : (code : CodeShape) (count value : ℕ) → ExpressionFits code count (number value)
-number_fits code count value = All-each (NodeFits code count) (number value) (tt, tt)
+number_fits code count value = All-from_recursion (NodeFits code count) (number value) (tt, tt)
 
 first_fits : (code : CodeShape) (count value : ℕ) (operator : BinOp) → 0 < count →
     ExpressionFits code count (first_and value operator)
 first_fits code count value operator some =
-    All-each (NodeFits code count) (first_and value operator) (some, (tt, (tt, tt)))
+    All-from_recursion (NodeFits code count) (first_and value operator) (some, (tt, (tt, tt)))
 
 sum_fits : (code : CodeShape) (count : ℕ) → 0 < count → 1 < count → ExpressionFits code count sum_of_temporaries
-sum_fits code count one two = All-each (NodeFits code count) sum_of_temporaries (one, (two, (tt, tt)))
+sum_fits code count one two = All-from_recursion (NodeFits code count) sum_of_temporaries (one, (two, (tt, tt)))
 
 -- ---- hosts and entries
 
@@ -102,7 +77,11 @@ summing_t_fits trusted secret =
           (
             record { label = omega arith; operation = (not_halt return_point (omega arith), refl) },
             (
-              record { label = omega arith; operation = ((not_halt segment (omega arith), refl), (omega arith, not_t)) },
+              record {
+                label = omega arith;
+                operation =
+                    ((not_halt segment (omega arith), refl), (omega arith, not_t));
+              },
               (
                 record { label = omega arith; operation = (omega arith, number_fits code 0 0) },
                 (
@@ -152,7 +131,8 @@ summing_part trusted secret = two_hosts (PartFits (summing trusted secret))
     (record {
       few = omega arith;
       instructions = λ at found is.
-          rw zero-add at (fits_at (summing trusted secret) t 0 summing_on_t (summing_t_fits trusted secret) at found is);
+          rw zero-add at (fits_at (summing trusted secret) t 0 summing_on_t
+          (summing_t_fits trusted secret) at found is);
       end = inr tt;
     })
     (record {
@@ -169,10 +149,11 @@ summing_sound trusted secret =
     record {
       some_host = omega arith;
       few_hosts = omega arith;
-      host_names = All-each IsNamed (summing_hosts trusted secret) ((refl, omega arith), ((refl, omega arith), tt));
+      host_names = All-from_recursion IsNamed (summing_hosts trusted secret)
+          ((refl, omega arith), ((refl, omega arith), tt));
       few_labels = omega arith;
       few_fields = omega arith;
-      fields = All-each (FieldFits code) summing_fields (
+      fields = All-from_recursion (FieldFits code) summing_fields (
         record {
           name = refl;
           short = omega arith;
@@ -195,7 +176,7 @@ summing_sound trusted secret =
       few_variables = omega arith;
       variables = All-nil (VariableFits code);
       few_entries = omega arith;
-      entries = All-each (EntryFits code) summing_entries (
+      entries = All-from_recursion (EntryFits code) summing_entries (
         record { host = omega arith; at = omega arith; label = omega arith },
         (
           record { host = omega arith; at = omega arith; label = omega arith },
@@ -239,9 +220,17 @@ counting_t_fits trusted own bobs =
                 (
                   record { label = omega arith; operation = (not_halt return_point (omega arith), refl) },
                   (
-                    record { label = omega arith; operation = ((not_halt segment (omega arith), refl), (omega arith, not_t)) },
+                    record {
+                      label = omega arith;
+                      operation =
+                          ((not_halt segment (omega arith), refl), (omega arith, not_t));
+                    },
                     (
-                      record { label = omega arith; operation = (omega arith, number_fits code 0 0, number_fits code 0 0) },
+                      record {
+                        label = omega arith;
+                        operation =
+                            (omega arith, number_fits code 0 0, number_fits code 0 0);
+                      },
                       (
                         record { label = omega arith; operation = tt },
                         tt,
@@ -302,11 +291,11 @@ counting_sound trusted own bobs =
     record {
       some_host = omega arith;
       few_hosts = omega arith;
-      host_names = All-each IsNamed (counting_hosts trusted own bobs)
+      host_names = All-from_recursion IsNamed (counting_hosts trusted own bobs)
           ((refl, omega arith), ((refl, omega arith), ((refl, omega arith), tt)));
       few_labels = omega arith;
       few_fields = omega arith;
-      fields = All-each (FieldFits code) counting_fields (
+      fields = All-from_recursion (FieldFits code) counting_fields (
         record {
           name = refl;
           short = omega arith;
@@ -329,7 +318,7 @@ counting_sound trusted own bobs =
       few_variables = omega arith;
       variables = All-nil (VariableFits code);
       few_entries = omega arith;
-      entries = All-each (EntryFits code) counting_entries (
+      entries = All-from_recursion (EntryFits code) counting_entries (
         record { host = omega arith; at = omega arith; label = omega arith },
         (
           record { host = omega arith; at = omega arith; label = omega arith },

@@ -1,11 +1,11 @@
 use Rattle.net_world.specs.World.{state_at}
 use Rattle.token_laws.proofs.AskedLaws.{known_asked, one_under_way, under_way_awaited, waits_once, all_counted}
-use Rattle.token_laws.proofs.HeldLaws.{has_state}
+use Rattle.token_laws.proofs.Tests.{some_found}
 use Rattle.token_laws.proofs.laws.request_laws.Goals as goal
 
 pub returns-clause-one : goal.returns-clause-one
 returns-clause-one c = λ code rows bad store events world host one other request first second reach obeys under also.
-    let is = has_state (state_at world host) obeys in
+    let is = some_found (state_at world host) obeys in
     one_under_way world host one other is.0 request first second
     ((known_asked code rows bad store events world reach).hosts host is.0 is.1) under also
 
