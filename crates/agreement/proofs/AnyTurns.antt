@@ -29,7 +29,7 @@ use Rattle.net_world.specs.World.{WorldShape, state_at, IsStep, world_at_start}
 use Rattle.net_world.proofs.Present.{same_id}
 use Rattle.split_shades.specs.ShadedCode.{ReleaseNothing}
 use Rattle.token_laws.specs.Reached.{IsReached}
-use Rattle.token_laws.proofs.Tests.{itself}
+use Rattle.token_laws.proofs.Tests.{itself, some_found}
 use Rattle.token_laws.proofs.Walks.{fits_there}
 use Rattle.seen_world.specs.Eyes.{Eyes, AreEyes, Watches}
 use Rattle.seen_world.proofs.SeenPlaces.{some_is}
@@ -38,7 +38,6 @@ use Rattle.agreement.specs.Handing.{handed, RunsHanding}
 use Rattle.agreement.specs.Leads.{Agree}
 use Rattle.agreement.specs.Turns.{ChangesAlone, RunsAlone}
 use Rattle.agreement.proofs.AskingsAgree.{asks_agree}
-use Rattle.agreement.proofs.HiddenTurns.{some_of}
 use Rattle.agreement.proofs.Places.{instruction_within}
 use Rattle.agreement.proofs.SeenAgree.{state_me, turn_agrees, hands_agree}
 use Rattle.agreement.proofs.SeenHandings.{letter}
@@ -140,7 +139,7 @@ turn_kind eyes rows bad store events world after host reach step =
     let code = eyes.code in
     let old = step.state in
     let own = state_me eyes world host old (fits_there code rows bad store events world reach) step.obeys in
-    let thread = some_of old.running step.runs in
+    let thread = some_found old.running step.runs in
     let runs : RunningFits code old.me thread.0 =
     subst (λ one. IfSome one (RunningFits code old.me)) thread.1 own.fits.running in
     let token = there_with (TokenFits code) thread.0.held runs.held in

@@ -1,12 +1,11 @@
 -- What is behind an instruction that asks another host, and the thread that waits for an answer.
-use Rattle.std.proofs.Common.{◌≡◌, ◌≢◌, ◌∙◌, ℕ, suc, ◌+◌, Bool, true, List, [], ◌∷◌, ◌++◌, Some, refl, ap, sym}
-use Rattle.std.proofs.Common.{subst, get_or}
+use Rattle.std.proofs.Common.{◌≡◌, ◌≢◌, ◌∙◌, ℕ, suc, ◌+◌, Bool, true, [], ◌∷◌, ◌++◌, Some, refl, ap, sym}
+use Rattle.std.proofs.Common.{subst}
 use Rattle.std.specs.Prelude.{◌==◌, ◌&&◌, IsSome, position, slice_get}
 use Rattle.std.proofs.lemmas.Bool.{false≢true}
-use Rattle.std.proofs.lemmas.List.Quantifiers.{position-Some}
-use Rattle.std.proofs.lemmas.Option.{slice_get-get_or}
 use Rattle.js_base.specs.declared.ids.HostId.{HostId}
 use Rattle.js_base.specs.declared.ids.RequestId.{RequestId}
+use Rattle.js_base.proofs.Lists.{first_passing}
 use Rattle.label_lattice.specs.declared.label.Label.{Label}
 use Rattle.host_code.specs.declared.instruction.Op.{Op}
 use Rattle.host_code.specs.declared.instruction.Op.TheVariants as op
@@ -25,7 +24,7 @@ use Rattle.seen_world.proofs.TurnsKept.{meets_next}
 use Rattle.agreement.specs.Leads.{hidden_waiting}
 use Rattle.agreement.specs.Taken.{host_checked}
 use Rattle.agreement.specs.Views.{HostView, ShowsHost, waits_open, waiter_view}
-use Rattle.agreement.proofs.HiddenTurns.{some_of}
+use Rattle.token_laws.proofs.Tests.{some_found}
 use Rattle.agreement.proofs.Queues.{seen_map, seen_at, seen_there, position_mapped}
 
 -- ---- behind an instruction that asks
@@ -116,13 +115,6 @@ same_kind acknowledgement token_of_entry request from same = absurd (false≢tru
 same_kind token_of_entry value_of_field request from same = absurd (false≢true same)
 same_kind token_of_entry acknowledgement request from same = absurd (false≢true same)
 
-position_found : {X : Type 0} (p : X → Bool) (xs : List X) (place : ℕ) → position p xs ≡ Some place →
-    (x : X) × (slice_get xs place ≡ Some x) × (p x ≡ true)
-position_found p [] place is = absurd (cc)
-position_found p (first ∷ xs) place is =
-    let at = position-Some p (first ∷ xs) place first is in
-    (get_or (first ∷ xs) place first, slice_get-get_or (first ∷ xs) place first at.0, at.1)
-
 -- where nothing waits unseen, a test of who is awaited finds the same in what is seen
 pub awaiting_seen : (eyes : Eyes) (state : HostShape) (shown : HostView) (awaited : Awaited) (request : RequestId)
     (from : HostId) → hidden_waiting eyes state.me state.waiting ≡ [] → ShowsHost eyes state.me state shown →
@@ -154,8 +146,8 @@ pub woken_at : (eyes : Eyes) (state : HostShape) (shown : HostView) (awaited : A
     Woken eyes state shown awaited request from
 woken_at eyes state shown awaited request from are keeps none shows some =
     let me = state.me in
-    let found = some_of (place_of_awaiting state awaited request from) some in
-    let there = position_found (awaits awaited request from) state.waiting found.0 found.1 in
+    let found = some_found (place_of_awaiting state awaited request from) some in
+    let there = first_passing (awaits awaited request from) state.waiting found.0 found.1 in
     let waiting = there.0 in
     let well = waits_at eyes state found.0 waiting keeps there.1 in
     let kind : waiting.awaited ≡ awaited = same_kind waiting.awaited awaited _ _ there.2 in

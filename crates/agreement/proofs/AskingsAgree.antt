@@ -28,7 +28,7 @@ use Rattle.agreement.specs.Leads.{Leads, Agree}
 use Rattle.agreement.specs.Turns.{Carried, carried_value}
 use Rattle.agreement.specs.Views.{View, masked, sees_variable, sees_read, with_host}
 use Rattle.agreement.proofs.CarriedSame.{Twins, masks_same, read_sees, index_same, operation_same}
-use Rattle.agreement.proofs.HiddenTurns.{some_of}
+use Rattle.token_laws.proofs.Tests.{some_found}
 use Rattle.agreement.proofs.SeenAgree.{state_me, twins_of, reached_calm}
 use Rattle.agreement.proofs.SeenAskings.{reached_asks}
 use Rattle.agreement.proofs.SeenHandings.{same_first}
@@ -91,7 +91,7 @@ asking_too : (eyes : Eyes) (one other after : WorldShape) (now : View) (host : H
     ShapeFits eyes.code other → Calm eyes one now → Calm eyes other now → RunsAsking eyes.code one host →
     IsStep eyes.code other (Turn host) after → RunsAsking eyes.code other host
 asking_too eyes one other after now host fits fits_other calm calm_other run step =
-    let thread = some_of step.state.running step.runs in
+    let thread = some_found step.state.running step.runs in
     let twins = twins_of eyes one other now host run.state step.state run.thread thread.0 fits fits_other calm
     calm_other run.there step.obeys run.running thread.1 in
     record {

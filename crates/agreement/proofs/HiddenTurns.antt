@@ -1,8 +1,7 @@
 -- A secret turn leads to the same view.
 use Rattle.std.proofs.Common.{◌≡◌, ◌∙◌, ℕ, Bool, true, false, List, [], ◌∷◌, Option, Some, None, refl}
 use Rattle.std.proofs.Common.{ap, sym, subst}
-use Rattle.std.specs.Prelude.{◌==◌, ◌↔◌, if◌then◌else◌, IfSome, IsSome, IsTrue}
-use Rattle.std.proofs.lemmas.Bool.{false≢true}
+use Rattle.std.specs.Prelude.{◌==◌, ◌↔◌, if◌then◌else◌, IfSome, IsTrue}
 use Rattle.js_base.specs.declared.ids.HostId.{HostId}
 use Rattle.js_base.specs.declared.ids.FrameId.{FrameId}
 use Rattle.capability.specs.declared.token.Token.{Token}
@@ -26,7 +25,7 @@ use Rattle.net_world.proofs.Moved.{Moved, mover_state, moved_silent, silent_sent
 use Rattle.net_world.proofs.Present.{same_id}
 use Rattle.net_world.proofs.StepLaws.{turn_puts}
 use Rattle.split_shades.specs.ShadedCode.{IsShadedOp}
-use Rattle.token_laws.proofs.Tests.{number_same}
+use Rattle.token_laws.proofs.Tests.{number_same, some_found}
 use Rattle.seen_world.specs.Eyes.{Eyes, AreEyes, Watches, sees_at, is_open, is_deep}
 use Rattle.seen_world.specs.Points.{RunsWell, HostKeeps, HostsKeep}
 use Rattle.seen_world.proofs.PointsAtStart.{own_state}
@@ -190,10 +189,6 @@ ends_leads eyes world after flying me old outcome label owed keeps now shown sho
 
 -- ---- a turn
 
-pub some_of : {X : Type 0} (found : Option X) → IsSome found → (x : X) × (found ≡ Some x)
-some_of None is = absurd (false≢true is)
-some_of (Some x) is = (x, refl)
-
 -- what holds where a thread runs unseen
 turn_unseen : (eyes : Eyes) (world : WorldShape) (old : HostShape) (thread : ThreadShape) (owed : Owed)
     (keeps : Keeps eyes world owed) (now shown : View) → AreEyes eyes → IsSoundCode eyes.code →
@@ -273,7 +268,7 @@ turn_leads eyes world after host shown are sound watch fits fits_after keep step
     let state = step.state in
     let own = own_state eyes world host state watch fits keep step.obeys in
     let me = own.fit.me in
-    let thread = some_of state.running step.runs in
+    let thread = some_found state.running step.runs in
     let runs_well : RunningFits eyes.code state.me thread.0 =
     subst (λ running. IfSome running (RunningFits eyes.code state.me)) thread.1 own.fit.fits.running in
     let there = instruction_within eyes state.me thread.0.at runs_well.place in

@@ -13,13 +13,12 @@ use Rattle.net_world.specs.Fits.{ShapeFits, IsStateOf}
 use Rattle.net_world.specs.Flying.{Flight}
 use Rattle.net_world.specs.Secret.{IsReadable, RunsOpenly, IsQuiet}
 use Rattle.net_world.specs.World.{WorldShape, state_at}
-use Rattle.token_laws.proofs.Tests.{itself}
+use Rattle.token_laws.proofs.Tests.{itself, some_found}
 use Rattle.seen_world.specs.Eyes.{Eyes, AreEyes, Watches, sees_at, is_open}
 use Rattle.seen_world.proofs.SeenWorlds.{label_read}
 use Rattle.agreement.specs.Leads.{Holder, nobody, runs, waits, flies, runs_on, flies_on, Link, hidden_running}
 use Rattle.agreement.specs.Leads.{hidden_waiting, Hides, HeldAt, IsPresent, Owes, Leads}
 use Rattle.agreement.specs.Views.{View, Shows, nowhere, Owed, nothing, Completed, flies_open, is_shown}
-use Rattle.agreement.proofs.HiddenTurns.{some_of}
 use Rattle.agreement.proofs.Lists.{left_first}
 use Rattle.agreement.proofs.Places.{instruction_within}
 
@@ -44,7 +43,7 @@ nobody_then : (eyes : Eyes) (world : WorldShape) (holder : Holder) → ((i j : H
     holder ≡ nobody
 nobody_then eyes world nobody none present each = refl
 nobody_then eyes world (runs host thread) none present each =
-    let there = some_of (state_at world host) present in
+    let there = some_found (state_at world host) present in
     let never : None ≡ Some thread =
     each host there.0 there.1 ∙ ap (λ (b : Bool). if b then Some thread else None) (itself host.0) in
     absurd (cc)

@@ -34,7 +34,7 @@ use Rattle.agreement.specs.Turns.{SeenTurn, host_idle}
 use Rattle.agreement.specs.Views.{gives, with_host, View, running_view, thread_view, masked_all}
 use Rattle.agreement.proofs.CarriedSame.{Twins, operation_same}
 use Rattle.agreement.proofs.Coming.{comes_once}
-use Rattle.agreement.proofs.HiddenTurns.{some_of}
+use Rattle.token_laws.proofs.Tests.{some_found}
 use Rattle.agreement.proofs.ViewLaws.{completed_once}
 use Rattle.agreement.proofs.SeenHandings.{letter, same_first, reached_hands, handing_once}
 use Rattle.agreement.proofs.SeenLeads.{Calm, quiet_calm, calm_open, reached_leads}
@@ -145,7 +145,7 @@ alone_too : (eyes : Eyes) (one other after : WorldShape) (now : View) (host : Ho
     ShapeFits eyes.code other → Calm eyes one now → Calm eyes other now → RunsAlone eyes.code one host →
     IsStep eyes.code other (Turn host) after → RunsAlone eyes.code other host
 alone_too eyes one other after now host fits fits_other calm calm_other alone step =
-    let thread = some_of step.state.running step.runs in
+    let thread = some_found step.state.running step.runs in
     let twins = twins_of eyes one other now host alone.state step.state alone.thread thread.0 fits fits_other calm
     calm_other alone.there step.obeys alone.running thread.1 in
     record {
@@ -264,7 +264,7 @@ handing_too : (eyes : Eyes) (one other after : WorldShape) (now : View) (host : 
     ShapeFits eyes.code other → Calm eyes one now → Calm eyes other now → RunsHanding eyes.code one host →
     IsStep eyes.code other (Turn host) after → RunsHanding eyes.code other host
 handing_too eyes one other after now host fits fits_other calm calm_other run step =
-    let thread = some_of step.state.running step.runs in
+    let thread = some_found step.state.running step.runs in
     let twins = twins_of eyes one other now host run.state step.state run.thread thread.0 fits fits_other calm
     calm_other run.there step.obeys run.running thread.1 in
     record {

@@ -28,7 +28,7 @@ use Rattle.host_code.specs.Code.{CodeFieldShape, CodeVariableShape, part_of, fie
 use Rattle.host_code.specs.Sound.{IsVariable, OperationFits}
 use Rattle.host_code.specs.Thread.{ThreadShape, WaitingShape}
 use Rattle.host_code.specs.Thread.Awaited.{value_of_field, acknowledgement, token_of_entry}
-use Rattle.entry_check.specs.Checks.{MaySee, label_at, label_of_host}
+use Rattle.entry_check.specs.Checks.{MaySee, label_of_host}
 use Rattle.host_core.specs.Host.{HostShape, Outcome, with_running, with_message, after_step, after_clearing, with_token}
 use Rattle.host_core.specs.Host.{value_in_thread, next_request, after_asking}
 use Rattle.host_core.specs.Turn.{after_operation, after_read, after_put, after_forward, after_ask, after_return}
@@ -44,7 +44,7 @@ use Rattle.split_shades.specs.ShadedCode.{IsShadedOp}
 use Rattle.token_laws.specs.Reached.{IsReached}
 use Rattle.token_laws.proofs.Tests.{different}
 use Rattle.seen_world.specs.Eyes.{Eyes, AreEyes, Watches, sees_at}
-use Rattle.seen_world.proofs.SeenPlaces.{own_field}
+use Rattle.seen_world.proofs.SeenPlaces.{own_field, label_told}
 use Rattle.agreement.specs.Asking.{AsksElsewhere, RunsAsking, carried_asking, Question, asked, asked_there}
 use Rattle.agreement.specs.Asking.{request_shown, host_waiting, SeenAsking}
 use Rattle.agreement.specs.Handing.{sent_view}
@@ -58,15 +58,6 @@ use Rattle.agreement.proofs.SeenSendings.{Rested, Turns, sent_leads, reached_tur
 use Rattle.agreement.proofs.SeenTurns.{Visible, idle_shows, mask_off, count_alike}
 
 -- ---- what a misbehaving host is told, it may see
-
-label_told : (eyes : Eyes) → AreEyes eyes → (to : HostId) (number : ℕ) →
-    MaySee (label_at eyes.code number) (label_of_host eyes.code to) → eyes.bad to ≡ true → sees_at eyes number ≡ true
-label_told eyes are to number may bad = by (label_at eyes.code number) refl may
-  where
-    by : (found : Option Label) → label_at eyes.code number ≡ found → MaySee found (label_of_host eyes.code to) →
-        sees_at eyes number ≡ true
-    by None is may = absurd may
-    by (Some label) is may = rw is (are.host to label bad may)
 
 -- a result
 result_told : (eyes : Eyes) → AreEyes eyes → (to : HostId) (x : VarId) →

@@ -1,7 +1,8 @@
 -- A turn that may be seen, and that changes its host alone, leads to what is seen then.
-use Rattle.std.proofs.Common.{◌≡◌, ◌≢◌, ◌∙◌, ℕ, zero, suc, ◌+◌, ◌<◌, Bool, true, false, List, [], ◌∷◌, length, arith, Option}
+use Rattle.std.proofs.Common.{◌≡◌, ◌≢◌, ◌∙◌, ℕ, zero, suc, ◌+◌, ◌<◌, Bool, true, false, List, [], ◌∷◌, length, arith}
+use Rattle.std.proofs.Common.{Option}
 use Rattle.std.proofs.Common.{Some, None, inl, inr, refl, ap, sym, subst, int_eq}
-use Rattle.std.specs.Prelude.{◌==◌, ◌&&◌, ◌⊎◌, if◌then◌else◌, not, ℤ, pos, filter, slice_get, slice_set, slice_index}
+use Rattle.std.specs.Prelude.{◌==◌, ◌&&◌, if◌then◌else◌, not, ℤ, pos, filter, slice_get, slice_set, slice_index}
 use Rattle.std.specs.Option.{IsSomeAnd}
 use Rattle.std.proofs.lemmas.Bool.{cases_Bool, false≢true}
 use Rattle.std.proofs.lemmas.Bool.Decides.{eqb_tells}
@@ -32,15 +33,13 @@ use Rattle.host_core.specs.Host.{after_step, after_push, with_token, new_token}
 use Rattle.host_core.specs.Host.{value_in_thread}
 use Rattle.host_core.specs.Turn.{after_let, after_put, after_branch}
 use Rattle.host_core.specs.Turn.{after_own_call, after_call, after_frame, after_own_push, with_thread}
+use Rattle.host_core.proofs.SomeOutcome.{same_token}
 use Rattle.host_stores.specs.Stores.{is_same_variable, with_variable}
 use Rattle.net_world.proofs.Rows.{row_written, row_kept}
 use Rattle.split_shades.specs.ShadedCode.{IsShadedOp}
 use Rattle.split_shades.specs.Shades.{Shade, Ahead}
 use Rattle.split_shades.specs.Shading.{Divides, IsPlain, Names, Pushes, PushesAt}
-use Rattle.token_laws.proofs.OneToken.{only_one, token_itself}
 use Rattle.token_laws.proofs.Tests.{itself, number_same, parts_same}
-use Rattle.token_laws.proofs.Counting.{one_if}
-use Rattle.token_laws.proofs.Worth.{is_token}
 use Rattle.seen_world.specs.Eyes.{Eyes, AreEyes, is_open, is_deep, is_hidden}
 use Rattle.seen_world.specs.Points.{IsHiddenToken, RunsWell, HostKeeps}
 use Rattle.seen_world.proofs.SeenPlaces.{block_seen}
@@ -61,19 +60,15 @@ use Rattle.agreement.proofs.Turns.{IsHere, next_there}
 
 -- ---- something is seen then
 
-token_or_not : (one other : Token) → (one ≡ other) ⊎ (one ≢ other)
-token_or_not one other = elim (cases_Bool (is_token other one)) [
-  | inl same ↦
-      let more : 0 < one_if (is_token other one) = rw same (omega arith) in
-      inl ((only_one other one).1 more)
-  | inr apart ↦ inr (λ same. false≢true (sym apart ∙ ap (is_token other) same ∙ token_itself other))
-]
-
 given_some : (eyes : Eyes) (now : View) (token : Token) (entries : List StackEntry) →
     (after : View) × GivenBack eyes now token entries after
 given_some eyes now token [] = (now, refl)
-given_some eyes now token (top ∷ below) = elim (token_or_not top.token token) [
-  | inl same ↦ (with_host now token.host (host_popped eyes token.host top below (now.hosts token.host)), inl (same, refl))
+given_some eyes now token (top ∷ below) = elim (same_token top.token token) [
+  | inl same ↦ (
+    with_host now token.host (host_popped eyes token.host top below (now.hosts token.host)),
+    inl
+        (same, refl),
+  )
   | inr apart ↦ (now, inr (apart, refl))
 ]
 
@@ -662,7 +657,8 @@ branch_turned eyes old thread there token now guard target run law within fits =
                 (pos 0))) token some.0) (sym deep) some.1,
             went_arrives eyes old thread there token now some.0 target run (int_eq number (pos 0))
                 (deep_went eyes old thread there token now some.0 target run deep
-                (deep_target eyes old thread there token now guard target run law deep) within (int_eq number (pos 0)) fits
+                (deep_target eyes old thread there token now guard target run law deep) within
+                (int_eq number (pos 0)) fits
                 some.1),
           )
       | inr shallow ↦

@@ -58,7 +58,7 @@ stores_alike eyes world store start are watch alike field there is seen obeys =
 
 pub split_tells : (placed : PlacedProgram) (bad : ℕ) (store start : List (List ℤ))
     (events others seen more : List Event) (one other : WorldShape) →
-    IsSplittable placed.labelled placed.hosts placed.plan → IsAllowed placed → IsHeld placed →
+    IsSplittable placed → IsAllowed placed → IsHeld placed →
     AreResultsLabelled placed.labelled.program → ReleasesNothing placed.labelled.program →
     AreStoresAlike (split_code placed)
     (world_at_start (split_code placed) placed.hosts.hosts bad store) store start →

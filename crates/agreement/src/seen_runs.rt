@@ -69,7 +69,7 @@ pub fn run_laws()
         let code = split_code placed in
         let first = world_at_start code placed.hosts.hosts bad store in
         let second = world_at_start code placed.hosts.hosts bad start in
-        IsSplittable placed.labelled placed.hosts placed.plan → IsAllowed placed → IsHeld placed →
+        IsSplittable placed → IsAllowed placed → IsHeld placed →
         AreResultsLabelled placed.labelled.program → ReleasesNothing placed.labelled.program →
         AreStoresAlike code first store start → All (HasOwnToken first) seen →
         IsSeenRun code first events (seen ++ more) one → IsSeenRun code second others seen other →

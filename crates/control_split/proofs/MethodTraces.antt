@@ -7,6 +7,7 @@ use Rattle.jif_tree.specs.declared.program.Method.{Method}
 use Rattle.jif_tree.specs.Trees.{MethodTree, method_tree}
 use Rattle.need_labels.specs.Labelled.{Labelled}
 use Rattle.msg_cost.specs.Moves.{PlannedShape}
+use Rattle.split_rules.specs.Placed.{PlacedProgram, planned_from}
 use Rattle.split_rules.specs.Emissions.{Emission, Counts, counts_after}
 use Rattle.jif_tree.specs.LabelRules.{method_at}
 use Rattle.split_rules.specs.Walk.{method_entry, halt_entries, method_emissions, methods_emissions, program_emissions}
@@ -47,17 +48,21 @@ entries_more planned methods number method start before after within is was one 
     (ap (λ (last : Method). front ++ last ∷ []) is ∙ sym (take_more methods number method within))
 
 -- the entries that are there from the start, and then the bodies
-pub program_traced : (principals : Declared) (labelled : Labelled) (planned : PlannedShape)
-    (start halted named whole : TraceShape) → start.counts ≡ no_counts →
-    halted ≡ traced start (halt_entries planned (method_at labelled.program labelled.program.main)) →
-    named ≡ traced halted (map (method_entry planned) labelled.program.methods) →
-    whole ≡ traced named (methods_emissions principals labelled planned named.counts 0 labelled.program.methods) →
-    whole ≡ traced start (program_emissions principals labelled planned)
-program_traced principals labelled planned start halted named whole none halted_is named_is whole_is =
-    let halt = halt_entries planned (method_at labelled.program labelled.program.main) in
-    let entries = map (method_entry planned) labelled.program.methods in
+pub program_traced : (placed : PlacedProgram) (start halted named whole : TraceShape) → start.counts ≡ no_counts →
+    let planned = planned_from placed in
+    let program = placed.labelled.program in
+    halted ≡ traced start (halt_entries planned (method_at program program.main)) →
+    named ≡ traced halted (map (method_entry planned) program.methods) →
+    whole ≡ traced named (methods_emissions placed.hosts.principals placed.labelled planned named.counts 0
+    program.methods) →
+    whole ≡ traced start (program_emissions placed)
+program_traced placed start halted named whole none halted_is named_is whole_is =
+    let planned = planned_from placed in
+    let program = placed.labelled.program in
+    let halt = halt_entries planned (method_at program program.main) in
+    let entries = map (method_entry planned) program.methods in
     let bodies : Counts → List Emission = λ counts.
-    methods_emissions principals labelled planned counts 0 labelled.program.methods in
+    methods_emissions placed.hosts.principals placed.labelled planned counts 0 program.methods in
     let there : named ≡ traced start (halt ++ entries) =
     named_is ∙ ap (λ (trace : TraceShape). traced trace entries) halted_is ∙ sym (traced_append start halt entries) in
     let counts : named.counts ≡ counts_after no_counts (halt ++ entries) =

@@ -5,7 +5,7 @@ use Rattle.jif_tree.specs.Sizes.{expr_nodes, block_nodes}
 use Rattle.host_code.specs.declared.code_expr.TheConstants.{MOST_NODES}
 use Rattle.need_labels.specs.Labelled.{Labelled, labelled_of}
 use Rattle.msg_cost.specs.Moves.{PlannedShape}
-use Rattle.split_rules.specs.Placed.{PlacedProgram, planned_from}
+use Rattle.split_rules.specs.Placed.{PlacedProgram, placed_of, planned_from}
 use Rattle.split_rules.specs.Walk.{Walked, Around, Lane, walked_in}
 use Rattle.control_split.specs.declared.walk.Split.{Split}
 use Rattle.control_split.specs.declared.walk.Walk.{Walk}
@@ -16,12 +16,7 @@ abbrev pub labelled_in : Split → Labelled
 labelled_in split = labelled_of split.checked.now
 
 abbrev pub placed_in : Split → PlacedProgram
-placed_in split = record {
-  labelled = labelled_in split;
-  needs = split.needs.now;
-  hosts = split.hosts.now;
-  plan = split.plan.now;
-}
+placed_in split = placed_of split.checked.now split.needs.now split.hosts.now split.plan.now
 
 abbrev pub planned_in : Split → PlannedShape
 planned_in split = planned_from (placed_in split)

@@ -2,10 +2,10 @@
 
 ghost use Rattle.std.specs.Prelude.{◌≡◌, IfOk};
 ghost use Rattle.host_code.specs.CodeParts.{shape_of};
-ghost use Rattle.need_labels.specs.Labelled.{labelled_of};
+ghost use Rattle.split_rules.specs.Placed.{placed_of};
 ghost use Rattle.split_rules.specs.SplitCode.{split_code};
 ghost use Rattle.split_rules.specs.Splittable.{IsSplittable};
-ghost use Rattle.control_split.specs.Views.{labelled_in, placed_in};
+ghost use Rattle.control_split.specs.Views.{placed_in};
 
 use crate::calls::entry_of;
 use crate::methods::program;
@@ -24,7 +24,7 @@ use std::alloc::Global;
 
 /// The parts of the code of a program that is split.
 fn code_parts(split: &Split<'_>) -> Result<CodeParts, OutOfMemory>
-    requires splittable { IsSplittable (labelled_in split.now) split.now.hosts.now split.now.plan.now }
+    requires splittable { IsSplittable (placed_in split.now) }
     ensures { IfOk result (λ parts. shape_of parts ≡ split_code (placed_in split.now)) }
 {
     split_laws();
@@ -70,13 +70,8 @@ pub fn emit(
     hosts: &Hosts,
     plan: &Plan,
 ) -> Result<Code, OutOfMemory>
-    requires splittable { IsSplittable (labelled_of checked.now) hosts.now plan.now }
-    ensures { IfOk result (λ code. code ≡ split_code (record {
-      labelled = labelled_of checked.now;
-      needs = needs.now;
-      hosts = hosts.now;
-      plan = plan.now;
-    })) }
+    requires splittable { IsSplittable (placed_of checked.now needs.now hosts.now plan.now) }
+    ensures { IfOk result (λ code. code ≡ split_code (placed_of checked.now needs.now hosts.now plan.now)) }
 {
     split_laws();
     let split = Split {

@@ -7,7 +7,7 @@ ghost use Rattle.jif_tree.specs.LabelRules.{method_at};
 ghost use Rattle.split_rules.specs.Walk.{method_entry, halt_entries, method_emissions, methods_emissions};
 ghost use Rattle.split_rules.specs.Walk.{program_emissions};
 ghost use Rattle.control_split.specs.Trace.{traced, no_counts};
-ghost use Rattle.control_split.specs.Views.{labelled_in, planned_in, IsSizedBlock};
+ghost use Rattle.control_split.specs.Views.{labelled_in, placed_in, planned_in, IsSizedBlock};
 
 use crate::blocks::block;
 use crate::calls::entry_of;
@@ -95,7 +95,7 @@ pub fn program(split: &Split<'_>, trace: &mut Trace) -> Result<(), OutOfMemory>
     requires sized { All (λ method. IsSizedBlock method.body) (labelled_in split.now).program.methods }
     requires first { trace.old.counts ≡ no_counts }
     ensures { OnOk result (trace.new ≡ traced trace.old
-        (program_emissions split.now.hosts.now.principals (labelled_in split.now) (planned_in split.now))) }
+        (program_emissions (placed_in split.now))) }
 {
     halt_entry(split, trace)?;
     method_entries(split, trace)?;

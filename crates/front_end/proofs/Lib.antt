@@ -1,3 +1,4 @@
+pub mod AbsentFiles
 pub mod Answering
 pub mod BlockParts
 pub mod LineCounts

@@ -4,7 +4,8 @@ use Rattle.need_labels.specs.Needs.{NeedsShape}
 use Rattle.need_labels.specs.Plan.{PlanShape}
 use Rattle.place_rules.specs.Allowed.{AllowedShape}
 use Rattle.split_rules.specs.Splittable.{IsSplittable}
-use Rattle.front_end.specs.PlacedSources.{PlacedSource, labelled_source}
+use Rattle.front_end.specs.PlacedCode.{program_of}
+use Rattle.front_end.specs.PlacedSources.{PlacedSource}
 use Rattle.front_end.specs.SourceShapes.{SourceModel, source_shape}
 
 -- an accepted program with its hosts, what it needs of them, which of them may hold what, and where it stands
@@ -25,4 +26,4 @@ placed_shape placed = record {
 -- its plan has a host for each field, and its code can be made
 pub record IsWellPlaced (placed : PlacedModel) : Type 0 where
   pub each : length placed.plan.fields ≡ length placed.source.checked.program.fields.items
-  pub splittable : IsSplittable (labelled_source (source_shape placed.source)) placed.source.hosts placed.plan
+  pub splittable : IsSplittable (program_of (placed_shape placed))

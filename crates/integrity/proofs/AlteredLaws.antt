@@ -59,7 +59,7 @@ module _ (laws : AreSplitLaws) (program : Program) (placed : PlacedProgram) (bad
   where_root_obeys : (state : HostShape) →
       state_at (world_at_start (split_code placed) placed.hosts.hosts bad store)
       (split_code placed).root ≡ Some state →
-      FollowsAltered program (exposure_of placed.labelled placed.needs placed.hosts bad)
+      FollowsAltered program (exposure_of placed bad)
       (split_code placed) placed.hosts.hosts
       bad store events
   unfolding typed_split
@@ -68,11 +68,11 @@ module _ (laws : AreSplitLaws) (program : Program) (placed : PlacedProgram) (bad
       laws.typed placed set.splittable (laws.typable placed set.allowed) in
       let split =
       typed_split program placed set reach.sound typed.0 typed.1 (λ host at. 0)
-      (exposure_of placed.labelled placed.needs placed.hosts bad) in
+      (exposure_of placed bad) in
       follows laws.opening split placed bad store refl set.splittable set.allowed set.held
       code_numbers store_numbers events world state reach said obeys
 
-  pub follows_always : FollowsAltered program (exposure_of placed.labelled placed.needs placed.hosts bad)
+  pub follows_always : FollowsAltered program (exposure_of placed bad)
       (split_code placed) placed.hosts.hosts bad store events
   follows_always =
       let code = split_code placed in

@@ -106,7 +106,7 @@ ends_with program exposure c now (next ∷ more) altered = ends_with program exp
 
 module _ (laws : AreLaws) (split : Split) (placed : PlacedProgram) (bad : ℕ) (store : List (List ℤ))
     (same : threat_in split ≡ threat_of placed split.table bad)
-    (splittable : IsSplittable placed.labelled placed.hosts placed.plan) (allowed : IsAllowed placed)
+    (splittable : IsSplittable placed) (allowed : IsAllowed placed)
     (held : IsHeld placed)
     (code_numbers : CodeHasNumbers split.code) (store_numbers : RowsHaveNumbers store) where
   abbrev Step : WorldShape → Event → WorldShape → Type 0

@@ -17,7 +17,7 @@ use Rattle.net_world.proofs.Moved.{mover_state}
 use Rattle.std.specs.Prelude.{Contains}
 use Rattle.token_laws.specs.Holders.{IsSent}
 use Rattle.token_laws.proofs.Held.{AreHeld, IsOnly}
-use Rattle.token_laws.proofs.HeldLaws.{all_at}
+use Rattle.token_laws.proofs.HeldLaws.{all_at, sent_some}
 use Rattle.token_laws.proofs.OneToken.{only_serial}
 use Rattle.token_laws.proofs.WorldTokens.{the_state}
 use Rattle.token_laws.proofs.Worth.{one_of}
@@ -27,7 +27,7 @@ use Rattle.typed_steps.specs.Views.{Split, Naming, Link, entries_of}
 use Rattle.integrity.specs.Holding.{IsAmong, AreLinked, IsStanding}
 use Rattle.integrity.specs.Outside.{Threat, EntryIsOpen}
 use Rattle.integrity.proofs.Among.{among_cons, some_of}
-use Rattle.integrity.proofs.HeldTokens.{StandsThere, sent_some}
+use Rattle.integrity.proofs.HeldTokens.{StandsThere}
 use Rattle.integrity.proofs.HolderStays.{on_some}
 use Rattle.integrity.proofs.StackMoves as stacks
 use Rattle.integrity.proofs.StackMoves.{Restacks}

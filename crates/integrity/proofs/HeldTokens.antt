@@ -1,12 +1,10 @@
 -- Where the tokens of a chain are: with its entries and with the holder. So nobody else has them, and what others do
 -- sends none of them to a misbehaving host.
-use Rattle.std.proofs.Common.{◌≡◌, ◌∙◌, ◌⊎◌, inl, inr, ℕ, zero, suc, ◌<◌, List, [], ◌∷◌, Option, Some}
-use Rattle.std.proofs.Common.{None, refl, sym, ap, subst, arith, get_or}
-use Rattle.std.specs.Prelude.{slice_get, slice_index, IsSome, IsSomeAnd, IsTrue}
+use Rattle.std.proofs.Common.{◌≡◌, ◌∙◌, ◌⊎◌, inl, inr, ℕ, zero, suc, List, [], ◌∷◌, Option, Some}
+use Rattle.std.proofs.Common.{None, refl, sym, ap, subst, arith}
+use Rattle.std.specs.Prelude.{slice_get, IsSome, IsSomeAnd, IsTrue}
 use Rattle.std.specs.Option.{option_map}
 use Rattle.std.specs.List.{AllByRecursion}
-use Rattle.std.proofs.lemmas.List.{get_or_default}
-use Rattle.std.proofs.lemmas.List.Sums.{sum_by-le, get_or-le-sum_by}
 use Rattle.std.proofs.lemmas.Option.{slice_get_within, get_or_from_slice_get}
 use Rattle.js_base.specs.declared.ids.HostId.{HostId}
 use Rattle.capability.specs.declared.token.Token.{Token}
@@ -25,14 +23,12 @@ use Rattle.net_world.specs.Flying.{Flight}
 use Rattle.net_world.specs.Told.{token_in, token_presented, message_made}
 use Rattle.net_world.specs.World.{WorldShape, state_at, misbehaves, tokens_sent}
 use Rattle.token_laws.specs.Holders.{running_on, waiting_on, kept_on, in_flight, HoldsAt, IsHeld, IsSent, IsOld}
-use Rattle.token_laws.proofs.Counting.{one_if}
-use Rattle.token_laws.proofs.Held.{fresh_is, none_worth, presented_none}
-use Rattle.token_laws.proofs.HeldLaws.{IsKnown, held_once}
-use Rattle.token_laws.proofs.HostTokens.{Counts}
-use Rattle.token_laws.proofs.OneToken.{only_one, token_itself}
+use Rattle.token_laws.proofs.Held.{presented_none}
+use Rattle.token_laws.proofs.HeldLaws.{IsKnown, held_once, sent_some, unsent_none, fresh_none}
+use Rattle.token_laws.proofs.OneToken.{only_one}
 use Rattle.token_laws.proofs.Places.{held_once_or_more}
 use Rattle.token_laws.proofs.WorldTokens.{Accounts}
-use Rattle.token_laws.proofs.Worth.{worth_sent, worth_held, one_of}
+use Rattle.token_laws.proofs.Worth.{one_of}
 use Rattle.integrity.specs.Holding.{IsAmong, Holder, runs, asked, answered}
 use Rattle.integrity.specs.Holding.{stuck, passes, lost, halted, first_of, token_of}
 use Rattle.integrity.specs.Holding.{Waits, Flies, IsThere, HasTop, OwnsRunning, OwnsMessage, AreLinked}
@@ -210,45 +206,6 @@ not_flying code world holder token from to place is obeys unsent (nobody is_lost
     none (in_flight from to place, also)
 
 -- ---- what is sent
-
-unsent_none : (world : WorldShape) (token : Token) → ¬ IsSent world token → worth_sent (one_of token) world ≡ 0
-unsent_none world token unsent =
-    let le =
-    sum_by-le (one_of token) 0 (tokens_sent world) (λ k d lt.
-    let none =
-    none_worth (one_of token (get_or (tokens_sent world) k d)) (λ more.
-    unsent (
-      k,
-      lt,
-      get_or_default (tokens_sent world) k token d lt
-          ∙ (only_one token (get_or (tokens_sent world) k d)).1 more,
-    )) in
-    omega arith) in
-    omega arith
-
-pub sent_some : (world : WorldShape) (token : Token) → IsSent world token → 0 < worth_sent (one_of token) world
-sent_some world token sent =
-    let le = get_or-le-sum_by (one_of token) (tokens_sent world) sent.0 token sent.1 in
-    let is : one_of token (get_or (tokens_sent world) sent.0 token) ≡ 1 =
-    ap (one_of token) sent.2 ∙ ap one_if (token_itself token) in
-    omega arith
-
--- a new token is none that was made before
-fresh_none : (world : WorldShape) (token : Token) (old : HostShape) (host : HostId) (serials : List ℕ)
-    (fresh : Option Token) → old.me ≡ host → state_at world host ≡ Some old → Counts old serials fresh →
-    IsOld world token → worth_held (one_of token) fresh ≡ 0
-fresh_none world token old host serials None me obeys counts before = refl
-fresh_none world token old host serials (Some fresh) me obeys counts before =
-    let is = fresh_is old serials fresh counts in
-    none_worth (one_of token fresh) (λ more.
-    let same : fresh ≡ token = (only_one token fresh).1 more in
-    let at : state_at world fresh.host ≡ Some old = ap (state_at world) (is.host ∙ me) ∙ obeys in
-    let passed : fresh.serial < slice_index old.serials fresh.entry.0 =
-    subst (λ (o : Option HostShape). IsSomeAnd o (λ s. fresh.serial < slice_index s.serials fresh.entry.0)) at
-    (subst (IsOld world) (sym same) before) in
-    let serial = is.serial in
-    let never : ⊥ = omega arith in
-    never)
 
 -- A token that was made before and was not sent is not sent by an event after which somebody has it.
 pub still_unsent : (code : CodeShape) (world after : WorldShape) (token : Token) (state : HostShape) →

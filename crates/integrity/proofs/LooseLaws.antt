@@ -1,8 +1,7 @@
 -- Every event of a loose world: its first token is still to be given back, or was, and the chain is tight again.
 use Rattle.std.proofs.Common.{◌≡◌, ◌∙◌, inl, inr, ℕ, ℤ, List, [], ◌∷◌, ◌++◌, Option, Some, None, sym, ap, subst}
-use Rattle.std.proofs.Common.{◌<◌, refl, arith}
+use Rattle.std.proofs.Common.{refl}
 use Rattle.std.specs.Prelude.{slice_get}
-use Rattle.std.proofs.lemmas.Bool.{cases_Bool, false≢true}
 use Rattle.js_base.proofs.Decisions.{Decided, as_well, both}
 use Rattle.js_base.specs.declared.ids.HostId.{HostId}
 use Rattle.jif_tree.specs.SourceRun.{Configuration}
@@ -15,6 +14,7 @@ use Rattle.host_code.specs.declared.message.Message.{Message}
 use Rattle.host_code.specs.declared.message.Message.TheVariants as message
 use Rattle.host_code.specs.Code.{CodeShape, instruction_at}
 use Rattle.host_code.specs.Thread.{ThreadShape}
+use Rattle.host_core.proofs.SomeOutcome.{same_token, some_token}
 use Rattle.event_text.specs.declared.event.Event.{Event}
 use Rattle.event_text.specs.declared.event.Event.TheVariants.{Take, Turn, Act}
 use Rattle.event_text.specs.declared.event.BadMessage.{BadMessage}
@@ -25,11 +25,8 @@ use Rattle.split_rules.specs.Placed.{PlacedProgram}
 use Rattle.split_rules.specs.Allowed.{IsAllowed}
 use Rattle.split_rules.specs.Splittable.{IsSplittable}
 use Rattle.token_laws.specs.Reached.{IsReached}
-use Rattle.token_laws.proofs.Counting.{one_if}
-use Rattle.token_laws.proofs.OneToken.{only_one, token_itself}
 use Rattle.token_laws.proofs.Walks.{fits_there, one_more, own_there}
 use Rattle.token_laws.proofs.WorldTokens.{Accounts, account}
-use Rattle.token_laws.proofs.Worth.{is_token}
 use Rattle.typed_steps.specs.Views.{Split, View, entries_of}
 use Rattle.typed_steps.proofs.Pops.{top_of}
 use Rattle.integrity.specs.Holding.{lost}
@@ -51,20 +48,6 @@ use Rattle.integrity.proofs.TightKept.{IsLawful}
 use Rattle.integrity.proofs.TightLaws.{lawful}
 
 -- ---- whether a token is given back
-
-decide_token : (one other : Token) → Decided (one ≡ other)
-decide_token one other = elim (cases_Bool (is_token other one)) [
-  | inl same ↦
-      let more : 0 < one_if (is_token other one) = rw same (omega arith) in
-      inl ((only_one other one).1 more)
-  | inr apart ↦ inr (λ same. false≢true (sym apart ∙ ap (is_token other) same ∙ token_itself other))
-]
-
-decide_some : (found : Option Token) (token : Token) → Decided (found ≡ Some token)
-decide_some None token = inr (λ same. cc)
-decide_some (Some found) token =
-    as_well (found ≡ token) (Some found ≡ Some token) (ap (λ (t : Token). Some t)) (λ same. cc)
-    (decide_token found token)
 
 decide_op : (it : Op) → Decided (it ≡ op.Back)
 decide_op op.Back = inl refl
@@ -88,13 +71,13 @@ decide_back code me None token = inr (λ never. never)
 decide_back code me (Some thread) token =
     as_well ((thread.held ≡ Some token) × BacksAt (instruction_at code me thread.at))
     (GivesItBack code me token thread) (λ it. (it.0, it.1.0, it.1.1, it.1.2)) (λ it. (it.0, (it.1, it.2, it.3)))
-    (both (thread.held ≡ Some token) (BacksAt (instruction_at code me thread.at)) (decide_some thread.held token)
+    (both (thread.held ≡ Some token) (BacksAt (instruction_at code me thread.at)) (some_token thread.held token)
     (decide_instruction (instruction_at code me thread.at)))
 
 decide_given : (m : Message) (token : Token) → Decided (GivesBack m token)
 decide_given (message.Lgoto other) token =
     as_well (other ≡ token) (message.Lgoto other ≡ message.Lgoto token) (ap (λ (t : Token). message.Lgoto t))
-    (λ same. cc) (decide_token other token)
+    (λ same. cc) (same_token other token)
 decide_given m token = inr (λ same. cc)
 
 -- ---- the events
@@ -139,7 +122,7 @@ module _ (split : Split) (known : IsKnown (threat_in split)) (c : Configuration)
       let Here : Type 0 = RunsBack code state.me state.running token in
       let Top : Type 0 = top_token state.entries ≡ Some token in
       elim (both Here Top (decide_back code state.me state.running token)
-      (decide_some (top_token state.entries) token)) [
+      (some_token (top_token state.entries) token)) [
         | inl here ↦
             restarts (turn_restarts split c view world after is fits step_account stands token first
             (none token here.0) host step here.0 here.1)
@@ -162,7 +145,7 @@ module _ (split : Split) (known : IsKnown (threat_in split)) (c : Configuration)
       (safe_below (threat_in split) (entries_of view.chain) world stands.loose) from to place step.flight step.there
       (nothing (slice_get (world.flying from to) place)) in
       elim (both (GivesBack m token) (top_token state.entries ≡ Some token) (decide_given m token)
-      (decide_some (top_token state.entries) token)) [
+      (some_token (top_token state.entries) token)) [
         | inl here ↦
             restarts (take_restarts split c view world after is fits step_account stands token first
             (none token here.0) from to place step here.0 here.1)
@@ -182,7 +165,7 @@ module _ (split : Split) (known : IsKnown (threat_in split)) (c : Configuration)
       act_none (below_first (entries_of view.chain)) lost world
       (safe_below (threat_in split) (entries_of view.chain) world stands.loose) made m own step.makes in
       elim (both (GivesBack m token) (top_token state.entries ≡ Some token) (decide_given m token)
-      (decide_some (top_token state.entries) token)) [
+      (some_token (top_token state.entries) token)) [
         | inl here ↦
             restarts (act_restarts split c view world after is fits step_account stands token first
             (none token here.0) from to made step here.0 here.1)
@@ -204,7 +187,7 @@ module _ (split : Split) (known : IsKnown (threat_in split)) (c : Configuration)
 pub recovers : AreLaws → (split : Split) (placed : PlacedProgram) (bad : ℕ) (store : List (List ℤ))
     (events : List Event) (world after : WorldShape)
     (event : Event) (c : Configuration) (view : View) →
-    threat_in split ≡ threat_of placed split.table bad → IsSplittable placed.labelled placed.hosts placed.plan →
+    threat_in split ≡ threat_of placed split.table bad → IsSplittable placed →
     IsAllowed placed → IsReached split.code placed.hosts.hosts bad store events world →
     HasOwnToken (world_at_start split.code placed.hosts.hosts bad store) event → IsStep split.code world event after →
     StandsLoosely split c view world → Recovers split c after

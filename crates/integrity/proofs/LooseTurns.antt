@@ -446,8 +446,7 @@ module _ (split : Split) (c : Configuration) (view : View) (host : HostId) (thre
 
 -- what is known of the code of a split program
 trusting_in : AreLaws → (split : Split) (placed : PlacedProgram) (bad : ℕ) → threat_in split
-    ≡ threat_of placed split.table bad →
-    IsSplittable placed.labelled placed.hosts placed.plan → IsAllowed placed → IsTrusting split
+    ≡ threat_of placed split.table bad → IsSplittable placed → IsAllowed placed → IsTrusting split
 trusting_in laws split placed bad same splittable allowed =
     let own = laws.labels placed splittable in
     record {
@@ -463,8 +462,7 @@ trusting_in laws split placed bad same splittable allowed =
 pub holder_loosens : AreLaws → (split : Split) (placed : PlacedProgram) (bad : ℕ) (store : List (List ℤ))
     (events : List Event) (world after : WorldShape)
     (host : HostId) (thread : ThreadShape) (c : Configuration) (view : View) (to : HostId) (m : Message)
-    (token : Token) → threat_in split ≡ threat_of placed split.table bad →
-    IsSplittable placed.labelled placed.hosts placed.plan → IsAllowed placed →
+    (token : Token) → threat_in split ≡ threat_of placed split.table bad → IsSplittable placed → IsAllowed placed →
     IsReached split.code placed.hosts.hosts bad store events world → CodeHasNumbers split.code → RowsHaveNumbers store →
     All EventHasNumbers events → IsTurnStep split.code world host after → misbehaves world to ≡ true →
     after.sent ≡ world.sent ++ (host, to, m) ∷ [] → token_in m ≡ Some token →
@@ -485,7 +483,7 @@ holder_loosens laws split placed bad store events world after host thread c view
 pub holder_goes : AreLaws → (split : Split) (placed : PlacedProgram) (bad : ℕ) (store : List (List ℤ))
     (events : List Event) (world after : WorldShape)
     (host : HostId) (thread : ThreadShape) (c : Configuration) (view : View) →
-    threat_in split ≡ threat_of placed split.table bad → IsSplittable placed.labelled placed.hosts placed.plan →
+    threat_in split ≡ threat_of placed split.table bad → IsSplittable placed →
     IsAllowed placed → IsHeld placed →
     IsReached split.code placed.hosts.hosts bad store events world → CodeHasNumbers split.code → RowsHaveNumbers store →
     All EventHasNumbers events → IsTurnStep split.code world host after →

@@ -24,12 +24,10 @@ use Rattle.integrity.proofs.OpenWorlds.{StaysOpen, bad_reached, open_step, open_
 
 -- what the laws of the splitting say of the code of a program
 pub record AreLaws : Type 0 where
-  pub opens : (placed : PlacedProgram) (table : Table) →
-      IsSplittable placed.labelled placed.hosts placed.plan → IsAllowed placed →
+  pub opens : (placed : PlacedProgram) (table : Table) → IsSplittable placed → IsAllowed placed →
       IsTypedCode (planned_from placed) (split_code placed) table →
       IsOpenCode (planned_from placed) (split_code placed) table
-  pub labels : (placed : PlacedProgram) →
-      IsSplittable placed.labelled placed.hosts placed.plan →
+  pub labels : (placed : PlacedProgram) → IsSplittable placed →
       HasOwnLabels placed.labelled (planned_from placed) (split_code placed)
 
 label_flows : (label : Label) (found : Option FieldTree) → IsSomeAnd found (λ tree. IntegFlows label tree.label) →
@@ -37,8 +35,7 @@ label_flows : (label : Label) (found : Option FieldTree) → IsSomeAnd found (λ
 label_flows label None flows = flows
 label_flows label (Some tree) flows = flows
 
-pub known : AreLaws → (placed : PlacedProgram) (table : Table) (bad : ℕ) →
-    IsSplittable placed.labelled placed.hosts placed.plan → IsAllowed placed →
+pub known : AreLaws → (placed : PlacedProgram) (table : Table) (bad : ℕ) → IsSplittable placed → IsAllowed placed →
     IsTypedCode (planned_from placed) (split_code placed) table →
     IsSoundCode (split_code placed) → IsKnown (threat_of placed table bad)
 known laws placed table bad splittable allowed typed sound =
@@ -54,8 +51,7 @@ known laws placed table bad splittable allowed typed sound =
     }
 
 pub kept : AreLaws → (placed : PlacedProgram) (table : Table) (bad : ℕ) (store : List (List ℤ)) (events : List Event)
-    (world after : WorldShape) (event : Event) →
-    IsSplittable placed.labelled placed.hosts placed.plan → IsAllowed placed →
+    (world after : WorldShape) (event : Event) → IsSplittable placed → IsAllowed placed →
     IsTypedCode (planned_from placed) (split_code placed) table →
     IsReached (split_code placed) placed.hosts.hosts bad store events world →
     IsStep (split_code placed) world event after →
@@ -68,8 +64,7 @@ kept laws placed table bad store events world after event splittable allowed typ
     (bad_reached threat placed.hosts.hosts bad store events world refl reach) step
 
 pub along : AreLaws → (placed : PlacedProgram) (table : Table) (bad : ℕ) (store : List (List ℤ))
-    (events more : List Event) (world after : WorldShape) →
-    IsSplittable placed.labelled placed.hosts placed.plan → IsAllowed placed →
+    (events more : List Event) (world after : WorldShape) → IsSplittable placed → IsAllowed placed →
     IsTypedCode (planned_from placed) (split_code placed) table →
     IsReached (split_code placed) placed.hosts.hosts bad store events world →
     All (HasOwnToken (world_at_start (split_code placed) placed.hosts.hosts bad store)) more →

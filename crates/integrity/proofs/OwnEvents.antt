@@ -15,7 +15,7 @@ use Rattle.net_world.proofs.Fitting.{bad_differs}
 use Rattle.net_world.proofs.Present.{same_id}
 use Rattle.token_laws.specs.Requests.{number_asked, number_answered}
 use Rattle.token_laws.proofs.AskedLaws.{ends_obey}
-use Rattle.token_laws.proofs.HeldLaws.{has_state}
+use Rattle.token_laws.proofs.Tests.{some_found}
 use Rattle.typed_steps.specs.Views.{Split, View}
 use Rattle.integrity.specs.Holding.{Holder, runs, asked, answered, stuck, passes, lost, halted, IsOwn, OwnsMessage}
 use Rattle.integrity.specs.Standing.{threat_in, IsFree, StandsBy}
@@ -103,7 +103,7 @@ module _ (split : Split) (c : Configuration) (view : View) (world : WorldShape) 
         let at =
         one_of_some (slice_get (world.flying from to) k) (λ f. OwnsMessage (stuck host w) from to f.message) own in
         let ends = ends_obey split.code world from to k at.one is.fits is.asked at.is in
-        let state = has_state (state_at world from) ends.0 in
+        let state = some_found (state_at world from) ends.0 in
         bad_differs world w.asked from state.0 stands.tight.there.1 state.1 (sym at.has.0))
     decide_take (passes sender target m) stands from to k =
         let flies = stands.tight.there in
@@ -142,7 +142,7 @@ module _ (split : Split) (c : Configuration) (view : View) (world : WorldShape) 
         (answered host w m) from to) own).has in
         let flies = stands.tight.there.1 in
         let ends = ends_obey split.code world w.asked host flies.among.0 flies.flight is.fits is.asked flies.among.1 in
-        let state = has_state (state_at world w.asked) ends.0 in
+        let state = some_found (state_at world w.asked) ends.0 in
         bad_differs world from w.asked state.0 bad state.1 its.0
     no_act (stuck host w) free stands from to made bad own = free
     no_act (passes sender target m) free stands from to made bad own =
@@ -151,7 +151,7 @@ module _ (split : Split) (c : Configuration) (view : View) (world : WorldShape) 
         in
         let flies = stands.tight.there in
         let ends = ends_obey split.code world sender target flies.among.0 flies.flight is.fits is.asked flies.among.1 in
-        let state = has_state (state_at world sender) ends.0 in
+        let state = some_found (state_at world sender) ends.0 in
         bad_differs world from sender state.0 bad state.1 its.0
     no_act lost free stands from to made bad own =
         (one_of_some (message_made (tokens_sent world) made) (OwnsMessage lost from to) own).has

@@ -95,8 +95,7 @@ pub record AreSplitLaws : Type 0 where
   pub opening : AreLaws
   pub typable : (placed : PlacedProgram) →
       IsAllowed placed → IsTypable (planned_from placed)
-  pub typed : (placed : PlacedProgram) →
-      IsSplittable placed.labelled placed.hosts placed.plan → IsTypable (planned_from placed) →
+  pub typed : (placed : PlacedProgram) → IsSplittable placed → IsTypable (planned_from placed) →
       (table : Table) × IsTypedCode (planned_from placed) (split_code placed) table
 
 start_reached : (code : CodeShape) (rows : List declared_hosts.HostShape) (bad : ℕ) (store : List (List ℤ))
@@ -106,7 +105,7 @@ start_reached code rows bad store events world reach =
     record { sound = reach.sound; hosts = reach.hosts; own = All-nil _; ran = refl }
 
 module _ (laws : AreSplitLaws) (program : Program) (placed : PlacedProgram) (bad : ℕ) (store : List (List ℤ))
-    (splittable : IsSplittable placed.labelled placed.hosts placed.plan)
+    (splittable : IsSplittable placed)
     (allowed : IsAllowed placed)
     (misbehaving : bit_at bad (split_code placed).root.0 ≡ 1) where
   -- at every moment
@@ -115,11 +114,11 @@ module _ (laws : AreSplitLaws) (program : Program) (placed : PlacedProgram) (bad
       All (HasOwnToken (world_at_start (split_code placed) placed.hosts.hosts bad store)) more →
       IsRun (split_code placed)
       (world_at_start (split_code placed) placed.hosts.hosts bad store) more world →
-      StandsFor (split_code placed) (exposure_of placed.labelled placed.needs placed.hosts bad) world
+      StandsFor (split_code placed) (exposure_of placed bad) world
       (configuration_at_start program store)
   stands_after events more world last reach own ran =
       let code = split_code placed in
-      let exposure = exposure_of placed.labelled placed.needs placed.hosts bad in
+      let exposure = exposure_of placed bad in
       let typed = laws.typed placed splittable (laws.typable placed allowed) in
       let stays =
       (along laws.opening placed typed.0 bad store [] more
@@ -133,13 +132,13 @@ module _ (laws : AreSplitLaws) (program : Program) (placed : PlacedProgram) (bad
 
   pub starting : (events : List Event) (world : WorldShape) →
       IsReached (split_code placed) placed.hosts.hosts bad store events world →
-      StandsFor (split_code placed) (exposure_of placed.labelled placed.needs placed.hosts bad) world
+      StandsFor (split_code placed) (exposure_of placed bad) world
       (configuration_at_start program store)
   starting events world reach = stands_after events events world world reach reach.own reach.ran
 
   pub follows_nothing : (events : List Event) (world : WorldShape) →
       IsReached (split_code placed) placed.hosts.hosts bad store events world →
-      FollowsAltered program (exposure_of placed.labelled placed.needs placed.hosts bad)
+      FollowsAltered program (exposure_of placed bad)
       (split_code placed) placed.hosts.hosts
       bad store events
   follows_nothing events world reach =
@@ -154,7 +153,7 @@ module _ (laws : AreSplitLaws) (program : Program) (placed : PlacedProgram) (bad
         rising = none_falls (length events + 1);
         stands = λ moment there within ran.
             subst (λ (place : ℕ). IsSomeAnd (slice_get (c ∷ []) place)
-            (StandsFor (split_code placed) (exposure_of placed.labelled placed.needs placed.hosts bad) there))
+            (StandsFor (split_code placed) (exposure_of placed bad) there))
             (sym (each_first (length events + 1) moment 0 (omega arith)))
             (stands_after events (take moment events) there world reach
             (All-take (HasOwnToken start) moment events reach.own) ran);

@@ -104,8 +104,7 @@ stands_after split c view holder world after stands leaves tight =
 
 -- what is known of the code of a split program
 pub known_in : AreLaws → (split : Split) (placed : PlacedProgram) (bad : ℕ) → threat_in split
-    ≡ threat_of placed split.table bad →
-    IsSplittable placed.labelled placed.hosts placed.plan → IsAllowed placed → IsKnown (threat_in split)
+    ≡ threat_of placed split.table bad → IsSplittable placed → IsAllowed placed → IsKnown (threat_in split)
 known_in laws split placed bad is splittable allowed =
     let planned = ap (λ (t : Threat). t.planned) is in
     let code = ap (λ (t : Threat). t.code) is in
@@ -118,7 +117,7 @@ known_in laws split placed bad is splittable allowed =
 pub stands_kept : AreLaws → (split : Split) (placed : PlacedProgram) (bad : ℕ) (store : List (List ℤ))
     (events : List Event) (world after : WorldShape)
     (event : Event) (c : Configuration) (view : View) (holder : Holder) →
-    threat_in split ≡ threat_of placed split.table bad → IsSplittable placed.labelled placed.hosts placed.plan →
+    threat_in split ≡ threat_of placed split.table bad → IsSplittable placed →
     IsAllowed placed → IsReached split.code placed.hosts.hosts bad store events world →
     HasOwnToken (world_at_start split.code placed.hosts.hosts bad store) event → IsStep split.code world event after →
     StandsBy split c view holder world → ¬ IsOwn holder world event → StandsBy split c view holder after

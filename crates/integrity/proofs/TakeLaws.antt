@@ -21,10 +21,11 @@ use Rattle.token_laws.specs.Numbers.{CodeHasNumbers, RowsHaveNumbers, EventHasNu
 use Rattle.token_laws.specs.Reached.{IsReached}
 use Rattle.token_laws.specs.Requests.{Spot, number_asked, number_answered}
 use Rattle.token_laws.proofs.AskedLaws.{one_under_way, ends_obey}
-use Rattle.token_laws.proofs.HeldLaws.{held_once, has_state}
+use Rattle.token_laws.proofs.HeldLaws.{held_once}
 use Rattle.token_laws.proofs.Walks.{fits_there, one_more}
 use Rattle.token_laws.proofs.WorldNumbers.{known_numbers}
 use Rattle.token_laws.proofs.WorldTokens.{account}
+use Rattle.token_laws.proofs.Tests.{some_found}
 use Rattle.typed_steps.specs.Views.{Split, View, entries_of}
 use Rattle.typed_steps.proofs.Pops.{top_of}
 use Rattle.integrity.specs.Exposed.{bad_labels}
@@ -186,7 +187,7 @@ module _ (split : Split) (rows : List declared_hosts.HostShape) (bad : ℕ) (sto
           (answered_only split world here host w m state.0 state.1 place it.0.flight it.0.there it.1))
   taken_by (stuck host w) from to place stands step own =
       let ends = ends_obey split.code world from to place step.flight here.fits here.asked step.there in
-      let state = has_state (state_at world from) ends.0 in
+      let state = some_found (state_at world from) ends.0 in
       absurd (bad_differs world w.asked from state.0 stands.tight.there.1 state.1 (sym own.0))
   taken_by (passes sender target m) from to place stands step own =
       passed_at sender target m from to place stands step own.0 own.1 own.2

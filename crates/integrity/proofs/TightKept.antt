@@ -15,8 +15,9 @@ use Rattle.token_laws.specs.Requests.{Spot, number_asked, number_answered}
 use Rattle.token_laws.proofs.Asked.{AreAsked}
 use Rattle.token_laws.proofs.AskedLaws.{one_under_way, waits_once, ends_obey}
 use Rattle.token_laws.proofs.Held.{AreHeld}
-use Rattle.token_laws.proofs.HeldLaws.{all_at, has_state}
+use Rattle.token_laws.proofs.HeldLaws.{all_at}
 use Rattle.token_laws.proofs.HeldLaws as tokens
+use Rattle.token_laws.proofs.Tests.{some_found}
 use Rattle.integrity.specs.Holding.{IsAmong, Holder, runs, asked, answered, stuck, passes, lost, halted, Waits, Flies}
 use Rattle.integrity.specs.Holding.{IsThere, OwnsRunning, OwnsWaiting, OwnsMessage}
 use Rattle.integrity.specs.Outside.{Threat}
@@ -91,7 +92,7 @@ not_answered threat world is me waiting asking m state obeys sent number apart a
 not_answered threat world is me waiting asking m state obeys sent number apart answer (told bad) =
     let ends =
     ends_obey threat.code world me waiting.asked sent.among.0 sent.flight is.fits is.asked sent.among.1 in
-    let obeying = has_state (state_at world waiting.asked) ends.1 in
+    let obeying = some_found (state_at world waiting.asked) ends.1 in
     bad_differs world waiting.asked waiting.asked obeying.0 bad obeying.1 refl
 
 pub asks_another : (threat : Threat) (world : WorldShape) → IsLawful threat world → (me : HostId) (state : HostShape)

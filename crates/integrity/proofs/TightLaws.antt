@@ -97,7 +97,7 @@ StaysTight threat chain holder world after =
 
 pub kept : AreLaws → (placed : PlacedProgram) (table : Table) (bad : ℕ) (store : List (List ℤ)) (events : List Event)
     (world after : WorldShape) (event : Event)
-    (chain : List StackEntry) (holder : Holder) → IsSplittable placed.labelled placed.hosts placed.plan →
+    (chain : List StackEntry) (holder : Holder) → IsSplittable placed →
     IsAllowed placed →
     IsTypedCode (planned_from placed) (split_code placed) table →
     IsReached (split_code placed) placed.hosts.hosts bad store events world →

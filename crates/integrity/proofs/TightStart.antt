@@ -19,6 +19,7 @@ use Rattle.host_core.specs.Host.{HostShape, after_push, after_entering, new_toke
 use Rattle.host_core.specs.Start.{idle_host, root_host, main_frame, last_token, host_at_start}
 use Rattle.net_world.specs.World.{given, hosts_before, state_at, world_at_start}
 use Rattle.net_world.proofs.Present.{same_id}
+use Rattle.typed_steps.proofs.MainStart.{last_entry}
 use Rattle.integrity.specs.Holding.{IsAmong, Holder, runs, OwnsWaiting, StateIsOutside, IsTight, StartsTight}
 use Rattle.integrity.specs.Outside.{Threat, EntryIsOpen, ThreadIsOpen}
 use Rattle.integrity.proofs.Among.{some_of}
@@ -58,15 +59,6 @@ started code rows bad store host state there =
     started_before code store bad 0 rows host.0 host.0 state (omega arith) there
 
 -- ---- the root
-
--- the entry that ends the program
-abbrev pub last_entry : CodeShape → List (List ℤ) → List ℕ → StackEntry
-last_entry code store key = record {
-  token = new_token (idle_host code store key code.root) halt main_frame;
-  entry = halt;
-  frame = main_frame;
-  kept = last_token code.root;
-}
 
 -- the thread at `main`
 abbrev pub first_thread : CodeShape → List (List ℤ) → List ℕ → Entry → ThreadShape

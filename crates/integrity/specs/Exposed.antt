@@ -8,14 +8,12 @@ use Rattle.js_base.specs.declared.ids.FrameId.{FrameId}
 use Rattle.js_base.specs.declared.ids.VarId.{VarId}
 use Rattle.label_lattice.specs.declared.label.Label.{Label}
 use Rattle.host_decl.specs.Hosts as declared_hosts
-use Rattle.host_decl.specs.Hosts.{HostsShape}
 use Rattle.jif_tree.specs.Altered.{Exposure, FieldIsAffected, VariableIsAffected}
 use Rattle.jif_tree.specs.Store.{row_of}
-use Rattle.need_labels.specs.Labelled.{Labelled}
-use Rattle.need_labels.specs.Needs.{NeedsShape}
 use Rattle.host_code.specs.Code.{CodeShape, CodeFieldShape}
 use Rattle.host_core.specs.Host.{HostShape}
 use Rattle.net_world.specs.World.{WorldShape, state_at}
+use Rattle.split_rules.specs.Placed.{PlacedProgram}
 
 -- ---- who misbehaves
 
@@ -26,12 +24,12 @@ bad_labels bad number (row ∷ rows) =
     (if bit_at bad number == 1 then row.label ∷ [] else []) ++ bad_labels bad (number + 1) rows
 
 -- what the hosts of the word's bits may affect
-abbrev pub exposure_of : Labelled → NeedsShape → HostsShape → ℕ → Exposure
-exposure_of labelled needs hosts bad = record {
-  bad = bad_labels bad 0 hosts.hosts;
-  fields = map (λ field. field.label) labelled.program.fields;
-  variables = labelled.var_labels;
-  needs = needs.need;
+abbrev pub exposure_of : PlacedProgram → ℕ → Exposure
+exposure_of placed bad = record {
+  bad = bad_labels bad 0 placed.hosts.hosts;
+  fields = map (λ field. field.label) placed.labelled.program.fields;
+  variables = placed.labelled.var_labels;
+  needs = placed.needs.need;
 }
 
 -- ---- what they leave

@@ -19,7 +19,7 @@ use Rattle.host_core.specs.Taking.{after_taking}
 use Rattle.host_core.specs.Turn.{after_operation}
 use Rattle.net_world.specs.World.{WorldShape, world_at_start, after_telling, with_state}
 use Rattle.split_rules.specs.OpenExamples.{untrusted, trusted_by_first, sent_table}
-use Rattle.split_rules.specs.Worked.{host_id, field_id, var_id, a_host, labelled_with, sent_local}
+use Rattle.split_rules.specs.Worked.{host_id, field_id, var_id, a_host, placed_with, sent_local}
 use Rattle.token_laws.specs.TokenExamples.{first_request, first_token, start, start_state, handing, handed, given}
 use Rattle.integrity.specs.Exposed.{bad_labels}
 use Rattle.integrity.specs.Outside.{Threat, threat_of}
@@ -27,13 +27,7 @@ use Rattle.integrity.specs.Outside.{Threat, threat_of}
 -- ---- a program: a local that the first principal trusts is sent to the second host, which nobody trusts
 
 abbrev pub sent_threat : ℕ → Threat
-sent_threat bad =
-    threat_of (record {
-      labelled = labelled_with sent_local (trusted_by_first ∷ []);
-      needs = sent_local.needs;
-      hosts = sent_local.hosts;
-      plan = sent_local.plan;
-    }) sent_table bad
+sent_threat bad = threat_of (placed_with sent_local (trusted_by_first ∷ [])) sent_table bad
 
 -- the first host with nothing on its stack, where a thread is about to send the local
 abbrev idle : HostShape

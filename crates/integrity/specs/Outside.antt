@@ -29,7 +29,7 @@ threat_of placed table bad = record {
   planned = planned_from placed;
   code = split_code placed;
   table = table;
-  exposure = exposure_of placed.labelled placed.needs placed.hosts bad;
+  exposure = exposure_of placed bad;
 }
 
 -- Some misbehaving host is trusted for all that is due at a place of a host.

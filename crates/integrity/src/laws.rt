@@ -61,7 +61,7 @@ pub fn outside_laws()
         (world after : WorldShape) (event : Event) →
         let code = split_code placed in
         let threat = threat_of placed table bad in
-        IsSplittable placed.labelled placed.hosts placed.plan → IsAllowed placed →
+        IsSplittable placed → IsAllowed placed →
         IsTypedCode (planned_from placed) code table →
         IsReached code placed.hosts.hosts bad store events world → IsStep code world event after →
         IsOutside threat world →
@@ -71,7 +71,7 @@ pub fn outside_laws()
         (events more : List Event) (world after : WorldShape) →
         let code = split_code placed in
         let threat = threat_of placed table bad in
-        IsSplittable placed.labelled placed.hosts placed.plan → IsAllowed placed →
+        IsSplittable placed → IsAllowed placed →
         IsTypedCode (planned_from placed) code table →
         IsReached code placed.hosts.hosts bad store events world →
         All (HasOwnToken (world_at_start code placed.hosts.hosts bad store)) more → IsRun code world more after →
@@ -91,16 +91,16 @@ pub fn root_laws()
     ensures stands { (program : Program) (placed : PlacedProgram) (bad : ℕ) (store : List (List ℤ))
         (events : List Event) (world : WorldShape) →
         let code = split_code placed in
-        IsSplittable placed.labelled placed.hosts placed.plan → IsAllowed placed →
+        IsSplittable placed → IsAllowed placed →
         IsReached code placed.hosts.hosts bad store events world → bit_at bad code.root.0 ≡ 1 →
-        StandsFor code (exposure_of placed.labelled placed.needs placed.hosts bad) world
+        StandsFor code (exposure_of placed bad) world
         (configuration_at_start program store) }
     ensures follows { (program : Program) (placed : PlacedProgram) (bad : ℕ) (store : List (List ℤ))
         (events : List Event) (world : WorldShape) →
         let code = split_code placed in
-        IsSplittable placed.labelled placed.hosts placed.plan → IsAllowed placed →
+        IsSplittable placed → IsAllowed placed →
         IsReached code placed.hosts.hosts bad store events world → bit_at bad code.root.0 ≡ 1 →
-        FollowsAltered program (exposure_of placed.labelled placed.needs placed.hosts bad) code placed.hosts.hosts bad
+        FollowsAltered program (exposure_of placed bad) code placed.hosts.hosts bad
         store events }
 {
     split_laws();
@@ -124,7 +124,7 @@ pub fn chain_laws()
         (chain : List StackEntry) (holder : Holder) →
         let code = split_code placed in
         let threat = threat_of placed table bad in
-        IsSplittable placed.labelled placed.hosts placed.plan → IsAllowed placed →
+        IsSplittable placed → IsAllowed placed →
         IsTypedCode (planned_from placed) code table →
         IsReached code placed.hosts.hosts bad store events world →
         HasOwnToken (world_at_start code placed.hosts.hosts bad store) event → IsStep code world event after →
@@ -147,8 +147,7 @@ pub fn standing_laws()
     ensures kept { (split : Split) (placed : PlacedProgram) (bad : ℕ) (store : List (List ℤ)) (events : List Event)
         (world after : WorldShape) (event : Event)
         (c : Configuration) (view : View) (holder : Holder) →
-        threat_in split ≡ threat_of placed split.table bad →
-        IsSplittable placed.labelled placed.hosts placed.plan → IsAllowed placed →
+        threat_in split ≡ threat_of placed split.table bad → IsSplittable placed → IsAllowed placed →
         IsReached split.code placed.hosts.hosts bad store events world →
         HasOwnToken (world_at_start split.code placed.hosts.hosts bad store) event →
         IsStep split.code world event after →
@@ -196,7 +195,7 @@ pub fn standing_laws()
         (world after : WorldShape)
         (host : HostId) (thread : ThreadShape) (c : Configuration) (view : View) (to : HostId) (sent : Message)
         (token : Token) →
-        threat_in split ≡ threat_of placed split.table bad → IsSplittable placed.labelled placed.hosts placed.plan →
+        threat_in split ≡ threat_of placed split.table bad → IsSplittable placed →
         IsAllowed placed → IsReached split.code placed.hosts.hosts bad store events world →
         CodeHasNumbers split.code → RowsHaveNumbers store → All EventHasNumbers events →
         IsStep split.code world (Turn host) after → misbehaves world to ≡ true →
@@ -206,7 +205,7 @@ pub fn standing_laws()
     ensures loosens { (split : Split) (placed : PlacedProgram) (bad : ℕ) (store : List (List ℤ)) (events : List Event)
         (world after : WorldShape)
         (host : HostId) (thread : ThreadShape) (c : Configuration) (view : View) →
-        threat_in split ≡ threat_of placed split.table bad → IsSplittable placed.labelled placed.hosts placed.plan →
+        threat_in split ≡ threat_of placed split.table bad → IsSplittable placed →
         IsAllowed placed → IsHeld placed →
         IsReached split.code placed.hosts.hosts bad store events world → CodeHasNumbers split.code →
         RowsHaveNumbers store →
@@ -239,8 +238,7 @@ pub fn loose_laws()
     ensures recovers { (split : Split) (placed : PlacedProgram) (bad : ℕ) (store : List (List ℤ)) (events : List Event)
         (world after : WorldShape)
         (event : Event) (c : Configuration) (view : View) →
-        threat_in split ≡ threat_of placed split.table bad →
-        IsSplittable placed.labelled placed.hosts placed.plan → IsAllowed placed →
+        threat_in split ≡ threat_of placed split.table bad → IsSplittable placed → IsAllowed placed →
         IsReached split.code placed.hosts.hosts bad store events world →
         HasOwnToken (world_at_start split.code placed.hosts.hosts bad store) event →
         IsStep split.code world event after →
@@ -258,7 +256,7 @@ pub fn integrity_laws()
         let code = split_code placed in
         IsSet program placed → CodeHasNumbers code → RowsHaveNumbers store →
         IsReached code placed.hosts.hosts bad store events world → All EventHasNumbers events →
-        FollowsAltered program (exposure_of placed.labelled placed.needs placed.hosts bad) code placed.hosts.hosts bad
+        FollowsAltered program (exposure_of placed bad) code placed.hosts.hosts bad
         store events }
 {
     split_laws();

@@ -1,15 +1,14 @@
 -- For words and for files that tell what they hold, one verdict is due.
-use Rattle.std.proofs.Common.{◌≡◌, ℕ, ◌+◌, ◌<◌, List, [], ◌∷◌, length, Option, Some, None, refl, sym, ap, ◌∙◌}
+use Rattle.std.proofs.Common.{◌≡◌, ℕ, ◌+◌, ◌<◌, List, [], ◌∷◌, length, Option, Some, refl, sym, ap, ◌∙◌}
 use Rattle.std.proofs.Common.{subst, ⊎_elim}
-use Rattle.std.specs.Prelude.{IsSome}
-use Rattle.std.proofs.lemmas.Bool.{false≢true}
 use Rattle.js_base.specs.Counts.{last_count}
 use Rattle.front_end.specs.Loads.{FilesChange, Told, IsHeld, IsFirstAbsent}
 use Rattle.front_end.specs.PlacedSources.{PlacedSources}
 use Rattle.front_end.specs.Verdicts.{VerdictShape, no_such_file}
 use Rattle.front_end.proofs.Answering.{no_fault_and_fault}
-use Rattle.front_end.proofs.Places.{same_place, same_here, of_front, of_all}
+use Rattle.front_end.proofs.Places.{of_all}
 use Rattle.front_end.proofs.Stages.{IsOne, one_due}
+use Rattle.front_end.proofs.AbsentFiles.{held_once, told_held, absent_not_held, absent_once}
 use Rattle.jifpicture.specs.Due.{DueForBytes, DueForNames, absent, loaded, Due, no_words, two_words, IsDue}
 use Rattle.jifpicture.specs.Picture.{picture_report}
 
@@ -24,34 +23,6 @@ bytes_once plans p h first second one two =
     (λ placed was here there. here ∙ sym there) one two
 
 -- ---- files that tell what they hold
-
-held_once : (holds : List ℕ → Option (List ℕ)) (name bytes other : List ℕ) →
-    Told (Some holds) name (Some bytes) → Told (Some holds) name (Some other) → bytes ≡ other
-held_once holds name bytes other one two = let both : Some bytes ≡ Some other = sym one ∙ two in cc
-
-pub told_held : (holds : List ℕ → Option (List ℕ)) (name bytes : List ℕ) → Told (Some holds) name (Some bytes) →
-    IsHeld (Some holds) name
-told_held holds name bytes told = subst (IsSome {T = List ℕ}) (sym told) refl
-
-absent_not_held : (holds : List ℕ → Option (List ℕ)) (name : List ℕ) → Told (Some holds) name None →
-    ¬ IsHeld (Some holds) name
-absent_not_held holds name told held = false≢true (subst (IsSome {T = List ℕ}) told held)
-
-absent_not_before : (holds : List ℕ → Option (List ℕ)) (names : List (List ℕ)) (place other : ℕ)
-    (file second : List ℕ) →
-    IsFirstAbsent (Some holds) names place file → IsFirstAbsent (Some holds) names other second → ¬ (place < other)
-absent_not_before holds names place other file second one two = λ before.
-    absent_not_held holds file one.absent
-    (of_front (IsHeld (Some holds)) names other place file two.before before one.here)
-
-absent_once : (holds : List ℕ → Option (List ℕ)) (names : List (List ℕ)) (place other : ℕ) (file second : List ℕ) →
-    IsFirstAbsent (Some holds) names place file → IsFirstAbsent (Some holds) names other second →
-    (place ≡ other) × (file ≡ second)
-absent_once holds names place other file second one two =
-    let same =
-    same_place place other (absent_not_before holds names place other file second one two)
-    (absent_not_before holds names other place second file two one) in
-    (same, same_here names place other file second same one.here two.here)
 
 absent_or_held : (holds : List ℕ → Option (List ℕ)) (program hosts p h : List ℕ) (place : ℕ) (file : List ℕ) →
     IsFirstAbsent (Some holds) (program ∷ hosts ∷ []) place file → Told (Some holds) program (Some p) →
@@ -71,7 +42,8 @@ names_once plans holds program hosts _ _ _ _ (absent place file one) (loaded p h
     absurd (absent_or_held holds program hosts p h place file one p_told h_told)
 names_once plans holds program hosts _ _ _ _ (loaded p h verdict p_told h_told due) (absent place file two) =
     absurd (absent_or_held holds program hosts p h place file two p_told h_told)
-names_once plans holds program hosts _ _ _ _ (loaded p h first p_told h_told one) (loaded q i second q_told i_told two) =
+names_once plans holds program hosts _ _ _ _ (loaded p h first p_told h_told one)
+    (loaded q i second q_told i_told two) =
     let program_same : q ≡ p = held_once holds program q p q_told p_told in
     let hosts_same : i ≡ h = held_once holds hosts i h i_told h_told in (
       refl,

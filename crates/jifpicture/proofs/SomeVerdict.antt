@@ -5,7 +5,7 @@ use Rattle.front_end.specs.Verdicts.{VerdictShape, no_such_file}
 use Rattle.front_end.proofs.SomeStages.{HasOutcome, HasVerdict, some_due}
 use Rattle.jifpicture.specs.Due.{DueForBytes, DueForNames, absent, loaded, Due, no_words, two_words, usage}
 use Rattle.jifpicture.specs.Picture.{picture_report}
-use Rattle.jifpicture.proofs.OneVerdict.{told_held}
+use Rattle.front_end.proofs.AbsentFiles.{told_held}
 
 -- a program and a host file have some plan, or are refused
 abbrev pub SomePlan : Type 0

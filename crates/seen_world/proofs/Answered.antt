@@ -1,13 +1,12 @@
 -- What a host answers to a message that it takes, and what a misbehaving host can make it take.
-use Rattle.std.proofs.Common.{◌≡◌, ◌∙◌, ℕ, ◌+◌, Bool, true, false, List, [], ◌∷◌, Option, Some, None}
-use Rattle.std.proofs.Common.{get_or, inl, inr, refl, ap, sym, subst}
-use Rattle.std.specs.Prelude.{◌⊎◌, ◌==◌, ◌&&◌, IfSome, IsSome, IsSomeAnd, IsTrue, position, slice_get}
+use Rattle.std.proofs.Common.{◌≡◌, ◌∙◌, ℕ, ◌+◌, Bool, true, false, List, Option, Some, None}
+use Rattle.std.proofs.Common.{inl, inr, refl, ap, sym, subst}
+use Rattle.std.specs.Prelude.{◌⊎◌, ◌==◌, ◌&&◌, IfSome, IsSomeAnd, IsTrue, slice_get}
 use Rattle.std.proofs.lemmas.Bool.{false≢true}
-use Rattle.std.proofs.lemmas.Option.{slice_get-get_or}
-use Rattle.std.proofs.lemmas.List.Quantifiers.{position-Some}
 use Rattle.js_base.specs.declared.ids.HostId.{HostId}
 use Rattle.js_base.specs.declared.ids.EntryId.{EntryId}
 use Rattle.js_base.specs.declared.ids.VarId.{VarId}
+use Rattle.js_base.proofs.Lists.{first_passing}
 use Rattle.host_code.specs.declared.code_expr.Node.{Node}
 use Rattle.label_lattice.specs.declared.label.Label.{Label}
 use Rattle.capability.specs.declared.token.Token.{Token}
@@ -30,7 +29,7 @@ use Rattle.split_shades.specs.ShadedCode.{IsShadedOp}
 use Rattle.split_shades.specs.Shades.{EntryShade, Ahead, Meets}
 use Rattle.split_shades.specs.Shading.{IsUnderBlock, PushesAt}
 use Rattle.split_rules.specs.Positions.{under}
-use Rattle.token_laws.proofs.Tests.{parts_same, number_same}
+use Rattle.token_laws.proofs.Tests.{parts_same, number_same, some_found}
 use Rattle.seen_world.specs.Eyes.{Eyes, AreEyes, is_hidden, sees_level}
 use Rattle.seen_world.specs.Points.{IsTokenOf, IsHiddenToken, MayHold, MayEnterWith, IsAt, AsksFor, AsksAt, HostKeeps}
 use Rattle.seen_world.specs.Points.{CarriesWell, IsAskedBy, FliesWell, ShowsNoHidden}
@@ -213,15 +212,6 @@ bad_given eyes are host place entry from token at bad on shows = (
         let its : sees_level eyes (under entry.0) ≡ eyes.sees shaded.it.label = rw shaded.is refl in
         its ∙ own_entry eyes entry.0 there shaded.it are is shaded.is (ap eyes.bad some ∙ bad)
 
-waiting_at : (p : WaitingShape → Bool) (threads : List WaitingShape) (found : Option ℕ) →
-    position p threads ≡ found → IsSome found →
-    (waiting : WaitingShape) × (place : ℕ) × (slice_get threads place ≡ Some waiting) × (p waiting ≡ true)
-waiting_at p threads None is some = absurd (false≢true some)
-waiting_at p [] (Some place) is some = absurd (cc)
-waiting_at p (one ∷ threads) (Some place) is some =
-    let at = position-Some p (one ∷ threads) place one is in
-    (get_or (one ∷ threads) place one, place, slice_get-get_or (one ∷ threads) place one at.0, at.1)
-
 same_awaited : (awaited : Awaited) (request from : Bool) →
     ((is_same_answer awaited token_of_entry && request) && from) ≡ true → awaited ≡ token_of_entry
 same_awaited value_of_field request from same = absurd (false≢true same)
@@ -267,11 +257,10 @@ made_carries eyes state from (message.Lgoto token) are sound fits bad keeps show
 made_carries eyes state from (message.Value request value) are sound fits bad keeps shows passes = tt
 made_carries eyes state from (message.Ack request) are sound fits bad keeps shows passes = tt
 made_carries eyes state from (message.Token request token) are sound fits bad keeps shows passes =
-    let found =
-    waiting_at (awaits token_of_entry request from) state.waiting (place_of_awaiting state token_of_entry request from)
-    refl passes in
-    let well = waits_at eyes state found.1 found.0 keeps found.2 in
-    answers_well eyes are sound state from found.0 request.at request.count token fits bad found.3 well.2.0 well.2.1
+    let place = some_found (place_of_awaiting state token_of_entry request from) passes in
+    let found = first_passing (awaits token_of_entry request from) state.waiting place.0 place.1 in
+    let well = waits_at eyes state place.0 found.0 keeps found.1 in
+    answers_well eyes are sound state from found.0 request.at request.count token fits bad found.2 well.2.0 well.2.1
     well.2.2
     shows
 

@@ -1,12 +1,11 @@
 -- Every event keeps what holds of a world.
-use Rattle.std.proofs.Common.{◌≡◌, ◌∙◌, ℕ, ℤ, true, false, List, arith, Option, Some, None, refl, ap, sym, subst}
-use Rattle.std.specs.Prelude.{IfSome, IsSome, All, ⊤}
+use Rattle.std.proofs.Common.{◌≡◌, ◌∙◌, ℕ, ℤ, true, false, List, arith, Some, ap, sym, subst}
+use Rattle.std.specs.Prelude.{IfSome, All, ⊤}
 use Rattle.std.proofs.lemmas.Bool.{false≢true}
 use Rattle.js_base.specs.declared.ids.HostId.{HostId}
 use Rattle.capability.specs.declared.token.Token.{Token}
 use Rattle.host_decl.specs.Hosts as declared_hosts
 use Rattle.host_code.specs.Sound.{IsSoundCode}
-use Rattle.host_code.specs.Thread.{ThreadShape}
 use Rattle.host_core.specs.Host.{HostShape}
 use Rattle.host_core.specs.Taking.{Passes}
 use Rattle.host_core.specs.Turn.{label_of_turn}
@@ -24,6 +23,7 @@ use Rattle.std.specs.Prelude.{slice_get}
 use Rattle.token_laws.specs.Reached.{IsReached}
 use Rattle.token_laws.proofs.HeldLaws.{all_at}
 use Rattle.token_laws.proofs.Walks.{reached, fits_there}
+use Rattle.token_laws.proofs.Tests.{some_found}
 use Rattle.seen_world.specs.Eyes.{Eyes, AreEyes, Watches}
 use Rattle.seen_world.specs.Points.{IsHiddenToken, RunsWell, HostKeeps, IsAskedBy, FliesWell, ShowsNoHidden}
 use Rattle.seen_world.specs.Points.{IsLabelledAs, IsRequest, IsGrantedTo, IsInFlight, PointsHold}
@@ -51,10 +51,6 @@ bad_before eyes world host other old state watch there bad =
 
 -- ---- turns
 
-thread_of : (running : Option ThreadShape) → IsSome running → (thread : ThreadShape) × (running ≡ Some thread)
-thread_of None is = absurd (false≢true is)
-thread_of (Some thread) is = (thread, refl)
-
 turn_points : (eyes : Eyes) (world after : WorldShape) (host : HostId) → AreEyes eyes → IsSoundCode eyes.code →
     Watches eyes world → ShapeFits eyes.code world → PointsHold eyes world → IsTurnStep eyes.code world host after →
     PointsHold eyes after
@@ -62,7 +58,7 @@ turn_points eyes world after host are sound watch fits points step =
     let state = step.state in
     let sent = step.outcome.sent in
     let own = own_state eyes world host state watch fits points.hosts step.obeys in
-    let thread = thread_of state.running step.runs in
+    let thread = some_found state.running step.runs in
     let runs : RunsWell eyes state.me thread.0 =
     subst (λ one. IfSome one (RunsWell eyes state.me)) thread.1 own.keeps.running in
     let carries : (label : ℕ) → label_of_turn eyes.code state ≡ Some label →

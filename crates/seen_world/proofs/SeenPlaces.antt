@@ -91,22 +91,20 @@ own_entry eyes number entry it are there is bad =
     ap (λ (one : EntryShade). eyes.sees one.label) (sym same)
     ∙ seen_on eyes are entry.host shaded.it.label shaded.is_shade.seen bad
 
-label_seen : (eyes : Eyes) → AreEyes eyes → (host : HostId) (label : Option Label) → eyes.bad host ≡ true →
-    MaySee label (label_of_host eyes.code host) → IsSomeAnd label (λ there. eyes.sees there ≡ true)
-label_seen eyes are host None bad sees = absurd sees
-label_seen eyes are host (Some label) bad sees = are.host host label bad sees
-
-seen_found : (eyes : Eyes) (number : ℕ) (label : Option Label) → label_at eyes.code number ≡ label →
-    IsSomeAnd label (λ there. eyes.sees there ≡ true) → sees_at eyes number ≡ true
-seen_found eyes number None is seen = absurd seen
-seen_found eyes number (Some label) is seen = rw is seen
+-- what a misbehaving host is told, it may see
+pub label_told : (eyes : Eyes) → AreEyes eyes → (to : HostId) (number : ℕ) →
+    MaySee (label_at eyes.code number) (label_of_host eyes.code to) → eyes.bad to ≡ true → sees_at eyes number ≡ true
+label_told eyes are to number may bad = by (label_at eyes.code number) refl may
+  where
+    by : (found : Option Label) → label_at eyes.code number ≡ found → MaySee found (label_of_host eyes.code to) →
+        sees_at eyes number ≡ true
+    by None is may = absurd may
+    by (Some label) is may = rw is (are.host to label bad may)
 
 pub own_field : (eyes : Eyes) (field : FieldId) (there : CodeFieldShape) → AreEyes eyes →
     field_at eyes.code field ≡ Some there → eyes.bad there.host ≡ true → sees_at eyes there.label ≡ true
 own_field eyes field there are is bad =
-    let label = label_at eyes.code there.label in
-    seen_found eyes there.label label refl
-    (label_seen eyes are there.host label bad (are.known.fields field there is).2)
+    label_told eyes are there.host there.label (are.known.fields field there is).2 bad
 
 -- ---- who is named
 

@@ -28,8 +28,7 @@ use Rattle.split_shades.proofs.ShadedSplit.{split_is_shaded}
 use Rattle.seen_world.specs.Eyes.{Eyes, AreEyes, Watches, sees_at, is_open}
 use Rattle.seen_world.proofs.SeeingHosts.{has_eyes}
 
-pub split_has_eyes : (placed : PlacedProgram) (may_release : Bool) (bad : HostId → Bool) →
-    IsSplittable placed.labelled placed.hosts placed.plan →
+pub split_has_eyes : (placed : PlacedProgram) (may_release : Bool) (bad : HostId → Bool) → IsSplittable placed →
     IsAllowed placed → IsHeld placed → AreResultsLabelled placed.labelled.program →
     (may_release ≡ false → ReleasesNothing placed.labelled.program) → (shades : Shades) × (sees : Label → Bool)
     × AreEyes (record {

@@ -49,7 +49,7 @@ pub fn eye_laws()
         × AreEyes (record { scene = scene; code = code; shades = shades; bad = bad; sees = sees }) }
     // So has the code of each program that was checked, placed and split.
     ensures split { (placed : PlacedProgram) (may_release : Bool) (bad : HostId → Bool) →
-        IsSplittable placed.labelled placed.hosts placed.plan → IsAllowed placed → IsHeld placed →
+        IsSplittable placed → IsAllowed placed → IsHeld placed →
         AreResultsLabelled placed.labelled.program → (may_release ≡ false → ReleasesNothing placed.labelled.program) →
         (shades : Shades) × (sees : Label → Bool) × AreEyes (record {
           scene = scene_of placed may_release;

@@ -114,8 +114,7 @@ driven_runs code (event ∷ events) world after driven =
 
 -- a law of the splitting: the code of a split program is paced
 abbrev pub GivesPaces : Type 0
-GivesPaces = (placed : PlacedProgram) →
-    IsSplittable placed.labelled placed.hosts placed.plan →
+GivesPaces = (placed : PlacedProgram) → IsSplittable placed →
     (left : Allowance) × IsPaced (split_code placed) left
 
 module _ (laws : SplitLaws) (paces : GivesPaces) (program : Program) (placed : PlacedProgram) (store : List (List ℤ))

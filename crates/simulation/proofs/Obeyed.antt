@@ -135,7 +135,8 @@ record Stands (split : Split) (store : List (List ℤ)) (world : WorldShape) (n 
   fits : ShapeFits split.code world
 
 -- no host that misbehaves makes an event
-pub own_tokens : (split : Split) (c : Configuration) (world after : WorldShape) (event : Event) → Simulates split c world →
+pub own_tokens : (split : Split) (c : Configuration) (world after : WorldShape) (event : Event) →
+    Simulates split c world →
     IsStep split.code world event after → HasOwnToken world event
 own_tokens split c world after (Take from to place) sim step = tt
 own_tokens split c world after (Turn host) sim step = tt
@@ -227,8 +228,7 @@ module _ (plain : GivesPlain) (split : Split) (store : List (List ℤ)) (hosts :
 
 -- the code of a program that can be split is sound
 abbrev pub GivesSound : Type 0
-GivesSound = (placed : PlacedProgram) →
-    IsSplittable placed.labelled placed.hosts placed.plan → IsSoundCode (split_code placed)
+GivesSound = (placed : PlacedProgram) → IsSplittable placed → IsSoundCode (split_code placed)
 
 -- where a plan is allowed, hosts are trusted for what statements start
 abbrev pub GivesTrust : Type 0
@@ -239,7 +239,7 @@ GivesTrust = (placed : PlacedProgram) →
 abbrev pub GivesTables : Type 0
 GivesTables = (placed : PlacedProgram) →
     let planned = planned_from placed in
-    IsSplittable placed.labelled placed.hosts placed.plan → IsTypable planned →
+    IsSplittable placed → IsTypable planned →
     (table : Table) × IsTypedCode planned (split_code placed) table
 
 -- the laws of the splitting, and that of altered runs

@@ -26,7 +26,7 @@ use Rattle.simulation.specs.Programs.{AreInOrder}
 pub record IsSet (program : Program) (placed : PlacedProgram)
     : Type 0 where
   pub is : program_tree program ≡ placed.labelled.program
-  pub splittable : IsSplittable placed.labelled placed.hosts placed.plan
+  pub splittable : IsSplittable placed
   pub needs_of : AreNeedsOf placed.hosts.principals placed.labelled placed.needs
   pub allowed : IsAllowed placed
   pub held : IsHeld placed

@@ -344,14 +344,15 @@ halts_have : (planned : PlannedShape) (main : Option MethodTree) → EmitNumbers
 halts_have planned None = tt
 halts_have planned (Some main) = (tt, (tt, tt))
 
-program_has : (principals : Declared) (labelled : Labelled) (planned : PlannedShape) → HasNumbers labelled.program →
-    EmitNumbers (program_emissions principals labelled planned)
-program_has principals labelled planned small =
-    let program = labelled.program in
+program_has : (placed : PlacedProgram) → HasNumbers placed.labelled.program →
+    EmitNumbers (program_emissions placed)
+program_has placed small =
+    let planned = planned_from placed in
+    let program = placed.labelled.program in
     both _ _
     (both (halt_entries planned (method_at program program.main)) (map (method_entry planned) program.methods)
     (halts_have planned (method_at program program.main)) (entries_have planned program.methods))
-    (methods_have principals labelled planned 0 program.methods
+    (methods_have placed.hosts.principals placed.labelled planned 0 program.methods
     (recursion_from_All (λ method. BlockHasNumbers method.body) program.methods small.methods) _)
 
 -- ---- code
@@ -367,7 +368,7 @@ pub code_has : (placed : PlacedProgram) →
 code_has placed small = λ host at there is. by host at there (slice_get parts host.0) refl is
   where
     all : List Emission
-    all = program_emissions placed.hosts.principals placed.labelled (planned_from placed)
+    all = program_emissions placed
 
     labels : List Label
     labels = code_labels placed.labelled all
@@ -388,6 +389,6 @@ code_has placed small = λ host at there is. by host at there (slice_get parts h
         (ap (λ list. slice_get list at) made ∙ has) in
         let so = found me all at one emits in
         let numbers = subst EmitNumbers so.is
-        (program_has placed.hosts.principals placed.labelled (planned_from placed) small) in
+        (program_has placed small) in
         subst (λ (it : Instr). OperationHasNumbers it.op) same
         (landed_has one.host all one.op (all_second EmissionHasNumbers so.before _ numbers).0)

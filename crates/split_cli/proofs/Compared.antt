@@ -56,7 +56,7 @@ ToldAlikeLaw = (placed : PlacedProgram) (bad : ℕ) (store start : List (List �
     let code = split_code placed in
     let first = world_at_start code placed.hosts.hosts bad store in
     let second = world_at_start code placed.hosts.hosts bad start in
-    IsSplittable placed.labelled placed.hosts placed.plan → IsAllowed placed → IsHeld placed →
+    IsSplittable placed → IsAllowed placed → IsHeld placed →
     AreResultsLabelled placed.labelled.program → ReleasesNothing placed.labelled.program →
     AreStoresAlike code first store start → All (HasOwnToken first) seen →
     IsSeenRun code first events (seen ++ more) one → IsSeenRun code second others seen other →
@@ -289,7 +289,8 @@ runs_say sets laws program hosts one other placed tree file file_too first secon
     }))))))
 
 -- a script that was read and followed
-abbrev script_run : (Text : Status → List ℕ → Type 0) (file script : List ℕ) (placed : PlacedSource) (said : ScriptShape)
+abbrev script_run : (Text : Status → List ℕ → Type 0) (file script : List ℕ) (placed : PlacedSource)
+    (said : ScriptShape)
     (run : Followed) → IsRead script placed said →
     EventsFollowed file (code_of placed) (first_world placed said.bad said.start) said.events (given run) →
     ScriptRun placed script
@@ -298,7 +299,8 @@ script_run Text file script placed said run was ran = record {
   run = run;
   short = was.short;
   read = was.read;
-  followed = followed_says Text file (code_of placed) (first_world placed said.bad said.start) said.events (given run) ran;
+  followed = followed_says Text file (code_of placed) (first_world placed said.bad said.start) said.events
+      (given run) ran;
 }
 
 said_says : AllLaws → PrivateLaws → (program hosts one other : List ℕ) (placed : PlacedSource) (tree : Program)
@@ -319,7 +321,8 @@ said_says sets laws program hosts one other placed tree file said file_too said_
     then_says Text Second (Runs run) verdict
     (λ stops. followed_says Text file_too code world_too said_too.events (stopped verdict) stops) (λ run_too ran_too.
     runs_say sets laws program hosts one other placed tree file file_too
-    (script_run Text file one placed said run was ran) (script_run Text file_too other placed said_too run_too was_too ran_too)
+    (script_run Text file one placed said run was ran)
+    (script_run Text file_too other placed said_too run_too was_too ran_too)
     verdict is_placed))
 
 compare_says : AllLaws → PrivateLaws → (file file_too program hosts one other : List ℕ) (placed : PlacedSource)

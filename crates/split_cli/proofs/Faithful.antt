@@ -1,5 +1,6 @@
 -- From what is due to the headline.
-use Rattle.std.proofs.Common.{◌≡◌, ◌≤◌, ◌+◌, ◌*◌, ◌∙◌, ℕ, suc, List, [], ◌∷◌, ◌++◌, map, length, Option, Some, Ok, refl, sym, ap}
+use Rattle.std.proofs.Common.{◌≡◌, ◌≤◌, ◌+◌, ◌*◌, ◌∙◌, ℕ, suc, List, [], ◌∷◌, ◌++◌, map, length, Option, Some, Ok, refl}
+use Rattle.std.proofs.Common.{sym, ap}
 use Rattle.std.proofs.Common.{subst, length-append}
 use Rattle.std.proofs.Common.{⊎_elim, inl, inr, arith, take}
 use Rattle.std.specs.Prelude.{ℤ, ◌⊎◌, ◌≢◌, All, slice_index, replicate}
@@ -112,14 +113,13 @@ AlteredLaw = (tree : Program) (placed : PlacedProgram) (bad : ℕ) (store : List
     (world : WorldShape) →
     IsSet tree placed → CodeHasNumbers (split_code placed) → RowsHaveNumbers store →
     IsReached (split_code placed) placed.hosts.hosts bad store events world → All EventHasNumbers events →
-    FollowsAltered tree (exposure_of placed.labelled placed.needs placed.hosts bad)
+    FollowsAltered tree (exposure_of placed bad)
     (split_code placed) placed.hosts.hosts bad store
     events
 
 -- what emitted code and scripts are
 pub record ScriptLaws : Type 0 where
-  pub sound : (placed : PlacedProgram) →
-      IsSplittable placed.labelled placed.hosts placed.plan → IsSoundCode (split_code placed)
+  pub sound : (placed : PlacedProgram) → IsSplittable placed → IsSoundCode (split_code placed)
   pub said_own : (code : CodeShape) (bytes : List ℕ) (said : ScriptShape) → script_of code bytes ≡ Ok said →
       All (λ one. IsOwnEvent code.hosts said.bad one.1) said.events
   pub own_at_start : OwnAtStart
@@ -212,7 +212,8 @@ reached_there laws program hosts script placed tree said last is_placed read ran
           set.splittable;
       hosts = refl;
       own = All-map (HasOwnToken first) (λ (one : ℕ × Event). one.1) said.events
-          (own_in_first laws.scripts.own_at_start code rows said.bad said.start said first said.events refl refl refl refl
+          (own_in_first laws.scripts.own_at_start code rows said.bad said.start said first said.events refl refl refl
+          refl
           (laws.scripts.said_own code script said read));
       ran = ran;
     }
@@ -514,13 +515,17 @@ record IsPrinted (Text : Kind) (program hosts : List ℕ) (others : List (List �
   is : Text program_bytes hosts_bytes others_bytes status text
 
 -- for the names: a refusal is no success, and a report is one of their files
-SaysOfFiles : (Text : Kind) (program hosts : List ℕ) (others : List (List ℕ)) → Option (List ℕ → Option (List ℕ)) → VerdictShape → Type 0
+SaysOfFiles : (Text : Kind) (program hosts : List ℕ) (others : List (List ℕ)) → Option (List ℕ → Option (List ℕ)) →
+    VerdictShape → Type 0
 SaysOfFiles Text program hosts others held (Refuse status line) = ¬ IsSuccess status
 SaysOfFiles Text program hosts others held (Print status text) = IsPrinted Text program hosts others held status text
 
-printed_says : (Text : Kind) (program hosts : List ℕ) (others : List (List ℕ)) (held : Option (List ℕ → Option (List ℕ)))
-    (p h : List ℕ) (t : List (List ℕ)) (verdict : VerdictShape) → Told held program (Some p) → Told held hosts (Some h) →
-    AllZip (λ file content. Told held file (Some content)) others t → Says (Text p h t) verdict → SaysOfFiles Text program hosts others held verdict
+printed_says : (Text : Kind) (program hosts : List ℕ) (others : List (List ℕ)) (held : Option (List ℕ →
+    Option (List ℕ)))
+    (p h : List ℕ) (t : List (List ℕ)) (verdict : VerdictShape) → Told held program (Some p) →
+    Told held hosts (Some h) →
+    AllZip (λ file content. Told held file (Some content)) others t → Says (Text p h t) verdict →
+    SaysOfFiles Text program hosts others held verdict
 unfolding Says SaysOfFiles
 printed_says Text program hosts others held p h t (Refuse status line) told_p told_h told_t says = says
 printed_says Text program hosts others held p h t (Print status text) told_p told_h told_t says = record {
@@ -555,7 +560,8 @@ command_says Text command program hosts others held files says _ verdict (due.lo
     ends.told)
     ends.due
 
-words_say : (Text : Kind) (command : CommandShape) (program hosts : List ℕ) (others : List (List ℕ)) (words : List (List ℕ))
+words_say : (Text : Kind) (command : CommandShape) (program hosts : List ℕ) (others : List (List ℕ))
+    (words : List (List ℕ))
     (held : Option (List ℕ → Option (List ℕ))) → IsCommand command → files_of command ≡ program ∷ hosts ∷ others →
     SaysOfBytes Text command → (number : ℕ) (verdict : VerdictShape) → words ≡ words_of command →
     Due words held number verdict → SaysOfFiles Text program hosts others held verdict
@@ -567,7 +573,8 @@ words_say Text command program hosts others words held is files says number verd
     (subst (λ (c : CommandShape). DueForCommand held c number verdict)
     (one_command other command is_too is (sym also ∙ asked)) ends)
 
-due_says : (Text : Kind) (command : CommandShape) (program hosts : List ℕ) (others : List (List ℕ)) (words : List (List ℕ))
+due_says : (Text : Kind) (command : CommandShape) (program hosts : List ℕ) (others : List (List ℕ))
+    (words : List (List ℕ))
     (files : FilesChange) (verdict : VerdictShape) → IsCommand command →
     files_of command ≡ program ∷ hosts ∷ others → SaysOfBytes Text command → words ≡ words_of command →
     IsDue words files verdict → SaysOfFiles Text program hosts others files.held verdict
@@ -575,7 +582,8 @@ unfolding SaysOfFiles
 due_says Text command program hosts others words files verdict is names says asked ends =
     ⊎_elim
     (λ whole. words_say Text command program hosts others words files.held is names says whole.0 verdict asked whole.1)
-    (λ fault. subst (SaysOfFiles Text program hosts others files.held) (sym (fault_verdict fault.0 files verdict fault.3))
+    (λ fault. subst (SaysOfFiles Text program hosts others files.held)
+    (sym (fault_verdict fault.0 files verdict fault.3))
     fault_fails)
     ends
 
@@ -606,11 +614,13 @@ verdict_put Text program hosts others held answer out err (Print status text) su
       hosts_told = says.hosts_told;
       others_told = says.others_told;
       text = text;
-      is = subst (λ (s : Status). Text says.program_bytes says.hosts_bytes says.others_bytes s text) (sym put.0) says.is;
+      is = subst (λ (s : Status). Text says.program_bytes says.hosts_bytes says.others_bytes s text)
+          (sym put.0) says.is;
       put = put.1;
     }
 
-pub answer_put : (Text : Kind) (command : CommandShape) (program hosts : List ℕ) (others : List (List ℕ)) (words : List (List ℕ))
+pub answer_put : (Text : Kind) (command : CommandShape) (program hosts : List ℕ) (others : List (List ℕ))
+    (words : List (List ℕ))
     (files : FilesChange) (answer : Status) (out err : SinkChange) → IsCommand command →
     files_of command ≡ program ∷ hosts ∷ others → SaysOfBytes Text command →
     AnswersTo words files answer out err → words ≡ words_of command → IsSuccess answer →

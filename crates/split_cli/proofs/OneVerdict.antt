@@ -1,10 +1,8 @@
 -- For words and for files that tell what they hold, one verdict is due.
-use Rattle.std.proofs.Common.{◌≡◌, ℕ, ◌+◌, ◌<◌, List, [], ◌∷◌, Option, Some, None, refl, sym, ap, ◌∙◌}
+use Rattle.std.proofs.Common.{◌≡◌, ℕ, ◌+◌, ◌<◌, List, [], ◌∷◌, Option, Some, refl, sym, ap, ◌∙◌}
 use Rattle.std.proofs.Common.{codes, subst, inl, inr, ⊎_elim}
-use Rattle.std.specs.Prelude.{IsSome}
 use Rattle.std.specs.Fmt.{decimal}
 use Rattle.std.specs.List.{AllZip, AllByRecursion}
-use Rattle.std.proofs.lemmas.Bool.{false≢true}
 use Rattle.js_base.specs.Counts.{last_count, Rose}
 use Rattle.js_base.specs.declared.status.Status.TheVariants.{Done}
 use Rattle.split_cli.specs.Commands.{CommandShape, Check, Run, Replay, Drive, Compare, Split, Make}
@@ -31,9 +29,10 @@ use Rattle.split_cli.proofs.OneReplay.{StepLaws, replay_once}
 use Rattle.split_cli.proofs.OneRun.{RunLaws, run_once}
 use Rattle.split_cli.proofs.SplitStages.{split_once}
 use Rattle.front_end.proofs.Answering.{no_fault_and_fault}
-use Rattle.front_end.proofs.Places.{same_place, same_here, of_front, of_all}
+use Rattle.front_end.proofs.Places.{of_all}
 use Rattle.front_end.proofs.Stages.{IsOne, one_due}
 use Rattle.front_end.proofs.StepCounts.{same_steps}
+use Rattle.front_end.proofs.AbsentFiles.{held_once, told_held, absent_not_held, absent_once}
 use Rattle.split_cli.proofs.MadeCounts.{as_steps}
 
 -- what is known of the parts of a command
@@ -100,10 +99,6 @@ bytes_once laws (Make statements) (p ∷ more) first second one two = absurd one
 
 -- ---- what is due for a command
 
-held_once : (holds : List ℕ → Option (List ℕ)) (name bytes other : List ℕ) →
-    Told (Some holds) name (Some bytes) → Told (Some holds) name (Some other) → bytes ≡ other
-held_once holds name bytes other one two = let both : Some bytes ≡ Some other = sym one ∙ two in cc
-
 -- files that tell hold some bytes
 all_once : (holds : List ℕ → Option (List ℕ)) (names bytes others : List (List ℕ)) →
     AllZip (λ file content. Told (Some holds) file (Some content)) names bytes →
@@ -124,10 +119,6 @@ files_once laws holds command first second one two =
     bytes_once laws command one.bytes first second one.due
     (subst (λ (bytes : List (List ℕ)). DueForBytes command bytes second) same two.due)
 
-pub told_held : (holds : List ℕ → Option (List ℕ)) (name bytes : List ℕ) → Told (Some holds) name (Some bytes) →
-    IsHeld (Some holds) name
-told_held holds name bytes told = subst (IsSome {T = List ℕ}) (sym told) refl
-
 -- where all files are held, each is
 all_held : (holds : List ℕ → Option (List ℕ)) (names bytes : List (List ℕ)) →
     AllZip (λ file content. Told (Some holds) file (Some content)) names bytes →
@@ -136,26 +127,6 @@ all_held holds [] bytes told = tt
 all_held holds (n ∷ names) [] told = absurd told
 all_held holds (n ∷ names) (b ∷ bytes) told =
     (told_held holds n b told.0, all_held holds names bytes told.1)
-
-absent_not_held : (holds : List ℕ → Option (List ℕ)) (name : List ℕ) → Told (Some holds) name None →
-    ¬ IsHeld (Some holds) name
-absent_not_held holds name told held = false≢true (subst (IsSome {T = List ℕ}) told held)
-
-absent_not_before : (holds : List ℕ → Option (List ℕ)) (names : List (List ℕ)) (place other : ℕ)
-    (file second : List ℕ) →
-    IsFirstAbsent (Some holds) names place file → IsFirstAbsent (Some holds) names other second → ¬ (place < other)
-absent_not_before holds names place other file second one two = λ before.
-    absent_not_held holds file one.absent
-    (of_front (IsHeld (Some holds)) names other place file two.before before one.here)
-
-absent_once : (holds : List ℕ → Option (List ℕ)) (names : List (List ℕ)) (place other : ℕ) (file second : List ℕ) →
-    IsFirstAbsent (Some holds) names place file → IsFirstAbsent (Some holds) names other second →
-    (place ≡ other) × (file ≡ second)
-absent_once holds names place other file second one two =
-    let same =
-    same_place place other (absent_not_before holds names place other file second one two)
-    (absent_not_before holds names other place second file two one) in
-    (same, same_here names place other file second same one.here two.here)
 
 absent_or_held : (holds : List ℕ → Option (List ℕ)) (command : CommandShape) (place : ℕ) (file : List ℕ)
     (verdict : VerdictShape) →
@@ -272,7 +243,8 @@ due_once laws words holds _ _ _ _ (for_command command number first is asked one
 -- ---- what is due for words and for what the files did
 
 -- a fault was counted
-pub fault_rose : (command : CommandShape) (files : FilesChange) (verdict : VerdictShape) → IsFault command files verdict →
+pub fault_rose : (command : CommandShape) (files : FilesChange) (verdict : VerdictShape) →
+    IsFault command files verdict →
     Rose files.faults_before files.faults_after
 fault_rose command files verdict (inl loading) = loading.0.rose
 fault_rose (Check program hosts) files verdict (inr none) = absurd none

@@ -100,8 +100,7 @@ pub record PlanLaws : Type 0 where
       (plan : PlanShape) → IsPlaced labelled need hosts allowed plan → HasHosts hosts plan
 
 abbrev pub GrantedLaw : Type 0
-GrantedLaw = (placed : PlacedProgram) →
-    IsSplittable placed.labelled placed.hosts placed.plan → IsAllowed placed → IsHeld placed →
+GrantedLaw = (placed : PlacedProgram) → IsSplittable placed → IsAllowed placed → IsHeld placed →
     AreGranted (split_code placed)
 
 -- ---- the plan
@@ -128,7 +127,8 @@ trusted_from hosts (u ∷ used) (n ∷ need) (host ∷ places) same all = (
 
 -- ---- the whole
 
-module _ (sources : ReadingLaws) (plans : PlanLaws) (granted : GrantedLaw) (program hosts : List ℕ) (placed : PlacedSource)
+module _ (sources : ReadingLaws) (plans : PlanLaws) (granted : GrantedLaw) (program hosts : List ℕ)
+    (placed : PlacedSource)
     (accepted : PlacedSources program hosts (given placed)) where
   read : IsReadSource program hosts placed.source
   read = read_source program hosts placed.source (source_given program hosts placed accepted)
@@ -138,7 +138,8 @@ module _ (sources : ReadingLaws) (plans : PlanLaws) (granted : GrantedLaw) (prog
 
   held : IsAllowedPlan (labelled_source placed.source) placed.needs placed.source.file placed.plan
   held =
-      plans.allowed (labelled_source placed.source) placed.needs placed.source.file placed.allowed placed.plan choice.plan
+      plans.allowed (labelled_source placed.source) placed.needs placed.source.file placed.allowed placed.plan
+      choice.plan
 
   counts : (length placed.needs.used ≡ length (statement_numbers placed.source.tree))
       × (length placed.needs.need ≡ length (statement_numbers placed.source.tree))
@@ -163,16 +164,17 @@ module _ (sources : ReadingLaws) (plans : PlanLaws) (granted : GrantedLaw) (prog
   numbered : IsWellNumbered placed.source.tree
   numbered = sources.numbered placed.source.file.principals read.draft placed.source.tree read.resolved
 
-  splits_there : IsSplittable (labelled_source placed.source) placed.source.file placed.plan
+  splits_there : IsSplittable (program_of placed)
   splits_there =
-      splittable placed.source placed.plan (record {
+      splittable placed.source placed.needs placed.plan (record {
         numbered = numbered;
         sites = sources.sites placed.source.file.principals read.draft placed.source.tree read.resolved;
         named = sources.named program read.list placed.source.file.principals read.draft placed.source.tree read.few
             read.read read.parsed read.resolved;
         within = within;
       }) are_hosts (sources.short hosts placed.source.file read.file)
-      (plans.hosts (labelled_source placed.source) placed.needs placed.source.file placed.allowed placed.plan choice.plan)
+      (plans.hosts (labelled_source placed.source) placed.needs placed.source.file placed.allowed placed.plan
+      choice.plan)
 
   trusted : AllZip (IsTrustedHost placed.source.file) placed.needs.need placed.plan.statements
   trusted =

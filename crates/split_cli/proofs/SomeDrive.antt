@@ -48,19 +48,18 @@ pub record CodeLaws : Type 0 where
       All (λ host. length host.name ≤ HOSTS_BYTES) file.hosts
   pub places : (labelled : needs.Labelled) (need : NeedsShape) (hosts : HostsShape) (allowed : AllowedShape)
       (plan : PlanShape) → IsPlaced labelled need hosts allowed plan → HasHosts hosts plan
-  pub sound : (placed : PlacedProgram) →
-      IsSplittable placed.labelled placed.hosts placed.plan → IsSoundCode (split_code placed)
+  pub sound : (placed : PlacedProgram) → IsSplittable placed → IsSoundCode (split_code placed)
   pub start : (code : CodeShape) (rows : List declared_hosts.HostShape) (bad : ℕ) (store : List (List ℤ)) →
       IsSoundCode code → AreHostsOf code rows → ShapeFits code (world_at_start code rows bad store)
 
 splits : CodeLaws → (program hosts : List ℕ) (placed : PlacedSource) → PlacedSources program hosts (given placed) →
-    IsSplittable (labelled_source placed.source) placed.source.file placed.plan
+    IsSplittable (program_of placed)
 splits laws program hosts placed accepted =
     let source = placed.source in
     let given_source = source_given program hosts placed accepted in
     let read = read_source program hosts source given_source in
     let choice = chosen program hosts placed accepted in
-    splittable source placed.plan
+    splittable source placed.needs placed.plan
     (is_read laws.native program hosts source (laws.sites source.file.principals read.draft source.tree read.resolved)
     given_source)
     (laws.hosts hosts source.file read.file) (laws.short_names hosts source.file read.file)

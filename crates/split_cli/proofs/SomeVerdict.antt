@@ -23,7 +23,7 @@ use Rattle.front_end.specs.Verdicts.{VerdictShape, Print, usage, no_such_file}
 use Rattle.jif_tree.specs.Trees.{program_tree}
 use Rattle.front_end.proofs.NativeParts.{IsSeen}
 use Rattle.front_end.proofs.NativeSources.{NativeLaws, source_seen}
-use Rattle.split_cli.proofs.OneVerdict.{told_held}
+use Rattle.front_end.proofs.AbsentFiles.{told_held}
 use Rattle.split_cli.proofs.SomeCompare.{CompareCauses, compare_some}
 use Rattle.split_cli.proofs.SomeDrive.{CodeLaws, drive_some}
 use Rattle.front_end.proofs.ReadSources.{source_given}

@@ -27,10 +27,10 @@ use Rattle.simulation.specs.Obeying.{FieldsAre, Follows}
 use Rattle.integrity.specs.Altering.{FollowsAltered, StandsFor}
 use Rattle.integrity.specs.Exposed.{exposure_of}
 use Rattle.split_cli.specs.Drive.{first_world, drive_text}
-use Rattle.front_end.specs.PlacedCode.{code_of}
+use Rattle.front_end.specs.PlacedCode.{code_of, program_of}
 use Rattle.split_cli.specs.Driven.{DrivesTo}
 use Rattle.front_end.specs.Loads.{Told}
-use Rattle.front_end.specs.PlacedSources.{PlacedSource, PlacedSources, labelled_source}
+use Rattle.front_end.specs.PlacedSources.{PlacedSource, PlacedSources}
 use Rattle.split_cli.specs.Replay.{events_in, replay_text}
 use Rattle.front_end.specs.Stages.{given}
 
@@ -54,7 +54,7 @@ pub record IsObeyingRun (placed : PlacedSource) (tree : Program) (start : List (
 
 -- what the hosts of the word's bits may affect
 abbrev pub exposure_in : PlacedSource → ℕ → Exposure
-exposure_in placed bad = exposure_of (labelled_source placed.source) placed.needs placed.source.file bad
+exposure_in placed bad = exposure_of (program_of placed) bad
 
 -- From these starting values on events left this world, where the hosts of the word's bits misbehave. The others
 -- followed one altered run, at every moment.

@@ -1,5 +1,5 @@
--- Each request that an instruction of split code makes of another host is granted, and no instruction tells another host
--- what it may not see.
+-- Each request that an instruction of split code makes of another host is granted, and no instruction tells another
+-- host what it may not see.
 use Rattle.std.proofs.Common.{◌≡◌, ℕ, zero, suc, ◌<◌, true, inl, List, [], ◌∷◌, length, refl, ap}
 use Rattle.std.proofs.Common.{sym, subst, arith, bit_or}
 use Rattle.std.specs.Prelude.{Option, Some, None, slice_get, slice_index, IsSomeAnd}
@@ -233,21 +233,19 @@ op_tells placed emissions me label pc is what well = by what well
 
 -- ---- the laws
 
-told : (placed : PlacedProgram) →
-    IsSplittable placed.labelled placed.hosts placed.plan → IsAllowed placed → IsHeld placed →
+told : (placed : PlacedProgram) → IsSplittable placed → IsAllowed placed → IsHeld placed →
     let planned = planned_from placed in
-    AreTold placed.labelled planned [] (program_emissions placed.hosts.principals placed.labelled planned)
+    AreTold placed.labelled planned [] (program_emissions placed)
 told placed splittable allowed held =
     program_told placed splittable.numbered.main.0 splittable.numbered.main.1
     (program_tells_well placed splittable allowed held)
 
 -- Each request between hosts is granted.
-pub split_is_granted : (placed : PlacedProgram) →
-    IsSplittable placed.labelled placed.hosts placed.plan → IsAllowed placed → IsHeld placed →
+pub split_is_granted : (placed : PlacedProgram) → IsSplittable placed → IsAllowed placed → IsHeld placed →
     AreGranted (split_code placed)
 split_is_granted placed splittable allowed held me place there is =
     let planned = planned_from placed in
-    let emissions = program_emissions placed.hosts.principals placed.labelled planned in
+    let emissions = program_emissions placed in
     let code = code_of_emissions placed.labelled placed.hosts planned emissions in
     let typed = split_is_typed placed splittable
     (allowed_typable placed allowed) in
@@ -262,12 +260,11 @@ split_is_granted placed splittable allowed held me place there is =
     (subst P (sym what_is) own.1))
 
 -- No instruction tells another host what it may not see.
-pub split_tells_no_more : (placed : PlacedProgram) →
-    IsSplittable placed.labelled placed.hosts placed.plan → IsAllowed placed → IsHeld placed →
+pub split_tells_no_more : (placed : PlacedProgram) → IsSplittable placed → IsAllowed placed → IsHeld placed →
     TellsNoMore (split_code placed)
 split_tells_no_more placed splittable allowed held me place there is =
     let planned = planned_from placed in
-    let emissions = program_emissions placed.hosts.principals placed.labelled planned in
+    let emissions = program_emissions placed in
     let code = code_of_emissions placed.labelled placed.hosts planned emissions in
     let needed = code_labels placed.labelled emissions in
     let made = made_of placed.labelled placed.hosts planned emissions (told placed splittable allowed held) me place

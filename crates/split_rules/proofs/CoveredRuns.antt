@@ -136,8 +136,7 @@ module _ (planned : PlannedShape) (code : CodeShape) (table : Table) (need : ℕ
 
 -- ---- the law
 
-pub split_covers_runs : (placed : PlacedProgram) (table : Table) →
-    IsSplittable placed.labelled placed.hosts placed.plan → IsAllowed placed →
+pub split_covers_runs : (placed : PlacedProgram) (table : Table) → IsSplittable placed → IsAllowed placed →
     IsTypedCode (planned_from placed) (split_code placed) table →
     CoversRuns (planned_from placed) (split_code placed) table
 split_covers_runs placed table splittable allowed typed there start not_halt is count steps first

@@ -241,9 +241,8 @@ few_first : (planned : PlannedShape) (main : Option MethodTree) → length (halt
 few_first planned None = omega arith
 few_first planned (Some main) = omega arith
 
-few_emissions : (placed : PlacedProgram) →
-    IsSplittable placed.labelled placed.hosts placed.plan →
-    length (program_emissions placed.hosts.principals placed.labelled (planned_from placed)) ≤ 4100000
+few_emissions : (placed : PlacedProgram) → IsSplittable placed →
+    length (program_emissions placed) ≤ 4100000
 few_emissions placed splittable =
     let planned = planned_from placed in
     let program = placed.labelled.program in
@@ -265,15 +264,14 @@ few_emissions placed splittable =
     let statements = within.statements in
     omega (arith, few, first, as_many, fronts, whole, methods, statements)
 
-pub split_is_few : (placed : PlacedProgram) →
-    IsSplittable placed.labelled placed.hosts placed.plan →
+pub split_is_few : (placed : PlacedProgram) → IsSplittable placed →
     HasFew (split_code placed)
-    (program_emissions placed.hosts.principals placed.labelled (planned_from placed))
+    (program_emissions placed)
 split_is_few placed splittable =
     let planned = planned_from placed in
     let program = placed.labelled.program in
     let within = splittable.within in
-    let emissions = program_emissions placed.hosts.principals placed.labelled planned in
+    let emissions = program_emissions placed in
     let labels = code_labels placed.labelled emissions in
     let few = few_emissions placed splittable in
     let fields = within.fields in

@@ -8,6 +8,7 @@ use Rattle.jif_tree.specs.Trees.{MethodTree}
 use Rattle.jif_tree.specs.LabelRules.{method_at}
 use Rattle.need_labels.specs.Labelled.{Labelled}
 use Rattle.msg_cost.specs.Moves.{PlannedShape, home_of, called_home}
+use Rattle.split_rules.specs.Placed.{PlacedProgram, planned_from}
 use Rattle.split_rules.specs.Emissions.{Emission, instruction, entry, stands, lands, Named}
 use Rattle.split_rules.specs.Walk.{method_entry, halt_entries, need_of}
 use Rattle.split_rules.specs.SplitCode.{emitted_on, entries_in}
@@ -159,11 +160,15 @@ front_is labelled planned main main_is =
     ap (λ found. halt_entries planned found ++ map (method_entry planned) labelled.program.methods) main_is
 
 -- what goes from the start of a walk to an end
-pub walk_there : (labelled : Labelled) (hosts : HostsShape) (planned : PlannedShape) (emissions : List Emission)
-    (last : State) → (splittable : IsSplittable labelled hosts planned.plan) →
-    Goes (scope_of labelled hosts planned.plan) (walk_start labelled planned) emissions last → IsEnd last →
-    IsWalk labelled hosts planned splittable.numbered.main.0 emissions last
-walk_there labelled hosts planned emissions last splittable goes end =
+pub walk_there : (placed : PlacedProgram) (emissions : List Emission) (last : State) →
+    (splittable : IsSplittable placed) →
+    let planned = planned_from placed in
+    Goes (scope_of placed.labelled placed.hosts placed.plan) (walk_start placed.labelled planned) emissions last →
+    IsEnd last → IsWalk placed.labelled placed.hosts planned splittable.numbered.main.0 emissions last
+walk_there placed emissions last splittable goes end =
+    let labelled = placed.labelled in
+    let hosts = placed.hosts in
+    let planned = planned_from placed in
     let methods = labelled.program.methods in
     let main = splittable.numbered.main.0 in
     let main_is : method_at labelled.program labelled.program.main ≡ Some main = splittable.numbered.main.1 in

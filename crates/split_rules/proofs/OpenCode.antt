@@ -207,15 +207,13 @@ module _ (placed : PlacedProgram) (table : Table)
 
 -- ---- the laws
 
-pub split_has_own_labels : (placed : PlacedProgram) →
-    IsSplittable placed.labelled placed.hosts placed.plan →
+pub split_has_own_labels : (placed : PlacedProgram) → IsSplittable placed →
     HasOwnLabels placed.labelled (planned_from placed) (split_code placed)
 split_has_own_labels placed splittable =
     let planned = planned_from placed in
-    own_labels placed (program_emissions placed.hosts.principals placed.labelled planned) splittable.var_labels
+    own_labels placed (program_emissions placed) splittable.var_labels
 
-pub split_is_open : (placed : PlacedProgram) (table : Table) →
-    IsSplittable placed.labelled placed.hosts placed.plan → IsAllowed placed →
+pub split_is_open : (placed : PlacedProgram) (table : Table) → IsSplittable placed → IsAllowed placed →
     IsTypedCode (planned_from placed) (split_code placed) table →
     IsOpenCode (planned_from placed) (split_code placed) table
 split_is_open placed table splittable allowed typed = record {

@@ -173,8 +173,7 @@ pub record IsKnown (labelled : Labelled) (planned : PlannedShape) (principals : 
   pub methods : (place : ℕ) (tree : MethodTree) → slice_get labelled.program.methods place ≡ Some tree →
       IsMethodKnown labelled planned principals place tree
 
-pub program_known : (placed : PlacedProgram) →
-    IsSplittable placed.labelled placed.hosts placed.plan → IsAllowed placed →
+pub program_known : (placed : PlacedProgram) → IsSplittable placed → IsAllowed placed →
     IsKnown placed.labelled (planned_from placed) placed.hosts.principals
 program_known placed splittable allowed = record {
   many = splittable.var_labels;

@@ -1,17 +1,14 @@
 -- The code of a split program is paced: the numbers of its places are those of the walk.
 use Rattle.std.proofs.Common.{◌≡◌, ◌∙◌, ℕ, suc, ◌+◌, ◌*◌, ◌<◌, ◌≤◌, ◌⊎◌, Bool, true, false, cond, inl, inr, List, []}
 use Rattle.std.proofs.Common.{◌∷◌, ◌++◌, length, refl, ap, sym, subst, arith, append_assoc}
-use Rattle.std.specs.Prelude.{All, Option, Some, None, slice_get, unwrap_or}
+use Rattle.std.specs.Prelude.{All, Option, Some, None, slice_get}
 use Rattle.std.proofs.lemmas.List.{length-map}
-use Rattle.std.proofs.lemmas.List.FromFn.{length-range_with_len}
-use Rattle.std.specs.List.{range_with_len}
 use Rattle.std.specs.Option.{option_map}
-use Rattle.std.proofs.lemmas.Option.{slice_get_within, slice_get-map}
+use Rattle.std.proofs.lemmas.Option.{slice_get-map}
 use Rattle.js_base.specs.declared.ids.HostId.{HostId}
 use Rattle.js_base.specs.declared.ids.EntryId.{EntryId}
 use Rattle.js_base.specs.declared.ids.MethodId.{MethodId}
 use Rattle.js_base.specs.declared.limits.TheConstants.{PARAMETERS}
-use Rattle.label_lattice.specs.declared.label.Label.{Label}
 use Rattle.host_decl.specs.Hosts.{HostShape, HostsShape}
 use Rattle.jif_tree.specs.Trees.{MethodTree, ProgramTree}
 use Rattle.jif_tree.specs.LabelRules.{method_at, params_of}
@@ -28,7 +25,7 @@ use Rattle.split_rules.specs.Flow.{Scope, State, Goes}
 use Rattle.split_rules.specs.Pace.{PACE, Allowance, is_call, is_call_there, calls_at, Pushes, EntersLower, IsPacedOp}
 use Rattle.split_rules.specs.Pace.{IsPaced}
 use Rattle.split_rules.specs.SplitCode.{emitted_on, before_entry, before_landing, landed, code_labels}
-use Rattle.split_rules.specs.SplitCode.{placed_instruction, part_on, code_of_emissions, split_code}
+use Rattle.split_rules.specs.SplitCode.{placed_instruction, code_of_emissions, split_code}
 use Rattle.split_rules.specs.Splittable.{IsSplittable}
 use Rattle.split_rules.specs.ThreadRun.{Thread, Runs, IsAtMain}
 use Rattle.split_rules.specs.Walk.{methods_emissions}
@@ -39,7 +36,7 @@ use Rattle.split_rules.proofs.Pendings.{of_entries, of_branches, GoesOn}
 use Rattle.split_rules.proofs.Standing.{own_instruction, emitted_own, Placed}
 use Rattle.split_rules.proofs.Fronts.{IsWalk, front_is, walk_there, others_stand, start_of, ordered_start}
 use Rattle.split_rules.proofs.SoundParts.{given, code_given, given_emitted, part_is, entry_made}
-use Rattle.split_rules.proofs.SoundInstructions.{mapped, branch_leads}
+use Rattle.split_rules.proofs.SoundInstructions.{instruction_made, branch_leads}
 use Rattle.split_rules.proofs.WalkedPrograms.{program_goes}
 use Rattle.split_rules.proofs.TypedSplit.{landing_place, entry_place}
 use Rattle.split_rules.proofs.PacedEmissions.{calls_first, at_op, ahead, StandsNext, Paces}
@@ -284,40 +281,23 @@ instructions_paced : (labelled : Labelled) (hosts : HostsShape) (planned : Plann
     (there : Instr) → instruction_at (code_given labelled hosts planned main emissions) me place ≡ Some there →
     IsPacedOp (code_given labelled hosts planned main emissions) (left_in emissions) me place there.op
 instructions_paced labelled hosts planned main emissions walk me place there is =
-    by (slice_get code.parts me.0) refl is
+    let made = instruction_made labelled hosts planned all me place there is in
+    let within = made.0 in
+    let one = made.1 in
+    let so = found me emissions place one.0
+    (ap (λ list. slice_get list place) (sym (given_emitted me labelled planned main emissions)) ∙ one.1) in
+    let P : ℕ → Type 0 = λ at. IsPacedOp code (left_in emissions) me at (landed me all one.0.op) in
+    let Q : HostId → Type 0 = λ host. IsPacedOp code (left_in emissions) me place (landed host all one.0.op) in
+    let R : Instr → Type 0 = λ it. IsPacedOp code (left_in emissions) me place it.op in
+    subst R one.2 (subst Q (sym so.own) (subst P so.place
+    (op_paced labelled hosts planned main emissions walk so.before one.0 so.behind so.is me within so.own one.0.op
+    refl)))
   where
     code : CodeShape
     code = code_given labelled hosts planned main emissions
 
     all : List Emission
     all = given labelled planned main emissions
-
-    labels : List Label
-    labels = code_labels labelled all
-
-    within_hosts : me.0 < length hosts.hosts → IsPacedOp code (left_in emissions) me place there.op
-    within_hosts within =
-        let part = part_is labelled hosts planned all me within in
-        let one = mapped (placed_instruction labels all) (emitted_on me all) place there
-        (ap (λ list. slice_get list place) (sym part) ∙ is) in
-        let so = found me emissions place one.0
-        (ap (λ list. slice_get list place) (sym (given_emitted me labelled planned main emissions)) ∙ one.1) in
-        let P : ℕ → Type 0 = λ at. IsPacedOp code (left_in emissions) me at (landed me all one.0.op) in
-        let Q : HostId → Type 0 = λ host. IsPacedOp code (left_in emissions) me place (landed host all one.0.op) in
-        let R : Instr → Type 0 = λ it. IsPacedOp code (left_in emissions) me place it.op in
-        subst R one.2 (subst Q (sym so.own) (subst P so.place
-        (op_paced labelled hosts planned main emissions walk so.before one.0 so.behind so.is me within so.own one.0.op
-        refl)))
-
-    by : (part : Option (List Instr)) → slice_get code.parts me.0 ≡ part →
-        slice_get (unwrap_or part []) place ≡ Some there → IsPacedOp code (left_in emissions) me place there.op
-    by None part_is at = absurd (cc)
-    by (Some part) is_part at =
-        let within = slice_get_within code.parts me.0 part is_part in
-        let numbers = range_with_len 0 (length hosts.hosts) in
-        let many = length-map numbers (λ number. part_on labels all (record { 0 = number })) in
-        let as_many = length-range_with_len 0 (length hosts.hosts) in
-        within_hosts (omega arith)
 
 code_paced : (labelled : Labelled) (hosts : HostsShape) (planned : PlannedShape) (main : MethodTree)
     (emissions : List Emission) → Walk labelled hosts planned main emissions →
@@ -343,8 +323,7 @@ few_params program all method = by (slice_get program.methods method.0) refl
         at_all (λ (one : MethodTree). length one.params ≤ PARAMETERS) program.methods method.0 tree all is
 
 -- The code that a program is split into is paced, since the program is within the limits.
-pub split_is_paced : (placed : PlacedProgram) →
-    IsSplittable placed.labelled placed.hosts placed.plan →
+pub split_is_paced : (placed : PlacedProgram) → IsSplittable placed →
     (left : Allowance) × IsPaced (split_code placed) left
 split_is_paced placed splittable =
     subst P (sym (front_is placed.labelled planned main splittable.numbered.main.1))
@@ -375,7 +354,7 @@ split_is_paced placed splittable =
         let goes = program_goes placed splittable in
         record {
           end = goes.0;
-          walk = walk_there placed.labelled placed.hosts planned emissions goes.0 splittable goes.1 goes.2;
+          walk = walk_there placed emissions goes.0 splittable goes.1 goes.2;
           paces = (methods_paced placed.hosts.principals placed.labelled planned few_hosts
               (few_params placed.labelled.program splittable.within.params) 0 placed.labelled.program.methods
               splittable.numbered.methods splittable.within.nodes counts).0;
@@ -386,8 +365,7 @@ split_is_paced placed splittable =
         ++ emissions)) left
 
 -- So its threads run few instructions.
-pub split_runs_few : (placed : PlacedProgram) →
-    IsSplittable placed.labelled placed.hosts placed.plan → (count steps : ℕ) (first last : Thread) →
+pub split_runs_few : (placed : PlacedProgram) → IsSplittable placed → (count steps : ℕ) (first last : Thread) →
     IsAtMain (split_code placed) first →
     Runs (split_code placed) count steps first last → count ≤ PACE * (steps + 1)
 split_runs_few placed splittable count steps first last begun runs =

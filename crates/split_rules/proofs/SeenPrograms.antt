@@ -320,7 +320,7 @@ told_flow field to (telling ∷ tellings) flow =
 
 -- the premises of the laws, and what follows from them of each part of a program
 pub record Premises (placed : PlacedProgram) : Type 0 where
-  pub splittable : IsSplittable placed.labelled placed.hosts placed.plan
+  pub splittable : IsSplittable placed
   pub allowed : IsAllowed placed
   pub held : IsHeld placed
 
@@ -522,8 +522,7 @@ methods_well principals labelled planned program final are place (method ∷ met
           (all_second (IsUseWell labelled planned principals) own_uses _ uses.1),
     )
 
-pub program_tells_well : (placed : PlacedProgram) →
-    IsSplittable placed.labelled placed.hosts placed.plan → IsAllowed placed → IsHeld placed →
+pub program_tells_well : (placed : PlacedProgram) → IsSplittable placed → IsAllowed placed → IsHeld placed →
     AllByRecursion (MethodTellsWell placed.hosts.principals placed.labelled (planned_from placed))
     placed.labelled.program.methods
 program_tells_well placed splittable allowed held =

@@ -257,9 +257,8 @@ given_settled labelled hosts planned main emissions last walk =
     }
 
 -- all that a walk over a program gives
-pub program_settled : (placed : PlacedProgram) →
-    IsSplittable placed.labelled placed.hosts placed.plan →
-    let emissions = program_emissions placed.hosts.principals placed.labelled (planned_from placed) in
+pub program_settled : (placed : PlacedProgram) → IsSplittable placed →
+    let emissions = program_emissions placed in
     AreSettled (length placed.hosts.hosts) (counts_after (record { entries = 0; branches = 0 }) emissions).branches
     emissions
 program_settled placed splittable =
@@ -279,7 +278,7 @@ program_settled placed splittable =
     ∙ sym (counts_behind (scope_of placed.labelled placed.hosts placed.plan) (walk_start placed.labelled planned)
     bodies last goes.1) in
     let settled = given_settled placed.labelled placed.hosts planned main bodies last
-    (walk_there placed.labelled placed.hosts planned bodies last splittable goes.1 goes.2) in
+    (walk_there placed bodies last splittable goes.1 goes.2) in
     let P : ℕ → Type 0 = λ count. AreSettled (length placed.hosts.hosts) count (front ++ bodies) in
     let Q : List Emission → Type 0 = λ list. AreSettled (length placed.hosts.hosts) last.branches (list ++ bodies) in
     subst P (ap (λ counts. counts.branches) (sym counted))

@@ -17,6 +17,7 @@ use Rattle.host_code.specs.Code.{CodeShape, CodeHostShape, CodeFieldShape, CodeV
 use Rattle.host_code.specs.Sound.{IsSoundCode, FieldFits, VariableFits, EntryFits, IsHost, IsOnRoot}
 use Rattle.need_labels.specs.Labelled.{Labelled}
 use Rattle.msg_cost.specs.Moves.{PlannedShape, home_of, called_home}
+use Rattle.split_rules.specs.Placed.{PlacedProgram, planned_from}
 use Rattle.split_rules.specs.Emissions.{Emission, entry, Named}
 use Rattle.split_rules.specs.Walk.{method_entry, need_of}
 use Rattle.split_rules.specs.SplitCode.{entries_in, code_labels}
@@ -87,12 +88,14 @@ host_names hosts named =
 
 -- ---- fields and variables
 
-field_fits : (labelled : Labelled) (hosts : HostsShape) (planned : PlannedShape) (all : List Emission) →
-    IsSplittable labelled hosts planned.plan →
-    let code = code_of_emissions labelled hosts planned all in
-    All (λ field. length field.name ≤ MOST_ITEMS) code.fields → 0 < length hosts.hosts →
+field_fits : (placed : PlacedProgram) (all : List Emission) → IsSplittable placed →
+    let code = code_of_emissions placed.labelled placed.hosts (planned_from placed) all in
+    All (λ field. length field.name ≤ MOST_ITEMS) code.fields → 0 < length placed.hosts.hosts →
     All (FieldFits code) code.fields
-field_fits labelled hosts planned all splittable short some =
+field_fits placed all splittable short some =
+    let labelled = placed.labelled in
+    let hosts = placed.hosts in
+    let planned = planned_from placed in
     let code = code_of_emissions labelled hosts planned all in
     let labels = code_labels labelled all in
     let fields = labelled.program.fields in
@@ -122,12 +125,12 @@ field_fits labelled hosts planned all splittable short some =
       host = omega arith;
     }))
 
-variable_fits : (labelled : Labelled) (hosts : HostsShape) (planned : PlannedShape) (all : List Emission) →
-    IsSplittable labelled hosts planned.plan →
-    let code = code_of_emissions labelled hosts planned all in
+variable_fits : (placed : PlacedProgram) (all : List Emission) → IsSplittable placed →
+    let code = code_of_emissions placed.labelled placed.hosts (planned_from placed) all in
     All (λ variable. length variable.name ≤ MOST_ITEMS) code.variables → All (VariableFits code) code.variables
-variable_fits labelled hosts planned all splittable short =
-    let code = code_of_emissions labelled hosts planned all in
+variable_fits placed all splittable short =
+    let labelled = placed.labelled in
+    let code = code_of_emissions labelled placed.hosts (planned_from placed) all in
     let labels = code_labels labelled all in
     let program = labelled.program in
     let pairs = zip program.vars labelled.var_labels in
@@ -227,12 +230,15 @@ halt_on_root : (labelled : Labelled) (hosts : HostsShape) (planned : PlannedShap
     IsSomeAnd (entry_at code halt) (λ there. (there.host ≡ code.root) × (there.at ≡ 0))
 halt_on_root labelled hosts planned main emissions main_is = (sym (ap (called_home planned) main_is), refl)
 
-sound_given : (labelled : Labelled) (hosts : HostsShape) (planned : PlannedShape) (main : MethodTree)
-    (emissions : List Emission) (last : State) → IsWalk labelled hosts planned main emissions last →
-    IsSplittable labelled hosts planned.plan →
-    HasFew (code_given labelled hosts planned main emissions) (given labelled planned main emissions) →
-    IsSoundCode (code_given labelled hosts planned main emissions)
-sound_given labelled hosts planned main emissions last walk splittable few =
+sound_given : (placed : PlacedProgram) (main : MethodTree) (emissions : List Emission) (last : State) →
+    let planned = planned_from placed in
+    IsWalk placed.labelled placed.hosts planned main emissions last → IsSplittable placed →
+    let code = code_given placed.labelled placed.hosts planned main emissions in
+    HasFew code (given placed.labelled planned main emissions) → IsSoundCode code
+sound_given placed main emissions last walk splittable few =
+    let labelled = placed.labelled in
+    let hosts = placed.hosts in
+    let planned = planned_from placed in
     let code = code_given labelled hosts planned main emissions in
     let all = given labelled planned main emissions in
     let labels = code_labels labelled all in
@@ -256,10 +262,10 @@ sound_given labelled hosts planned main emissions last walk splittable few =
           (host_names hosts splittable.are_hosts.named) few.host_names;
       few_labels = few.labels;
       few_fields = few.fields;
-      fields = field_fits labelled hosts planned all splittable few.field_names walk.some;
+      fields = field_fits placed all splittable few.field_names walk.some;
       elements = omega arith;
       few_variables = few.variables;
-      variables = variable_fits labelled hosts planned all splittable few.variable_names;
+      variables = variable_fits placed all splittable few.variable_names;
       few_entries = few_entries labels all few.few_emissions;
       entries = entry_fits labelled hosts planned main emissions last walk;
       few_sites = few.sites;
@@ -274,18 +280,22 @@ sound_given labelled hosts planned main emissions last walk splittable few =
     }
 
 -- the code of emissions that go from the start of a walk to an end is sound
-pub sound_code : (labelled : Labelled) (hosts : HostsShape) (planned : PlannedShape) (emissions : List Emission)
-    (last : State) → IsSplittable labelled hosts planned.plan →
-    HasFew (code_of_emissions labelled hosts planned (front_emissions labelled planned ++ emissions))
-    (front_emissions labelled planned ++ emissions) →
-    Goes (scope_of labelled hosts planned.plan) (walk_start labelled planned) emissions last → IsEnd last →
-    IsSoundCode (code_of_emissions labelled hosts planned (front_emissions labelled planned ++ emissions))
-sound_code labelled hosts planned emissions last splittable few goes end =
+pub sound_code : (placed : PlacedProgram) (emissions : List Emission) (last : State) → IsSplittable placed →
+    let planned = planned_from placed in
+    let all = front_emissions placed.labelled planned ++ emissions in
+    let code = code_of_emissions placed.labelled placed.hosts planned all in
+    HasFew code all →
+    Goes (scope_of placed.labelled placed.hosts placed.plan) (walk_start placed.labelled planned) emissions last →
+    IsEnd last → IsSoundCode code
+sound_code placed emissions last splittable few goes end =
+    let labelled = placed.labelled in
+    let hosts = placed.hosts in
+    let planned = planned_from placed in
     let main = splittable.numbered.main.0 in
     let front = front_is labelled planned main splittable.numbered.main.1 in
-    let walk = walk_there labelled hosts planned emissions last splittable goes end in
+    let walk = walk_there placed emissions last splittable goes end in
     let IsFew : List Emission → Type 0 = λ list. HasFew (code_of_emissions labelled hosts planned (list ++ emissions))
     (list ++ emissions) in
     let few_given = subst IsFew front few in
     subst (λ (list : List Emission). IsSoundCode (code_of_emissions labelled hosts planned (list ++ emissions)))
-    (sym front) (sound_given labelled hosts planned main emissions last walk splittable few_given)
+    (sym front) (sound_given placed main emissions last walk splittable few_given)

@@ -1,8 +1,11 @@
 -- Each instruction of the code that is read off a walk fits, and so does each part.
 use Rattle.std.proofs.Common.{◌≡◌, ◌∙◌, ℕ, zero, suc, ◌-◌, ◌<◌, ◌≤◌, ◌⊎◌, inl, List, [], ◌∷◌, ◌++◌, map}
-use Rattle.std.proofs.Common.{length, Some, slice_get, refl, ap, sym, subst, arith, append_assoc, IsSomeAnd}
-use Rattle.std.specs.List.{flat_map}
-use Rattle.std.proofs.lemmas.List.{map-append}
+use Rattle.std.proofs.Common.{length, Option, Some, None, slice_get, refl, ap, sym, subst, arith, append_assoc, IsSomeAnd}
+use Rattle.std.specs.Prelude.{unwrap_or}
+use Rattle.std.specs.List.{flat_map, range_with_len}
+use Rattle.std.proofs.lemmas.List.{map-append, length-map}
+use Rattle.std.proofs.lemmas.List.FromFn.{length-range_with_len}
+use Rattle.std.proofs.lemmas.Option.{slice_get_within}
 use Rattle.js_base.specs.declared.ids.HostId.{HostId}
 use Rattle.js_base.specs.declared.ids.EntryId.{EntryId}
 use Rattle.label_lattice.specs.declared.label.Label.{Label}
@@ -12,14 +15,14 @@ use Rattle.host_code.specs.declared.code.TheConstants.{MOST_ITEMS}
 use Rattle.host_code.specs.declared.instruction.Instr.{Instr}
 use Rattle.host_code.specs.declared.instruction.Op.{Op}
 use Rattle.host_code.specs.declared.instruction.Op.TheVariants as op
-use Rattle.host_code.specs.Code.{part_of}
+use Rattle.host_code.specs.Code.{CodeShape, part_of, instruction_at}
 use Rattle.host_code.specs.Sound as sound
 use Rattle.host_code.specs.Sound.{IsLeaving, temporaries_at, PartFits}
 use Rattle.need_labels.specs.Labelled.{Labelled}
 use Rattle.msg_cost.specs.Moves.{PlannedShape, home_of}
 use Rattle.split_rules.specs.Emissions.{Emission, instruction, Emitted, Named}
 use Rattle.split_rules.specs.SplitCode.{emitted_on, entries_in, landed, placed_instruction, part_on}
-use Rattle.split_rules.specs.SplitCode.{label_place, code_labels, label_of_emission}
+use Rattle.split_rules.specs.SplitCode.{label_place, code_labels, label_of_emission, code_of_emissions}
 use Rattle.split_rules.specs.Flow.{Scope, State, Flow, stopped, at, awaited, branched, after, InstructionFits, Goes}
 use Rattle.split_rules.specs.Flow.{OperationFits, IsEntryOn}
 use Rattle.split_rules.specs.WalkStart.{scope_of}
@@ -42,6 +45,40 @@ pub mapped : {X Y : Type 0} (make : X → Y) (xs : List X) (place : ℕ) (y : Y)
 mapped make [] place y there = absurd (cc)
 mapped make (first ∷ xs) zero y there = let same : make first ≡ y = cc in (first, refl, same)
 mapped make (first ∷ xs) (suc place) y there = mapped make xs place y there
+
+-- an instruction of the code, whose host is one of the program, by the emission that it is made of
+pub instruction_made : (labelled : Labelled) (hosts : HostsShape) (planned : PlannedShape) (emissions : List Emission)
+    (me : HostId) (place : ℕ) (there : Instr) →
+    instruction_at (code_of_emissions labelled hosts planned emissions) me place ≡ Some there →
+    (me.0 < length hosts.hosts)
+    × ((one : Emitted) × (slice_get (emitted_on me emissions) place ≡ Some one)
+    × (placed_instruction (code_labels labelled emissions) emissions one ≡ there))
+instruction_made labelled hosts planned emissions me place there is = (within, made)
+  where
+    code : CodeShape
+    code = code_of_emissions labelled hosts planned emissions
+
+    labels : List Label
+    labels = code_labels labelled emissions
+
+    by : (part : Option (List Instr)) → slice_get code.parts me.0 ≡ part →
+        slice_get (unwrap_or part []) place ≡ Some there → me.0 < length hosts.hosts
+    by None is_part found_there = absurd (cc)
+    by (Some part) is_part found_there =
+        let below = slice_get_within code.parts me.0 part is_part in
+        let numbers = range_with_len 0 (length hosts.hosts) in
+        let many = length-map numbers (λ number. part_on labels emissions (record { 0 = number })) in
+        let as_many = length-range_with_len 0 (length hosts.hosts) in
+        omega arith
+
+    within : me.0 < length hosts.hosts
+    within = by (slice_get code.parts me.0) refl is
+
+    made : (one : Emitted) × (slice_get (emitted_on me emissions) place ≡ Some one)
+        × (placed_instruction labels emissions one ≡ there)
+    made =
+        mapped (placed_instruction labels emissions) (emitted_on me emissions) place there
+        (ap (λ list. slice_get list place) (sym (part_is labelled hosts planned emissions me within)) ∙ is)
 
 pub get_left : {X : Type 0} (xs ys : List X) (place : ℕ) (x : X) → slice_get xs place ≡ Some x →
     slice_get (xs ++ ys) place ≡ Some x

@@ -10,13 +10,12 @@ use Rattle.split_rules.proofs.FewItems.{split_is_few}
 use Rattle.split_rules.proofs.SoundCode.{sound_code}
 use Rattle.split_rules.proofs.WalkedPrograms.{program_goes}
 
-pub split_is_sound : (placed : PlacedProgram) →
-    IsSplittable placed.labelled placed.hosts placed.plan → IsSoundCode (split_code placed)
+pub split_is_sound : (placed : PlacedProgram) → IsSplittable placed → IsSoundCode (split_code placed)
 split_is_sound placed splittable =
     let planned = planned_from placed in
     let counts = counts_after (record { entries = 0; branches = 0 }) (front_emissions placed.labelled planned) in
     let walk = program_goes placed splittable in
-    sound_code placed.labelled placed.hosts planned
+    sound_code placed
     (methods_emissions placed.hosts.principals placed.labelled planned counts 0 placed.labelled.program.methods) walk.0
     splittable
     (split_is_few placed splittable) walk.1 walk.2

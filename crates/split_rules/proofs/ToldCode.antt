@@ -1,11 +1,9 @@
 -- What a walk asks of other hosts and tells them, at the instructions of the code that is read off it.
 use Rattle.std.proofs.Common.{◌≡◌, ◌≢◌, ◌∙◌, ℕ, zero, suc, ◌+◌, ◌<◌, List, [], ◌∷◌, ◌++◌, map, length, refl, ap, sym}
 use Rattle.std.proofs.Common.{subst, arith, append_assoc, append-nil, inl, inr}
-use Rattle.std.specs.Prelude.{Option, Some, None, slice_get, unwrap_or, IsSomeAnd}
-use Rattle.std.specs.List.{AllByRecursion, flat_map, range_with_len, zip}
+use Rattle.std.specs.Prelude.{Option, Some, None, slice_get, IsSomeAnd}
+use Rattle.std.specs.List.{AllByRecursion, flat_map, zip}
 use Rattle.std.specs.Option.{option_map}
-use Rattle.std.proofs.lemmas.List.{length-map}
-use Rattle.std.proofs.lemmas.List.FromFn.{length-range_with_len}
 use Rattle.std.proofs.lemmas.Option.{slice_get-map, slice_get_within, slice_get_cases}
 use Rattle.js_base.specs.declared.ids.HostId.{HostId}
 use Rattle.js_base.specs.declared.ids.FieldId.{FieldId}
@@ -28,10 +26,11 @@ use Rattle.need_labels.specs.Labelled.{Labelled}
 use Rattle.need_labels.specs.Plan.{field_host}
 use Rattle.msg_cost.specs.Moves.{PlannedShape}
 use Rattle.split_rules.specs.Placed.{PlacedProgram, planned_from}
-use Rattle.split_rules.specs.Emissions.{Emission, instruction, entry, stands, lands, Emitted, Named, Counts, counts_after}
+use Rattle.split_rules.specs.Emissions.{Emission, instruction, entry, stands, lands, Emitted, Named, Counts}
+use Rattle.split_rules.specs.Emissions.{counts_after}
 use Rattle.split_rules.specs.Allowed.{IsTrustedHost}
 use Rattle.split_rules.specs.Asking.{IfElsewhere, IsSeenBy}
-use Rattle.split_rules.specs.SplitCode.{emitted_on, entries_in, landed, placed_instruction, part_on, code_labels}
+use Rattle.split_rules.specs.SplitCode.{entries_in, landed, placed_instruction, code_labels}
 use Rattle.split_rules.specs.SplitCode.{code_variable, label_place, label_of_emission, code_of_emissions}
 use Rattle.split_rules.specs.Walk.{method_entry, program_emissions, methods_emissions}
 use Rattle.split_rules.proofs.Places.{found, found_entry, entries_append}
@@ -40,8 +39,8 @@ use Rattle.split_rules.proofs.CodeItems.{code_field, fields_numbered}
 use Rattle.split_rules.proofs.CodeLabels.{IsLabelIn, label_left, label_right, label_of_one, label_placed}
 use Rattle.split_rules.proofs.CodeLabels as labels
 use Rattle.split_rules.proofs.Fronts.{front_of, front_is}
-use Rattle.split_rules.proofs.SoundParts.{part_is, entry_there}
-use Rattle.split_rules.proofs.SoundInstructions.{mapped, get_left}
+use Rattle.split_rules.proofs.SoundParts.{entry_there}
+use Rattle.split_rules.proofs.SoundInstructions.{instruction_made, get_left}
 use Rattle.split_rules.proofs.WalkedMoves.{no_halt}
 use Rattle.split_rules.proofs.WalkedCalls.{nothing_there}
 use Rattle.split_rules.proofs.ToldEmissions.{Sees, Affects, AffectsVariable, ReadsWell, PutsWell, HandsWell}
@@ -70,7 +69,7 @@ pub program_told : (placed : PlacedProgram) →
     let planned = planned_from placed in
     (main : MethodTree) → method_at placed.labelled.program placed.labelled.program.main ≡ Some main →
     AllByRecursion (MethodTellsWell placed.hosts.principals placed.labelled planned) placed.labelled.program.methods →
-    AreTold placed.labelled planned [] (program_emissions placed.hosts.principals placed.labelled planned)
+    AreTold placed.labelled planned [] (program_emissions placed)
 program_told placed main main_is well = subst P (sym (front_is placed.labelled planned main main_is)) whole
   where
     planned : PlannedShape
@@ -177,51 +176,34 @@ pub made_of : (labelled : Labelled) (hosts : HostsShape) (planned : PlannedShape
     AreTold labelled planned [] emissions → (me : HostId) (place : ℕ) (there : Instr) →
     instruction_at (code_of_emissions labelled hosts planned emissions) me place ≡ Some there →
     MadeOf labelled planned emissions me there
-made_of labelled hosts planned emissions told me place there is = by (slice_get code.parts me.0) refl is
+made_of labelled hosts planned emissions told me place there is =
+    let made = instruction_made labelled hosts planned emissions me place there is in
+    let one = made.1 in
+    let so = found me emissions place one.0 one.1 in
+    let P : HostId → Type 0 = λ host. placed_instruction needed emissions one.0 ≡ record {
+      label = label_place 0 one.0.label needed;
+      statement = one.0.statement;
+      op = landed host emissions one.0.op;
+    } in
+    let Q : List Emission → Type 0 = λ list. AreTold labelled planned [] list in
+    let R : HostId → Type 0 = λ host.
+    TellsWell labelled planned (entries_in emissions) host one.0.label one.0.op in
+    let S : List Named → Type 0 = λ list. TellsWell labelled planned list one.0.host one.0.label one.0.op in
+    let all_named : entries_in emissions ≡ entries_in so.before ++ entries_in (instruction one.0 ∷ so.behind) =
+    ap entries_in so.is ∙ entries_append so.before (instruction one.0 ∷ so.behind) in
+    record {
+      one = one.0;
+      before = so.before;
+      behind = so.behind;
+      is = so.is;
+      made = sym (subst P so.own refl) ∙ one.2;
+      tells = subst R so.own (subst S (sym all_named)
+          (tells_more labelled planned (entries_in so.before) _ one.0.host one.0.label one.0.op
+          (told_behind labelled planned [] so.before one.0 so.behind (subst Q so.is told))));
+    }
   where
-    code : CodeShape
-    code = code_of_emissions labelled hosts planned emissions
-
     needed : List Label
     needed = code_labels labelled emissions
-
-    within_hosts : me.0 < length hosts.hosts → MadeOf labelled planned emissions me there
-    within_hosts within =
-        let part = part_is labelled hosts planned emissions me within in
-        let one = mapped (placed_instruction needed emissions) (emitted_on me emissions) place there
-        (ap (λ list. slice_get list place) (sym part) ∙ is) in
-        let so = found me emissions place one.0 one.1 in
-        let P : HostId → Type 0 = λ host. placed_instruction needed emissions one.0 ≡ record {
-          label = label_place 0 one.0.label needed;
-          statement = one.0.statement;
-          op = landed host emissions one.0.op;
-        } in
-        let Q : List Emission → Type 0 = λ list. AreTold labelled planned [] list in
-        let R : HostId → Type 0 = λ host.
-        TellsWell labelled planned (entries_in emissions) host one.0.label one.0.op in
-        let S : List Named → Type 0 = λ list. TellsWell labelled planned list one.0.host one.0.label one.0.op in
-        let all_named : entries_in emissions ≡ entries_in so.before ++ entries_in (instruction one.0 ∷ so.behind) =
-        ap entries_in so.is ∙ entries_append so.before (instruction one.0 ∷ so.behind) in
-        record {
-          one = one.0;
-          before = so.before;
-          behind = so.behind;
-          is = so.is;
-          made = sym (subst P so.own refl) ∙ one.2;
-          tells = subst R so.own (subst S (sym all_named)
-              (tells_more labelled planned (entries_in so.before) _ one.0.host one.0.label one.0.op
-              (told_behind labelled planned [] so.before one.0 so.behind (subst Q so.is told))));
-        }
-
-    by : (part : Option (List Instr)) → slice_get code.parts me.0 ≡ part →
-        slice_get (unwrap_or part []) place ≡ Some there → MadeOf labelled planned emissions me there
-    by None part_is at = absurd (cc)
-    by (Some part) is_part at =
-        let within = slice_get_within code.parts me.0 part is_part in
-        let numbers = range_with_len 0 (length hosts.hosts) in
-        let many = length-map numbers (λ number. part_on needed emissions (record { 0 = number })) in
-        let as_many = length-range_with_len 0 (length hosts.hosts) in
-        within_hosts (omega arith)
 
 -- ---- hosts of a code
 

@@ -1,27 +1,23 @@
 -- The code of a split program is typed: the table is read off the typed walk.
-use Rattle.std.proofs.Common.{◌≡◌, ◌∙◌, ℕ, zero, suc, inl, inr, ◌+◌, ◌<◌, List, [], ◌∷◌, ◌++◌, map, length, refl, ap}
+use Rattle.std.proofs.Common.{◌≡◌, ◌∙◌, ℕ, zero, suc, inl, inr, ◌+◌, List, [], ◌∷◌, ◌++◌, map, length, refl, ap}
 use Rattle.std.proofs.Common.{sym, subst, arith, length-append, eq-eqb, ne_eqb}
-use Rattle.std.specs.Prelude.{Option, Some, None, slice_get, unwrap_or}
-use Rattle.std.proofs.lemmas.List.{length-map}
-use Rattle.std.proofs.lemmas.List.FromFn.{length-range_with_len}
-use Rattle.std.specs.List.{range_with_len, AllByRecursion}
-use Rattle.std.proofs.lemmas.Option.{slice_get_within}
+use Rattle.std.specs.Prelude.{Some, slice_get, unwrap_or}
+use Rattle.std.specs.List.{AllByRecursion}
 use Rattle.js_base.specs.declared.ids.HostId.{HostId}
-use Rattle.label_lattice.specs.declared.label.Label.{Label}
 use Rattle.host_decl.specs.Hosts.{HostsShape}
 use Rattle.jif_tree.specs.Trees.{MethodTree, ProgramTree, call}
 use Rattle.host_code.specs.declared.code.Entry.{Entry}
 use Rattle.host_code.specs.declared.instruction.Instr.{Instr}
 use Rattle.host_code.specs.declared.instruction.Op.{Op}
 use Rattle.host_code.specs.declared.instruction.Op.TheVariants as op
-use Rattle.host_code.specs.Code.{CodeShape, instruction_at}
+use Rattle.host_code.specs.Code.{instruction_at}
 use Rattle.need_labels.specs.Labelled.{Labelled}
 use Rattle.msg_cost.specs.Moves.{PlannedShape, home_of}
 use Rattle.split_rules.specs.Placed.{PlacedProgram, planned_from}
 use Rattle.split_rules.specs.Emissions.{Emission, instruction, stands, lands, Emitted, counts_after, Named, entry}
 use Rattle.split_rules.specs.Positions.{body, Calling, no_call, arguing, entering, Position, calm, all_due, Entrance}
 use Rattle.split_rules.specs.SplitCode.{emitted_on, entries_in, before_entry, before_landing, landed, code_labels}
-use Rattle.split_rules.specs.SplitCode.{placed_instruction, part_on, code_of_emissions, split_code}
+use Rattle.split_rules.specs.SplitCode.{code_of_emissions, split_code}
 use Rattle.split_rules.specs.Splittable.{IsSplittable}
 use Rattle.split_rules.specs.Typable.{IsTypableMethod, IsTypable}
 use Rattle.split_rules.specs.Walk.{need_of, methods_emissions, method_entry}
@@ -34,8 +30,8 @@ use Rattle.split_rules.proofs.Places.{found, found_entry, entries_append}
 use Rattle.split_rules.proofs.NumberedLists.{length-numbered}
 use Rattle.split_rules.proofs.CodeItems.{code_entry, entries_numbered}
 use Rattle.split_rules.proofs.Fronts.{IsWalk, front_is, walk_there, others_stand, get_append}
-use Rattle.split_rules.proofs.SoundParts.{given, code_given, given_emitted, part_is, entry_made}
-use Rattle.split_rules.proofs.SoundInstructions.{mapped, branch_leads}
+use Rattle.split_rules.proofs.SoundParts.{given, code_given, given_emitted, entry_made}
+use Rattle.split_rules.proofs.SoundInstructions.{instruction_made, branch_leads}
 use Rattle.split_rules.proofs.WalkedPrograms.{program_goes}
 use Rattle.split_rules.proofs.WalkedMoves.{at_last}
 use Rattle.split_rules.proofs.TypedPlaces.{all_grow, one_grows, grown, calm_there, all_calm, entries_many, positions_on}
@@ -93,7 +89,8 @@ enters_more planned entries more kept from other number enters = absurd enters
 ends_more : (planned : PlannedShape) (entries more : List Entrance) → Kept entries more → (from : Position)
     (what : Op) → Ends planned entries from what → Ends planned more from what
 ends_more planned entries more kept from (op.Go there on) ends = (ends.0, kept there.0 _ ends.1)
-ends_more planned entries more kept from (op.Call there on) ends = enters_more planned entries more kept from from.calling there.0 ends
+ends_more planned entries more kept from (op.Call there on) ends =
+    enters_more planned entries more kept from from.calling there.0 ends
 ends_more planned entries more kept from op.Back ends = ends
 ends_more planned entries more kept from other ends = ends
 
@@ -136,7 +133,8 @@ instruction_there planned host first last ends emissions before one behind is ow
         let none : place + 0 ≡ place = omega arith in
         let next : place + 1 ≡ suc place = omega arith in
         let positions = positions_on planned host first (before ++ instruction one ∷ behind) last all in
-        let own_first : slice_get (positions_on planned host parts.middle (instruction one ∷ behind) last parts.behind) 0
+        let own_first : slice_get (positions_on planned host parts.middle (instruction one ∷ behind) last parts.behind)
+        0
         ≡ Some step.0 = rw (eq-eqb one.host.0 host.0 (ap (λ it. it.0) own)) refl in
         let own_next : slice_get (positions_on planned host parts.middle (instruction one ∷ behind) last parts.behind) 1
         ≡ slice_get (positions_on planned host parts.behind.0 behind last rest) 0 =
@@ -169,7 +167,8 @@ record LandingTyped (positions : List Position) (place number : ℕ) (branches :
   known : LeadsTo branches number position
 
 entry_stands : (planned : PlannedShape) (host : HostId) (number : ℕ) (first : Known) (last : Known) →
-    last.place ≡ nowhere → (emissions before behind : List Emission) → emissions ≡ before ++ stands host number ∷ behind →
+    last.place ≡ nowhere → (emissions before behind : List Emission) →
+    emissions ≡ before ++ stands host number ∷ behind →
     (typed : AreTyped planned first emissions last) →
     EntryTyped (positions_on planned host first emissions last typed) (length (emitted_on host before)) number
     last.entries
@@ -202,7 +201,8 @@ entry_stands planned host number first last ends emissions before behind is type
         }
 
 branch_lands : (planned : PlannedShape) (host : HostId) (number : ℕ) (first : Known) (last : Known) →
-    last.place ≡ nowhere → (emissions before behind : List Emission) → emissions ≡ before ++ lands host number ∷ behind →
+    last.place ≡ nowhere → (emissions before behind : List Emission) →
+    emissions ≡ before ++ lands host number ∷ behind →
     (typed : AreTyped planned first emissions last) →
     LandingTyped (positions_on planned host first emissions last typed) (length (emitted_on host before)) number
     last.branches
@@ -356,7 +356,8 @@ op_typed labelled hosts planned main emissions walk before one behind is me own 
     by (op.Branch guard number) it_is law =
         let lands_there = branch_leads labelled hosts planned main emissions walk.end walk.walk before one behind is me
         own guard number it_is in
-        let marked = branch_lands planned me number first walk.last walk.ends emissions (before_landing number emissions)
+        let marked = branch_lands planned me number first walk.last walk.ends emissions
+        (before_landing number emissions)
         lands_there.behind lands_there.is walk.typed in
         let target_known : LeadsTo so.after.branches number law.1 =
         (let P : List Position → Type 0 = λ list. LeadsTo list number law.1 in
@@ -366,7 +367,8 @@ op_typed labelled hosts planned main emissions walk before one behind is me own 
         let same = same_there walk.last.branches number marked.position law.1 marked.known
         (so.branches number law.1 target_known) in
         let target_is = ap (table.at me.0) (landing_place me labelled planned main number emissions)
-        ∙ read_off planned first emissions walk.last walk.typed me (length (emitted_on me (before_landing number emissions)))
+        ∙ read_off planned first emissions walk.last walk.typed me
+        (length (emitted_on me (before_landing number emissions)))
         marked.position marked.stands_at ∙ same in
         rw (here_is, next_is law.0 (ap (λ known. known.place) law.4), target_is) law.3
     by (op.Go there on) it_is law =
@@ -390,39 +392,18 @@ instructions_typed : (labelled : Labelled) (hosts : HostsShape) (planned : Plann
     (there : Instr) → instruction_at (code_given labelled hosts planned main emissions) me place ≡ Some there →
     IsTypedThere planned (table_in walk) me place there.op
 instructions_typed labelled hosts planned main emissions walk me place there is =
-    by (slice_get code.parts me.0) refl is
+    let made = instruction_made labelled hosts planned all me place there is in
+    let one = made.1 in
+    let so = found me emissions place one.0
+    (ap (λ list. slice_get list place) (sym (given_emitted me labelled planned main emissions)) ∙ one.1) in
+    let P : ℕ → Type 0 = λ at. IsTypedThere planned (table_in walk) me at (landed me all one.0.op) in
+    let Q : HostId → Type 0 = λ host. IsTypedThere planned (table_in walk) me place (landed host all one.0.op) in
+    let R : Instr → Type 0 = λ it. IsTypedThere planned (table_in walk) me place it.op in
+    subst R one.2 (subst Q (sym so.own) (subst P so.place
+    (op_typed labelled hosts planned main emissions walk so.before one.0 so.behind so.is me so.own one.0.op refl)))
   where
-    code : CodeShape
-    code = code_given labelled hosts planned main emissions
-
     all : List Emission
     all = given labelled planned main emissions
-
-    labels : List Label
-    labels = code_labels labelled all
-
-    within_hosts : me.0 < length hosts.hosts → IsTypedThere planned (table_in walk) me place there.op
-    within_hosts within =
-        let part = part_is labelled hosts planned all me within in
-        let one = mapped (placed_instruction labels all) (emitted_on me all) place there
-        (ap (λ list. slice_get list place) (sym part) ∙ is) in
-        let so = found me emissions place one.0
-        (ap (λ list. slice_get list place) (sym (given_emitted me labelled planned main emissions)) ∙ one.1) in
-        let P : ℕ → Type 0 = λ at. IsTypedThere planned (table_in walk) me at (landed me all one.0.op) in
-        let Q : HostId → Type 0 = λ host. IsTypedThere planned (table_in walk) me place (landed host all one.0.op) in
-        let R : Instr → Type 0 = λ it. IsTypedThere planned (table_in walk) me place it.op in
-        subst R one.2 (subst Q (sym so.own) (subst P so.place
-        (op_typed labelled hosts planned main emissions walk so.before one.0 so.behind so.is me so.own one.0.op refl)))
-
-    by : (part : Option (List Instr)) → slice_get code.parts me.0 ≡ part →
-        slice_get (unwrap_or part []) place ≡ Some there → IsTypedThere planned (table_in walk) me place there.op
-    by None part_is at = absurd (cc)
-    by (Some part) is_part at =
-        let within = slice_get_within code.parts me.0 part is_part in
-        let numbers = range_with_len 0 (length hosts.hosts) in
-        let many = length-map numbers (λ number. part_on labels all (record { 0 = number })) in
-        let as_many = length-range_with_len 0 (length hosts.hosts) in
-        within_hosts (omega arith)
 
 -- ---- entries
 
@@ -557,7 +538,8 @@ entries_typed labelled hosts planned main emissions same typable walk number the
     })
 
 as_many : (labelled : Labelled) (hosts : HostsShape) (planned : PlannedShape) (main : MethodTree)
-    (emissions : List Emission) → labelled.program ≡ planned.program → (walk : Walk labelled hosts planned main emissions) →
+    (emissions : List Emission) → labelled.program ≡ planned.program →
+    (walk : Walk labelled hosts planned main emissions) →
     length (table_in walk).entries ≡ length (code_given labelled hosts planned main emissions).entries
 unfolding table_of
 as_many labelled hosts planned main emissions same walk =
@@ -591,8 +573,7 @@ code_typed labelled hosts planned main emissions same typable walk =
     }
 
 -- The code of a split program has a table with which it is typed.
-pub split_is_typed : (placed : PlacedProgram) →
-    IsSplittable placed.labelled placed.hosts placed.plan → IsTypable (planned_from placed) →
+pub split_is_typed : (placed : PlacedProgram) → IsSplittable placed → IsTypable (planned_from placed) →
     (table : Table) × IsTypedCode (planned_from placed) (split_code placed) table
 split_is_typed placed splittable typable =
     subst P (sym (front_is placed.labelled planned main splittable.numbered.main.1))
@@ -615,7 +596,7 @@ split_is_typed placed splittable typable =
         let typed = program_typed placed splittable.numbered typable in
         record {
           end = goes.0;
-          walk = walk_there placed.labelled placed.hosts planned emissions goes.0 splittable goes.1 goes.2;
+          walk = walk_there placed emissions goes.0 splittable goes.1 goes.2;
           last = typed.0;
           typed = typed.2;
           ends = typed.1;

@@ -1,4 +1,5 @@
--- The walk over a program obeys the flow, from the entries of its methods on to where nothing is left to stand or to land.
+-- The walk over a program obeys the flow, from the entries of its methods on to where nothing is left to stand or to
+-- land.
 use Rattle.std.proofs.Common.{◌≡◌, ◌∙◌, ℕ, suc, zero, ◌+◌, ◌<◌, List, [], ◌∷◌, ◌++◌, map, length, refl, ap, sym}
 use Rattle.std.proofs.Common.{subst, arith, false}
 use Rattle.std.proofs.lemmas.List.{length-map}
@@ -30,8 +31,7 @@ use Rattle.split_rules.proofs.WalkedSites.{sites_there}
 
 -- ---- what a splittable program has
 
-scope_there : (placed : PlacedProgram) →
-    IsSplittable placed.labelled placed.hosts placed.plan →
+scope_there : (placed : PlacedProgram) → IsSplittable placed →
     IsScopeOf (scope_of placed.labelled placed.hosts placed.plan) placed.labelled.program (planned_from placed)
 scope_there placed splittable = record {
   fields = refl;
@@ -43,7 +43,8 @@ scope_there placed splittable = record {
     some : 0 < length placed.hosts.hosts
     some = rw length-map at splittable.are_hosts.names.some
 
-pub method_there : (program : ProgramTree) (methods : List MethodTree) (first : ℕ) → AreMethodsIn program first methods →
+pub method_there : (program : ProgramTree) (methods : List MethodTree) (first : ℕ) →
+    AreMethodsIn program first methods →
     (place number : ℕ) (tree : MethodTree) → number ≡ first + place → slice_get methods place ≡ Some tree →
     IsMethodIn program (record { 0 = number }) tree
 method_there program [] first are place number tree is there = absurd (nothing_there place tree there)
@@ -56,8 +57,7 @@ method_there program (method ∷ methods) first are zero number tree is there =
 method_there program (method ∷ methods) first are (suc place) number tree is there =
     method_there program methods (suc first) are.1 place number tree (omega arith) there
 
-walkable_there : (placed : PlacedProgram) →
-    IsSplittable placed.labelled placed.hosts placed.plan →
+walkable_there : (placed : PlacedProgram) → IsSplittable placed →
     IsWalkable (scope_of placed.labelled placed.hosts placed.plan) placed.labelled.program (planned_from placed)
 walkable_there placed splittable = record {
   scoped = scope_there placed splittable;
@@ -129,8 +129,7 @@ front_counted labelled planned main is =
 -- ---- the program
 
 -- The bodies of all methods are walked from the start to an end.
-pub program_goes : (placed : PlacedProgram) →
-    IsSplittable placed.labelled placed.hosts placed.plan →
+pub program_goes : (placed : PlacedProgram) → IsSplittable placed →
     let planned = planned_from placed in
     let counts = counts_after (record { entries = 0; branches = 0 }) (front_emissions placed.labelled planned) in
     (last : State) × Goes (scope_of placed.labelled placed.hosts placed.plan) (walk_start placed.labelled planned)

@@ -11,7 +11,7 @@ use Rattle.split_rules.specs.Positions.{run, body, under, Level, Position, calm,
 use Rattle.split_rules.specs.SplitCode.{split_code}
 use Rattle.split_rules.specs.TypedCode.{Table}
 use Rattle.split_rules.specs.ThreadRun.{Thread}
-use Rattle.split_rules.specs.Worked.{field_id, var_id, host_id, heading, trusted_by, increased, labelled_with, loop_end}
+use Rattle.split_rules.specs.Worked.{field_id, var_id, host_id, heading, trusted_by, increased, placed_with, loop_end}
 
 -- trusted by nobody, and by the first principal
 abbrev pub untrusted : Label
@@ -22,13 +22,7 @@ trusted_by_first = trusted_by 1
 
 -- its code, where the first principal trusts each variable
 abbrev pub code_of : PlannedShape → CodeShape
-code_of planned =
-    split_code (record {
-      labelled = labelled_with planned (map (λ x. trusted_by_first) planned.program.vars);
-      needs = planned.needs;
-      hosts = planned.hosts;
-      plan = planned.plan;
-    })
+code_of planned = split_code (placed_with planned (map (λ x. trusted_by_first) planned.program.vars))
 
 -- the token with which `main` was entered
 abbrev pub main_level : Level

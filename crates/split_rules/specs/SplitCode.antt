@@ -178,5 +178,4 @@ code_of_emissions labelled hosts planned emissions =
 abbrev pub split_code : PlacedProgram → CodeShape
 split_code placed =
     let planned = planned_from placed in
-    code_of_emissions placed.labelled placed.hosts planned (program_emissions placed.hosts.principals placed.labelled
-    planned)
+    code_of_emissions placed.labelled placed.hosts planned (program_emissions placed)

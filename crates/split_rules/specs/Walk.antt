@@ -28,6 +28,7 @@ use Rattle.msg_cost.specs.Moves.{PlannedShape, is_same, on, end_of, next_spot, o
 use Rattle.msg_cost.specs.Terms.{is_other_reader}
 use Rattle.split_rules.specs.Emissions.{Emission, instruction, entry, stands, lands, Counts, counts_after}
 use Rattle.split_rules.specs.Expressions.{Reading, reads_in, nodes_of, readings_of, first_element}
+use Rattle.split_rules.specs.Placed.{PlacedProgram, planned_from}
 
 -- ---- what a walk knows
 
@@ -344,11 +345,12 @@ halt_entries planned None = []
 halt_entries planned (Some main) = method_entry planned main ∷ stands (home_of planned main) 0 ∷ []
 
 -- the entries that are there from the start, and then the bodies of the methods
-abbrev pub program_emissions : Declared → Labelled → PlannedShape → List Emission
-program_emissions principals labelled planned =
-    let program = labelled.program in
+abbrev pub program_emissions : PlacedProgram → List Emission
+program_emissions placed =
+    let planned = planned_from placed in
+    let program = placed.labelled.program in
     let front = halt_entries planned (method_at program program.main)
     ++ map (method_entry planned) program.methods in
     front
-    ++ methods_emissions principals labelled planned (counts_after (record { entries = 0; branches = 0 }) front) 0
-    program.methods
+    ++ methods_emissions placed.hosts.principals placed.labelled planned
+    (counts_after (record { entries = 0; branches = 0 }) front) 0 program.methods

@@ -14,10 +14,10 @@ use Rattle.jif_tree.specs.Trees.{ExprTree, number, local, scalar, element, binar
 use Rattle.jif_tree.specs.Trees.{set_field, set_element, branch, loop, call, give_back, FieldTree, VarTree, MethodTree}
 use Rattle.jif_tree.specs.Trees.{ProgramTree}
 use Rattle.host_code.specs.declared.instruction.Op.{Op}
-use Rattle.need_labels.specs.Labelled.{Labelled}
 use Rattle.msg_cost.specs.Moves.{PlannedShape}
 use Rattle.split_rules.specs.Emissions.{Emission}
 use Rattle.split_rules.specs.SplitCode.{emitted_on, entries_in, code_labels}
+use Rattle.split_rules.specs.Placed.{PlacedProgram}
 use Rattle.split_rules.specs.Walk.{program_emissions}
 
 abbrev pub host_id : ℕ → HostId
@@ -100,11 +100,16 @@ planned_on hosts costs need readers fields statements body =
     planned_for (program_of body) hosts costs need (readers ∷ []) fields statements
 
 -- its variables have these labels
-abbrev pub labelled_with : PlannedShape → List Label → Labelled
-labelled_with planned var_labels = record { program = planned.program; var_labels = var_labels; pc = [] }
+abbrev pub placed_with : PlannedShape → List Label → PlacedProgram
+placed_with planned var_labels = record {
+  labelled = record { program = planned.program; var_labels = var_labels; pc = [] };
+  needs = planned.needs;
+  hosts = planned.hosts;
+  plan = planned.plan;
+}
 
 abbrev pub emissions_on : PlannedShape → List Emission
-emissions_on planned = program_emissions nobody (labelled_with planned []) planned
+emissions_on planned = program_emissions (placed_with planned [])
 
 abbrev pub operations_on : PlannedShape → ℕ → List Op
 operations_on planned host = map (λ one. one.op) (emitted_on (host_id host) (emissions_on planned))
@@ -207,4 +212,4 @@ labelled_apart =
 -- the labels of its code, by the words of those who trust them, where its variables have these labels
 abbrev pub label_words : PlannedShape → List Label → List ℕ
 label_words planned var_labels =
-    map (λ label. label.trust) (code_labels (labelled_with planned var_labels) (emissions_on planned))
+    map (λ label. label.trust) (code_labels (placed_with planned var_labels).labelled (emissions_on planned))

@@ -41,16 +41,14 @@ ghost use Rattle.split_rules.specs.Worked.{field_id, var_id, site_id, host_id, t
 /// instruction it is known under whose token a thread runs there and what is still due, and the instruction does what
 /// is due next.
 pub fn split_laws()
-    ensures sound { (placed : PlacedProgram) →
-        IsSplittable placed.labelled placed.hosts placed.plan → IsSoundCode (split_code placed) }
-    ensures settled { (placed : PlacedProgram) →
-        IsSplittable placed.labelled placed.hosts placed.plan →
-        let emissions = program_emissions placed.hosts.principals placed.labelled (planned_from placed) in
+    ensures sound { (placed : PlacedProgram) → IsSplittable placed → IsSoundCode (split_code placed) }
+    ensures settled { (placed : PlacedProgram) → IsSplittable placed →
+        let emissions = program_emissions placed in
         AreSettled (length placed.hosts.hosts) (counts_after (record { entries = 0; branches = 0 }) emissions).branches
         emissions }
     ensures typed { (placed : PlacedProgram) →
         let planned = planned_from placed in
-        IsSplittable placed.labelled placed.hosts placed.plan → IsTypable planned →
+        IsSplittable placed → IsTypable planned →
         (table : Table) × IsTypedCode planned (split_code placed) table }
 {}
 
@@ -64,11 +62,9 @@ pub fn trust_laws()
 /// Where besides each field and each statement stands on a host that may hold it, other hosts grant what the code of a
 /// host asks of them, by the checks of the host table, and no instruction tells another host what it may not see.
 pub fn asking_laws()
-    ensures granted { (placed : PlacedProgram) →
-        IsSplittable placed.labelled placed.hosts placed.plan → IsAllowed placed → IsHeld placed →
+    ensures granted { (placed : PlacedProgram) → IsSplittable placed → IsAllowed placed → IsHeld placed →
         AreGranted (split_code placed) }
-    ensures tells { (placed : PlacedProgram) →
-        IsSplittable placed.labelled placed.hosts placed.plan → IsAllowed placed → IsHeld placed →
+    ensures tells { (placed : PlacedProgram) → IsSplittable placed → IsAllowed placed → IsHeld placed →
         TellsNoMore (split_code placed) }
 {}
 
@@ -82,15 +78,14 @@ pub fn opening_laws()
     ensures opens { (placed : PlacedProgram) (table : Table) →
         let planned = planned_from placed in
         let code = split_code placed in
-        IsSplittable placed.labelled placed.hosts placed.plan → IsAllowed placed → IsTypedCode planned code table →
+        IsSplittable placed → IsAllowed placed → IsTypedCode planned code table →
         IsOpenCode planned code table }
-    ensures labels { (placed : PlacedProgram) →
-        IsSplittable placed.labelled placed.hosts placed.plan →
+    ensures labels { (placed : PlacedProgram) → IsSplittable placed →
         HasOwnLabels placed.labelled (planned_from placed) (split_code placed) }
     ensures covers { (placed : PlacedProgram) (table : Table) →
         let planned = planned_from placed in
         let code = split_code placed in
-        IsSplittable placed.labelled placed.hosts placed.plan → IsAllowed placed → IsTypedCode planned code table →
+        IsSplittable placed → IsAllowed placed → IsTypedCode planned code table →
         CoversRuns planned code table }
 {}
 
@@ -98,11 +93,9 @@ pub fn opening_laws()
 /// which it is paced, and so from where the program begins a thread runs at most 512 for each step that it makes, and
 /// 512 more.
 pub fn pace_laws()
-    ensures paced { (placed : PlacedProgram) →
-        IsSplittable placed.labelled placed.hosts placed.plan →
+    ensures paced { (placed : PlacedProgram) → IsSplittable placed →
         (left : Allowance) × IsPaced (split_code placed) left }
-    ensures runs_few { (placed : PlacedProgram) →
-        IsSplittable placed.labelled placed.hosts placed.plan → (count steps : ℕ) (first last : Thread) →
+    ensures runs_few { (placed : PlacedProgram) → IsSplittable placed → (count steps : ℕ) (first last : Thread) →
         IsAtMain (split_code placed) first →
         Runs (split_code placed) count steps first last → count ≤ PACE * (steps + 1) }
 {}

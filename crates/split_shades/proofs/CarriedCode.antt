@@ -1,11 +1,8 @@
 -- The instructions and entries of split code carry the program labels of statements and blocks.
-use Rattle.std.proofs.Common.{◌≡◌, ◌∙◌, ℕ, suc, ◌+◌, ◌<◌, inl, List, [], ◌∷◌, ◌++◌, map, length, refl, ap, sym}
+use Rattle.std.proofs.Common.{◌≡◌, ℕ, suc, ◌+◌, inl, List, [], ◌∷◌, ◌++◌, map, refl, sym}
 use Rattle.std.proofs.Common.{subst, arith}
-use Rattle.std.specs.Prelude.{Option, Some, None, slice_get, unwrap_or}
-use Rattle.std.proofs.lemmas.List.{length-map}
-use Rattle.std.proofs.lemmas.List.FromFn.{length-range_with_len}
-use Rattle.std.specs.List.{range_with_len, AllByRecursion}
-use Rattle.std.proofs.lemmas.Option.{slice_get_within}
+use Rattle.std.specs.Prelude.{Some, slice_get}
+use Rattle.std.specs.List.{AllByRecursion}
 use Rattle.js_base.specs.declared.ids.HostId.{HostId}
 use Rattle.js_base.specs.declared.ids.MethodId.{MethodId}
 use Rattle.js_base.specs.declared.ids.StmtId.{StmtId}
@@ -30,8 +27,8 @@ use Rattle.split_rules.specs.Allowed.{IsAllowed}
 use Rattle.split_rules.specs.Emissions.{Emission, instruction, entry, Counts, counts_after}
 use Rattle.split_rules.specs.Held.{IsHeld}
 use Rattle.split_rules.specs.Positions.{IsIn, IsOf, all_statements}
-use Rattle.split_rules.specs.SplitCode.{emitted_on, landed, code_labels, placed_instruction}
-use Rattle.split_rules.specs.SplitCode.{part_on, code_of_emissions}
+use Rattle.split_rules.specs.SplitCode.{landed, code_labels}
+use Rattle.split_rules.specs.SplitCode.{code_of_emissions}
 use Rattle.split_rules.specs.Splittable.{IsSplittable}
 use Rattle.split_rules.specs.Walk.{lane_on, method_entry, method_emissions, methods_emissions, program_emissions}
 use Rattle.split_rules.proofs.AllowedTyping.{body_of_method, methods_stay}
@@ -41,8 +38,8 @@ use Rattle.split_rules.proofs.LabelsKept.{AreFinal}
 use Rattle.split_rules.proofs.Places.{found, found_entry}
 use Rattle.split_rules.proofs.SeenBlocks.{IsKept, AreLabelsKept}
 use Rattle.split_rules.proofs.SeenPrograms.{labels_kept}
-use Rattle.split_rules.proofs.SoundInstructions.{mapped}
-use Rattle.split_rules.proofs.SoundParts.{part_is, entry_made}
+use Rattle.split_rules.proofs.SoundInstructions.{instruction_made}
+use Rattle.split_rules.proofs.SoundParts.{entry_made}
 use Rattle.split_rules.proofs.ToldCode.{emission_labelled}
 use Rattle.split_shades.specs.Basis.{Basis}
 use Rattle.split_shades.specs.Carried.{CarriesWell, IsCarried, IsBlockOf}
@@ -125,27 +122,32 @@ entries_carried basis planned number (method ∷ methods) there =
 
 -- ---- programs
 
-pub program_carried : (placed : PlacedProgram) →
-    IsSplittable placed.labelled placed.hosts placed.plan → IsAllowed placed → IsHeld placed →
+pub from_first : (methods : List MethodTree) (place : ℕ) (tree : MethodTree) → slice_get methods place ≡ Some tree →
+    slice_get methods (0 + place) ≡ Some tree
+from_first methods place tree is =
+    let none : place ≡ 0 + place = omega arith in
+    let P : ℕ → Type 0 = λ one. slice_get methods one ≡ Some tree in
+    subst P none is
+
+pub program_kept : (placed : PlacedProgram) → IsAllowed placed → IsHeld placed →
+    AllByRecursion (MethodKept placed.hosts.principals placed.labelled) placed.labelled.program.methods
+program_kept placed allowed held =
+    let program = placed.labelled.program in
+    let declared = declared_labels program in
+    let final = labels_after_methods placed.hosts.principals program declared program.methods in
+    methods_kept placed.hosts.principals placed.labelled final allowed.var_labels program.methods declared refl
+    held.values (labels_kept placed.labelled placed.hosts.principals allowed.statements held.pc)
+
+pub program_carried : (placed : PlacedProgram) → IsSplittable placed → IsAllowed placed → IsHeld placed →
     let planned = planned_from placed in
-    AllCarried (basis_of placed.hosts.principals placed.labelled) planned (program_emissions placed.hosts.principals
-    placed.labelled planned)
+    AllCarried (basis_of placed.hosts.principals placed.labelled) planned (program_emissions placed)
 program_carried placed splittable allowed held =
     let planned = planned_from placed in
     let basis = basis_of placed.hosts.principals placed.labelled in
     let program = placed.labelled.program in
-    let declared = declared_labels program in
-    let final = labels_after_methods placed.hosts.principals program declared program.methods in
     let main = splittable.numbered.main in
-    let from_zero : (place : ℕ) (tree : MethodTree) → slice_get program.methods place ≡ Some tree →
-    slice_get program.methods (0 + place) ≡ Some tree =
-    λ place tree is.
-    let none : place ≡ 0 + place = omega arith in
-    let P : ℕ → Type 0 = λ one. slice_get program.methods one ≡ Some tree in
-    subst P none is in
-    let kept = methods_kept placed.hosts.principals placed.labelled final allowed.var_labels program.methods declared
-    refl held.values
-    (labels_kept placed.labelled placed.hosts.principals allowed.statements held.pc) in
+    let from_zero = from_first program.methods in
+    let kept = program_kept placed allowed held in
     let front = front_of planned main.0 program.methods in
     let begun : AllCarried basis planned front = (
       (main.0.head, inl (program.main.0, main.0, main.1, refl, refl)),
@@ -171,50 +173,33 @@ pub instructions_carried : (basis : Basis) (hosts : HostsShape) (planned : Plann
     instruction_at code me place ≡ Some there →
     (label : Label) × (label_at code there.label ≡ Some label)
     × CarriesWell basis planned me label there.statement there.op
-instructions_carried basis hosts planned emissions all me place there is = by (slice_get code.parts me.0) refl is
+instructions_carried basis hosts planned emissions all me place there is =
+    let made = instruction_made basis.labelled hosts planned emissions me place there is in
+    let one = made.1 in
+    let so = found me emissions place one.0 one.1 in
+    let P : List Emission → Type 0 = λ list. AllCarried basis planned list in
+    let own = one_carried basis planned so.before (instruction one.0) so.behind (subst P so.is all) in
+    let Q : HostId → Type 0 = λ host. CarriesWell basis planned host one.0.label one.0.statement one.0.op in
+    let label_is = emission_labelled basis.labelled hosts planned emissions so.before (instruction one.0) so.behind
+    so.is one.0.label (inl refl) in
+    subst Carries one.2 (
+      one.0.label,
+      label_is,
+      landed_carries one.0.host one.0.label one.0.statement one.0.op (subst Q so.own own),
+    )
   where
     code : CodeShape
     code = code_of_emissions basis.labelled hosts planned emissions
-
-    labels : List Label
-    labels = code_labels basis.labelled emissions
 
     Carries : Instr → Type 0
     Carries it = (label : Label) × (label_at code it.label ≡ Some label)
         × CarriesWell basis planned me label it.statement it.op
 
-    within_hosts : me.0 < length hosts.hosts → Carries there
-    within_hosts within =
-        let part = part_is basis.labelled hosts planned emissions me within in
-        let one = mapped (placed_instruction labels emissions) (emitted_on me emissions) place there
-        (ap (λ list. slice_get list place) (sym part) ∙ is) in
-        let so = found me emissions place one.0 one.1 in
-        let P : List Emission → Type 0 = λ list. AllCarried basis planned list in
-        let own = one_carried basis planned so.before (instruction one.0) so.behind (subst P so.is all) in
-        let Q : HostId → Type 0 = λ host. CarriesWell basis planned host one.0.label one.0.statement one.0.op in
-        let label_is = emission_labelled basis.labelled hosts planned emissions so.before (instruction one.0) so.behind
-        so.is one.0.label (inl refl) in
-        subst Carries one.2 (
-          one.0.label,
-          label_is,
-          landed_carries one.0.host one.0.label one.0.statement one.0.op (subst Q so.own own),
-        )
-      where
-        landed_carries : (on : HostId) (label : Label) (statement : StmtId) (what : Op) →
-            CarriesWell basis planned me label statement what →
-            CarriesWell basis planned me label statement (landed on emissions what)
-        landed_carries on label statement (op.Branch guard number) carries = carries
-        landed_carries on label statement other carries = carries
-
-    by : (part : Option (List Instr)) → slice_get code.parts me.0 ≡ part →
-        slice_get (unwrap_or part []) place ≡ Some there → Carries there
-    by None part_is at = absurd (cc)
-    by (Some part) is_part at =
-        let within = slice_get_within code.parts me.0 part is_part in
-        let numbers = range_with_len 0 (length hosts.hosts) in
-        let many = length-map numbers (λ number. part_on labels emissions (record { 0 = number })) in
-        let as_many = length-range_with_len 0 (length hosts.hosts) in
-        within_hosts (omega arith)
+    landed_carries : (on : HostId) (label : Label) (statement : StmtId) (what : Op) →
+        CarriesWell basis planned me label statement what →
+        CarriesWell basis planned me label statement (landed on emissions what)
+    landed_carries on label statement (op.Branch guard number) carries = carries
+    landed_carries on label statement other carries = carries
 
 pub entries_there : (basis : Basis) (hosts : HostsShape) (planned : PlannedShape) (emissions : List Emission) →
     AllCarried basis planned emissions → (number : ℕ) (there : Entry) →

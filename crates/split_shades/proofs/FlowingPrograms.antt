@@ -59,8 +59,7 @@ methods_flow principals labelled planned results final are place (method ∷ met
           (all_second (IsUseWell labelled planned principals) own_uses _ uses.1),
     )
 
-pub program_flows : (placed : PlacedProgram) →
-    IsSplittable placed.labelled placed.hosts placed.plan → IsAllowed placed → IsHeld placed →
+pub program_flows : (placed : PlacedProgram) → IsSplittable placed → IsAllowed placed → IsHeld placed →
     AreResultsLabelled placed.labelled.program →
     AllFlow (record { principals = placed.hosts.principals; labelled = placed.labelled }) (planned_from placed)
 program_flows placed splittable allowed held results =

@@ -76,13 +76,12 @@ field_known placed emissions premises field there is =
     let Q : HostId → Type 0 = λ host. MaySee (label_at code there.label) (label_of_host code host) in
     (label_is, host_is, subst Q (sym host_is) (subst P (sym label_is) sees))
 
-pub split_is_known : (placed : PlacedProgram) →
-    IsSplittable placed.labelled placed.hosts placed.plan → IsAllowed placed → IsHeld placed →
+pub split_is_known : (placed : PlacedProgram) → IsSplittable placed → IsAllowed placed → IsHeld placed →
     AreKnownInCode (record { principals = placed.hosts.principals; labelled = placed.labelled })
     (planned_from placed) (split_code placed)
 split_is_known placed splittable allowed held =
     let planned = planned_from placed in
-    let emissions = program_emissions placed.hosts.principals placed.labelled planned in
+    let emissions = program_emissions placed in
     let premises : Premises placed =
     record { splittable = splittable; allowed = allowed; held = held } in
     record {

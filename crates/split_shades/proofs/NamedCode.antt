@@ -1,19 +1,16 @@
 -- The entries that the instructions of split code name, and those of its methods, have the program labels of what they
 -- are for.
-use Rattle.std.proofs.Common.{◌≡◌, ◌∙◌, ℕ, suc, ◌+◌, ◌<◌, inl, List, [], ◌∷◌, ◌++◌, map, length, refl, ap, sym, subst}
+use Rattle.std.proofs.Common.{◌≡◌, ◌∙◌, ℕ, suc, ◌+◌, inl, List, [], ◌∷◌, ◌++◌, map, length, refl, ap, sym, subst}
 use Rattle.std.proofs.Common.{arith, zero, append_assoc}
-use Rattle.std.specs.Prelude.{Option, Some, None, slice_get, unwrap_or}
-use Rattle.std.proofs.lemmas.List.{length-map}
-use Rattle.std.proofs.lemmas.List.FromFn.{length-range_with_len}
-use Rattle.std.specs.List.{range_with_len, AllByRecursion}
-use Rattle.std.proofs.lemmas.Option.{slice_get_within}
+use Rattle.std.specs.Prelude.{Some, slice_get}
+use Rattle.std.specs.List.{AllByRecursion}
 use Rattle.js_base.specs.declared.ids.HostId.{HostId}
 use Rattle.js_base.specs.declared.ids.MethodId.{MethodId}
 use Rattle.js_base.specs.declared.ids.StmtId.{StmtId}
 use Rattle.label_lattice.specs.declared.label.Label.{Label}
 use Rattle.host_decl.specs.Hosts.{HostsShape}
 use Rattle.jif_tree.specs.Trees.{MethodTree}
-use Rattle.jif_tree.specs.LabelRules.{labels_after_methods, declared_labels, begin_label, method_at}
+use Rattle.jif_tree.specs.LabelRules.{begin_label, method_at}
 use Rattle.host_code.specs.declared.instruction.Instr.{Instr}
 use Rattle.host_code.specs.declared.instruction.Op.{Op}
 use Rattle.host_code.specs.declared.instruction.Op.TheVariants as op
@@ -27,7 +24,7 @@ use Rattle.split_rules.specs.Emissions.{Emission, instruction, entry, Counts, co
 use Rattle.split_rules.specs.Emissions.{one_more_branch, stands, lands, Named}
 use Rattle.split_rules.specs.Held.{IsHeld}
 use Rattle.split_rules.specs.Positions.{all_statements}
-use Rattle.split_rules.specs.SplitCode.{emitted_on, landed, code_labels, placed_instruction, part_on, code_of_emissions}
+use Rattle.split_rules.specs.SplitCode.{landed, code_labels, code_of_emissions}
 use Rattle.split_rules.specs.SplitCode.{split_code, entries_in}
 use Rattle.split_rules.specs.Splittable.{IsSplittable}
 use Rattle.split_rules.specs.Walk.{lane_on, method_entry, method_emissions, methods_emissions, program_emissions}
@@ -36,9 +33,8 @@ use Rattle.split_rules.proofs.AllowedTyping.{body_of_method}
 use Rattle.split_rules.proofs.BackedLabels.{all_second}
 use Rattle.split_rules.proofs.Fronts.{front_of, front_is}
 use Rattle.split_rules.proofs.Places.{found, found_entry, entries_append}
-use Rattle.split_rules.proofs.SeenPrograms.{labels_kept}
-use Rattle.split_rules.proofs.SoundInstructions.{mapped}
-use Rattle.split_rules.proofs.SoundParts.{part_is, entry_there}
+use Rattle.split_rules.proofs.SoundInstructions.{instruction_made}
+use Rattle.split_rules.proofs.SoundParts.{entry_there}
 use Rattle.split_rules.proofs.ToldCode.{emission_labelled}
 use Rattle.split_rules.proofs.CodeItems.{code_entry}
 use Rattle.split_rules.proofs.WalkedMoves.{at_last}
@@ -46,7 +42,8 @@ use Rattle.split_rules.proofs.WalkedCalls.{still_there}
 use Rattle.split_shades.specs.Basis.{Basis}
 use Rattle.split_shades.specs.Carried.{NamesWell, HasLabel, AreCarried}
 use Rattle.split_shades.proofs.BasisLabels.{basis_of}
-use Rattle.split_shades.proofs.CarriedCode.{MethodKept, methods_kept, in_program, program_carried, instructions_carried}
+use Rattle.split_shades.proofs.CarriedCode.{MethodKept, from_first, program_kept, in_program, program_carried}
+use Rattle.split_shades.proofs.CarriedCode.{instructions_carried}
 use Rattle.split_shades.proofs.CarriedCode.{entries_there}
 use Rattle.split_shades.proofs.NamedBlocks.{IsWellNamed, AllNamed, AreTold, AreNamed, then_named, block_named}
 
@@ -89,26 +86,17 @@ entries_named has basis planned (method ∷ methods) = (tt, entries_named has ba
 -- ---- programs
 
 program_named : (has : ℕ → Label → Type 0) (placed : PlacedProgram) →
-    IsSplittable placed.labelled placed.hosts placed.plan → IsAllowed placed → IsHeld placed →
+    IsSplittable placed → IsAllowed placed → IsHeld placed →
     let planned = planned_from placed in
     AreNamed has (basis_of placed.hosts.principals placed.labelled) (record { entries = 0; branches = 0 })
-    (program_emissions placed.hosts.principals placed.labelled planned)
+    (program_emissions placed)
 program_named has placed splittable allowed held =
     let planned = planned_from placed in
     let basis = basis_of placed.hosts.principals placed.labelled in
     let program = placed.labelled.program in
-    let declared = declared_labels program in
-    let final = labels_after_methods placed.hosts.principals program declared program.methods in
     let main = splittable.numbered.main in
-    let from_zero : (place : ℕ) (tree : MethodTree) → slice_get program.methods place ≡ Some tree →
-    slice_get program.methods (0 + place) ≡ Some tree =
-    λ place tree is.
-    let none : place ≡ 0 + place = omega arith in
-    let P : ℕ → Type 0 = λ one. slice_get program.methods one ≡ Some tree in
-    subst P none is in
-    let kept = methods_kept placed.hosts.principals placed.labelled final allowed.var_labels program.methods declared
-    refl held.values
-    (labels_kept placed.labelled placed.hosts.principals allowed.statements held.pc) in
+    let from_zero = from_first program.methods in
+    let kept = program_kept placed allowed held in
     let front = front_of planned main.0 program.methods in
     let begun : AllNamed has basis front = (tt, (tt, entries_named has basis planned program.methods)) in
     let none : Counts = record { entries = 0; branches = 0 } in
@@ -168,13 +156,23 @@ pub instructions_named : (basis : Basis) (hosts : HostsShape) (planned : Planned
     (me : HostId) (place : ℕ) (there : Instr) → instruction_at code me place ≡ Some there →
     (label : Label) × (label_at code there.label ≡ Some label)
     × NamesWell (HasLabel code) basis label there.statement there.op
-instructions_named basis hosts planned emissions named me place there is = by (slice_get code.parts me.0) refl is
+instructions_named basis hosts planned emissions named me place there is =
+    let made = instruction_made basis.labelled hosts planned emissions me place there is in
+    let one = made.1 in
+    let so = found me emissions place one.0 one.1 in
+    let P : List Emission → Type 0 = λ list. AllNamed has basis list in
+    let own = (all_second (IsWellNamed has basis) so.before (instruction one.0 ∷ so.behind)
+    (subst P so.is all)).0 in
+    let label_is = emission_labelled basis.labelled hosts planned emissions so.before (instruction one.0) so.behind
+    so.is one.0.label (inl refl) in
+    subst Names one.2 (
+      one.0.label,
+      label_is,
+      landed_names one.0.host one.0.label one.0.statement one.0.op own,
+    )
   where
     code : CodeShape
     code = code_of_emissions basis.labelled hosts planned emissions
-
-    labels : List Label
-    labels = code_labels basis.labelled emissions
 
     has : ℕ → Label → Type 0
     has = HasLabel (code_of_emissions basis.labelled hosts planned emissions)
@@ -187,41 +185,13 @@ instructions_named basis hosts planned emissions named me place there is = by (s
     all = named (told_behind has [] emissions (record { entries = 0; branches = 0 }) refl
         (has_label basis.labelled hosts planned emissions))
 
-    within_hosts : me.0 < length hosts.hosts → Names there
-    within_hosts within =
-        let part = part_is basis.labelled hosts planned emissions me within in
-        let one = mapped (placed_instruction labels emissions) (emitted_on me emissions) place there
-        (ap (λ list. slice_get list place) (sym part) ∙ is) in
-        let so = found me emissions place one.0 one.1 in
-        let P : List Emission → Type 0 = λ list. AllNamed has basis list in
-        let own = (all_second (IsWellNamed has basis) so.before (instruction one.0 ∷ so.behind)
-        (subst P so.is all)).0 in
-        let label_is = emission_labelled basis.labelled hosts planned emissions so.before (instruction one.0) so.behind
-        so.is one.0.label (inl refl) in
-        subst Names one.2 (
-          one.0.label,
-          label_is,
-          landed_names one.0.host one.0.label one.0.statement one.0.op own,
-        )
-      where
-        landed_names : (on : HostId) (label : Label) (statement : StmtId) (what : Op) →
-            NamesWell has basis label statement what →
-            NamesWell has basis label statement (landed on emissions what)
-        landed_names on label statement (op.Branch guard number) names = names
-        landed_names on label statement other names = names
+    landed_names : (on : HostId) (label : Label) (statement : StmtId) (what : Op) →
+        NamesWell has basis label statement what →
+        NamesWell has basis label statement (landed on emissions what)
+    landed_names on label statement (op.Branch guard number) names = names
+    landed_names on label statement other names = names
 
-    by : (part : Option (List Instr)) → slice_get code.parts me.0 ≡ part →
-        slice_get (unwrap_or part []) place ≡ Some there → Names there
-    by None part_is at = absurd (cc)
-    by (Some part) is_part at =
-        let within = slice_get_within code.parts me.0 part is_part in
-        let numbers = range_with_len 0 (length hosts.hosts) in
-        let many = length-map numbers (λ number. part_on labels emissions (record { 0 = number })) in
-        let as_many = length-range_with_len 0 (length hosts.hosts) in
-        within_hosts (omega arith)
-
-pub split_named : (placed : PlacedProgram) →
-    IsSplittable placed.labelled placed.hosts placed.plan → IsAllowed placed → IsHeld placed →
+pub split_named : (placed : PlacedProgram) → IsSplittable placed → IsAllowed placed → IsHeld placed →
     let code = split_code placed in
     (me : HostId) (place : ℕ) (there : Instr) → instruction_at code me place ≡ Some there →
     (label : Label) × (label_at code there.label ≡ Some label)
@@ -229,7 +199,7 @@ pub split_named : (placed : PlacedProgram) →
 split_named placed splittable allowed held =
     let planned = planned_from placed in
     instructions_named (basis_of placed.hosts.principals placed.labelled) placed.hosts planned
-    (program_emissions placed.hosts.principals placed.labelled planned)
+    (program_emissions placed)
     (program_named (HasLabel (split_code placed)) placed splittable allowed held)
 
 -- ---- the entries of methods
@@ -247,8 +217,7 @@ method_label planned (method ∷ methods) zero tree is =
     )
 method_label planned (method ∷ methods) (suc place) tree is = method_label planned methods place tree is
 
-front_labelled : (placed : PlacedProgram) →
-    IsSplittable placed.labelled placed.hosts placed.plan → (number : ℕ) (named : Named) →
+front_labelled : (placed : PlacedProgram) → IsSplittable placed → (number : ℕ) (named : Named) →
     let planned = planned_from placed in
     (main : MethodTree) → method_at placed.labelled.program placed.labelled.program.main ≡ Some main →
     slice_get (entries_in (front_of planned main placed.labelled.program.methods)) number ≡ Some named →
@@ -263,14 +232,13 @@ front_labelled placed splittable number named main main_is is =
     number ≡ Some named in
     let rest = methods_emissions placed.hosts.principals placed.labelled planned (counts_after none front) 0
     placed.labelled.program.methods in
-    has_label placed.labelled placed.hosts planned (program_emissions placed.hosts.principals placed.labelled planned)
+    has_label placed.labelled placed.hosts planned (program_emissions placed)
     number named
     (subst Q (sym (front_is placed.labelled planned main main_is))
     (ap (λ list. slice_get list number) (entries_append front rest)
     ∙ still_there (entries_in front) (entries_in rest) number named is))
 
-pub method_named : (placed : PlacedProgram) →
-    IsSplittable placed.labelled placed.hosts placed.plan → (place : ℕ) (tree : MethodTree) →
+pub method_named : (placed : PlacedProgram) → IsSplittable placed → (place : ℕ) (tree : MethodTree) →
     slice_get placed.labelled.program.methods place ≡ Some tree →
     HasLabel (split_code placed) (suc place) tree.begin
 method_named placed splittable place tree is =
@@ -280,8 +248,7 @@ method_named placed splittable place tree is =
     let P : Label → Type 0 = λ label. HasLabel (split_code placed) (suc place) label in
     subst P own.2 (front_labelled placed splittable (suc place) own.0 main.0 main.1 own.1)
 
-pub halt_named : (placed : PlacedProgram) →
-    IsSplittable placed.labelled placed.hosts placed.plan →
+pub halt_named : (placed : PlacedProgram) → IsSplittable placed →
     HasLabel (split_code placed) 0 (begin_label (method_at placed.labelled.program placed.labelled.program.main))
 halt_named placed splittable =
     let planned = planned_from placed in
@@ -297,14 +264,13 @@ halt_named placed splittable =
 
 -- ---- all of it
 
-pub split_is_carried : (placed : PlacedProgram) →
-    IsSplittable placed.labelled placed.hosts placed.plan → IsAllowed placed → IsHeld placed →
+pub split_is_carried : (placed : PlacedProgram) → IsSplittable placed → IsAllowed placed → IsHeld placed →
     AreCarried (record { principals = placed.hosts.principals; labelled = placed.labelled }) (planned_from placed)
     (split_code placed)
 split_is_carried placed splittable allowed held =
     let planned = planned_from placed in
     let basis = basis_of placed.hosts.principals placed.labelled in
-    let emissions = program_emissions placed.hosts.principals placed.labelled planned in
+    let emissions = program_emissions placed in
     let all = program_carried placed splittable allowed held in
     record {
       instructions = instructions_carried basis placed.hosts planned emissions all;

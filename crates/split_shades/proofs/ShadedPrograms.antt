@@ -110,8 +110,7 @@ methods_shaded scene all number (method ∷ methods) there well flows sites sile
 
 -- ---- programs
 
-pub program_shaded : (placed : PlacedProgram) (may_release : Bool) →
-    IsSplittable placed.labelled placed.hosts placed.plan → IsAllowed placed →
+pub program_shaded : (placed : PlacedProgram) (may_release : Bool) → IsSplittable placed → IsAllowed placed →
     IsHeld placed → AreResultsLabelled placed.labelled.program →
     (may_release ≡ false → ReleasesNothing placed.labelled.program) →
     let planned = planned_from placed in

@@ -2,10 +2,6 @@
 use Rattle.std.proofs.Common.{◌≡◌, ◌∙◌, ℕ, zero, suc, inl, inr, ◌+◌, ◌<◌, Bool, false, List, [], ◌∷◌, ◌++◌, map}
 use Rattle.std.proofs.Common.{length, refl, ap, sym, subst, arith, length-append, append_assoc}
 use Rattle.std.specs.Prelude.{Option, Some, None, IfSome, slice_get, unwrap_or}
-use Rattle.std.proofs.lemmas.List.{length-map}
-use Rattle.std.proofs.lemmas.List.FromFn.{length-range_with_len}
-use Rattle.std.specs.List.{range_with_len}
-use Rattle.std.proofs.lemmas.Option.{slice_get_within}
 use Rattle.js_base.specs.declared.ids.HostId.{HostId}
 use Rattle.label_lattice.specs.declared.label.Label.{Label}
 use Rattle.label_lattice.specs.Lattice.{empty_label}
@@ -25,7 +21,7 @@ use Rattle.split_rules.specs.Flow.{State}
 use Rattle.split_rules.specs.Held.{IsHeld}
 use Rattle.split_rules.specs.Positions.{body}
 use Rattle.split_rules.specs.SplitCode.{emitted_on, entries_in, before_entry, before_landing, landed, code_labels}
-use Rattle.split_rules.specs.SplitCode.{placed_instruction, part_on, code_of_emissions, split_code}
+use Rattle.split_rules.specs.SplitCode.{placed_instruction, code_of_emissions, split_code}
 use Rattle.split_rules.specs.Splittable.{IsSplittable}
 use Rattle.split_rules.specs.Walk.{methods_emissions, method_entry}
 use Rattle.split_rules.specs.WalkStart.{front_emissions}
@@ -34,8 +30,8 @@ use Rattle.split_rules.proofs.Fronts.{front_of, IsWalk, front_is, walk_there, ot
 use Rattle.split_rules.proofs.NumberedLists.{length-numbered}
 use Rattle.split_rules.proofs.Places.{found, found_entry, entries_append}
 use Rattle.split_rules.proofs.SeenPrograms.{program_tells_well, all_there}
-use Rattle.split_rules.proofs.SoundParts.{given, code_given, given_emitted, part_is, entry_made}
-use Rattle.split_rules.proofs.SoundInstructions.{mapped, branch_leads}
+use Rattle.split_rules.proofs.SoundParts.{given, code_given, given_emitted, entry_made}
+use Rattle.split_rules.proofs.SoundInstructions.{instruction_made, branch_leads}
 use Rattle.split_rules.proofs.ToldCode.{emission_labelled}
 use Rattle.split_rules.proofs.ToldEmissions.{entry_of}
 use Rattle.split_rules.proofs.ToldWalks.{MethodTellsWell}
@@ -251,7 +247,27 @@ instructions_shaded : (scene : Scene) (hosts : HostsShape) (main : MethodTree) (
     instruction_at (code_given scene.basis.labelled hosts scene.planned main emissions) me place ≡ Some there →
     IsShadedAt scene (code_given scene.basis.labelled hosts scene.planned main emissions) (table_in walk) me place there
 unfolding table_of
-instructions_shaded scene hosts main emissions walk me place there is = by (slice_get code.parts me.0) refl is
+instructions_shaded scene hosts main emissions walk me place there is =
+    let labelled = scene.basis.labelled in
+    let made = instruction_made scene.basis.labelled hosts scene.planned all me place there is in
+    let one = made.1 in
+    let so = found me emissions place one.0
+    (ap (λ list. slice_get list place) (sym (given_emitted me labelled scene.planned main emissions)) ∙ one.1) in
+    let law = op_shaded scene hosts main emissions walk so.before one.0 so.behind so.is me so.own one.0.op refl in
+    let whole : all ≡ (front ++ so.before) ++ instruction one.0 ∷ so.behind =
+    ap (λ list. front ++ list) so.is ∙ sym (append_assoc front so.before (instruction one.0 ∷ so.behind)) in
+    let label_is = emission_labelled labelled hosts scene.planned all (front ++ so.before) (instruction one.0)
+    so.behind whole one.0.label (inl refl) in
+    let P : ℕ → Type 0 = λ at. IsShadedAt scene code (table_in walk) me at (placed_instruction labels all one.0) in
+    let Q : HostId → Type 0 = λ host. IsShadedOp scene (table_in walk) me (length (emitted_on me so.before))
+    (landed host all one.0.op) in
+    let R : Instr → Type 0 = λ it. IsShadedAt scene code (table_in walk) me place it in
+    subst R one.2 (subst P so.place (record {
+      label_is = label_is ∙ ap Some (sym law.0);
+      is_shade = law.1;
+      exits = law.2;
+      law = subst Q (sym so.own) law.3;
+    }))
   where
     code : CodeShape
     code = code_given scene.basis.labelled hosts scene.planned main emissions
@@ -264,40 +280,6 @@ instructions_shaded scene hosts main emissions walk me place there is = by (slic
 
     front : List Emission
     front = front_of scene.planned main scene.basis.labelled.program.methods
-
-    within_hosts : me.0 < length hosts.hosts → IsShadedAt scene code (table_in walk) me place there
-    within_hosts within =
-        let labelled = scene.basis.labelled in
-        let part = part_is labelled hosts scene.planned all me within in
-        let one = mapped (placed_instruction labels all) (emitted_on me all) place there
-        (ap (λ list. slice_get list place) (sym part) ∙ is) in
-        let so = found me emissions place one.0
-        (ap (λ list. slice_get list place) (sym (given_emitted me labelled scene.planned main emissions)) ∙ one.1) in
-        let law = op_shaded scene hosts main emissions walk so.before one.0 so.behind so.is me so.own one.0.op refl in
-        let whole : all ≡ (front ++ so.before) ++ instruction one.0 ∷ so.behind =
-        ap (λ list. front ++ list) so.is ∙ sym (append_assoc front so.before (instruction one.0 ∷ so.behind)) in
-        let label_is = emission_labelled labelled hosts scene.planned all (front ++ so.before) (instruction one.0)
-        so.behind whole one.0.label (inl refl) in
-        let P : ℕ → Type 0 = λ at. IsShadedAt scene code (table_in walk) me at (placed_instruction labels all one.0) in
-        let Q : HostId → Type 0 = λ host. IsShadedOp scene (table_in walk) me (length (emitted_on me so.before))
-        (landed host all one.0.op) in
-        let R : Instr → Type 0 = λ it. IsShadedAt scene code (table_in walk) me place it in
-        subst R one.2 (subst P so.place (record {
-          label_is = label_is ∙ ap Some (sym law.0);
-          is_shade = law.1;
-          exits = law.2;
-          law = subst Q (sym so.own) law.3;
-        }))
-
-    by : (part : Option (List Instr)) → slice_get code.parts me.0 ≡ part →
-        slice_get (unwrap_or part []) place ≡ Some there → IsShadedAt scene code (table_in walk) me place there
-    by None part_is at = absurd (cc)
-    by (Some part) is_part at =
-        let within = slice_get_within code.parts me.0 part is_part in
-        let numbers = range_with_len 0 (length hosts.hosts) in
-        let many = length-map numbers (λ number. part_on labels all (record { 0 = number })) in
-        let as_many = length-range_with_len 0 (length hosts.hosts) in
-        within_hosts (omega arith)
 
 -- ---- entries
 
@@ -523,8 +505,7 @@ code_shaded scene hosts main emissions walk homes = record {
 }
 
 -- The code of a split program has a table of shades.
-pub split_is_shaded : (placed : PlacedProgram) (may_release : Bool) →
-    IsSplittable placed.labelled placed.hosts placed.plan → IsAllowed placed →
+pub split_is_shaded : (placed : PlacedProgram) (may_release : Bool) → IsSplittable placed → IsAllowed placed →
     IsHeld placed → AreResultsLabelled placed.labelled.program →
     (may_release ≡ false → ReleasesNothing placed.labelled.program) →
     (shades : Shades) × IsShadedCode (scene_of placed may_release)
@@ -553,7 +534,7 @@ split_is_shaded placed may_release splittable allowed held results silent =
         let so = program_shaded placed may_release splittable allowed held results silent in
         record {
           end = goes.0;
-          walk = walk_there placed.labelled placed.hosts planned emissions goes.0 splittable goes.1 goes.2;
+          walk = walk_there placed emissions goes.0 splittable goes.1 goes.2;
           last = so.0;
           shaded = so.2;
           ends = so.1;
@@ -573,8 +554,7 @@ split_is_shaded placed may_release splittable allowed held results silent =
         shades
 
 -- Where the program releases nothing, no instruction does.
-pub split_is_silent : (placed : PlacedProgram) →
-    IsSplittable placed.labelled placed.hosts placed.plan → IsAllowed placed → IsHeld placed →
+pub split_is_silent : (placed : PlacedProgram) → IsSplittable placed → IsAllowed placed → IsHeld placed →
     AreResultsLabelled placed.labelled.program → ReleasesNothing placed.labelled.program →
     (shades : Shades) × IsShadedCode (scene_of placed false)
     (split_code placed) shades × ReleaseNothing (split_code placed) shades

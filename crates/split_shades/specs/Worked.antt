@@ -8,7 +8,7 @@ use Rattle.msg_cost.specs.Moves.{PlannedShape}
 use Rattle.split_rules.specs.Positions.{FieldRead}
 use Rattle.split_rules.specs.SplitCode.{emitted_on, entries_in, code_of_emissions}
 use Rattle.split_rules.specs.Worked.{host_id, field_id, heading, trusted_by, a_host, field_with, main_of, program_with}
-use Rattle.split_rules.specs.Worked.{nobody, planned_for, labelled_with, emissions_on}
+use Rattle.split_rules.specs.Worked.{nobody, planned_for, placed_with, emissions_on}
 use Rattle.split_shades.specs.Basis.{Basis}
 use Rattle.split_shades.specs.Shading.{Scene}
 use Rattle.split_shades.specs.Sites.{program_sites}
@@ -40,7 +40,7 @@ abbrev pub looping : PlannedShape
 looping = apart (loop (heading 1) (scalar (field_id 0)) elsewhere done)
 
 abbrev pub basis_on : PlannedShape → Basis
-basis_on planned = record { principals = nobody; labelled = labelled_with planned [] }
+basis_on planned = record { principals = nobody; labelled = (placed_with planned []).labelled }
 
 abbrev pub scene_on : PlannedShape → Scene
 scene_on planned = record {
@@ -51,7 +51,8 @@ scene_on planned = record {
 }
 
 abbrev pub code_on : PlannedShape → CodeShape
-code_on planned = code_of_emissions (labelled_with planned []) planned.hosts planned (emissions_on planned)
+code_on planned =
+    code_of_emissions (placed_with planned []).labelled planned.hosts planned (emissions_on planned)
 
 -- the branch with the program labels of the head, of the branch and of what is inside
 abbrev pub branching_basis : Basis

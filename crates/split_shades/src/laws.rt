@@ -26,8 +26,7 @@ ghost use Rattle.std.specs.Prelude.{◌≡◌, Bool, false, [], ◌∷◌, Some,
 /// In a program that was checked and placed, each value flows to where its statement keeps it, and so does the program
 /// label under which it is evaluated. Whoever answers a read may see which element is asked for.
 pub fn flow_laws()
-    ensures flows { (placed : PlacedProgram) →
-        IsSplittable placed.labelled placed.hosts placed.plan → IsAllowed placed → IsHeld placed →
+    ensures flows { (placed : PlacedProgram) → IsSplittable placed → IsAllowed placed → IsHeld placed →
         AreResultsLabelled placed.labelled.program →
         AllFlow (record { principals = placed.hosts.principals; labelled = placed.labelled }) (planned_from placed) }
 {}
@@ -37,7 +36,7 @@ pub fn flow_laws()
 /// under a token whose labels flow to its own. Where the program releases nothing, no instruction does.
 pub fn walk_laws()
     ensures shaded { (placed : PlacedProgram) (may_release : Bool) →
-        IsSplittable placed.labelled placed.hosts placed.plan → IsAllowed placed → IsHeld placed →
+        IsSplittable placed → IsAllowed placed → IsHeld placed →
         AreResultsLabelled placed.labelled.program → (may_release ≡ false → ReleasesNothing placed.labelled.program) →
         let planned = planned_from placed in
         let counts = counts_after (record { entries = 0; branches = 0 }) (front_emissions placed.labelled planned) in
@@ -52,26 +51,23 @@ pub fn walk_laws()
 /// Each instruction keeps the law of its kind, and where the program releases nothing, no instruction does.
 pub fn shade_laws()
     ensures shaded { (placed : PlacedProgram) (may_release : Bool) →
-        IsSplittable placed.labelled placed.hosts placed.plan → IsAllowed placed → IsHeld placed →
+        IsSplittable placed → IsAllowed placed → IsHeld placed →
         AreResultsLabelled placed.labelled.program → (may_release ≡ false → ReleasesNothing placed.labelled.program) →
         (shades : Shades) × IsShadedCode (scene_of placed may_release)
         (split_code placed) shades }
-    ensures silent { (placed : PlacedProgram) →
-        IsSplittable placed.labelled placed.hosts placed.plan → IsAllowed placed → IsHeld placed →
+    ensures silent { (placed : PlacedProgram) → IsSplittable placed → IsAllowed placed → IsHeld placed →
         AreResultsLabelled placed.labelled.program → ReleasesNothing placed.labelled.program →
         (shades : Shades) × IsShadedCode (scene_of placed false)
         (split_code placed) shades × ReleaseNothing (split_code placed) shades }
     // Each instruction carries the program label of the statement that it is for, which stands on its host, or that of
     // a block where the right to go on moves. Each entry carries the label of what it is named for: its method, its
     // block, the blocks inside its branch or loop, or its call. A call enters its method.
-    ensures carried { (placed : PlacedProgram) →
-        IsSplittable placed.labelled placed.hosts placed.plan → IsAllowed placed → IsHeld placed →
+    ensures carried { (placed : PlacedProgram) → IsSplittable placed → IsAllowed placed → IsHeld placed →
         AreCarried (record { principals = placed.hosts.principals; labelled = placed.labelled })
         (planned_from placed) (split_code placed) }
     // The code has the labels of fields and variables that shades speak of, each field stands on a host that may see
     // it, and a host may see by the code what it may see by the plan.
-    ensures known { (placed : PlacedProgram) →
-        IsSplittable placed.labelled placed.hosts placed.plan → IsAllowed placed → IsHeld placed →
+    ensures known { (placed : PlacedProgram) → IsSplittable placed → IsAllowed placed → IsHeld placed →
         AreKnownInCode (record { principals = placed.hosts.principals; labelled = placed.labelled })
         (planned_from placed) (split_code placed) }
 {}

@@ -7,8 +7,9 @@ use Rattle.jif_tree.specs.declared.program.Program.{Program}
 use Rattle.jif_tree.specs.Trees.{program_tree}
 use Rattle.jif_tree.proofs.VariableCounts.{variable_count}
 use Rattle.label_check.specs.Checking.{IsChecked}
-use Rattle.need_labels.specs.Labelled.{labelled_of}
+use Rattle.need_labels.specs.Needs.{NeedsShape}
 use Rattle.need_labels.specs.Plan.{PlanShape}
+use Rattle.split_rules.specs.Placed.{placed_of}
 use Rattle.split_rules.specs.Splittable.{StandsAmong, IsSplittable}
 use Rattle.split_tests.specs.ReadPrograms.{IsReadProgram, AreHostsShort}
 
@@ -19,11 +20,12 @@ pub read_checked : (principals : Declared) (program : Program) (checked : Checke
 read_checked principals program checked read is =
     subst (λ (same : Program). IsReadProgram principals (program_tree same)) (sym is.kept) read
 
-pub splittable : (principals : Declared) (program : Program) (checked : Checked) (hosts : HostsShape)
-    (plan : PlanShape) → IsReadProgram principals (program_tree program) → IsChecked principals program checked →
+pub splittable : (principals : Declared) (program : Program) (checked : Checked) (needs : NeedsShape)
+    (hosts : HostsShape) (plan : PlanShape) → IsReadProgram principals (program_tree program) →
+    IsChecked principals program checked →
     AreHosts hosts → AreHostsShort hosts → StandsAmong (length hosts.hosts) plan →
-    IsSplittable (labelled_of checked) hosts plan
-splittable principals program checked hosts plan read is are_hosts short stands =
+    IsSplittable (placed_of checked needs hosts plan)
+splittable principals program checked needs hosts plan read is are_hosts short stands =
     let kept = read_checked principals program checked read is in
     record {
       are_hosts = are_hosts;

@@ -13,6 +13,7 @@ pub mod Transfers
 pub mod Arguments
 pub mod CallsMade
 pub mod ResultsGiven
+pub mod MainStart
 pub mod Pops
 pub mod Fuel
 pub mod Turns

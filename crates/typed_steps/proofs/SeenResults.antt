@@ -220,12 +220,11 @@ result_there program numbered called result (Some tree) found_is is =
     let P : Option VarId → Type 0 = HasOptionalVariable program called in
     subst P is own.result
 
-results_returned : (placed : PlacedProgram) →
-    IsSplittable placed.labelled placed.hosts placed.plan →
+results_returned : (placed : PlacedProgram) → IsSplittable placed →
     AreResultsReturned placed.labelled (split_code placed) (planned_from placed)
 results_returned placed splittable called result is host sees =
     let planned = planned_from placed in
-    variable_returned placed (program_emissions placed.hosts.principals placed.labelled planned) host called result
+    variable_returned placed (program_emissions placed) host called result
     splittable.var_labels
     (result_there placed.labelled.program splittable.numbered.methods called result
     (method_at placed.labelled.program called) refl is)
@@ -255,8 +254,7 @@ methods_results placed code returned first (method ∷ methods) numbered seen (s
     (all_right (IsSeenUse (planned_from placed)) own others seen) place tree is
 
 -- in each method the host of a call may see the label of the result that it gets
-pub results_seen : (placed : PlacedProgram) →
-    IsSplittable placed.labelled placed.hosts placed.plan → IsAllowed placed → IsHeld placed →
+pub results_seen : (placed : PlacedProgram) → IsSplittable placed → IsAllowed placed → IsHeld placed →
     (place : ℕ) (tree : MethodTree) → slice_get placed.labelled.program.methods place ≡ Some tree →
     SeeResults (split_code placed) (planned_from placed) tree.body
 results_seen placed splittable allowed held =

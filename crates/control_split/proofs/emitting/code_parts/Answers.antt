@@ -26,7 +26,7 @@ returns c =
     let program = labelled.program in
     let hosts = split.hosts.now in
     let planned = planned_in split in
-    let emissions = program_emissions hosts.principals labelled planned in
+    let emissions = program_emissions (placed_in split) in
     let whole = traced (variable_trace labelled) emissions in
     let first : c.code_fields.new.trace ≡ field_trace labelled =
     c.in_ok-fields.ensures.trace
