@@ -1,4 +1,5 @@
-//! What a host file says, as texts and numbers: names are not yet looked up, and labels are not yet read.
+//! What a host file says, as texts and numbers: names are not yet looked up, and labels are not yet read. Nothing here
+//! is `Debug`, which would print keys.
 
 ghost use Rattle.std.specs.Prelude.{◌≡◌, length};
 ghost use Rattle.host_decl.specs.declared.key.TheConstants.{KEY_BYTES};
@@ -7,7 +8,7 @@ use crate::key::KEY_BYTES;
 use js_base::named::Named;
 
 /// A host, as a host file writes it.
-#[derive(Debug, Drop)]
+#[derive(Drop)]
 pub struct HostDraft {
     pub name: String,
     /// The text of its label.
@@ -30,7 +31,7 @@ impl Named for HostDraft {
 }
 
 /// A link, as a host file writes it: the names of its hosts, and any cost.
-#[derive(Debug, Drop)]
+#[derive(Drop)]
 pub struct LinkDraft {
     pub from: String,
     pub to: String,
@@ -38,7 +39,7 @@ pub struct LinkDraft {
 }
 
 /// A host file: the names of principals, who of them acts for whom, the hosts and the links.
-#[derive(Debug, Drop)]
+#[derive(Drop)]
 pub struct HostsDraft {
     pub names: Vec<String>,
     pub pairs: Vec<(String, String)>,

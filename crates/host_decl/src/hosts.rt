@@ -9,8 +9,8 @@ use label_lattice::Label;
 use principals::Principals;
 use std::marker::Model;
 
-/// A host of a host file.
-#[derive(Debug, Drop)]
+/// A host of a host file. It is not `Debug`, which would print its key.
+#[derive(Drop)]
 pub struct HostRow {
     name: String,
     label: Label,
@@ -77,7 +77,7 @@ impl HostRow {
 }
 
 /// The principals, the hosts and the costs of the links of a host file: 1 to 16 hosts, no two of one name.
-#[derive(Debug, Drop)]
+#[derive(Drop)]
 pub struct Hosts {
     principals: Principals,
     hosts: Vec<HostRow>,
