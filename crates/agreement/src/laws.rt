@@ -362,7 +362,8 @@ pub fn worked_laws()
         }) }
     // A thread that asks waits, and what it asks for is in flight: the element that it carries, and no other.
     ensures asks_once { SeenAsking small_eyes (came_to 1) (host_id 0) (carried_index (pos 0)) (asked_for (pos 0)) }
-    ensures asks_for_more { ¬ (SeenAsking small_eyes (came_to 1) (host_id 0) (carried_index (pos 0)) (asked_for (pos 7))) }
+    ensures asks_for_more { ¬ (SeenAsking small_eyes (came_to 1) (host_id 0) (carried_index (pos 0))
+        (asked_for (pos 7))) }
     ensures asks_on { ¬ (SeenAsking small_eyes (came_to 1) (host_id 0) (carried_index (pos 0)) (came_to 2)) }
     // No value is carried that is sent to be kept where it may not be seen.
     ensures unseen_sent { (state : host_state.HostShape) (thread : ThreadShape) →

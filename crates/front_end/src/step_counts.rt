@@ -7,8 +7,8 @@ ghost use Rattle.front_end.specs.StepCounts.{BeginsWithCount, IsStepCount};
 /// The most steps, events or turns that can be asked for.
 pub const STEPS: u64 = 1_000_000_000;
 
-/// The number of steps, events or turns that a word writes in decimal digits, without leading zeros, where so many can be
-/// asked for.
+/// The number of steps, events or turns that a word writes in decimal digits, without leading zeros, where so many can
+/// be asked for.
 pub fn step_count(word: &str) -> Option<u64>
     ensures count { IfSome result IsStepCount }
     ensures found { IfSome result (λ steps. word.now ≡ decimal steps) }
