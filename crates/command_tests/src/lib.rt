@@ -1,29 +1,21 @@
-//! Tests of the command line, by the top call over files and sinks in memory.
+//! Tests of the commands and of nodes, by their top calls over files, sinks, links and journals in memory: what is
+//! answered where something fails, and to files as long as they may be; and of the labels that code keeps. All that
+//! real files can show stands in the examples.
 #![tactic(auto)]
 
 #[cfg(test)]
-mod answers;
-#[cfg(test)]
 mod call;
 #[cfg(test)]
-mod comparing;
+mod code_labels;
 #[cfg(test)]
-mod drives;
-#[cfg(test)]
-mod host_files;
+mod frames;
 #[cfg(test)]
 mod limits;
 #[cfg(test)]
-mod making;
+mod node;
 #[cfg(test)]
-mod misbehaving;
+mod node_refusals;
+#[cfg(test)]
+mod node_services;
 #[cfg(test)]
 mod outside;
-#[cfg(test)]
-mod plans;
-#[cfg(test)]
-mod programs;
-#[cfg(test)]
-mod runs;
-#[cfg(test)]
-mod splits;

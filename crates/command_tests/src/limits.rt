@@ -1,8 +1,25 @@
 //! Files of the largest size, and of one byte more.
 
-use crate::call::{filled, replay};
+use crate::call::call;
 use js_base::Status;
+use std::alloc::{AllocError, Global};
 use std::test::Fail;
+
+/// A text with so many copies of a filler in its middle.
+fn filled(
+    alloc: Global,
+    before: &str,
+    filler: &str,
+    count: usize,
+    after: &str,
+) -> Result<String, AllocError> {
+    let mut text = String::from_str(alloc, before)?;
+    for _ in 0..count {
+        text.push_str(filler)?;
+    }
+    text.push_str(after)?;
+    Ok(text)
+}
 
 #[test]
 fn takes_files_up_to_their_limits(rt: HostRuntime) -> Result<(), Fail> {
@@ -26,7 +43,7 @@ fn takes_files_up_to_their_limits(rt: HostRuntime) -> Result<(), Fail> {
             Some(hosts.as_str()),
             Some("turn A\n"),
         ];
-        let ended = replay(alloc, held)?;
+        let ended = call(alloc, "replay P H E", held, [None, None, None])?;
         assert!(rt;
             ended.is(status, out, err),
             "at {digits} digits and {letters} letters"

@@ -9,8 +9,6 @@ mod kind;
 mod laws;
 mod layout;
 mod picture;
-#[cfg(test)]
-mod tests;
 mod top;
 
 use crate::top::jifpicture;

@@ -1,2 +1,0 @@
-pub mod Soundness
-pub mod Walkable

@@ -1,4 +1,0 @@
-use Rattle.place_tests.proofs.told.resolved.Goals as goal
-
-pub returns-clause-authorities : goal.returns-clause-authorities
-returns-clause-authorities c = c.program_laws.ensures.authorities _ _ _ c.in_ok-resolve.ensures.found
