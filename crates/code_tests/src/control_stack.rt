@@ -1,8 +1,11 @@
 //! Tokens and the control stack.
 
+ghost use Rattle.std.specs.Prelude.{◌≡◌, ◌<◌, length};
+
 use capability::{Held, Pending, TAG_BYTES, Token, tag};
 use ics_stack::{IcsStack, NotTop};
-use js_base::{EntryId, FrameId, HostId, SiteId};
+use js_base::{EntryId, FrameId, HostId, OutOfMemory, SiteId};
+use std::process::Abort;
 use std::test::Fail;
 
 /// As computed by another implementation of SHA-256.
@@ -36,39 +39,53 @@ const FRAME: FrameId = FrameId {
     count: 0,
 };
 
-/// A token with another tag than its host made takes nothing off. No script can say such a token of an obeying host.
-#[test]
-fn only_the_top_is_taken_and_only_once(rt: HostRuntime) -> Result<(), Fail> {
-    let mut stack = IcsStack::new(rt.alloc(), HostId(0), [1; 32], 2)?;
+/// Pushes two entries on an empty stack, and answers their tokens from below.
+fn two_pushed(stack: &mut IcsStack) -> Result<(Token, Token), OutOfMemory>
+    requires entry { 1 < length stack.old.serials }
+    requires pushes { stack.old.pushes ≡ 0 }
+{
     stack.reserve()?;
     let below = stack.push(EntryId(1), FRAME, Held::of(NOBODYS));
     stack.reserve()?;
     let top = stack.push(EntryId(1), FRAME, Held::of(below));
-    assert_eq!(rt; (below.serial, top.serial), (0, 1));
-    assert_eq!(rt;
-        kept_with(&mut stack, below),
-        Err(NotTop { top: Some(top) })
-    );
-    let forged = Token {
-        host: top.host,
-        frame: top.frame,
-        entry: top.entry,
-        serial: top.serial,
+    Ok((below, top))
+}
+
+/// The token with another tag than its host made.
+fn forged(token: Token) -> Token {
+    Token {
+        host: token.host,
+        frame: token.frame,
+        entry: token.entry,
+        serial: token.serial,
         tag: [0; TAG_BYTES],
-    };
-    assert_eq!(rt;
-        kept_with(&mut stack, forged),
-        Err(NotTop { top: Some(top) })
-    );
-    assert_eq!(rt; kept_with(&mut stack, top), Ok(below));
-    assert_eq!(rt;
-        kept_with(&mut stack, top),
-        Err(NotTop { top: Some(below) })
-    );
-    assert_eq!(rt; kept_with(&mut stack, below), Ok(NOBODYS));
-    assert_eq!(rt; kept_with(&mut stack, below), Err(NotTop { top: None }));
+    }
+}
+
+/// A token with another tag than its host made takes nothing off. No script can say such a token of an obeying host.
+#[test]
+fn only_the_top_is_taken_and_only_once(rt: HostRuntime) -> Result<(), Fail> {
+    let mut stack = IcsStack::new(rt.alloc(), HostId(0), [1; 32], 2)?;
+    let (below, top) = two_pushed(&mut stack)?;
+    assert_eq!(rt; (below.serial, top.serial), (0, 1));
+    is_refused(&rt, &mut stack, below, Some(top));
+    is_refused(&rt, &mut stack, forged(top), Some(top));
+    is_taken(&rt, &mut stack, top, below);
+    is_refused(&rt, &mut stack, top, Some(below));
+    is_taken(&rt, &mut stack, below, NOBODYS);
+    is_refused(&rt, &mut stack, below, None);
     assert_eq!(rt; stack.depth(), 0);
     Ok(())
+}
+
+/// The token takes nothing off, and is told the token of the top entry.
+fn is_refused(rt: &impl Abort, stack: &mut IcsStack, token: Token, top: Option<Token>) {
+    assert_eq!(rt; kept_with(stack, token), Err(NotTop { top }), "{token:?}");
+}
+
+/// The token takes off the entry with which this token is kept.
+fn is_taken(rt: &impl Abort, stack: &mut IcsStack, token: Token, kept: Token) {
+    assert_eq!(rt; kept_with(stack, token), Ok(kept), "{token:?}");
 }
 
 /// Takes an entry off and abandons its thread, whose token is answered.

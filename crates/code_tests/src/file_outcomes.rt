@@ -1,217 +1,220 @@
 //! What changed files are refused for. The places and faults were worked out by another reader of split files.
 
+use crate::tables::{columns, put};
 use crate::whole_file::whole_file;
 use host_code::MOST_ITEMS;
-use split_file::{SplitError, read};
+use split_file::read;
 use std::alloc::Global;
 use std::process::Abort;
 use std::test::Fail;
 
-/// A place, the byte that is put there, and the refusal, or nothing where the file is still one.
-type Change = (usize, u8, Option<SplitError>);
+/// Changes before the instructions: the refusal, or `read` where the file is still one; a place and the byte that is
+/// put there; and what that changes.
+const TABLES: &str = "\
+    BadMagic | 0 75 | magic\n\
+    BadMagic | 7 0 | magic\n\
+    BadVersion | 8 1 | version\n\
+    BadVersion | 9 3 | version\n\
+    BadVersion | 9 0 | version\n\
+    BadField(10) | 10 1 | hosts\n\
+    BadField(10) | 13 0 | hosts\n\
+    Short | 13 1 | hosts\n\
+    BadField(10) | 13 17 | hosts\n\
+    BadField(14) | 17 0 | host A\n\
+    Short | 14 1 | host A\n\
+    BadField(14) | 18 57 | host A\n\
+    read | 18 95 | host A\n\
+    read | 19 0 | label of A\n\
+    read | 1047 9 | label of B\n\
+    Short | 1051 1 | labels\n\
+    read | 1556 3 | label 0\n\
+    Short | 2079 1 | fields\n\
+    BadField(2080) | 2084 46 | name x\n\
+    BadField(2085) | 2088 2 | label x\n\
+    read | 2088 1 | label x\n\
+    BadField(2089) | 2092 0 | size x\n\
+    BadField(2089) | 2090 1 | size x\n\
+    BadField(2089) | 2089 1 | size x\n\
+    BadField(2089) | 2093 0 | array x\n\
+    BadField(2093) | 2093 2 | array x\n\
+    read | 2094 0 | first x\n\
+    BadField(2102) | 2102 2 | host of x\n\
+    read | 2102 1 | host of x\n\
+    BadField(2112) | 2115 2 | size y\n\
+    read | 2116 1 | array y\n\
+    BadField(2108) | 2108 1 | label y\n\
+    BadField(2130) | 2138 45 | name main.v\n\
+    BadField(2130) | 2134 57 | name main.v\n\
+    read | 2150 78 | name f.return\n\
+    BadField(2144) | 2149 95 | name f.return\n\
+    BadField(2144) | 2147 9 | name f.return\n\
+    BadField(2140) | 2143 2 | label main.v\n\
+    BadField(2237) | 2164 1 | e0 host\n\
+    BadField(2164) | 2164 2 | e0 host\n\
+    BadField(2165) | 2168 1 | e0 at\n\
+    BadField(2169) | 2172 2 | e0 label\n\
+    read | 2173 255 | e0 need\n\
+    read | 2185 14 | e1 at\n\
+    BadField(2182) | 2185 15 | e1 at\n\
+    BadField(2186) | 2188 1 | e1 label\n\
+    BadField(2238) | 2181 1 | e1 host\n\
+    BadField(2199) | 2202 1 | e2 at\n\
+    read | 2202 0 | e2 at\n\
+    BadField(2290) | 2219 1 | e3 at\n\
+    BadField(2373) | 2219 4 | e3 at\n\
+    BadField(2216) | 2216 255 | e3 at\n\
+    BadField(2477) | 2198 0 | e2 host\n\
+    BadField(2406) | 2236 1 | site 1\n\
+    BadField(2236) | 2236 2 | site 1\n\
+    BadField(2237) | 2237 1 | root\n\
+    BadField(2237) | 2237 2 | root\n\
+    read | 2241 0 | main\n\
+    BadField(2238) | 2241 2 | main\n\
+    BadField(2238) | 2241 4 | main";
 
-/// Two of them, and the refusal.
-type Changes = (usize, u8, usize, u8, Option<SplitError>);
+/// Changes of the instructions. The last column has an instruction, or an operand by its number.
+const INSTRUCTIONS: &str = "\
+    BadField(2519) | 2245 14 | A\n\
+    BadField(2563) | 2245 16 | A\n\
+    read | 2249 1 | i0\n\
+    BadField(2246) | 2249 2 | i0\n\
+    read | 2250 255 | i0 statement\n\
+    BadField(2254) | 2254 0 | i0 op\n\
+    BadField(2254) | 2254 15 | i0 op\n\
+    BadField(2268) | 2254 13 | i0 op\n\
+    BadField(2255) | 2258 2 | i0 0\n\
+    BadField(2259) | 2262 0 | i0 1\n\
+    BadField(2259) | 2261 1 | i0 1\n\
+    BadField(2272) | 2262 2 | i0 1\n\
+    BadField(2263) | 2263 0 | i0 1\n\
+    BadField(2263) | 2263 19 | i0 1\n\
+    BadField(2264) | 2263 3 | i0 1\n\
+    BadField(2281) | 2284 2 | i1 0\n\
+    read | 2289 2 | i1 1\n\
+    BadField(2290) | 2293 1 | i1 1\n\
+    BadField(2312) | 2315 2 | i2 1\n\
+    BadField(2368) | 2358 2 | i4 1\n\
+    read | 2382 12 | i4 2\n\
+    BadField(2368) | 2382 4 | i4 2\n\
+    BadField(2368) | 2382 5 | i4 2\n\
+    BadField(2378) | 2377 7 | i4 2\n\
+    BadField(2378) | 2381 2 | i4 2\n\
+    BadField(2396) | 2396 0 | i5 1\n\
+    BadField(2396) | 2396 2 | i5 1\n\
+    BadField(2406) | 2409 0 | i6 0\n\
+    BadField(2406) | 2409 2 | i6 0\n\
+    BadField(2423) | 2436 6 | i7 1\n\
+    read | 2436 5 | i7 1\n\
+    read | 2449 1 | i8 0\n\
+    BadField(2450) | 2450 0 | i8 1\n\
+    BadField(2460) | 2463 0 | i9 0\n\
+    BadField(2460) | 2463 2 | i9 0\n\
+    BadField(2460) | 2463 4 | i9 0\n\
+    read | 2463 1 | i9 0\n\
+    BadField(2473) | 2476 0 | i10 0\n\
+    BadField(2477) | 2476 3 | i10 0\n\
+    BadField(2473) | 2476 4 | i10 0\n\
+    BadField(2477) | 2477 0 | i10 1\n\
+    BadField(2477) | 2477 2 | i10 1\n\
+    BadField(2491) | 2490 2 | i11 0\n\
+    read | 2490 3 | i11 0\n\
+    BadField(2491) | 2491 1 | i11 1\n\
+    BadField(2515) | 2518 15 | i12 1\n\
+    read | 2518 14 | i12 1\n\
+    read | 2514 4 | i12 0\n\
+    read | 2531 0 | i13 0\n\
+    BadField(2541) | 2549 9 | i14 op\n\
+    BadField(2541) | 2549 11 | i14 op\n\
+    Trailing | 2558 0 | B\n\
+    Short | 2558 2 | B\n\
+    Short | 2567 9 | i15 op\n\
+    read | 2562 1 | i15\n\
+    BadField(2559) | 2562 2 | i15";
 
-/// Changes before the instructions. Beside each stands what it changes.
-const TABLES: [Change; 60] = [
-    (0, 75, Some(SplitError::BadMagic)), // magic
-    (7, 0, Some(SplitError::BadMagic)), // magic
-    (8, 1, Some(SplitError::BadVersion)), // version
-    (9, 3, Some(SplitError::BadVersion)), // version
-    (9, 0, Some(SplitError::BadVersion)), // version
-    (10, 1, Some(SplitError::BadField(10))), // hosts
-    (13, 0, Some(SplitError::BadField(10))), // hosts
-    (13, 1, Some(SplitError::Short)), // hosts
-    (13, 17, Some(SplitError::BadField(10))), // hosts
-    (17, 0, Some(SplitError::BadField(14))), // host A
-    (14, 1, Some(SplitError::Short)), // host A
-    (18, 57, Some(SplitError::BadField(14))), // host A
-    (18, 95, None), // host A
-    (19, 0, None), // label of A
-    (1047, 9, None), // label of B
-    (1051, 1, Some(SplitError::Short)), // labels
-    (1556, 3, None), // label 0
-    (2079, 1, Some(SplitError::Short)), // fields
-    (2084, 46, Some(SplitError::BadField(2080))), // name x
-    (2088, 2, Some(SplitError::BadField(2085))), // label x
-    (2088, 1, None), // label x
-    (2092, 0, Some(SplitError::BadField(2089))), // size x
-    (2090, 1, Some(SplitError::BadField(2089))), // size x
-    (2089, 1, Some(SplitError::BadField(2089))), // size x
-    (2093, 0, Some(SplitError::BadField(2089))), // array x
-    (2093, 2, Some(SplitError::BadField(2093))), // array x
-    (2094, 0, None), // first x
-    (2102, 2, Some(SplitError::BadField(2102))), // host of x
-    (2102, 1, None), // host of x
-    (2115, 2, Some(SplitError::BadField(2112))), // size y
-    (2116, 1, None), // array y
-    (2108, 1, Some(SplitError::BadField(2108))), // label y
-    (2138, 45, Some(SplitError::BadField(2130))), // name main.v
-    (2134, 57, Some(SplitError::BadField(2130))), // name main.v
-    (2150, 78, None), // name f.return
-    (2149, 95, Some(SplitError::BadField(2144))), // name f.return
-    (2147, 9, Some(SplitError::BadField(2144))), // name f.return
-    (2143, 2, Some(SplitError::BadField(2140))), // label main.v
-    (2164, 1, Some(SplitError::BadField(2237))), // e0 host
-    (2164, 2, Some(SplitError::BadField(2164))), // e0 host
-    (2168, 1, Some(SplitError::BadField(2165))), // e0 at
-    (2172, 2, Some(SplitError::BadField(2169))), // e0 label
-    (2173, 255, None), // e0 need
-    (2185, 14, None), // e1 at
-    (2185, 15, Some(SplitError::BadField(2182))), // e1 at
-    (2188, 1, Some(SplitError::BadField(2186))), // e1 label
-    (2181, 1, Some(SplitError::BadField(2238))), // e1 host
-    (2202, 1, Some(SplitError::BadField(2199))), // e2 at
-    (2202, 0, None), // e2 at
-    (2219, 1, Some(SplitError::BadField(2290))), // e3 at
-    (2219, 4, Some(SplitError::BadField(2373))), // e3 at
-    (2216, 255, Some(SplitError::BadField(2216))), // e3 at
-    (2198, 0, Some(SplitError::BadField(2477))), // e2 host
-    (2236, 1, Some(SplitError::BadField(2406))), // site 1
-    (2236, 2, Some(SplitError::BadField(2236))), // site 1
-    (2237, 1, Some(SplitError::BadField(2237))), // root
-    (2237, 2, Some(SplitError::BadField(2237))), // root
-    (2241, 0, None), // main
-    (2241, 2, Some(SplitError::BadField(2238))), // main
-    (2241, 4, Some(SplitError::BadField(2238))), // main
-];
+/// Two changes each. Of two faults the first comes, and one that is told last comes only where all else is sound.
+const PAIRS: &str = "\
+    BadField(2541) | 2185 15, 2544 9 | e1 at, i14\n\
+    BadField(2182) | 2185 15, 2219 99 | e1 at, e3 at\n\
+    BadField(2089) | 2093 2, 2092 0 | array x, size x\n\
+    BadField(2112) | 2116 0, 2115 2 | array y, size y\n\
+    BadField(2116) | 2115 2, 2116 9 | size y, array y\n\
+    BadField(2112) | 2115 2, 2117 7 | size y, first y\n\
+    BadField(2372) | 2382 4, 2372 19 | i4 2, i4 2\n\
+    BadField(2259) | 2262 0, 2263 99 | i0 1, i0 1\n\
+    BadField(2473) | 2476 0, 2477 0 | i10 0, i10 1\n\
+    BadField(2477) | 2476 1, 2477 0 | i10 0, i10 1\n\
+    BadField(2237) | 2241 2, 2237 1 | main, root\n\
+    BadField(2541) | 2549 9, 2544 2 | i14 op, i14\n\
+    BadMagic | 9 2, 0 0 | version, magic\n\
+    BadVersion | 13 0, 9 9 | hosts, version";
 
-/// Changes of the instructions. Beside each stands what it changes: an instruction, or an operand by its number.
-const INSTRUCTIONS: [Change; 56] = [
-    (2245, 14, Some(SplitError::BadField(2519))), // A
-    (2245, 16, Some(SplitError::BadField(2563))), // A
-    (2249, 1, None), // i0
-    (2249, 2, Some(SplitError::BadField(2246))), // i0
-    (2250, 255, None), // i0 statement
-    (2254, 0, Some(SplitError::BadField(2254))), // i0 op
-    (2254, 15, Some(SplitError::BadField(2254))), // i0 op
-    (2254, 13, Some(SplitError::BadField(2268))), // i0 op
-    (2258, 2, Some(SplitError::BadField(2255))), // i0 0
-    (2262, 0, Some(SplitError::BadField(2259))), // i0 1
-    (2261, 1, Some(SplitError::BadField(2259))), // i0 1
-    (2262, 2, Some(SplitError::BadField(2272))), // i0 1
-    (2263, 0, Some(SplitError::BadField(2263))), // i0 1
-    (2263, 19, Some(SplitError::BadField(2263))), // i0 1
-    (2263, 3, Some(SplitError::BadField(2264))), // i0 1
-    (2284, 2, Some(SplitError::BadField(2281))), // i1 0
-    (2289, 2, None), // i1 1
-    (2293, 1, Some(SplitError::BadField(2290))), // i1 1
-    (2315, 2, Some(SplitError::BadField(2312))), // i2 1
-    (2358, 2, Some(SplitError::BadField(2368))), // i4 1
-    (2382, 12, None), // i4 2
-    (2382, 4, Some(SplitError::BadField(2368))), // i4 2
-    (2382, 5, Some(SplitError::BadField(2368))), // i4 2
-    (2377, 7, Some(SplitError::BadField(2378))), // i4 2
-    (2381, 2, Some(SplitError::BadField(2378))), // i4 2
-    (2396, 0, Some(SplitError::BadField(2396))), // i5 1
-    (2396, 2, Some(SplitError::BadField(2396))), // i5 1
-    (2409, 0, Some(SplitError::BadField(2406))), // i6 0
-    (2409, 2, Some(SplitError::BadField(2406))), // i6 0
-    (2436, 6, Some(SplitError::BadField(2423))), // i7 1
-    (2436, 5, None), // i7 1
-    (2449, 1, None), // i8 0
-    (2450, 0, Some(SplitError::BadField(2450))), // i8 1
-    (2463, 0, Some(SplitError::BadField(2460))), // i9 0
-    (2463, 2, Some(SplitError::BadField(2460))), // i9 0
-    (2463, 4, Some(SplitError::BadField(2460))), // i9 0
-    (2463, 1, None), // i9 0
-    (2476, 0, Some(SplitError::BadField(2473))), // i10 0
-    (2476, 3, Some(SplitError::BadField(2477))), // i10 0
-    (2476, 4, Some(SplitError::BadField(2473))), // i10 0
-    (2477, 0, Some(SplitError::BadField(2477))), // i10 1
-    (2477, 2, Some(SplitError::BadField(2477))), // i10 1
-    (2490, 2, Some(SplitError::BadField(2491))), // i11 0
-    (2490, 3, None), // i11 0
-    (2491, 1, Some(SplitError::BadField(2491))), // i11 1
-    (2518, 15, Some(SplitError::BadField(2515))), // i12 1
-    (2518, 14, None), // i12 1
-    (2514, 4, None), // i12 0
-    (2531, 0, None), // i13 0
-    (2549, 9, Some(SplitError::BadField(2541))), // i14 op
-    (2549, 11, Some(SplitError::BadField(2541))), // i14 op
-    (2558, 0, Some(SplitError::Trailing)), // B
-    (2558, 2, Some(SplitError::Short)), // B
-    (2567, 9, Some(SplitError::Short)), // i15 op
-    (2562, 1, None), // i15
-    (2562, 2, Some(SplitError::BadField(2559))), // i15
-];
-
-/// Of two faults the first comes, and one that is told last comes only where all else is sound.
-const PAIRS: [Changes; 14] = [
-    (2185, 15, 2544, 9, Some(SplitError::BadField(2541))), // e1 at, i14
-    (2185, 15, 2219, 99, Some(SplitError::BadField(2182))), // e1 at, e3 at
-    (2093, 2, 2092, 0, Some(SplitError::BadField(2089))), // array x, size x
-    (2116, 0, 2115, 2, Some(SplitError::BadField(2112))), // array y, size y
-    (2115, 2, 2116, 9, Some(SplitError::BadField(2116))), // size y, array y
-    (2115, 2, 2117, 7, Some(SplitError::BadField(2112))), // size y, first y
-    (2382, 4, 2372, 19, Some(SplitError::BadField(2372))), // i4 2, i4 2
-    (2262, 0, 2263, 99, Some(SplitError::BadField(2259))), // i0 1, i0 1
-    (2476, 0, 2477, 0, Some(SplitError::BadField(2473))), // i10 0, i10 1
-    (2476, 1, 2477, 0, Some(SplitError::BadField(2477))), // i10 0, i10 1
-    (2241, 2, 2237, 1, Some(SplitError::BadField(2237))), // main, root
-    (2549, 9, 2544, 2, Some(SplitError::BadField(2541))), // i14 op, i14
-    (9, 2, 0, 0, Some(SplitError::BadMagic)), // version, magic
-    (13, 0, 9, 9, Some(SplitError::BadVersion)), // hosts, version
-];
-
-/// Why a file is refused.
-fn refusal(rt: &impl Abort, alloc: Global, bytes: &[u8]) -> Option<SplitError> {
+/// What a file is refused for, or `read`.
+fn outcome(rt: &impl Abort, alloc: Global, bytes: &[u8]) -> Result<String, Fail> {
     assert!(rt; bytes.len() <= MOST_ITEMS);
-    read(alloc, bytes).err()
-}
-
-/// Puts a byte at a place.
-fn put_at(bytes: &mut [u8], place: usize, byte: u8) {
-    if let Some(there) = bytes.get_mut(place) {
-        *there = byte;
+    match read(alloc, bytes).err() {
+        None => Ok(format!(in alloc; "read")?),
+        Some(error) => Ok(format!(in alloc; "{error:?}")?),
     }
 }
 
-/// Each change has its outcome.
-fn have_outcomes(rt: &impl Abort, alloc: Global, changes: &[Change]) -> Result<(), Fail> {
-    for (place, byte, refused) in changes {
-        let mut bytes = whole_file(alloc)?;
-        put_at(&mut bytes, *place, *byte);
-        assert_eq!(rt; refusal(rt, alloc, &bytes), *refused, "{place}");
+/// The bytes have this outcome.
+fn have_outcome(
+    rt: &impl Abort,
+    alloc: Global,
+    bytes: &[u8],
+    wanted: &str,
+    at: &str,
+) -> Result<(), Fail> {
+    let found = outcome(rt, alloc, bytes)?;
+    assert_eq!(rt; found.as_str(), wanted, "{at}");
+    Ok(())
+}
+
+/// Puts a byte at its place.
+fn change(bytes: &mut [u8], said: &str) -> Result<(), Fail> {
+    let (place, byte) = said.split_once(' ').unwrap_or((said, ""));
+    put(bytes, place.parse::<usize>()?, byte.parse::<u8>()?)
+}
+
+/// The whole file with the changes.
+fn changed_file(alloc: Global, changes: &str) -> Result<Vec<u8>, Fail> {
+    let mut bytes = whole_file(alloc)?;
+    for said in changes.split(", ") {
+        change(&mut bytes, said)?;
+    }
+    Ok(bytes)
+}
+
+/// The changes of each row have its outcome.
+fn have_outcomes(rt: &impl Abort, alloc: Global, rows: &str) -> Result<(), Fail> {
+    for row in rows.lines() {
+        let (wanted, changes, _changed) = columns(row);
+        let bytes = changed_file(alloc, changes)?;
+        have_outcome(rt, alloc, &bytes, wanted, row)?;
     }
     Ok(())
 }
 
 #[test]
 fn changed_tables(rt: HostRuntime) -> Result<(), Fail> {
-    have_outcomes(&rt, rt.alloc(), &TABLES)
+    have_outcomes(&rt, rt.alloc(), TABLES)
 }
 
 #[test]
 fn changed_instructions(rt: HostRuntime) -> Result<(), Fail> {
-    have_outcomes(&rt, rt.alloc(), &INSTRUCTIONS)
+    have_outcomes(&rt, rt.alloc(), INSTRUCTIONS)
 }
 
 #[test]
 fn two_faults(rt: HostRuntime) -> Result<(), Fail> {
-    for (first, one, second, other, refused) in &PAIRS {
-        let mut bytes = whole_file(rt.alloc())?;
-        put_at(&mut bytes, *first, *one);
-        put_at(&mut bytes, *second, *other);
-        assert_eq!(rt;
-            refusal(&rt, rt.alloc(), &bytes),
-            *refused,
-            "{first} and {second}"
-        );
-    }
-    Ok(())
+    have_outcomes(&rt, rt.alloc(), PAIRS)
 }
 
 #[test]
 fn cut_off(rt: HostRuntime) -> Result<(), Fail> {
     let bytes = whole_file(rt.alloc())?;
     for len in 0..bytes.len() {
-        assert_eq!(rt;
-            refusal(&rt, rt.alloc(), &bytes[..len]),
-            Some(SplitError::Short),
-            "{len}"
-        );
+        have_outcome(&rt, rt.alloc(), &bytes[..len], "Short", "cut off")?;
     }
     Ok(())
 }
@@ -220,9 +223,5 @@ fn cut_off(rt: HostRuntime) -> Result<(), Fail> {
 fn bytes_left(rt: HostRuntime) -> Result<(), Fail> {
     let mut bytes = whole_file(rt.alloc())?;
     bytes.push(0)?;
-    assert_eq!(rt;
-        refusal(&rt, rt.alloc(), &bytes),
-        Some(SplitError::Trailing)
-    );
-    Ok(())
+    have_outcome(&rt, rt.alloc(), &bytes, "Trailing", "a byte left")
 }

@@ -1,88 +1,55 @@
-//! A frame of each kind, in which each number can be told from the others by its bytes, and the bytes.
+//! A frame of each kind, in which each number can be told from the others by its bytes.
 
-use capability::Token;
-use js_base::{EntryId, FieldId, FrameId, HostId, RequestId, SiteId, VarId};
+use crate::tables::{bytes, columns};
+use std::alloc::Global;
+use std::test::Fail;
 
-pub const REQUEST: RequestId = RequestId {
-    at: 258,
-    count: 772,
-};
+/// The kind, the bytes, and the sender and the frame as they are printed. All tokens are the same: of the last host,
+/// and each number but the entry's has all of its bytes.
+pub const FRAMES: &str = "\
+    get | 0 0 0 26 3 1 0 0 1 2 0 0 0 0 0 0 3 4 0 1 0 8 255 255 255 255 255 255 255 254 | \
+        HostId(3) Message(Get { request: RequestId { at: 258, count: 772 }, field: FieldId(65544), index: -2 })\n\
+    set | 0 0 0 34 15 2 0 0 1 2 0 0 0 0 0 0 3 4 0 1 0 8 0 0 0 0 0 0 1 44 128 0 0 0 0 0 0 0 | \
+        HostId(15) Message(Set { request: RequestId { at: 258, count: 772 }, field: FieldId(65544), index: 300, \
+        value: -9223372036854775808 })\n\
+    forward | 0 0 0 38 0 3 0 0 1 2 0 0 0 0 0 0 3 4 0 0 0 5 0 0 0 0 0 0 6 7 0 0 0 13 127 255 255 255 255 255 255 255 | \
+        HostId(0) Message(Forward { request: RequestId { at: 258, count: 772 }, frame: FrameId { site: SiteId(5), \
+        count: 1543 }, var: VarId(13), value: 9223372036854775807 })\n\
+    sync | 0 0 0 71 1 4 0 0 1 2 0 0 0 0 0 0 3 4 0 0 0 5 0 0 0 0 0 0 6 7 0 0 0 10 15 1 2 3 4 255 255 255 255 255 255 \
+        255 255 0 0 0 11 128 0 0 0 0 0 0 0 1 2 3 4 5 6 7 8 9 10 11 12 13 14 15 16 | \
+        HostId(1) Message(Sync { request: RequestId { at: 258, count: 772 }, frame: FrameId { site: SiteId(5), count: \
+        1543 }, entry: EntryId(10), token: Token { host: HostId(15), frame: FrameId { site: SiteId(16909060), count: \
+        18446744073709551615 }, entry: EntryId(11), serial: 9223372036854775808, tag: [1, 2, 3, 4, 5, 6, 7, 8, 9, 10, \
+        11, 12, 13, 14, 15, 16] } })\n\
+    rgoto | 0 0 0 59 2 5 0 0 0 5 0 0 0 0 0 0 6 7 0 0 0 10 15 1 2 3 4 255 255 255 255 255 255 255 255 0 0 0 11 128 0 0 \
+        0 0 0 0 0 1 2 3 4 5 6 7 8 9 10 11 12 13 14 15 16 | \
+        HostId(2) Message(Rgoto { frame: FrameId { site: SiteId(5), count: 1543 }, entry: EntryId(10), token: Token { \
+        host: HostId(15), frame: FrameId { site: SiteId(16909060), count: 18446744073709551615 }, entry: EntryId(11), \
+        serial: 9223372036854775808, tag: [1, 2, 3, 4, 5, 6, 7, 8, 9, 10, 11, 12, 13, 14, 15, 16] } })\n\
+    lgoto | 0 0 0 43 4 6 15 1 2 3 4 255 255 255 255 255 255 255 255 0 0 0 11 128 0 0 0 0 0 0 0 1 2 3 4 5 6 7 8 9 10 \
+        11 12 13 14 15 16 | \
+        HostId(4) Message(Lgoto { token: Token { host: HostId(15), frame: FrameId { site: SiteId(16909060), count: \
+        18446744073709551615 }, entry: EntryId(11), serial: 9223372036854775808, tag: [1, 2, 3, 4, 5, 6, 7, 8, 9, 10, \
+        11, 12, 13, 14, 15, 16] } })\n\
+    value | 0 0 0 22 5 7 0 0 1 2 0 0 0 0 0 0 3 4 255 255 255 255 255 255 255 255 | \
+        HostId(5) Message(Value { request: RequestId { at: 258, count: 772 }, value: -1 })\n\
+    ack | 0 0 0 14 6 8 0 0 1 2 0 0 0 0 0 0 3 4 | \
+        HostId(6) Message(Ack { request: RequestId { at: 258, count: 772 } })\n\
+    token | 0 0 0 55 7 9 0 0 1 2 0 0 0 0 0 0 3 4 15 1 2 3 4 255 255 255 255 255 255 255 255 0 0 0 11 128 0 0 0 0 0 0 \
+        0 1 2 3 4 5 6 7 8 9 10 11 12 13 14 15 16 | \
+        HostId(7) Message(Token { request: RequestId { at: 258, count: 772 }, token: Token { host: HostId(15), frame: \
+        FrameId { site: SiteId(16909060), count: 18446744073709551615 }, entry: EntryId(11), serial: \
+        9223372036854775808, tag: [1, 2, 3, 4, 5, 6, 7, 8, 9, 10, 11, 12, 13, 14, 15, 16] } })\n\
+    done | 0 0 0 2 8 10 | \
+        HostId(8) Done";
 
-pub const FRAME: FrameId = FrameId {
-    site: SiteId(5),
-    count: 1_543,
-};
-
-pub const FIELD: FieldId = FieldId(65_544);
-
-pub const VARIABLE: VarId = VarId(13);
-
-pub const ENTRY: EntryId = EntryId(10);
-
-/// A token of the last host. Each number but the entry's has all of its bytes.
-pub const TOKEN: Token = Token {
-    host: HostId(15),
-    frame: FrameId {
-        site: SiteId(16_909_060),
-        count: u64::MAX,
-    },
-    entry: EntryId(11),
-    serial: 9_223_372_036_854_775_808,
-    tag: [1, 2, 3, 4, 5, 6, 7, 8, 9, 10, 11, 12, 13, 14, 15, 16],
-};
-
-/// A get of the element -2, from host 3.
-pub const GET_BYTES: [u8; 30] = [
-    0, 0, 0, 26, 3, 1, 0, 0, 1, 2, 0, 0, 0, 0, 0, 0, 3, 4, 0, 1, 0, 8, 255, 255, 255, 255, 255,
-    255, 255, 254,
-];
-
-/// A set of the element 300 to the least number, from host 15.
-pub const SET_BYTES: [u8; 38] = [
-    0, 0, 0, 34, 15, 2, 0, 0, 1, 2, 0, 0, 0, 0, 0, 0, 3, 4, 0, 1, 0, 8, 0, 0, 0, 0, 0, 0, 1, 44,
-    128, 0, 0, 0, 0, 0, 0, 0,
-];
-
-/// A forward of the greatest number, from host 0.
-pub const FORWARD_BYTES: [u8; 42] = [
-    0, 0, 0, 38, 0, 3, 0, 0, 1, 2, 0, 0, 0, 0, 0, 0, 3, 4, 0, 0, 0, 5, 0, 0, 0, 0, 0, 0, 6, 7, 0,
-    0, 0, 13, 127, 255, 255, 255, 255, 255, 255, 255,
-];
-
-/// A sync from host 1.
-pub const SYNC_BYTES: [u8; 75] = [
-    0, 0, 0, 71, 1, 4, 0, 0, 1, 2, 0, 0, 0, 0, 0, 0, 3, 4, 0, 0, 0, 5, 0, 0, 0, 0, 0, 0, 6, 7, 0,
-    0, 0, 10, 15, 1, 2, 3, 4, 255, 255, 255, 255, 255, 255, 255, 255, 0, 0, 0, 11, 128, 0, 0, 0, 0,
-    0, 0, 0, 1, 2, 3, 4, 5, 6, 7, 8, 9, 10, 11, 12, 13, 14, 15, 16,
-];
-
-/// An rgoto from host 2.
-pub const RGOTO_BYTES: [u8; 63] = [
-    0, 0, 0, 59, 2, 5, 0, 0, 0, 5, 0, 0, 0, 0, 0, 0, 6, 7, 0, 0, 0, 10, 15, 1, 2, 3, 4, 255, 255,
-    255, 255, 255, 255, 255, 255, 0, 0, 0, 11, 128, 0, 0, 0, 0, 0, 0, 0, 1, 2, 3, 4, 5, 6, 7, 8, 9,
-    10, 11, 12, 13, 14, 15, 16,
-];
-
-/// An lgoto from host 4.
-pub const LGOTO_BYTES: [u8; 47] = [
-    0, 0, 0, 43, 4, 6, 15, 1, 2, 3, 4, 255, 255, 255, 255, 255, 255, 255, 255, 0, 0, 0, 11, 128, 0,
-    0, 0, 0, 0, 0, 0, 1, 2, 3, 4, 5, 6, 7, 8, 9, 10, 11, 12, 13, 14, 15, 16,
-];
-
-/// The value -1, from host 5.
-pub const VALUE_BYTES: [u8; 26] = [
-    0, 0, 0, 22, 5, 7, 0, 0, 1, 2, 0, 0, 0, 0, 0, 0, 3, 4, 255, 255, 255, 255, 255, 255, 255, 255,
-];
-
-/// An ack from host 6.
-pub const ACK_BYTES: [u8; 18] = [0, 0, 0, 14, 6, 8, 0, 0, 1, 2, 0, 0, 0, 0, 0, 0, 3, 4];
-
-/// A token from host 7.
-pub const TOKEN_BYTES: [u8; 59] = [
-    0, 0, 0, 55, 7, 9, 0, 0, 1, 2, 0, 0, 0, 0, 0, 0, 3, 4, 15, 1, 2, 3, 4, 255, 255, 255, 255, 255,
-    255, 255, 255, 0, 0, 0, 11, 128, 0, 0, 0, 0, 0, 0, 0, 1, 2, 3, 4, 5, 6, 7, 8, 9, 10, 11, 12,
-    13, 14, 15, 16,
-];
-
-/// Done, from host 8.
-pub const DONE_BYTES: [u8; 6] = [0, 0, 0, 2, 8, 10];
+/// The bytes of the frame of a kind.
+pub fn frame_bytes(alloc: Global, kind: &str) -> Result<Vec<u8>, Fail> {
+    for row in FRAMES.lines() {
+        let (this, numbers, _said) = columns(row);
+        if this == kind {
+            return bytes(alloc, numbers);
+        }
+    }
+    Err(Fail::from("no frame of this kind"))
+}

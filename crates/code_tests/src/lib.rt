@@ -9,6 +9,8 @@ mod each_frame;
 #[cfg(test)]
 mod event_lines;
 #[cfg(test)]
+mod file_bytes;
+#[cfg(test)]
 mod file_outcomes;
 #[cfg(test)]
 mod file_round_trips;
@@ -20,5 +22,7 @@ mod frame_samples;
 mod read_code;
 #[cfg(test)]
 mod stores;
+#[cfg(test)]
+mod tables;
 #[cfg(test)]
 mod whole_file;

@@ -1,9 +1,13 @@
 //! What a host keeps.
 
 use crate::read_code::read_code;
-use event_text::read_events;
+use crate::tables::columns;
+use event_text::{Script, read_events};
+use host_code::Code;
 use host_stores::{Stores, VarCell};
-use js_base::{FieldId, FrameId, HostId, OutOfMemory, SiteId, VarId};
+use js_base::{FieldId, FrameId, HostId, SiteId, VarId};
+use std::alloc::Global;
+use std::process::Abort;
 use std::test::Fail;
 
 const A: HostId = HostId(0);
@@ -19,15 +23,9 @@ const N: FieldId = FieldId(1);
 /// The field of B.
 const O: FieldId = FieldId(2);
 
-#[test]
-fn lends_the_elements_of_its_own_fields_in_order(rt: HostRuntime) -> Result<(), Fail> {
-    let alloc = rt.alloc();
-    let code = read_code(&rt, alloc)?;
-    let script = read_events(alloc, &code, b"")?;
-    let mut stores = Stores::new(alloc, &code, A, script.start())?;
-    let elsewhere = Stores::new(alloc, &code, B, script.start())?;
+/// Elements of A's fields are set. What is outside of them, of B or of no field, changes nothing.
+fn lends_elements(rt: &impl Abort, stores: &mut Stores) {
     assert_eq!(rt; stores.elements(), [1, 1, 1, 2].as_slice());
-    assert_eq!(rt; elsewhere.elements(), [7].as_slice());
     stores.set_field(N, 0, 6);
     stores.set_field(S, 1, 5);
     stores.set_field(S, 3, 8);
@@ -35,29 +33,89 @@ fn lends_the_elements_of_its_own_fields_in_order(rt: HostRuntime) -> Result<(), 
     stores.set_field(O, 0, 9);
     stores.set_field(FieldId(3), 0, 9);
     assert_eq!(rt; stores.elements(), [1, 5, 1, 6].as_slice());
+}
+
+/// B has its own field alone.
+fn lends_elsewhere(
+    rt: &impl Abort,
+    alloc: Global,
+    code: &Code,
+    script: &Script,
+) -> Result<(), Fail> {
+    let stores = Stores::new(alloc, code, B, script.start())?;
+    assert_eq!(rt; stores.elements(), [7].as_slice());
     Ok(())
 }
 
-/// The frame of a call at a site.
-fn frame(site: u32, count: u64) -> FrameId {
-    FrameId {
-        site: SiteId(site),
-        count,
-    }
+#[test]
+fn lends_the_elements_of_its_own_fields_in_order(rt: HostRuntime) -> Result<(), Fail> {
+    let alloc = rt.alloc();
+    let code = read_code(&rt, alloc)?;
+    let script = read_events(alloc, &code, b"")?;
+    let mut stores = Stores::new(alloc, &code, A, script.start())?;
+    lends_elements(&rt, &mut stores);
+    lends_elsewhere(&rt, alloc, &code, &script)
 }
 
-fn cell(frame: FrameId, var: u32, value: i64) -> VarCell {
-    VarCell {
-        frame,
-        var: VarId(var),
-        value,
-    }
+/// What is set, in this order: the site and the count of a frame, a variable of it, and a value.
+const SETS: &str = "\
+    2 0 | 0 | 1\n\
+    1 7 | 4 | 2\n\
+    1 7 | 3 | 0\n\
+    1 6 | 5 | 4\n\
+    0 8 | 6 | 5\n\
+    1 7 | 4 | -6";
+
+/// What there is then.
+const CELLS: &str = "\
+    0 8 | 6 | 5\n\
+    1 6 | 5 | 4\n\
+    1 7 | 3 | 0\n\
+    1 7 | 4 | -6\n\
+    2 0 | 0 | 1\n";
+
+/// The frame of a call, by its site and its count.
+fn frame(text: &str) -> Result<FrameId, Fail> {
+    let (site, count) = text.split_once(' ').unwrap_or((text, ""));
+    Ok(FrameId {
+        site: SiteId(site.parse::<u32>()?),
+        count: count.parse::<u64>()?,
+    })
 }
 
 /// Makes room for a variable, and sets it.
-fn set(stores: &mut Stores, frame: FrameId, var: u32, value: i64) -> Result<(), OutOfMemory> {
+fn set(stores: &mut Stores, row: &str) -> Result<(), Fail> {
+    let (at, var, value) = columns(row);
+    let frame = frame(at)?;
+    let var = VarId(var.parse::<u32>()?);
+    let value = value.parse::<i64>()?;
     stores.reserve_vars(1)?;
-    stores.set_var(frame, VarId(var), value);
+    stores.set_var(frame, var, value);
+    Ok(())
+}
+
+/// The rows of variables.
+fn cell_rows(alloc: Global, cells: &[VarCell]) -> Result<String, Fail> {
+    let mut rows = String::new(alloc);
+    for cell in cells {
+        let (frame, var) = (cell.frame, cell.var.0);
+        let row = format!(in alloc;
+            "{} {} | {var} | {}\n",
+            frame.site.0, frame.count, cell.value
+        )?;
+        rows.push_str(&row)?;
+    }
+    Ok(rows)
+}
+
+/// The variables that are set are lent in their order.
+fn lends_variables(rt: &impl Abort, alloc: Global, stores: &mut Stores) -> Result<(), Fail> {
+    assert!(rt; stores.cells().is_empty());
+    for row in SETS.lines() {
+        set(stores, row)?;
+    }
+    let rows = cell_rows(alloc, stores.cells())?;
+    assert_eq!(rt; rows.as_str(), CELLS);
     Ok(())
 }
 
@@ -67,20 +125,5 @@ fn lends_the_variables_by_site_and_count_and_number(rt: HostRuntime) -> Result<(
     let code = read_code(&rt, alloc)?;
     let script = read_events(alloc, &code, b"")?;
     let mut stores = Stores::new(alloc, &code, A, script.start())?;
-    assert!(rt; stores.cells().is_empty());
-    set(&mut stores, frame(2, 0), 0, 1)?;
-    set(&mut stores, frame(1, 7), 4, 2)?;
-    set(&mut stores, frame(1, 7), 3, 0)?;
-    set(&mut stores, frame(1, 6), 5, 4)?;
-    set(&mut stores, frame(0, 8), 6, 5)?;
-    set(&mut stores, frame(1, 7), 4, -6)?;
-    let wanted = [
-        cell(frame(0, 8), 6, 5),
-        cell(frame(1, 6), 5, 4),
-        cell(frame(1, 7), 3, 0),
-        cell(frame(1, 7), 4, -6),
-        cell(frame(2, 0), 0, 1),
-    ];
-    assert_eq!(rt; stores.cells(), wanted.as_slice());
-    Ok(())
+    lends_variables(&rt, alloc, &mut stores)
 }

@@ -8,6 +8,8 @@ mod call;
 #[cfg(test)]
 mod code_labels;
 #[cfg(test)]
+mod files;
+#[cfg(test)]
 mod frames;
 #[cfg(test)]
 mod limits;
@@ -19,3 +21,5 @@ mod node_refusals;
 mod node_services;
 #[cfg(test)]
 mod outside;
+#[cfg(test)]
+mod rows;

@@ -1,74 +1,44 @@
 //! Where no node begins, nothing is sent and nothing is noted.
 
-use crate::frames::ACK;
-use crate::node::{Row, answers};
-use js_base::Status;
+use crate::files::held_files;
+use crate::node::node_text;
+use crate::rows::{cell, same};
 use std::alloc::Global;
-use std::process::Abort;
 use std::test::Fail;
 
-/// Words that ask for no node.
-const NO_NODE: [&str; 7] = [
-    "",
-    "--program P --code P --hosts H --host A --start S --turns 4",
-    "--hosts H --host A --start S --turns 4",
-    "--program P --hosts H --host A --start S --turns 0",
-    "--program P --hosts H --host A --start S --turns 01",
-    "--help",
-    "--program P --hosts H --host A --host A --start S --turns 4",
-];
+/// The number of the call of the files that fails, the status, and the words. Those of the first rows ask for no node.
+/// Others name a file that is absent or refused, or no host.
+const REFUSED: &str = "\
+    - | Usage | \n\
+    - | Usage | --program P --code P --hosts H --host A --start S --turns 4\n\
+    - | Usage | --hosts H --host A --start S --turns 4\n\
+    - | Usage | --program P --hosts H --host A --start S --turns 0\n\
+    - | Usage | --program P --hosts H --host A --start S --turns 01\n\
+    - | Usage | --help\n\
+    - | Usage | --program P --hosts H --host A --host A --start S --turns 4\n\
+    - | InputRefused | --program P --hosts H --host X --start S --turns 4\n\
+    - | InputRefused | --program Q --hosts H --host A --start S --turns 4\n\
+    - | InputRefused | --program P --hosts Q --host A --start S --turns 4\n\
+    - | InputRefused | --program P --hosts H --host A --start bad_start --turns 4\n\
+    - | InputRefused | --code bad_code --hosts H --host A --start S --turns 4\n\
+    - | SourceRefused | --program bad_program --hosts H --host A --start S --turns 4\n\
+    0 | FileFault | --program P --hosts H --host A --start S --turns 4\n\
+    1 | FileFault | --program P --hosts H --host A --start S --turns 4\n\
+    2 | FileFault | --program P --hosts H --host A --start S --turns 4\n";
 
-/// Words that name a file that is absent or refused, or no host.
-const REFUSED: [&str; 5] = [
-    "--program P --hosts H --host X --start S --turns 4",
-    "--program Q --hosts H --host A --start S --turns 4",
-    "--program P --hosts Q --host A --start S --turns 4",
-    "--program P --hosts H --host A --start bad_start --turns 4",
-    "--code bad_code --hosts H --host A --start S --turns 4",
-];
-
-/// The calls answer this status, and leave links and journal as they were.
-fn are_refused(
-    rt: &impl Abort,
-    alloc: Global,
-    status: Status,
-    lines: &[&'static str],
-) -> Result<(), Fail> {
-    for words in lines {
-        is_refused(rt, alloc, status, words, None)?;
-    }
-    Ok(())
-}
-
-/// The call answers this status, and leaves links and journal as they were.
-fn is_refused(
-    rt: &impl Abort,
-    alloc: Global,
-    status: Status,
-    words: &'static str,
-    files_fail: Option<u64>,
-) -> Result<(), Fail> {
-    let row = Row {
-        words,
-        frames: &[&ACK],
-        failing: [files_fail, None, None],
-        status,
-        sent: &[],
-        journal: "",
-    };
-    answers(rt, alloc, &[row])
+/// What the call of a row leaves.
+fn left(alloc: Global, row: &str) -> Result<String, Fail> {
+    let held = "P H S bad_program bad_start bad_code";
+    let mut files = held_files(alloc, held, cell(row, 0))?;
+    node_text(alloc, &mut files, cell(row, 2), "ACK", "-", "-")
 }
 
 #[test]
 fn refused_nodes_leave_nothing(rt: HostRuntime) -> Result<(), Fail> {
-    let alloc = rt.alloc();
-    are_refused(&rt, alloc, Status::Usage, &NO_NODE)?;
-    are_refused(&rt, alloc, Status::InputRefused, &REFUSED)?;
-    let bad_program = "--program bad_program --hosts H --host A --start S --turns 4";
-    is_refused(&rt, alloc, Status::SourceRefused, bad_program, None)?;
-    let words = "--program P --hosts H --host A --start S --turns 4";
-    for load in 0..3 {
-        is_refused(&rt, alloc, Status::FileFault, words, Some(load))?;
+    for row in REFUSED.lines() {
+        let left = left(rt.alloc(), row)?;
+        // No line of the journal stands before the status, and no frame behind it.
+        same(&rt, row, left.as_str(), cell(row, 1));
     }
     Ok(())
 }

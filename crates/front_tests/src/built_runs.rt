@@ -50,6 +50,54 @@ fn var(alloc: Global) -> Var {
     }
 }
 
+/// A method with the parameter 0 and the result 1. Where its parameter is not 0 it gives 5 back, and then the
+/// parameter, so the second result counts. Where it is 0 it gives nothing back, so the result of the call before is
+/// left.
+fn giving(alloc: Global) -> Result<Method, Fail> {
+    let yes = vec![in alloc;
+        give_back(Expr::Number(5)),
+        give_back(Expr::Local(VarId(0))),
+    ]?;
+    let branch = stmt(StmtKind::If {
+        guard: Expr::Local(VarId(0)),
+        yes,
+        no: Vec::new(alloc),
+    });
+    let params = vec![in alloc; VarId(0)]?;
+    Ok(method(alloc, params, Some(VarId(1)), vec![in alloc; branch]?))
+}
+
+/// `main` keeps the results in variables that the program does not list, and which have no fixed place.
+fn keeping(alloc: Global) -> Result<Method, Fail> {
+    let first = call(vec![in alloc; Expr::Number(8)]?, 7);
+    let second = call(vec![in alloc; Expr::Number(0)]?, 9);
+    let tell = stmt(StmtKind::SetField {
+        field: FieldId(0),
+        value: Expr::Local(VarId(9)),
+    });
+    let body = vec![in alloc; first, second, tell]?;
+    Ok(method(alloc, Vec::new(alloc), None, body))
+}
+
+fn field(alloc: Global) -> Field {
+    Field {
+        name: String::new(alloc),
+        label: Label::empty(),
+        size: 1,
+        array: false,
+        first: 0,
+    }
+}
+
+fn program(alloc: Global) -> Result<Program, Fail> {
+    Ok(Program {
+        fields: vec![in alloc; field(alloc)]?,
+        vars: vec![in alloc; var(alloc), var(alloc)]?,
+        methods: vec![in alloc; giving(alloc)?, keeping(alloc)?]?,
+        main: MethodId(1),
+    })
+}
+
 /// What the first field holds.
 fn found(store: &Store) -> i64 {
     match store.rows() {
@@ -58,49 +106,10 @@ fn found(store: &Store) -> i64 {
     }
 }
 
-/// A method has the parameter 0 and the result 1. Where its parameter is not 0 it gives 5 back, and then the parameter,
-/// so the second result counts. Where it is 0 it gives nothing back, so the result of the call before is left. `main`
-/// keeps the results in variables that the program does not list, and which have no fixed place.
 #[test]
 fn results_are_left_and_set_again(rt: HostRuntime) -> Result<(), Fail> {
     let alloc = rt.alloc();
-    let branch = stmt(StmtKind::If {
-        guard: Expr::Local(VarId(0)),
-        yes: vec![in alloc;
-            give_back(Expr::Number(5)),
-            give_back(Expr::Local(VarId(0))),
-        ]?,
-        no: Vec::new(alloc),
-    });
-    let given = method(
-        alloc,
-        vec![in alloc; VarId(0)]?,
-        Some(VarId(1)),
-        vec![in alloc; branch]?,
-    );
-    let tell = stmt(StmtKind::SetField {
-        field: FieldId(0),
-        value: Expr::Local(VarId(9)),
-    });
-    let body = vec![in alloc;
-        call(vec![in alloc; Expr::Number(8)]?, 7),
-        call(vec![in alloc; Expr::Number(0)]?, 9),
-        tell,
-    ]?;
-    let main = method(alloc, Vec::new(alloc), None, body);
-    let field = Field {
-        name: String::new(alloc),
-        label: Label::empty(),
-        size: 1,
-        array: false,
-        first: 0,
-    };
-    let program = Program {
-        fields: vec![in alloc; field]?,
-        vars: vec![in alloc; var(alloc), var(alloc)]?,
-        methods: vec![in alloc; given, main]?,
-        main: MethodId(1),
-    };
+    let program = program(alloc)?;
     let mut store = Store::starting(alloc, &program)?;
     // The first call takes five steps: itself, the branch, two results, and that the last one is kept. The second call
     // takes three, and `main` one more.

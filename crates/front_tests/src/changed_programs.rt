@@ -1,6 +1,7 @@
 //! A program of all rules, with each of its tokens dropped or replaced in turn.
 
 use crate::refused_programs::refusal;
+use crate::tables::column;
 use jif_parse::ParseError;
 use std::alloc::Global;
 use std::test::Fail;
@@ -23,40 +24,22 @@ const PROGRAM: &str = "int { A : B , C ; D : ; ? : A , B } f ; \
     } \
     void n { A : B } ( ) { }";
 
-/// What stands in place of each token, and how far behind it the place of the fault is: `a` for the token itself, `b`
-/// for the next one, and so on, and `.` where what results is a program.
-const CHANGES: [(&str, &str); 6] = [
-    (
-        "",
-        "aaaaaaaaaaaaaaaaaaaaaaabaaaaaaabaa.aaaabaaaaaaaabaaaaaabaaaabaaaaaaaaaaaabaaaa.aaaaaoaaaaa\
-    aaaaaa..aaa.baaaaaaaacaaaaaaaaaaaaaaacaaacaaaaabaaaaaaaaaaaaaaaaaaahgaaaaaabaaaaaaaa.aaaaa",
-    ),
-    (
-        "?",
-        "aafaaaaacaa.aaaaaaaaa.aaaaaaaaabaaaaaaabaaaaaa.aaaabaaabaaaabaaaaaaaaaaaabaaaaaaaaaaaaaaaa\
-    aaaaaaaaaaaaaaaaaaaaaaaaaa.aaaaaaaaaaaaaaaaaaabaaaaaaaaaaaaaaaaaaaaaaaaaaaaaaaaaaa.aaaaaaa",
-    ),
-    (
-        "x",
-        "aa.a.a.a.ab.a.a.a.aaa.ab.aaaaaab.aaaaaab.aaaaa.ab.abaaab.aaab.aaaa.a.aabbb.a.ab.a.a.aa.a.a\
-    .a.a.a.b.a.ab.aa.a.aaba.aa.abaa.aba.a.a.aba.aabaaaea.aa.a.abbaea.aabbea.aabb.aaa.a.a.aaaab",
-    ),
-    (
-        "else",
-        "aaaaaaaaaaaaaaaaaaaaaaaaaaaaaaaaaaaaaaaaaaaaaaaaaaaaaaaaaaaaaaaaaaaaaaaaaaaaaaaaaaaaaaaaaa\
-    aaaaaaaaaaaaaaaaaaaaaaaaaaaaaaaaaaaaaaaaaaaaaaaaaaaaaaaaaaaa.aaaaaaaaaaaaaabaaaaaaaaaaaaaa",
-    ),
-    (
-        ")",
-        "aaaaaaaaaaaaaaaaaaaaaaaaaaaaaaaaaaaaaaaaaaaaaaaaaaaaadaaabaaaa.aaaaba.aaaaaaaaaaaaaaaaaaaa\
-    aaaaaaaaaaaaaa.aaaaaaaaaaaaaa.aaa.aaaaabbaaaaaa..aaaa.aaaaaaaaaaa.aaaaaa.aaaaaaaaaaaaaa.aa",
-    ),
-    (
-        "0",
-        "aaaaaaaaaaaaaaaaaaaaaaaaaaaaaaaaaab.aaaaaa.aaaaaaaaaaaaaaaaaaaaaaaaaaaaaaaaa.aaaaba.aa.a.a\
-    .a.a.a.b.aaab.aaaa.aaba.aaaaaaaaabaaaba.aba.aaaaaaaa.aaaa.aaaaaa.aaaaaa.aaaa.aaaaaaaaaaaaa",
-    ),
-];
+/// How far behind each token the place of the fault is where something else stands in its place: `a` for the token
+/// itself, `b` for the next one, and so on, and `.` where what results is a program. Then what stands there, in the
+/// first row nothing.
+const CHANGES: &str = "\
+    aaaaaaaaaaaaaaaaaaaaaaabaaaaaaabaa.aaaabaaaaaaaabaaaaaabaaaabaaaaaaaaaaaabaaaa.aaaaaoaaaaa\
+    aaaaaa..aaa.baaaaaaaacaaaaaaaaaaaaaaacaaacaaaaabaaaaaaaaaaaaaaaaaaahgaaaaaabaaaaaaaa.aaaaa | \n\
+    aafaaaaacaa.aaaaaaaaa.aaaaaaaaabaaaaaaabaaaaaa.aaaabaaabaaaabaaaaaaaaaaaabaaaaaaaaaaaaaaaa\
+    aaaaaaaaaaaaaaaaaaaaaaaaaa.aaaaaaaaaaaaaaaaaaabaaaaaaaaaaaaaaaaaaaaaaaaaaaaaaaaaaa.aaaaaaa | ?\n\
+    aa.a.a.a.ab.a.a.a.aaa.ab.aaaaaab.aaaaaab.aaaaa.ab.abaaab.aaab.aaaa.a.aabbb.a.ab.a.a.aa.a.a\
+    .a.a.a.b.a.ab.aa.a.aaba.aa.abaa.aba.a.a.aba.aabaaaea.aa.a.abbaea.aabbea.aabb.aaa.a.a.aaaab | x\n\
+    aaaaaaaaaaaaaaaaaaaaaaaaaaaaaaaaaaaaaaaaaaaaaaaaaaaaaaaaaaaaaaaaaaaaaaaaaaaaaaaaaaaaaaaaaa\
+    aaaaaaaaaaaaaaaaaaaaaaaaaaaaaaaaaaaaaaaaaaaaaaaaaaaaaaaaaaaa.aaaaaaaaaaaaaabaaaaaaaaaaaaaa | else\n\
+    aaaaaaaaaaaaaaaaaaaaaaaaaaaaaaaaaaaaaaaaaaaaaaaaaaaaadaaabaaaa.aaaaba.aaaaaaaaaaaaaaaaaaaa\
+    aaaaaaaaaaaaaa.aaaaaaaaaaaaaa.aaa.aaaaabbaaaaaa..aaaa.aaaaaaaaaaa.aaaaaa.aaaaaaaaaaaaaa.aa | )\n\
+    aaaaaaaaaaaaaaaaaaaaaaaaaaaaaaaaaab.aaaaaa.aaaaaaaaaaaaaaaaaaaaaaaaaaaaaaaaa.aaaaba.aa.a.a\
+    .a.a.a.b.aaab.aaaa.aaba.aaaaaaaaabaaaba.aba.aaaaaaaa.aaaa.aaaaaa.aaaaaa.aaaa.aaaaaaaaaaaaa | 0";
 
 /// The program with this in place of the token of this number.
 fn changed(alloc: Global, place: usize, other: &str) -> Result<String, Fail> {
@@ -69,28 +52,36 @@ fn changed(alloc: Global, place: usize, other: &str) -> Result<String, Fail> {
 }
 
 /// How far behind the place of a change its fault is, as the table tells it.
-fn distance(place: usize, refused: Option<ParseError>) -> u8 {
+fn distance(place: usize, refused: Option<ParseError>) -> char {
     let fault = match refused {
-        None => return b'.',
+        None => return '.',
         Some(ParseError::Unexpected(fault)) => fault,
-        Some(_) => return b'?',
+        Some(_) => return '?',
     };
     match (fault as usize).checked_sub(place) {
-        Some(distance) if distance < 26 => b'a' + distance as u8,
-        _ => b'?',
+        Some(distance) if distance < 26 => (b'a' + distance as u8) as char,
+        _ => '?',
     }
+}
+
+/// How far the fault is for each token in turn.
+fn distances(alloc: Global, other: &str) -> Result<String, Fail> {
+    let mut letters = String::new(alloc);
+    for (place, _) in PROGRAM.split_whitespace().enumerate() {
+        let text = changed(alloc, place, other)?;
+        letters.push(distance(place, refusal(alloc, text.as_str())?))?;
+    }
+    Ok(letters)
 }
 
 #[test]
 fn names_the_fault_of_each_changed_token(rt: HostRuntime) -> Result<(), Fail> {
     let alloc = rt.alloc();
     assert_eq!(rt; refusal(alloc, PROGRAM)?, None);
-    for (other, faults) in CHANGES {
-        for (place, due) in faults.bytes().enumerate() {
-            let text = changed(alloc, place, other)?;
-            let found = distance(place, refusal(alloc, text.as_str())?);
-            assert_eq!(rt; found, due, "with {other:?} at {place}");
-        }
+    for row in CHANGES.lines() {
+        let other = column(row, 1);
+        let found = distances(alloc, other)?;
+        assert_eq!(rt; found.as_str(), column(row, 0), "with {other:?}");
     }
     Ok(())
 }

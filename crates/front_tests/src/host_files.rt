@@ -1,6 +1,8 @@
 //! What a host file says that no command prints, and the longest one.
 
-use host_decl::{HostsError, KEY_BYTES, read_hosts};
+use crate::tables::told;
+use host_decl::{HostRow, KEY_BYTES, read_hosts};
+use std::alloc::{AllocError, Global};
 use std::test::Fail;
 
 const FILE: &str = "principals = []\n\
@@ -8,34 +10,50 @@ const FILE: &str = "principals = []\n\
     [[host]]\nname = 'B'\nlabel = '{}'\npath = '/run/b'\n\
     key = '000102030405060708090a0b0c0d0e0f101112131415161718191a1B1C1D1E1F'\n";
 
-/// SHA-256 of the letter A, as other programs compute it.
-const KEY_OF_A: [u8; KEY_BYTES] = [
-    0x55, 0x9a, 0xea, 0xd0, 0x82, 0x64, 0xd5, 0x79, 0x5d, 0x39, 0x09, 0x71, 0x8c, 0xdd, 0x05, 0xab,
-    0xd4, 0x95, 0x72, 0xe8, 0x4f, 0xe5, 0x55, 0x90, 0xee, 0xf3, 0x1a, 0x88, 0xa0, 0x8f, 0xdf, 0xfd,
-];
+/// The path and the key of each host. A's key is SHA-256 of the letter A, as other programs compute it, and B's is the
+/// one that the file writes.
+const EXPECTED: &str = "\
+    A.sock 559aead08264d5795d3909718cdd05abd49572e84fe55590eef31a88a08fdffd\n\
+    /run/b 000102030405060708090a0b0c0d0e0f101112131415161718191a1b1c1d1e1f\n";
 
-/// The key that the file writes.
-const KEY_OF_B: [u8; KEY_BYTES] = [
-    0, 1, 2, 3, 4, 5, 6, 7, 8, 9, 10, 11, 12, 13, 14, 15, 16, 17, 18, 19, 20, 21, 22, 23, 24, 25,
-    26, 27, 28, 29, 30, 31,
-];
+/// The digits of a key.
+fn push_key(text: &mut String, alloc: Global, key: &[u8; KEY_BYTES]) -> Result<(), AllocError> {
+    for byte in key {
+        text.push_str(format!(in alloc; "{byte:02x}")?.as_str())?;
+    }
+    Ok(())
+}
 
-/// Where a host file gives no path and no key, they come from the name. That a file is too long comes before that it is
-/// no TOML.
+/// The paths and keys of hosts.
+fn paths_and_keys(alloc: Global, hosts: &[HostRow]) -> Result<String, AllocError> {
+    let mut text = String::new(alloc);
+    for host in hosts {
+        text.push_str(host.path())?;
+        text.push_str(" ")?;
+        push_key(&mut text, alloc, host.key())?;
+        text.push_str("\n")?;
+    }
+    Ok(text)
+}
+
+/// Where a host file gives no path and no key, they come from the name.
 #[test]
-fn keys_paths_and_the_longest_file(rt: HostRuntime) -> Result<(), Fail> {
+fn keys_and_paths(rt: HostRuntime) -> Result<(), Fail> {
+    let hosts = read_hosts(rt.alloc(), FILE.as_bytes())?;
+    let found = paths_and_keys(rt.alloc(), hosts.hosts())?;
+    assert_eq!(rt; found.as_str(), EXPECTED);
+    Ok(())
+}
+
+/// That a file is too long comes before that it is no TOML.
+#[test]
+fn the_longest_file(rt: HostRuntime) -> Result<(), Fail> {
     let alloc = rt.alloc();
-    let hosts = read_hosts(alloc, FILE.as_bytes())?;
-    let rows = hosts.hosts();
-    assert_eq!(rt; rows.len(), 2);
-    let (first, second) = (&rows[0], &rows[1]);
-    assert_eq!(rt; (first.path(), first.key()), ("A.sock", &KEY_OF_A));
-    assert_eq!(rt; (second.path(), second.key()), ("/run/b", &KEY_OF_B));
-    let blank = vec![in alloc; b'\n'; 65_537]?;
-    let longest = read_hosts(alloc, &blank[..65_536]).err();
-    let missing = HostsError::BadKey(String::from_str(alloc, "principals")?);
-    assert_eq!(rt; longest, Some(missing));
-    let longer = vec![in alloc; b'='; 65_537]?;
-    assert_eq!(rt; read_hosts(alloc, &longer).err(), Some(HostsError::TooLong));
+    let blank = vec![in alloc; b'\n'; 65_536]?;
+    let longest = told(alloc, read_hosts(alloc, &blank).err())?;
+    assert_eq!(rt; longest.as_str(), "BadKey(\"principals\")");
+    let equal_signs = vec![in alloc; b'='; 65_537]?;
+    let longer = told(alloc, read_hosts(alloc, &equal_signs).err())?;
+    assert_eq!(rt; longer.as_str(), "TooLong");
     Ok(())
 }

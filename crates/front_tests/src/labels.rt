@@ -1,49 +1,120 @@
 //! What labels forbid and who trusts them, and the labels that texts are.
+//!
+//! Labels are written as texts, and told as they are printed, where an owner is a reader of its own policy.
 
-ghost use Rattle.std.specs.Prelude.{◌≡◌, IfOk, length};
-
+use crate::placed_programs::hosts_of;
+use crate::tables::{column, word};
 use jif_lex::lex;
-use js_base::PrincipalId;
 use label_lattice::{Label, label_text, read_label};
 use principals::Principals;
 use std::alloc::Global;
 use std::process::Abort;
 use std::test::Fail;
 
-const ALICE: PrincipalId = PrincipalId(0);
+/// Alice, Bob and Carol, of whom nobody acts for another.
+const APART: &str = "principals = [\"Alice\", \"Bob\", \"Carol\"]\n\
+    [[host]]\nname = \"A\"\nlabel = \"{}\"\n";
 
-const BOB: PrincipalId = PrincipalId(1);
+/// They, where Alice acts for Bob.
+const JOINT: &str = "principals = [\"Alice\", \"Bob\", \"Carol\"]\n\
+    acts_for = [[\"Alice\", \"Bob\"]]\n\
+    [[host]]\nname = \"A\"\nlabel = \"{}\"\n";
 
-const CAROL: PrincipalId = PrincipalId(2);
+/// They, where Alice and Carol act for Bob.
+const BOTH: &str = "principals = [\"Alice\", \"Bob\", \"Carol\"]\n\
+    acts_for = [[\"Alice\", \"Bob\"], [\"Carol\", \"Bob\"]]\n\
+    [[host]]\nname = \"A\"\nlabel = \"{}\"\n";
 
-/// Alice, Bob and Carol, where the first of each pair acts for the second.
-fn three_with(alloc: Global, pairs: &[(String, String)]) -> Result<Principals, Fail>
-    ensures { IfOk result (λ principals. length principals.names ≡ 3) }
-{
-    let alice = String::from_str(alloc, "Alice")?;
-    let bob = String::from_str(alloc, "Bob")?;
-    let carol = String::from_str(alloc, "Carol")?;
-    Ok(Principals::new(alloc, &vec![in alloc; alice, bob, carol]?, pairs)?)
-}
+/// What an operation makes of a label, with another label or with names, where nobody acts for another. A policy has
+/// its owner and then its readers. Bob may read by one policy of Alice alone, and Carol by another alone, so that by
+/// both neither may.
+const LABELS_APART: &str = "\
+    read | {} | - | {}\n\
+    read | { Alice : } | - | {Alice: Alice}\n\
+    read | {Alice: Bob, Carol} | - | {Alice: Alice, Bob, Carol}\n\
+    read | {Alice:; Bob: Carol} | - | {Alice: Alice; Bob: Bob, Carol}\n\
+    read | {?:} | - | {}\n\
+    read | {?: Bob, Carol} | - | {?: Bob, Carol}\n\
+    read | {Alice:; ?: Bob} | - | {Alice: Alice; ?: Bob}\n\
+    bottom | {} | - | {?: Alice, Bob, Carol}\n\
+    policy | {} | Alice | {Alice: Alice}\n\
+    policy | {} | Bob | {Bob: Bob}\n\
+    policy | {} | Alice Bob | {Alice: Alice, Bob}\n\
+    policy | {} | Alice Carol | {Alice: Alice, Carol}\n\
+    policy | {} | Alice Bob Carol | {Alice: Alice, Bob, Carol}\n\
+    policy | {} | Carol Bob | {Carol: Bob, Carol}\n\
+    policy | {Alice:} | Bob Carol | {Alice: Alice; Bob: Bob, Carol}\n\
+    policy | {Alice: Bob} | Alice Carol | {Alice: Alice}\n\
+    policy | {Carol: Bob} | Alice Carol | {Alice: Alice, Carol; Carol: Bob, Carol}\n\
+    join | {Alice: Bob} | {Alice: Carol} | {Alice: Alice}\n\
+    trust | {} | Bob Carol | {?: Bob, Carol}\n\
+    trust | {Alice:} | Alice | {Alice: Alice; ?: Alice}\n\
+    trust | {Alice:} | Bob | {Alice: Alice; ?: Bob}\n\
+    trust | {Alice:} | Carol Bob | {Alice: Alice; ?: Bob, Carol}";
 
-/// A pair of names.
-fn pair(alloc: Global, first: &str, second: &str) -> Result<(String, String), Fail> {
-    Ok((
-        String::from_str(alloc, first)?,
-        String::from_str(alloc, second)?,
-    ))
-}
+/// The same where Alice acts for Bob: her policy forbids on his behalf too, she may read what is his, and she trusts
+/// for herself and for him. The join of two labels is trusted by who trusts both, and the meet by who trusts one.
+const LABELS_JOINT: &str = "\
+    bottom | {} | - | {?: Alice, Bob, Carol}\n\
+    policy | {} | Alice | {Alice: Alice; Bob: Alice}\n\
+    policy | {} | Bob | {Bob: Alice, Bob}\n\
+    policy | {} | Bob Alice | {Bob: Alice, Bob}\n\
+    policy | {} | Bob Bob Carol | {Bob: Alice, Bob, Carol}\n\
+    policy | {Alice:} | Bob | {Alice: Alice; Bob: Alice}\n\
+    trust | {} | Alice | {?: Alice, Bob}\n\
+    trust | {} | Carol | {?: Carol}\n\
+    trust | {} | Alice Carol | {?: Alice, Bob, Carol}\n\
+    trust | {Bob:} | Alice | {Bob: Alice, Bob; ?: Alice, Bob}\n\
+    trust | {Bob:} | Bob Alice | {Bob: Alice, Bob; ?: Alice, Bob}\n\
+    join | {Bob:; ?: Alice} | {?: Alice, Carol} | {Bob: Alice, Bob; ?: Alice, Bob}\n\
+    join | {Bob:; ?: Alice} | {?: Carol} | {Bob: Alice, Bob}\n\
+    meet | {Bob:; ?: Alice} | {?: Carol} | {Bob: Alice, Bob; ?: Alice, Bob, Carol}\n\
+    meet | {Bob:} | {?: Alice, Carol} | {Bob: Alice, Bob; ?: Alice, Bob, Carol}";
 
-/// Alice, Bob and Carol. Where it is asked for, Alice acts for Bob.
-fn three(alloc: Global, alice_acts_for_bob: bool) -> Result<Principals, Fail>
-    ensures { IfOk result (λ principals. length principals.names ≡ 3) }
-{
-    let mut pairs = Vec::new(alloc);
-    if alice_acts_for_bob {
-        pairs.push(pair(alloc, "Alice", "Bob")?)?;
-    }
-    three_with(alloc, &pairs)
-}
+/// To a label of Alice's and Carol's, who both act for Bob, he is forbidden by both, and between them they allow him
+/// nobody.
+const LABELS_BOTH: &str = "policy | {Alice:} | Carol | {Alice: Alice; Bob: ; Carol: Carol}";
+
+/// Whether the confidentiality of a label may flow to that of another, and whether its integrity may, where nobody acts
+/// for another.
+const FLOWS_APART: &str = "\
+    {Alice: Bob} | {Alice:} | true true\n\
+    {Alice:} | {Alice: Bob} | false true\n\
+    {Alice: Bob} | {Alice: Carol} | false true\n\
+    {Bob:} | {Alice:} | false true";
+
+/// The same where Alice acts for Bob.
+const FLOWS_JOINT: &str = "\
+    {Bob:} | {Alice:} | true true\n\
+    {Alice:} | {Bob:} | false true\n\
+    {?: Alice, Carol} | {Bob:; ?: Alice} | true true\n\
+    {Bob:; ?: Alice} | {Bob:} | true true\n\
+    {Bob:} | {Bob:; ?: Alice} | true false";
+
+/// Texts that are no labels. The first is empty.
+const NO_LABELS: &str = "\n\
+    {\n\
+    }\n\
+    Alice:\n\
+    {Alice}\n\
+    {:}\n\
+    {;}\n\
+    {Alice:;}\n\
+    {;Alice:}\n\
+    {Alice:,}\n\
+    {Alice: Bob,}\n\
+    {Alice: Bob Carol}\n\
+    {Alice: Bob; Carol}\n\
+    {Dave:}\n\
+    {Alice: Dave}\n\
+    {?: Dave}\n\
+    {?}\n\
+    {?: Bob; Alice:}\n\
+    {?:; ?:}\n\
+    {Alice: 1}\n\
+    {int:}\n\
+    {}{}\n\
+    {{}}";
 
 /// The label of a text.
 fn label_of(alloc: Global, text: &str, principals: &Principals) -> Result<Option<Label>, Fail> {
@@ -51,229 +122,122 @@ fn label_of(alloc: Global, text: &str, principals: &Principals) -> Result<Option
     Ok(read_label(alloc, &tokens, principals)?)
 }
 
-/// Of three principals of whom nobody acts for another.
-fn assert_forbidden(rt: &impl Abort, principals: &Principals)
-    requires { length principals.now.names ≡ 3 }
-{
-    let for_bob = Label::empty().with_policy(principals, ALICE, &[BOB]);
-    let for_carol = Label::empty().with_policy(principals, ALICE, &[CAROL]);
-    let both = for_bob.with_policy(principals, ALICE, &[CAROL]);
-    let of_bob = Label::empty().with_policy(principals, BOB, &[]);
-
-    // Bob may read by the first policy alone, and Carol by the second alone.
-    assert_eq!(rt; both, Label::empty().with_policy(principals, ALICE, &[]));
-    assert_eq!(rt; both, for_bob.join(for_carol));
-    assert!(rt; for_bob.conf_flows(&both));
-    assert!(rt; !both.conf_flows(&for_bob));
-    assert!(rt; !for_bob.conf_flows(&for_carol));
-    assert!(rt; !of_bob.conf_flows(&both));
+/// The label of a text that is one.
+fn sure_label(alloc: Global, text: &str, principals: &Principals) -> Result<Label, Fail> {
+    match label_of(alloc, text, principals)? {
+        Some(label) => Ok(label),
+        None => Err(Fail::new("no label")),
+    }
 }
 
-#[test]
-fn forbids_what_any_policy_forbids(rt: HostRuntime) -> Result<(), Fail> {
-    let principals = three(rt.alloc(), false)?;
-    assert_forbidden(&rt, &principals);
-    Ok(())
+/// The label with a policy of the first name for the second and the third, which may be missing.
+fn with_policy(label: Label, names: &str, principals: &Principals) -> Option<Label> {
+    let owner = principals.find(word(names, 0))?;
+    let Some(first) = principals.find(word(names, 1)) else {
+        return Some(label.with_policy(principals, owner, &[]));
+    };
+    match principals.find(word(names, 2)) {
+        Some(second) => Some(label.with_policy(principals, owner, &[first, second])),
+        None => Some(label.with_policy(principals, owner, &[first])),
+    }
 }
 
-#[test]
-fn forbids_for_whom_the_owner_acts_for(rt: HostRuntime) -> Result<(), Fail> {
-    let principals = three(rt.alloc(), true)?;
-    let of_alice = Label::empty().with_policy(&principals, ALICE, &[]);
-    let of_bob = Label::empty().with_policy(&principals, BOB, &[]);
-
-    // Alice acts for Bob: her policy forbids on his behalf too, and she may read what is his.
-    assert!(rt; of_bob.conf_flows(&of_alice));
-    assert!(rt; !of_alice.conf_flows(&of_bob));
-    assert_eq!(rt;
-        of_bob,
-        Label::empty().with_policy(&principals, BOB, &[ALICE])
-    );
-    assert_eq!(rt; of_alice, of_alice.with_policy(&principals, BOB, &[]));
-    Ok(())
+/// The label where the first name trusts it too, and the second, which may be missing.
+fn with_trust(label: Label, names: &str, principals: &Principals) -> Option<Label> {
+    let first = principals.find(word(names, 0))?;
+    match principals.find(word(names, 1)) {
+        Some(second) => Some(label.with_trust(principals, &[first, second])),
+        None => Some(label.with_trust(principals, &[first])),
+    }
 }
 
-/// Of three principals of whom Alice acts for Bob.
-fn assert_trusted(rt: &impl Abort, principals: &Principals)
-    requires { length principals.now.names ≡ 3 }
-{
-    let of_bob = Label::empty().with_policy(principals, BOB, &[]);
-    let by_alice = of_bob.with_trust(principals, &[ALICE]);
-    let by_carol = Label::empty().with_trust(principals, &[CAROL]);
-    let bottom = Label::bottom(principals);
-
-    // Alice trusts for herself and for Bob, whom she acts for.
-    assert_eq!(rt; by_alice, of_bob.with_trust(principals, &[BOB, ALICE]));
-    assert_eq!(rt;
-        bottom,
-        Label::empty().with_trust(principals, &[ALICE, CAROL])
-    );
-    assert_eq!(rt; by_alice.join(bottom), by_alice);
-    assert_eq!(rt; by_alice.join(by_carol), of_bob);
-    assert_eq!(rt;
-        by_alice.meet_integrity(by_carol),
-        of_bob.meet_integrity(bottom)
-    );
-    assert!(rt; bottom.integ_flows(&by_alice));
-    assert!(rt; by_alice.integ_flows(&of_bob));
-    assert!(rt; !of_bob.integ_flows(&by_alice));
+/// What an operation makes of a label and of what stands beside it.
+fn made(
+    alloc: Global,
+    operation: &str,
+    label: Label,
+    other: &str,
+    principals: &Principals,
+) -> Result<Option<Label>, Fail> {
+    match operation {
+        "read" => Ok(Some(label)),
+        "bottom" => Ok(Some(Label::bottom(principals))),
+        "policy" => Ok(with_policy(label, other, principals)),
+        "trust" => Ok(with_trust(label, other, principals)),
+        "join" => Ok(Some(label.join(sure_label(alloc, other, principals)?))),
+        "meet" => Ok(Some(label.meet_integrity(sure_label(alloc, other, principals)?))),
+        _ => Ok(None),
+    }
 }
 
-#[test]
-fn joins_and_meets(rt: HostRuntime) -> Result<(), Fail> {
-    let principals = three(rt.alloc(), true)?;
-    assert_trusted(&rt, &principals);
-    Ok(())
-}
-
-#[test]
-fn reads_labels(rt: HostRuntime) -> Result<(), Fail> {
-    let alloc = rt.alloc();
-    let principals = three(alloc, false)?;
-    let empty = Label::empty();
-    let of_alice = empty.with_policy(&principals, ALICE, &[]);
-    let for_two = empty.with_policy(&principals, ALICE, &[BOB, CAROL]);
-    let of_both = of_alice.with_policy(&principals, BOB, &[CAROL]);
-
-    let labels = [
-        ("{}", empty),
-        ("{ Alice : }", of_alice),
-        ("{Alice: Bob, Carol}", for_two),
-        ("{Alice:; Bob: Carol}", of_both),
-        ("{?:}", empty),
-        (
-            "{?: Bob, Carol}",
-            empty.with_trust(&principals, &[BOB, CAROL]),
-        ),
-        ("{Alice:; ?: Bob}", of_alice.with_trust(&principals, &[BOB])),
-    ];
-    for (text, label) in &labels {
-        assert_eq!(rt; label_of(alloc, text, &principals)?, Some(*label));
+/// Each row makes its label, which is printed as its text, and is read from it again.
+fn assert_labels(rt: &impl Abort, alloc: Global, hosts: &str, table: &str) -> Result<(), Fail> {
+    let hosts = hosts_of(alloc, hosts)?;
+    let principals = hosts.principals();
+    for row in table.lines() {
+        let label = sure_label(alloc, column(row, 1), principals)?;
+        let made = made(alloc, column(row, 0), label, column(row, 2), principals)?;
+        assert_printed(rt, alloc, made, column(row, 3), principals)?;
     }
     Ok(())
 }
 
-/// Labels where nobody acts for another, and how they are printed.
-fn labels_apart(apart: &Principals) -> [(&'static str, Label); 6]
-    requires { length apart.now.names ≡ 3 }
-{
-    let of_alice = Label::empty().with_policy(apart, ALICE, &[]);
-    let of_carol = Label::empty().with_policy(apart, CAROL, &[BOB]);
-    [
-        ("{?: Alice, Bob, Carol}", Label::bottom(apart)),
-        ("{Alice: Alice}", of_alice),
-        (
-            "{Alice: Alice, Carol; Carol: Bob, Carol}",
-            of_carol.with_policy(apart, ALICE, &[CAROL]),
-        ),
-        (
-            "{Alice: Alice; ?: Alice}",
-            of_alice.with_trust(apart, &[ALICE]),
-        ),
-        (
-            "{Alice: Alice; ?: Bob, Carol}",
-            of_alice.with_trust(apart, &[CAROL, BOB]),
-        ),
-        ("{}", Label::empty()),
-    ]
-}
-
-/// Labels where Alice acts for Bob: hers forbids for him too, and she reads what he may read.
-fn labels_joint(joint: &Principals) -> [(&'static str, Label); 4]
-    requires { length joint.now.names ≡ 3 }
-{
-    let empty = Label::empty();
-    [
-        (
-            "{Alice: Alice; Bob: Alice}",
-            empty.with_policy(joint, ALICE, &[]),
-        ),
-        ("{Bob: Alice, Bob}", empty.with_policy(joint, BOB, &[])),
-        (
-            "{Bob: Alice, Bob, Carol}",
-            empty.with_policy(joint, BOB, &[BOB, CAROL]),
-        ),
-        ("{?: Alice, Bob}", empty.with_trust(joint, &[ALICE])),
-    ]
-}
-
-/// A label to which Alice and Carol act for Bob, forbid for him too, and between them allow him nobody.
-fn labels_of_both(both: &Principals) -> [(&'static str, Label); 1]
-    requires { length both.now.names ≡ 3 }
-{
-    let of_alice = Label::empty().with_policy(both, ALICE, &[]);
-    [(
-        "{Alice: Alice; Bob: ; Carol: Carol}",
-        of_alice.with_policy(both, CAROL, &[]),
-    )]
-}
-
-/// Each label is printed as its text, and is read from it again.
+/// The label is there, is printed as the text, and is read from it again.
 fn assert_printed(
     rt: &impl Abort,
     alloc: Global,
+    made: Option<Label>,
+    text: &str,
     principals: &Principals,
-    labels: &[(&str, Label)],
-) -> Result<(), Fail>
-    requires { length principals.now.names ≡ 3 }
-{
-    for (text, label) in labels {
-        let printed = label_text(alloc, label, principals)?;
-        assert_eq!(rt; printed.as_str(), *text);
-        assert_eq!(rt; label_of(alloc, text, principals)?, Some(*label));
+) -> Result<(), Fail> {
+    let printed = match &made {
+        Some(label) => label_text(alloc, label, principals)?,
+        None => String::new(alloc),
+    };
+    assert_eq!(rt; printed.as_str(), text);
+    assert_eq!(rt; label_of(alloc, text, principals)?, made);
+    Ok(())
+}
+
+/// Each label may flow to the other as its row says.
+fn assert_flows(rt: &impl Abort, alloc: Global, hosts: &str, table: &str) -> Result<(), Fail> {
+    let hosts = hosts_of(alloc, hosts)?;
+    for row in table.lines() {
+        let from = sure_label(alloc, column(row, 0), hosts.principals())?;
+        let to = sure_label(alloc, column(row, 1), hosts.principals())?;
+        let told = from.conf_flows(&to);
+        let trusted = from.integ_flows(&to);
+        let found = format!(in alloc; "{told} {trusted}")?;
+        assert_eq!(rt; found.as_str(), column(row, 2), "at {row}");
     }
     Ok(())
 }
 
 #[test]
-fn prints_labels(rt: HostRuntime) -> Result<(), Fail> {
+fn makes_and_prints_labels(rt: HostRuntime) -> Result<(), Fail> {
     let alloc = rt.alloc();
-    let apart = three(alloc, false)?;
-    assert_printed(&rt, alloc, &apart, &labels_apart(&apart))?;
-    let joint = three(alloc, true)?;
-    assert_printed(&rt, alloc, &joint, &labels_joint(&joint))
+    assert_labels(&rt, alloc, APART, LABELS_APART)?;
+    assert_labels(&rt, alloc, JOINT, LABELS_JOINT)?;
+    assert_labels(&rt, alloc, BOTH, LABELS_BOTH)
 }
 
 #[test]
-fn prints_labels_of_two_who_act(rt: HostRuntime) -> Result<(), Fail> {
+fn knows_what_may_flow(rt: HostRuntime) -> Result<(), Fail> {
     let alloc = rt.alloc();
-    let first = pair(alloc, "Alice", "Bob")?;
-    let second = pair(alloc, "Carol", "Bob")?;
-    let both = three_with(alloc, &vec![in alloc; first, second]?)?;
-    assert_printed(&rt, alloc, &both, &labels_of_both(&both))
+    assert_flows(&rt, alloc, APART, FLOWS_APART)?;
+    assert_flows(&rt, alloc, JOINT, FLOWS_JOINT)
 }
 
 #[test]
 fn refuses_what_is_not_a_label(rt: HostRuntime) -> Result<(), Fail> {
     let alloc = rt.alloc();
-    let principals = three(alloc, false)?;
-    let texts = [
-        "",
-        "{",
-        "}",
-        "Alice:",
-        "{Alice}",
-        "{:}",
-        "{;}",
-        "{Alice:;}",
-        "{;Alice:}",
-        "{Alice:,}",
-        "{Alice: Bob,}",
-        "{Alice: Bob Carol}",
-        "{Alice: Bob; Carol}",
-        "{Dave:}",
-        "{Alice: Dave}",
-        "{?: Dave}",
-        "{?}",
-        "{?: Bob; Alice:}",
-        "{?:; ?:}",
-        "{Alice: 1}",
-        "{int:}",
-        "{}{}",
-        "{{}}",
-    ];
-    for text in &texts {
-        assert_eq!(rt; label_of(alloc, text, &principals)?, None);
+    let hosts = hosts_of(alloc, APART)?;
+    for text in NO_LABELS.lines() {
+        assert_eq!(rt;
+            label_of(alloc, text, hosts.principals())?,
+            None,
+            "in {text}"
+        );
     }
     Ok(())
 }

@@ -29,6 +29,8 @@ mod refused_programs;
 #[cfg(test)]
 mod starting_values;
 #[cfg(test)]
+mod tables;
+#[cfg(test)]
 mod texts;
 #[cfg(test)]
 mod tokens;

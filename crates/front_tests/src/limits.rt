@@ -1,362 +1,136 @@
 //! The limits of nesting and of counts, at their last and at their first refused value, and which of two is told.
+//!
+//! A text is written as five parts with `#` between them, where the second and the fourth stand in it so many times.
 
 use crate::refused_programs::{push_copies, refusal};
-use jif_grammar::What;
-use jif_parse::ParseError;
+use crate::tables::{column, told};
 use std::alloc::Global;
 use std::process::Abort;
 use std::test::Fail;
 
-/// A text with so many copies of the second part before the third, and so many of the fourth behind that.
-type Row = ([&'static str; 5], usize, usize, ParseError);
-
 /// The most copies of the second part with which a text is a program, how many copies of the fourth belong to each of
-/// them, and what one copy more is refused for.
-const LIMITS: [Row; 39] = [
-    (
-        ["void m{}(){x=", "(", "1", ")", ";}"],
-        64,
-        1,
-        ParseError::TooDeep,
-    ),
-    (
-        ["void m{}(){x=", "a[", "1", "]", ";}"],
-        64,
-        1,
-        ParseError::TooDeep,
-    ),
-    (
-        ["void m{}(){x=", "-", "1", "", ";}"],
-        64,
-        1,
-        ParseError::TooDeep,
-    ),
-    (
-        ["void m{}(){x=", "!", "1", "", ";}"],
-        64,
-        1,
-        ParseError::TooDeep,
-    ),
-    (
-        ["void m{}(){x=", "declassify(", "1", ",{})", ";}"],
-        64,
-        1,
-        ParseError::TooDeep,
-    ),
-    (
-        ["void m{}(){x=", "endorse(", "1", ",{A:;?:})", ";}"],
-        64,
-        1,
-        ParseError::TooDeep,
-    ),
-    (
-        ["void m{}(){", "if(1){", "", "}", "}"],
-        64,
-        1,
-        ParseError::TooDeep,
-    ),
-    (
-        ["void m{}(){", "if(1){}else{", "", "}", "}"],
-        64,
-        1,
-        ParseError::TooDeep,
-    ),
-    (
-        ["void m{}(){", "while(1){", "", "}", "}"],
-        64,
-        1,
-        ParseError::TooDeep,
-    ),
-    (
-        ["void m{}(){if(1){", "if(1){", "x=1;", "}", "}}"],
-        63,
-        1,
-        ParseError::TooDeep,
-    ),
-    (
-        ["void m{}(){if(", "(", "1", ")", "){}}"],
-        64,
-        1,
-        ParseError::TooDeep,
-    ),
-    (
-        ["void m{}(){while(", "-", "1", "", "){}}"],
-        64,
-        1,
-        ParseError::TooDeep,
-    ),
-    (
-        ["void m{}(){m(1,", "(", "1", ")", ");}"],
-        64,
-        1,
-        ParseError::TooDeep,
-    ),
-    (
-        ["void m{}(){x=m(", "a[", "1", "]", ");}"],
-        64,
-        1,
-        ParseError::TooDeep,
-    ),
-    (
-        ["void m{}(){x[", "(", "1", ")", "]=1;}"],
-        64,
-        1,
-        ParseError::TooDeep,
-    ),
-    (
-        ["void m{}(){x[1]=", "!", "1", "", ";}"],
-        64,
-        1,
-        ParseError::TooDeep,
-    ),
-    (
-        ["int{} m{}(){return ", "(", "1", ")", ";}"],
-        64,
-        1,
-        ParseError::TooDeep,
-    ),
-    (
-        ["void m{}(){int x=(1)+", "(", "1", ")", ";}"],
-        64,
-        1,
-        ParseError::TooDeep,
-    ),
-    // Levels of several kinds: the sign, the bracket and the parenthesis within, and the blocks around.
-    (
-        ["void m{}(){x=-a[(", "(", "1", ")", ")];}"],
-        61,
-        1,
-        ParseError::TooDeep,
-    ),
-    (
-        [
-            "void m{}(){if(1){while(1){x=declassify(",
-            "-",
-            "1",
-            "",
-            ",{});}}}",
-        ],
-        61,
-        1,
-        ParseError::TooDeep,
-    ),
-    // Counts.
-    (
-        ["", "int{} f;", "", "", ""],
-        256,
-        0,
-        ParseError::TooMany(What::Fields),
-    ),
-    (
-        ["", "int{} f[1];", "", "", ""],
-        256,
-        0,
-        ParseError::TooMany(What::Fields),
-    ),
-    (
-        ["", "int{} f=-1;", "", "", ""],
-        256,
-        0,
-        ParseError::TooMany(What::Fields),
-    ),
-    (
-        ["", "void m{}(){}", "", "", ""],
-        128,
-        0,
-        ParseError::TooMany(What::Methods),
-    ),
-    (
-        ["", "int{} m{}(){}", "", "", ""],
-        128,
-        0,
-        ParseError::TooMany(What::Methods),
-    ),
-    (
-        ["void m{}(int{} a", ",int{} b", "", "", "){}"],
-        7,
-        0,
-        ParseError::TooMany(What::Parameters),
-    ),
-    (
-        ["void m{}(){", "int x=1;", "", "", "}"],
-        256,
-        0,
-        ParseError::TooMany(What::Locals),
-    ),
-    (
-        ["void m{}(int{} a,int{} b){", "int x=1;", "", "", "}"],
-        254,
-        0,
-        ParseError::TooMany(What::Locals),
-    ),
-    (
-        ["void m{}(){}void n{}(){", "m();", "", "", "}"],
-        4094,
-        0,
-        ParseError::TooMany(What::Statements),
-    ),
-    (
-        ["void m{}(){", "x=1;", "", "", "}"],
-        4095,
-        0,
-        ParseError::TooMany(What::Statements),
-    ),
-    (
-        ["void m{}(){", "m();", "", "", "return 1;}"],
-        4094,
-        0,
-        ParseError::TooMany(What::Statements),
-    ),
-    (
-        ["void m{}(){x=-1", "+1", "", "", ";}"],
-        127,
-        0,
-        ParseError::TooMany(What::Nodes),
-    ),
-    (
-        ["void m{}(){m(1,2", ",1", "", "", ");}"],
-        254,
-        0,
-        ParseError::TooMany(What::Nodes),
-    ),
-    (
-        ["void m{}(){x=m(1", ",1", "", "", ");}"],
-        255,
-        0,
-        ParseError::TooMany(What::Nodes),
-    ),
-    (
-        ["void m{}(){x[1]=2", "+a[1]", "", "", ";}"],
-        84,
-        0,
-        ParseError::TooMany(What::Nodes),
-    ),
-    (
-        ["void m{}(){if(-1", "*2", "", "", "){}}"],
-        127,
-        0,
-        ParseError::TooMany(What::Nodes),
-    ),
-    (
-        ["void m{}(){x=1+1;x=-1", "+1", "", "", ";}"],
-        127,
-        0,
-        ParseError::TooMany(What::Nodes),
-    ),
-    (
-        ["", "int{} f[65536];", "", "", ""],
-        4,
-        0,
-        ParseError::TooMany(What::Elements),
-    ),
-    (
-        ["int{} a[65535];int{} b;", "int{} f[65536];", "", "", ""],
-        3,
-        0,
-        ParseError::TooMany(What::Elements),
-    ),
-];
+/// them, and what one copy more is refused for. In the last two rows there are levels of several kinds: the sign, the
+/// bracket and the parenthesis within, and the blocks around.
+const DEPTHS: &str = "\
+    64 | 1 | TooDeep | void m{}(){x=#(#1#)#;}\n\
+    64 | 1 | TooDeep | void m{}(){x=#a[#1#]#;}\n\
+    64 | 1 | TooDeep | void m{}(){x=#-#1##;}\n\
+    64 | 1 | TooDeep | void m{}(){x=#!#1##;}\n\
+    64 | 1 | TooDeep | void m{}(){x=#declassify(#1#,{})#;}\n\
+    64 | 1 | TooDeep | void m{}(){x=#endorse(#1#,{A:;?:})#;}\n\
+    64 | 1 | TooDeep | void m{}(){#if(1){##}#}\n\
+    64 | 1 | TooDeep | void m{}(){#if(1){}else{##}#}\n\
+    64 | 1 | TooDeep | void m{}(){#while(1){##}#}\n\
+    63 | 1 | TooDeep | void m{}(){if(1){#if(1){#x=1;#}#}}\n\
+    64 | 1 | TooDeep | void m{}(){if(#(#1#)#){}}\n\
+    64 | 1 | TooDeep | void m{}(){while(#-#1##){}}\n\
+    64 | 1 | TooDeep | void m{}(){m(1,#(#1#)#);}\n\
+    64 | 1 | TooDeep | void m{}(){x=m(#a[#1#]#);}\n\
+    64 | 1 | TooDeep | void m{}(){x[#(#1#)#]=1;}\n\
+    64 | 1 | TooDeep | void m{}(){x[1]=#!#1##;}\n\
+    64 | 1 | TooDeep | int{} m{}(){return #(#1#)#;}\n\
+    64 | 1 | TooDeep | void m{}(){int x=(1)+#(#1#)#;}\n\
+    61 | 1 | TooDeep | void m{}(){x=-a[(#(#1#)#)];}\n\
+    61 | 1 | TooDeep | void m{}(){if(1){while(1){x=declassify(#-#1##,{});}}}";
 
-/// Arrays that leave room for 252 elements.
-const FULL: &str = "int{} f[65536];int{} f[65536];int{} f[65536];int{} f[65284];";
+/// The same, of what is counted.
+const COUNTS: &str = "\
+    256 | 0 | TooMany(Fields) | #int{} f;###\n\
+    256 | 0 | TooMany(Fields) | #int{} f[1];###\n\
+    256 | 0 | TooMany(Fields) | #int{} f=-1;###\n\
+    128 | 0 | TooMany(Methods) | #void m{}(){}###\n\
+    128 | 0 | TooMany(Methods) | #int{} m{}(){}###\n\
+    7 | 0 | TooMany(Parameters) | void m{}(int{} a#,int{} b###){}\n\
+    256 | 0 | TooMany(Locals) | void m{}(){#int x=1;###}\n\
+    254 | 0 | TooMany(Locals) | void m{}(int{} a,int{} b){#int x=1;###}\n\
+    4094 | 0 | TooMany(Statements) | void m{}(){}void n{}(){#m();###}\n\
+    4095 | 0 | TooMany(Statements) | void m{}(){#x=1;###}\n\
+    4094 | 0 | TooMany(Statements) | void m{}(){#m();###return 1;}\n\
+    127 | 0 | TooMany(Nodes) | void m{}(){x=-1#+1###;}\n\
+    254 | 0 | TooMany(Nodes) | void m{}(){m(1,2#,1###);}\n\
+    255 | 0 | TooMany(Nodes) | void m{}(){x=m(1#,1###);}\n\
+    84 | 0 | TooMany(Nodes) | void m{}(){x[1]=2#+a[1]###;}\n\
+    127 | 0 | TooMany(Nodes) | void m{}(){if(-1#*2###){}}\n\
+    127 | 0 | TooMany(Nodes) | void m{}(){x=1+1;x=-1#+1###;}\n\
+    4 | 0 | TooMany(Elements) | #int{} f[65536];###\n\
+    3 | 0 | TooMany(Elements) | int{} a[65535];int{} b;#int{} f[65536];###";
 
 /// Counts of copies of the second part and of the fourth, and what comes where two limits are passed at once, or a
-/// limit and a token that is not due.
-const PAIRS: [Row; 7] = [
-    // At one token: methods before statements, statements before locals, fields before elements, and nesting first.
-    (
-        ["", "void m{}(){}", "void m{}(){", "x=1;", "}void"],
-        127,
-        3968,
-        ParseError::TooMany(What::Methods),
-    ),
-    (
-        ["void m{}(){", "int x=1;", "", "x=1;", "int"],
-        256,
-        3839,
-        ParseError::TooMany(What::Statements),
-    ),
-    (
-        [FULL, "int{} f;", "int{} f;", "", ""],
-        252,
-        0,
-        ParseError::TooMany(What::Fields),
-    ),
-    (
-        ["void m{}(){x=1", "+1", "+", "(", "-"],
-        127,
-        64,
-        ParseError::TooDeep,
-    ),
-    // A limit is passed by what is due alone.
-    (
-        ["void m{}(){x=1", "+1", "+", "(", "1"],
-        127,
-        64,
-        ParseError::TooMany(What::Nodes),
-    ),
-    (
-        ["void m{}(){x=1", "+1", "+;", "", ""],
-        127,
-        0,
-        ParseError::Unexpected(265),
-    ),
-    (
-        ["void m{}(){x=", "(", ")", "", ""],
-        64,
-        0,
-        ParseError::Unexpected(73),
-    ),
-];
+/// limit and a token that is not due. In the first four rows both come at one token: methods before statements,
+/// statements before locals, fields before elements, and nesting first. The last three show that a limit is passed by
+/// what is due alone.
+const PAIRS: &str = "\
+    127 | 3968 | TooMany(Methods) | #void m{}(){}#void m{}(){#x=1;#}void\n\
+    256 | 3839 | TooMany(Statements) | void m{}(){#int x=1;##x=1;#int\n\
+    252 | 0 | TooMany(Fields) | int{} f[65536];int{} f[65536];int{} f[65536];int{} f[65284];#int{} f;#int{} f;##\n\
+    127 | 64 | TooDeep | void m{}(){x=1#+1#+#(#-\n\
+    127 | 64 | TooMany(Nodes) | void m{}(){x=1#+1#+#(#1\n\
+    127 | 0 | Unexpected(265) | void m{}(){x=1#+1#+;##\n\
+    64 | 0 | Unexpected(73) | void m{}(){x=#(#)##";
 
-/// Why a text with so many copies of its second and of its fourth part is no program.
-fn outcome(
-    alloc: Global,
-    parts: &[&str; 5],
-    count: usize,
-    others: usize,
-) -> Result<Option<ParseError>, Fail> {
-    let [before, filler, middle, other, after] = *parts;
-    let mut text = String::from_str(alloc, before)?;
-    push_copies(&mut text, filler, count)?;
-    text.push_str(middle)?;
-    push_copies(&mut text, other, others)?;
-    text.push_str(after)?;
-    refusal(alloc, text.as_str())
+/// A text with so many copies of its second and of its fourth part.
+fn filled(alloc: Global, parts: &str, count: usize, others: usize) -> Result<String, Fail> {
+    let mut text = String::new(alloc);
+    for (place, part) in parts.split('#').enumerate() {
+        let copies = match place {
+            1 => count,
+            3 => others,
+            _ => 1,
+        };
+        push_copies(&mut text, part, copies)?;
+    }
+    Ok(text)
 }
 
-/// What becomes of a text with so many copies of its second and of its fourth part.
+/// What becomes of the text of a row, with so many copies of its second and of its fourth part.
 fn assert_outcome(
     rt: &impl Abort,
     alloc: Global,
-    parts: &[&str; 5],
+    row: &str,
     count: usize,
     others: usize,
-    due: Option<&ParseError>,
+    due: &str,
 ) -> Result<(), Fail> {
-    let found = outcome(alloc, parts, count, others)?;
-    assert_eq!(rt; found.as_ref(), due, "at {parts:?}");
+    let text = filled(alloc, column(row, 3), count, others)?;
+    let found = told(alloc, refusal(alloc, text.as_str())?)?;
+    assert_eq!(rt; found.as_str(), due, "with {count} of {row}");
     Ok(())
 }
 
 /// As many copies as there may be are taken, and one more is refused.
-fn assert_limit(rt: &impl Abort, alloc: Global, row: &Row) -> Result<(), Fail> {
-    let (parts, most, others, error) = row;
+fn assert_limit(rt: &impl Abort, alloc: Global, row: &str) -> Result<(), Fail> {
+    let most = column(row, 0).parse::<usize>()?;
+    let others = column(row, 1).parse::<usize>()?;
     let more = most.saturating_add(1);
-    assert_outcome(rt, alloc, parts, *most, most.saturating_mul(*others), None)?;
+    assert_outcome(rt, alloc, row, most, most.saturating_mul(others), "-")?;
     assert_outcome(
         rt,
         alloc,
-        parts,
+        row,
         more,
-        more.saturating_mul(*others),
-        Some(error),
+        more.saturating_mul(others),
+        column(row, 2),
     )
 }
 
+/// So many copies are refused.
+fn assert_first(rt: &impl Abort, alloc: Global, row: &str) -> Result<(), Fail> {
+    let count = column(row, 0).parse::<usize>()?;
+    let others = column(row, 1).parse::<usize>()?;
+    assert_outcome(rt, alloc, row, count, others, column(row, 2))
+}
+
 #[test]
-fn takes_each_limit(rt: HostRuntime) -> Result<(), Fail> {
-    for row in &LIMITS {
+fn nests_up_to_the_limit(rt: HostRuntime) -> Result<(), Fail> {
+    for row in DEPTHS.lines() {
+        assert_limit(&rt, rt.alloc(), row)?;
+    }
+    Ok(())
+}
+
+#[test]
+fn counts_up_to_each_limit(rt: HostRuntime) -> Result<(), Fail> {
+    for row in COUNTS.lines() {
         assert_limit(&rt, rt.alloc(), row)?;
     }
     Ok(())
@@ -364,8 +138,8 @@ fn takes_each_limit(rt: HostRuntime) -> Result<(), Fail> {
 
 #[test]
 fn tells_the_first_of_two_limits(rt: HostRuntime) -> Result<(), Fail> {
-    for (parts, count, others, error) in &PAIRS {
-        assert_outcome(&rt, rt.alloc(), parts, *count, *others, Some(error))?;
+    for row in PAIRS.lines() {
+        assert_first(&rt, rt.alloc(), row)?;
     }
     Ok(())
 }

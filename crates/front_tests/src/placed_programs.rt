@@ -38,7 +38,7 @@ fn drafted(alloc: Global, text: &str) -> Result<Draft, Fail>
 }
 
 /// The program of a text.
-fn resolved(alloc: Global, text: &str, principals: &Principals) -> Result<Program, Fail>
+pub fn resolved(alloc: Global, text: &str, principals: &Principals) -> Result<Program, Fail>
     ensures within { IfOk result (λ program. IsWithinLimits (program_tree program)) }
     ensures authorities { IfOk result (λ program. AreAuthoritiesDeclared principals.now (program_tree program)) }
 {

@@ -1,19 +1,40 @@
 //! Programs as they are printed, and what their texts are read as.
 
-use jif_lex::{lex, token_laws};
-use jif_parse::{parse, program_text};
-use jif_resolve::{limit_laws, resolve};
+use crate::placed_programs::{OWN_HOSTS, hosts_of, resolved};
+use jif_parse::program_text;
 use principals::Principals;
 use std::alloc::Global;
 use std::test::Fail;
 
+/// A program in each line.
+const PROGRAMS: &str = "\
+    void main{}(){}\n\
+    void main{}(){a=1;x[a]=-a;}int{Alice:Bob;?:Bob}a=-7;int{}x[03];int{Bob:}m{}(){return 1;}int{}b=-0;\n\
+    void main{}() where authority(Bob,Alice){int x=0;int{?:Alice}y=x;x=y;if(x){int z=1;z=2;}else{int w=x;w=w;}\
+    if(x){}while(y<1){if(1){}else{x=m(1,-y);}}n();}\
+    int{} m{}(int{}p,int{Alice:}q){p=q;q=declassify(p,{})+endorse(1,{?:Bob});return p;} \
+    void n{?:Alice}(){n();}\n\
+    int{}a;void main{}(){a=(a-1)-(a-2);a=((a-1)-a)-2;a=- -1;a=- 1;a=-(a);a=-(a+1);a=!(!a)*(a);a=!a==(a<1)==1;\
+    a=(a==1)<1;a=a||(a||a)||a&&(a||1);a=a*(a/2)%3-(4*5);a=((((1))));a=a- -1;a=9223372036854775807;}\n";
+
+/// What they are printed as, with an empty line behind each.
+const PRINTED: &str = "void main{}() {\n}\n\n\
+    int{Alice: Alice, Bob; ?: Bob} a = -7;\nint{} x[3];\nint{} b;\nvoid main{}() {\na = 1;\nx[a] = -a;\n}\n\
+    int{Bob: Bob} m{}() {\nreturn 1;\n}\n\n\
+    void main{}() where authority(Bob, Alice) {\nint x = 0;\nint{?: Alice} y = x;\nx = y;\n\
+    if (x) {\nint z = 1;\nz = 2;\n} else {\nint w = x;\nw = w;\n}\nif (x) {\n}\n\
+    while (y < 1) {\nif (1) {\n} else {\nx = m(1, -y);\n}\n}\nn();\n}\n\
+    int{} m{}(int{} p, int{Alice: Alice} q) {\np = q;\nq = declassify(p, {}) + endorse(1, {?: Bob});\n\
+    return p;\n}\n\
+    void n{?: Alice}() {\nn();\n}\n\n\
+    int{} a;\nvoid main{}() {\na = a - 1 - (a - 2);\na = a - 1 - a - 2;\na = --1;\na = -1;\na = -a;\n\
+    a = -(a + 1);\n\
+    a = !!a * a;\na = !a == a < 1 == 1;\na = (a == 1) < 1;\na = a || (a || a) || a && (a || 1);\n\
+    a = a * (a / 2) % 3 - 4 * 5;\na = 1;\na = a - -1;\na = 9223372036854775807;\n}\n\n";
+
 /// The printed form of the program that a text is.
 fn printed(alloc: Global, principals: &Principals, text: &str) -> Result<String, Fail> {
-    token_laws();
-    limit_laws();
-    let tokens = lex(alloc, text.as_bytes())?;
-    let draft = parse(alloc, tokens.as_slice())?;
-    let program = resolve(alloc, draft, principals)?;
+    let program = resolved(alloc, text, principals)?;
     Ok(program_text(alloc, &program, principals)?)
 }
 
@@ -21,42 +42,15 @@ fn printed(alloc: Global, principals: &Principals, text: &str) -> Result<String,
 #[test]
 fn programs_are_printed(rt: HostRuntime) -> Result<(), Fail> {
     let alloc = rt.alloc();
-    let alice = String::from_str(alloc, "Alice")?;
-    let bob = String::from_str(alloc, "Bob")?;
-    let principals = Principals::new(alloc, &vec![in alloc; alice, bob]?, &[])?;
-    let cases = [
-        ("void main{}(){}", "void main{}() {\n}\n"),
-        (
-            "void main{}(){a=1;x[a]=-a;}int{Alice:Bob;?:Bob}a=-7;int{}x[03];int{Bob:}m{}(){return 1;}int{}b=-0;",
-            "int{Alice: Alice, Bob; ?: Bob} a = -7;\nint{} x[3];\nint{} b;\nvoid main{}() {\na = 1;\nx[a] = -a;\n}\n\
-            int{Bob: Bob} m{}() {\nreturn 1;\n}\n",
-        ),
-        (
-            "void main{}() where authority(Bob,Alice){int x=0;int{?:Alice}y=x;x=y;if(x){int z=1;z=2;}else{int w=x;w=w;}\
-            if(x){}while(y<1){if(1){}else{x=m(1,-y);}}n();}\
-            int{} m{}(int{}p,int{Alice:}q){p=q;q=declassify(p,{})+endorse(1,{?:Bob});return p;} \
-            void n{?:Alice}(){n();}",
-            "void main{}() where authority(Bob, Alice) {\nint x = 0;\nint{?: Alice} y = x;\nx = y;\n\
-            if (x) {\nint z = 1;\nz = 2;\n} else {\nint w = x;\nw = w;\n}\nif (x) {\n}\n\
-            while (y < 1) {\nif (1) {\n} else {\nx = m(1, -y);\n}\n}\nn();\n}\n\
-            int{} m{}(int{} p, int{Alice: Alice} q) {\np = q;\nq = declassify(p, {}) + endorse(1, {?: Bob});\n\
-            return p;\n}\n\
-            void n{?: Alice}() {\nn();\n}\n",
-        ),
-        (
-            "int{}a;void main{}(){a=(a-1)-(a-2);a=((a-1)-a)-2;a=- -1;a=- 1;a=-(a);a=-(a+1);a=!(!a)*(a);a=!a==(a<1)==1;\
-            a=(a==1)<1;a=a||(a||a)||a&&(a||1);a=a*(a/2)%3-(4*5);a=((((1))));a=a- -1;a=9223372036854775807;}",
-            "int{} a;\nvoid main{}() {\na = a - 1 - (a - 2);\na = a - 1 - a - 2;\na = --1;\na = -1;\na = -a;\n\
-            a = -(a + 1);\n\
-            a = !!a * a;\na = !a == a < 1 == 1;\na = (a == 1) < 1;\na = a || (a || a) || a && (a || 1);\n\
-            a = a * (a / 2) % 3 - 4 * 5;\na = 1;\na = a - -1;\na = 9223372036854775807;\n}\n",
-        ),
-    ];
-    for (text, expected) in cases {
-        let once = printed(alloc, &principals, text)?;
-        assert_eq!(rt; once.as_str(), expected, "in {text:?}");
-        let twice = printed(alloc, &principals, once.as_str())?;
-        assert_eq!(rt; twice.as_str(), expected, "in {text:?}");
+    let hosts = hosts_of(alloc, OWN_HOSTS)?;
+    let mut all = String::new(alloc);
+    for text in PROGRAMS.lines() {
+        let once = printed(alloc, hosts.principals(), text)?;
+        let twice = printed(alloc, hosts.principals(), once.as_str())?;
+        assert_eq!(rt; twice.as_str(), once.as_str(), "in {text}");
+        all.push_str(once.as_str())?;
+        all.push_str("\n")?;
     }
+    assert_eq!(rt; all.as_str(), PRINTED);
     Ok(())
 }

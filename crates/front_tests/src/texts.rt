@@ -38,7 +38,7 @@ fn copies_texts(rt: HostRuntime) -> Result<(), Fail> {
 fn finds_items_by_name(rt: HostRuntime) -> Result<(), Fail> {
     let alloc = rt.alloc();
     let mut items = Vec::new(alloc);
-    for name in ["a", "bb", "a", "bb"] {
+    for name in "a bb a bb".split_whitespace() {
         items.push(Item {
             name: owned_text(alloc, name)?,
         })?;
