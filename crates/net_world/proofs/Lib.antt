@@ -9,6 +9,7 @@ pub mod Named
 pub mod OwnTokens
 pub mod Present
 pub mod Queues
+pub mod ReplayedEvents
 pub mod Rows
 pub mod Same
 pub mod Seeing

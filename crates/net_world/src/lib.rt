@@ -9,10 +9,12 @@ mod matching;
 mod moves;
 mod readers;
 mod refusals;
+mod replaying;
 mod secrets;
 mod steps;
 mod told;
 mod world;
 
 pub use matching::are_hosts_of;
+pub use replaying::{ReplayError, refused, replay};
 pub use world::{EventError, World};

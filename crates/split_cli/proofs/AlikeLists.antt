@@ -14,7 +14,7 @@ use Rattle.event_text.specs.declared.event.Event.{Event}
 use Rattle.host_code.specs.Code.{CodeShape}
 use Rattle.net_world.specs.World.{WorldShape}
 use Rattle.split_cli.specs.Compare.{AreAlike, DifferAt, GoApart, StartsUnlike}
-use Rattle.split_cli.specs.Replay.{events_in}
+use Rattle.net_world.specs.Replay.{events_in}
 
 -- ---- place by place
 

@@ -37,7 +37,8 @@ use Rattle.split_cli.specs.Compared.{ScriptRun, AreComparable, IsCompared, IsPri
 use Rattle.split_cli.specs.Drive.{first_world}
 use Rattle.split_cli.specs.Faithful.{IsPlacedAs}
 use Rattle.split_cli.specs.Followed.{Followed, IsFollowed, EventsFollowed, followed, refused}
-use Rattle.split_cli.specs.Replay.{events_in, ScriptRead}
+use Rattle.net_world.specs.Replay.{events_in}
+use Rattle.split_cli.specs.Replay.{ScriptRead}
 use Rattle.split_cli.proofs.AlikeStarts.{alike_stores, alike_swapped}
 use Rattle.split_cli.proofs.DriveDue.{code_hosts}
 use Rattle.split_cli.proofs.Faithful.{AllLaws, Says, input_fails, placed_says, IsRead, script_says, Kind}

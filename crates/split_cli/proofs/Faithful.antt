@@ -54,7 +54,8 @@ use Rattle.front_end.specs.PlacedSources.{PlacedSource, PlacedSources}
 use Rattle.split_cli.specs.Drive.{first_world, IsDriveReport, DueForDrive}
 use Rattle.front_end.specs.PlacedCode.{code_of, program_of}
 use Rattle.split_cli.specs.Driven.{DrivesTo, rested, spent}
-use Rattle.split_cli.specs.Replay.{events_in, replay_text, ScriptRead, EventsHappen, DueForReplay}
+use Rattle.net_world.specs.Replay.{events_in}
+use Rattle.split_cli.specs.Replay.{replay_text, ScriptRead, EventsHappen, DueForReplay}
 use Rattle.split_cli.specs.Replay as replay
 use Rattle.front_end.specs.Starting.{StartingValues}
 use Rattle.front_end.specs.Starting as starting
@@ -70,7 +71,7 @@ use Rattle.split_cli.proofs.OneVerdict.{fault_verdict, one_command}
 use Rattle.split_cli.proofs.CodeNumbers.{code_has}
 use Rattle.front_end.proofs.PlacedStops.{placed_stops}
 use Rattle.split_cli.proofs.ReplayDue.{OwnAtStart, own_in_first}
-use Rattle.split_cli.proofs.ReplayedEvents.{script_starts}
+use Rattle.split_cli.proofs.ScriptStarts.{script_starts}
 use Rattle.split_cli.proofs.ScriptNumbers.{events_have, starts_have}
 use Rattle.split_cli.proofs.SetSources.{ReadingLaws, PlanLaws, GrantedLaw, set_there, has_numbers}
 

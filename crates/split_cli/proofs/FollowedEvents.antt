@@ -13,7 +13,7 @@ use Rattle.split_cli.specs.Followed as kept
 use Rattle.split_cli.specs.declared.following.Seen.{Seen}
 use Rattle.split_cli.specs.FollowedRuns.{IsAdded, first_late, run_with}
 use Rattle.split_cli.specs.FollowedRuns as added
-use Rattle.split_cli.specs.Replay.{events_in}
+use Rattle.net_world.specs.Replay.{events_in}
 
 abbrev with_last : Followed → WorldShape → Followed
 with_last run world = record { seen = run.seen; late = run.late; last = world }

@@ -27,12 +27,12 @@ pub mod PlanLines
 pub mod PromptRuns
 pub mod ReleaseParts
 pub mod ReplayDue
-pub mod ReplayedEvents
 pub mod ReportLines
 pub mod RunDue
 pub mod RunReport
 pub mod SameMessages
 pub mod ScriptNumbers
+pub mod ScriptStarts
 pub mod SetSources
 pub mod SilentPrograms
 pub mod SomeCompare

@@ -16,7 +16,8 @@ use Rattle.split_cli.specs.Followed.{Followed, IsKept, hidden, prompt, untimely,
 use Rattle.split_cli.specs.Followed.{refused}
 use Rattle.front_end.specs.PlacedSources.{PlacedSource}
 use Rattle.split_cli.specs.Releases.{first_release}
-use Rattle.split_cli.specs.Replay.{events_in, event_refused, ScriptRead}
+use Rattle.net_world.specs.Replay.{events_in}
+use Rattle.split_cli.specs.Replay.{event_refused, ScriptRead}
 use Rattle.front_end.specs.Stages.{DueThen}
 use Rattle.front_end.specs.Verdicts.{VerdictShape, Print, starts_differ, events_differ, not_prompt}
 use Rattle.js_base.specs.declared.status.Status.TheVariants.{Differ}

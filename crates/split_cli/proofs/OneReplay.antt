@@ -9,7 +9,8 @@ use Rattle.net_world.specs.World.{WorldShape, IsStep, IsRun, Refusal, refusal_of
 use Rattle.split_cli.specs.Drive.{first_world}
 use Rattle.front_end.specs.PlacedCode.{code_of}
 use Rattle.front_end.specs.PlacedSources.{PlacedSource}
-use Rattle.split_cli.specs.Replay.{events_in, IsRefusedAt, event_refused, replay_text, EventsHappen, happened, refused}
+use Rattle.net_world.specs.Replay.{events_in, IsRefusedAt}
+use Rattle.split_cli.specs.Replay.{event_refused, replay_text, EventsHappen, happened, refused}
 use Rattle.split_cli.specs.Replay.{ScriptRead, long, bad_line, read, DueForEvents, DueForReplay}
 use Rattle.front_end.specs.Verdicts.{VerdictShape, Print, no_form}
 use Rattle.split_cli.proofs.OneDrive.{OneStep}

@@ -7,7 +7,7 @@ use Rattle.host_code.specs.Code.{CodeShape}
 use Rattle.net_world.specs.Secret.{IsSecret, IsQuiet, IsSeenRun, IsPrompt}
 use Rattle.net_world.specs.World.{WorldShape}
 use Rattle.split_cli.specs.Followed.{Followed, IsKept, hidden, prompt, untimely, IsFollowed}
-use Rattle.split_cli.specs.Replay.{events_in}
+use Rattle.net_world.specs.Replay.{events_in}
 use Rattle.split_cli.proofs.OneDrive.{OneStep}
 
 -- ---- what is seen

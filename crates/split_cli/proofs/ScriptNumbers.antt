@@ -30,7 +30,7 @@ use Rattle.event_text.specs.Words.{Word, one_word, two_words, three_words, four_
 use Rattle.event_text.proofs.MadeParts.{mapped, then_made, either_made, two_made, three_made, four_made}
 use Rattle.token_laws.specs.Numbers.{RowsHaveNumbers, MadeHasNumbers, EventHasNumbers}
 use Rattle.token_laws.proofs.ValueNumbers.{written_fits}
-use Rattle.split_cli.specs.Replay.{events_in}
+use Rattle.net_world.specs.Replay.{events_in}
 
 -- ---- numbers
 

@@ -26,7 +26,8 @@ use Rattle.front_end.specs.PlacedCode.{code_of}
 use Rattle.split_cli.specs.Followed.{Followed, IsKept, hidden, prompt, untimely, EventsFollowed, followed, refused}
 use Rattle.front_end.specs.PlacedSources.{PlacedSource, PlacedSources}
 use Rattle.split_cli.specs.Releases.{first_release}
-use Rattle.split_cli.specs.Replay.{events_in, event_refused, ScriptRead, read}
+use Rattle.net_world.specs.Replay.{events_in}
+use Rattle.split_cli.specs.Replay.{event_refused, ScriptRead, read}
 use Rattle.front_end.specs.Stages.{given, stopped}
 use Rattle.front_end.specs.Verdicts.{VerdictShape, Print, bad_differ, starts_differ, events_differ, not_prompt}
 use Rattle.split_cli.proofs.DriveDue.{code_hosts}

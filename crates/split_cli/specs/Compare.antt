@@ -18,7 +18,8 @@ use Rattle.front_end.specs.PlacedCode.{code_of}
 use Rattle.split_cli.specs.Followed.{Followed, EventsFollowed}
 use Rattle.front_end.specs.PlacedSources.{PlacedSource}
 use Rattle.split_cli.specs.Releases.{first_release}
-use Rattle.split_cli.specs.Replay.{ScriptRead, events_in}
+use Rattle.net_world.specs.Replay.{events_in}
+use Rattle.split_cli.specs.Replay.{ScriptRead}
 use Rattle.front_end.specs.Stages.{Outcome, given, stopped, DueThen}
 use Rattle.front_end.specs.Text.{line_text}
 use Rattle.front_end.specs.Verdicts.{VerdictShape, Print, bad_differ, starts_differ, events_differ, not_prompt}

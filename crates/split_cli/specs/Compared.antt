@@ -14,7 +14,7 @@ use Rattle.split_cli.specs.Compare.{AreAlike, StartAlike, Compared}
 use Rattle.split_cli.specs.Drive.{first_world}
 use Rattle.split_cli.specs.Faithful.{IsPlacedAs, PutsText}
 use Rattle.split_cli.specs.Followed.{Followed, IsFollowed}
-use Rattle.split_cli.specs.Replay.{events_in}
+use Rattle.net_world.specs.Replay.{events_in}
 
 -- ---- two runs
 

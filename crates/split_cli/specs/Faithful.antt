@@ -31,7 +31,8 @@ use Rattle.front_end.specs.PlacedCode.{code_of, program_of}
 use Rattle.split_cli.specs.Driven.{DrivesTo}
 use Rattle.front_end.specs.Loads.{Told}
 use Rattle.front_end.specs.PlacedSources.{PlacedSource, PlacedSources}
-use Rattle.split_cli.specs.Replay.{events_in, replay_text}
+use Rattle.net_world.specs.Replay.{events_in}
+use Rattle.split_cli.specs.Replay.{replay_text}
 use Rattle.front_end.specs.Stages.{given}
 
 -- What a program and a host file of these bytes say and what is chosen for it, with the program as a tree.

@@ -4,7 +4,8 @@ use Rattle.event_text.specs.declared.event.Event.{Event}
 use Rattle.host_code.specs.Code.{CodeShape}
 use Rattle.net_world.specs.Secret.{IsSecret, IsQuiet}
 use Rattle.net_world.specs.World.{WorldShape, IsStep, Refusal}
-use Rattle.split_cli.specs.Replay.{IsRefusedAt, event_refused}
+use Rattle.net_world.specs.Replay.{IsRefusedAt}
+use Rattle.split_cli.specs.Replay.{event_refused}
 use Rattle.front_end.specs.Stages.{Outcome, given, stopped}
 
 -- The events that misbehaving hosts may see, each with its line; the line of the first of these at whose moment the

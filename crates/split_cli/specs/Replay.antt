@@ -1,28 +1,17 @@
 -- What is due for an accepted program in its places, whose hosts make the events of a script happen.
 --
 -- A refused event is told by the cause that the world gives. What is due for a replay has one case for all four causes,
--- and one function makes the line of it. A missing token is named by its number, which stands in the event and not in
--- the cause. Only a sent token can be missing; for an event that presents none the function says 0, and no such event
--- is refused for a token.
-use Rattle.std.specs.Prelude.{◌≡◌, ℕ, ◌<◌, ◌≤◌, ◌⊎◌, List, [], ◌∷◌, map, length, Some, Ok, Err, ⊤}
+-- and one function makes the line of it.
+use Rattle.std.specs.Prelude.{◌≡◌, ℕ, ◌<◌, ◌≤◌, List, length, Ok, Err}
 use Rattle.js_base.specs.declared.limits.TheConstants.{SCRIPT_BYTES}
 use Rattle.js_base.specs.declared.status.Status.TheVariants.{Done}
 use Rattle.jif_tree.specs.declared.program.Program.{Program}
 use Rattle.jif_tree.specs.Trees.{program_tree}
 use Rattle.event_text.specs.declared.event.Event.{Event}
-use Rattle.event_text.specs.declared.event.Event.TheVariants.{Act}
-use Rattle.event_text.specs.declared.event.BadMessage.{BadMessage}
-use Rattle.event_text.specs.declared.event.BadMessage.TheVariants as bad
-use Rattle.event_text.specs.declared.event.BadToken.{BadToken}
-use Rattle.event_text.specs.declared.event.BadToken.TheVariants.{Sent, Own}
 use Rattle.event_text.specs.Script.{ScriptShape, script_of}
 use Rattle.host_code.specs.Code.{CodeShape}
-use Rattle.net_world.specs.World.{WorldShape, Refusal, not_bad, not_there, host_busy, no_such_token, refusal_of}
-use Rattle.net_world.specs.World.{IsStep, IsRun}
-use Rattle.net_world.specs.declared.world.EventError.{EventError}
-use Rattle.net_world.specs.declared.world.EventError.TheVariants as answer
-use Rattle.split_cli.specs.declared.replaying.ReplayError.{ReplayError}
-use Rattle.split_cli.specs.declared.replaying.ReplayError.TheVariants as error
+use Rattle.net_world.specs.Replay.{events_in, IsRefusedAt, number_presented}
+use Rattle.net_world.specs.World.{WorldShape, Refusal, not_bad, not_there, host_busy, no_such_token, IsRun}
 use Rattle.split_cli.specs.Drive.{first_world}
 use Rattle.front_end.specs.PlacedCode.{code_of}
 use Rattle.front_end.specs.PlacedSources.{PlacedSource}
@@ -31,33 +20,6 @@ use Rattle.front_end.specs.Text.{lines_text}
 use Rattle.front_end.specs.Verdicts.{VerdictShape, Print, too_long, no_form, event_not_there}
 use Rattle.front_end.specs.Verdicts.{event_host_busy, event_not_misbehaving, event_no_token}
 use Rattle.split_cli.specs.WorldReport.{world_lines}
-
--- events that stand on the lines of a script, each with the number of its line
-abbrev pub events_in : List (ℕ × Event) → List Event
-events_in said = map (λ one. one.1) said
-
--- the first event that is refused is this one with its line, and those before it happen
-abbrev pub IsRefusedAt : CodeShape → WorldShape → List (ℕ × Event) → ℕ × Event → Refusal → Type 0
-IsRefusedAt code world [] at why = ⊥
-IsRefusedAt code world (one ∷ said) at why =
-    ((one ≡ at) × (refusal_of world one.1 ≡ Some why))
-    ⊎ ((next : WorldShape) × IsStep code world one.1 next × IsRefusedAt code next said at why)
-
--- The number of the sent token that an event presents. Where it presents none, none can be missing, and this is 0.
-abbrev pub number_in_token : BadToken → ℕ
-number_in_token (Sent number) = number
-number_in_token (Own token) = 0
-
-abbrev pub number_in_message : BadMessage → ℕ
-number_in_message (bad.Sync request frame entry token) = number_in_token token
-number_in_message (bad.Rgoto frame entry token) = number_in_token token
-number_in_message (bad.Lgoto token) = number_in_token token
-number_in_message (bad.Token request token) = number_in_token token
-number_in_message _ = 0
-
-abbrev pub number_presented : Event → ℕ
-number_presented (Act from to made) = number_in_message made
-number_presented _ = 0
 
 -- what refuses a script whose event on this line is refused
 abbrev pub event_refused : List ℕ → ℕ × Event → Refusal → VerdictShape
@@ -112,28 +74,3 @@ DueForScript file script placed = DueThen (ScriptRead file script (code_of place
 abbrev pub DueForReplay : List ℕ → List ℕ → PlacedSource → VerdictShape → Type 0
 DueForReplay file script placed verdict =
     (program : Program) × (program_tree program ≡ placed.source.tree) × DueForScript file script placed verdict
-
--- ---- in the program
-
--- why the events of a script did not all happen
-abbrev pub IsReplayError : CodeShape → WorldShape → List (ℕ × Event) → ReplayError → Type 0
-IsReplayError code world said error.OutOfMemory = ⊤
-IsReplayError code world said (error.NotThere line) =
-    (event : Event) × IsRefusedAt code world said (line, event) not_there
-IsReplayError code world said (error.HostBusy line) =
-    (event : Event) × IsRefusedAt code world said (line, event) host_busy
-IsReplayError code world said (error.NotBad line) =
-    (event : Event) × IsRefusedAt code world said (line, event) not_bad
-IsReplayError code world said (error.NoSuchToken line number count) =
-    (event : Event) × IsRefusedAt code world said (line, event) (no_such_token count)
-    × (number_presented event ≡ number)
-
--- why the event on a line did not happen, by what the world answers
-abbrev pub IsErrorOf : ℕ → Event → EventError → ReplayError → Type 0
-IsErrorOf line event answer.OutOfMemory result = result ≡ error.OutOfMemory
-IsErrorOf line event answer.NotThere result = result ≡ error.NotThere line
-IsErrorOf line event answer.HostBusy result = result ≡ error.HostBusy line
-IsErrorOf line event answer.NotBad result = result ≡ error.NotBad line
-IsErrorOf line event (answer.NoSuchToken count) result =
-    result ≡ error.NoSuchToken line (number_presented event) count
-IsErrorOf line event answer.Stopped result = ⊥

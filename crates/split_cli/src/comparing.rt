@@ -12,7 +12,7 @@ ghost use Rattle.split_cli.specs.Compare.{differ_text};
 ghost use Rattle.split_cli.specs.FollowedRuns.{run_with};
 ghost use Rattle.front_end.specs.Loading.{EndsAs};
 ghost use Rattle.front_end.specs.PlacedShapes.{placed_shape};
-ghost use Rattle.split_cli.specs.Replay.{events_in};
+ghost use Rattle.net_world.specs.Replay.{events_in};
 ghost use Rattle.front_end.specs.Verdicts.{Print, verdict_shape};
 
 use crate::following::Seen;

@@ -7,16 +7,15 @@ ghost use Rattle.net_world.specs.World.{WorldShape};
 ghost use Rattle.split_cli.specs.Followed.{IsFollowed, EventsFollowed};
 ghost use Rattle.split_cli.specs.FollowedRuns.{IsAdded, first_late, run_of, run_with};
 ghost use Rattle.front_end.specs.Loading.{EndsAs};
-ghost use Rattle.split_cli.specs.Replay.{IsReplayError};
+ghost use Rattle.net_world.specs.Replay.{IsReplayError};
 
-use crate::replaying::{ReplayError, refused};
 use crate::scripts::events_refused;
 use event_text::Event;
 use front_end::Stop;
 use host_code::Code;
 use js_base::OutOfMemory;
-use net_world::World;
 use net_world::laws::fits_laws;
+use net_world::{ReplayError, World, refused};
 use std::alloc::Global;
 
 /// What is kept of the events of a run: those that misbehaving hosts may see, with their lines, and the line of the

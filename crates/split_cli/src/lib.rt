@@ -11,7 +11,6 @@ mod making;
 mod message_parts;
 mod place_lines;
 mod releasing;
-mod replaying;
 mod row_line;
 mod scripts;
 mod top;

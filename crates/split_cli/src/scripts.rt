@@ -12,15 +12,15 @@ ghost use Rattle.front_end.specs.Loading.{EndsAs, IsLoaded, StopsWith};
 ghost use Rattle.front_end.specs.PlacedCode.{code_of};
 ghost use Rattle.front_end.specs.PlacedShapes.{placed_shape};
 ghost use Rattle.split_cli.specs.Drive.{first_world};
-ghost use Rattle.split_cli.specs.Replay.{AreRefused, EventsHappen, IsReplayError, ScriptRead};
+ghost use Rattle.net_world.specs.Replay.{IsReplayError};
+ghost use Rattle.split_cli.specs.Replay.{AreRefused, EventsHappen, ScriptRead};
 
-use crate::replaying::{ReplayError, replay};
 use event_text::{Event, EventsError, Script, read_events};
 use front_end::{Loaded, PlacedSource, Stop, Verdict, stopped};
 use host_code::Code;
 use js_base::OutOfMemory;
-use net_world::World;
 use net_world::laws::fits_laws;
+use net_world::{ReplayError, World, replay};
 use std::alloc::Global;
 
 /// What a script of this name says of the hosts and fields of a code.

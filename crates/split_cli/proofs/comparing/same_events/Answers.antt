@@ -2,7 +2,7 @@ use Rattle.std.proofs.Common.{◌≡◌, ℕ}
 use Rattle.std.proofs.lemmas.Result.{IfOk-weaker}
 use Rattle.split_cli.specs.Compare.{AreAlike, GoApart, holds}
 use Rattle.split_cli.specs.FollowedRuns.{run_with}
-use Rattle.split_cli.specs.Replay.{events_in}
+use Rattle.net_world.specs.Replay.{events_in}
 use Rattle.front_end.specs.Verdicts.{events_differ}
 use Rattle.split_cli.proofs.CompareDue.{premise_stops}
 use Rattle.split_cli.proofs.comparing.same_events.Goals as goal

@@ -2,7 +2,7 @@ use Rattle.std.proofs.Common.{refl, ap, Err, get_or}
 use Rattle.net_world.specs.Fits.{world_of}
 use Rattle.split_cli.specs.FollowedRuns.{run_with}
 use Rattle.split_cli.proofs.FollowedEvents.{followed_more, followed_ran}
-use Rattle.split_cli.proofs.ReplayedEvents.{stops}
+use Rattle.net_world.proofs.ReplayedEvents.{stops}
 use Rattle.split_cli.proofs.following.seen_events.Goals as goal
 
 pub returns-in-Err-clause-refused : goal.returns-in-Err-clause-refused

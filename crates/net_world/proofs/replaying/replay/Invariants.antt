@@ -3,8 +3,8 @@ use Rattle.std.specs.Prelude.{All}
 use Rattle.net_world.specs.Fits.{WorldFits, HasOwnToken, world_of}
 use Rattle.net_world.specs.Steps.{HaveMade}
 use Rattle.net_world.specs.World.{IsRun}
-use Rattle.split_cli.specs.Replay.{events_in}
-use Rattle.split_cli.proofs.replaying.replay.Given as goal
+use Rattle.net_world.specs.Replay.{events_in}
+use Rattle.net_world.proofs.replaying.replay.Given as goal
 
 -- the events so far have happened, each of them one more step, and the same hosts misbehave
 abbrev pub invariant-loop-line : goal.invariant-loop-line

@@ -1,21 +1,15 @@
--- Replayed worlds: one event more, why a script stops, and what its fields start with.
+-- Replayed worlds: one event more, and why a script stops.
 use Rattle.std.proofs.Common.{◌≡◌, ℕ, zero, suc, ◌+◌, ◌<◌, List, [], ◌∷◌, ◌++◌, map, length, get_or, take, Some}
-use Rattle.std.proofs.Common.{Result, Ok, Err, refl, sym, ap, subst, ◌∙◌, arith, inl, inr}
-use Rattle.std.specs.Prelude.{ℤ}
+use Rattle.std.proofs.Common.{refl, sym, ap, subst, ◌∙◌, arith, inl, inr}
 use Rattle.std.proofs.lemmas.List.{map-append, take_more}
 use Rattle.event_text.specs.declared.event.Event.{Event}
-use Rattle.event_text.specs.Events.{events_of}
-use Rattle.event_text.specs.Lines.{said_lines}
-use Rattle.event_text.specs.Misbehaving.{bad_in_front, past_bad, with_hosts}
-use Rattle.event_text.specs.Script.{ScriptShape, script_of, with_start}
-use Rattle.event_text.specs.Settings.{form_of, past_settings, settings_in_front, starting_rows, after_settings}
 use Rattle.host_code.specs.Code.{CodeShape}
 use Rattle.net_world.specs.declared.world.EventError.{EventError}
 use Rattle.net_world.specs.declared.world.EventError.TheVariants as answer
 use Rattle.net_world.specs.World.{WorldShape, IsStep, IsRun, Refusal, not_bad, not_there, host_busy, no_such_token}
 use Rattle.net_world.specs.World.{refusal_of}
-use Rattle.split_cli.specs.declared.replaying.ReplayError.{ReplayError}
-use Rattle.split_cli.specs.Replay.{events_in, IsRefusedAt, IsErrorOf, IsReplayError}
+use Rattle.net_world.specs.declared.replaying.ReplayError.{ReplayError}
+use Rattle.net_world.specs.Replay.{events_in, IsRefusedAt, IsErrorOf, IsReplayError}
 
 -- ---- one event more
 
@@ -75,24 +69,3 @@ stops code first middle said i d answer.NotBad result within ran is bad there bu
     subst (IsReplayError code first said) (sym is)
     ((get_or said i d).1, refused_at code first middle said i d not_bad within ran (bad refl))
 stops code first middle said i d answer.Stopped result within ran is bad there busy token = absurd is
-
--- ---- scripts
-
-script_with : (bad : ℕ) (start : List (List ℤ)) (events : Result (List (ℕ × Event)) ℕ) (said : ScriptShape) →
-    with_start bad start events ≡ Ok said → said.start ≡ start
-script_with bad start (Ok events) said is =
-    let made : ScriptShape = record { bad = bad; start = start; events = events } in
-    let same : made ≡ said = cc in
-    ap (λ (s : ScriptShape). s.start) (sym same)
-script_with bad start (Err line) said is = absurd (let no : ⊥ = cc in no)
-
--- the fields start with what the script sets
-pub script_starts : (code : CodeShape) (bytes : List ℕ) (said : ScriptShape) → script_of code bytes ≡ Ok said →
-    let forms = map form_of code.fields in
-    said.start ≡ after_settings (starting_rows forms) (settings_in_front forms (past_bad code.hosts (said_lines bytes)))
-script_starts code bytes said is =
-    let forms = map form_of code.fields in
-    let behind = past_bad code.hosts (said_lines bytes) in
-    let bad = with_hosts 0 (bad_in_front code.hosts (said_lines bytes)) in
-    script_with bad (after_settings (starting_rows forms) (settings_in_front forms behind))
-    (events_of code bad (past_settings forms behind)) said is

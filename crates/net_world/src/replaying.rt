@@ -1,20 +1,20 @@
-//! Worlds in which a script says what happens.
+//! Worlds in which events happen one after the other, each of which stands on a line of a script.
 
 ghost use Rattle.std.specs.Prelude.{◌≡◌, All, OnOk, IfErr};
 ghost use Rattle.net_world.specs.Fits.{WorldFits, HasOwnToken, world_of};
 ghost use Rattle.net_world.specs.Steps.{HaveMade};
 ghost use Rattle.net_world.specs.World.{IsRun};
-ghost use Rattle.split_cli.specs.Replay.{IsReplayError, IsErrorOf, events_in, number_presented};
-ghost use Rattle.split_cli.specs.Replay.{number_in_message, number_in_token};
+ghost use Rattle.net_world.specs.Replay.{IsReplayError, IsErrorOf, events_in, number_presented};
+ghost use Rattle.net_world.specs.Replay.{number_in_message, number_in_token};
 
+use crate::laws::fits_laws;
+use crate::world::{EventError, World};
 use event_text::{BadMessage, BadToken, Event};
 use host_code::Code;
 use js_base::OutOfMemory;
-use net_world::laws::fits_laws;
-use net_world::{EventError, World};
 
 /// Why events did not all happen.
-#[derive(Clone, Copy, Debug, PartialEq, Eq)]
+#[derive(Clone, Copy)]
 pub enum ReplayError {
     OutOfMemory,
     /// There is no such event as the line says.
@@ -30,7 +30,7 @@ pub enum ReplayError {
 
 impl From<OutOfMemory> for ReplayError {
     ghost use Rattle.std.specs.Prelude.{◌≡◌};
-    ghost use Rattle.split_cli.specs.declared.replaying.ReplayError.TheVariants as error;
+    ghost use Rattle.net_world.specs.declared.replaying.ReplayError.TheVariants as error;
 
     ghost from_gives = { λ _ e. e ≡ error.OutOfMemory };
 

@@ -1,7 +1,7 @@
 use Rattle.std.proofs.Common.{ap, Err, get_or}
 use Rattle.net_world.specs.Fits.{world_of}
-use Rattle.split_cli.proofs.ReplayedEvents.{run_more, stops}
-use Rattle.split_cli.proofs.replaying.replay.Goals as goal
+use Rattle.net_world.proofs.ReplayedEvents.{run_more, stops}
+use Rattle.net_world.proofs.replaying.replay.Goals as goal
 
 pub returns-in-Err-clause-refused : goal.returns-in-Err-clause-refused
 returns-in-Err-clause-refused c =
