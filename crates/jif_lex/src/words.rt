@@ -57,17 +57,27 @@ fn keyword(text: &[u8]) -> Option<Word>
     ensures some { IfSome result (λ word. text.now ≡ word_text word) }
     ensures none { IfNone result ((word : Word) → text.now ≢ word_text word) }
 {
-    match text {
-        b"int" => Some(Word::Int),
-        b"void" => Some(Word::Void),
-        b"if" => Some(Word::If),
-        b"else" => Some(Word::Else),
-        b"while" => Some(Word::While),
-        b"return" => Some(Word::Return),
-        b"where" => Some(Word::Where),
-        b"authority" => Some(Word::Authority),
-        b"declassify" => Some(Word::Declassify),
-        b"endorse" => Some(Word::Endorse),
-        _ => None,
+    if text == b"int".as_slice() {
+        Some(Word::Int)
+    } else if text == b"void".as_slice() {
+        Some(Word::Void)
+    } else if text == b"if".as_slice() {
+        Some(Word::If)
+    } else if text == b"else".as_slice() {
+        Some(Word::Else)
+    } else if text == b"while".as_slice() {
+        Some(Word::While)
+    } else if text == b"return".as_slice() {
+        Some(Word::Return)
+    } else if text == b"where".as_slice() {
+        Some(Word::Where)
+    } else if text == b"authority".as_slice() {
+        Some(Word::Authority)
+    } else if text == b"declassify".as_slice() {
+        Some(Word::Declassify)
+    } else if text == b"endorse".as_slice() {
+        Some(Word::Endorse)
+    } else {
+        None
     }
 }
