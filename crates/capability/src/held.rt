@@ -7,7 +7,6 @@ use std::marker::Model;
 
 /// The token that a running thread holds. It can't be copied, and has to be spent: it is sent on, or left on a control
 /// stack, or abandoned.
-#[derive(Debug)]
 pub struct Held {
     token: Token,
 }

@@ -7,7 +7,6 @@ use js_base::{EntryId, FrameId};
 use std::marker::Model;
 
 /// An entry that was taken off a control stack. It can't be copied, and has to be spent by starting its thread.
-#[derive(Debug)]
 pub struct Pending {
     entry: EntryId,
     frame: FrameId,

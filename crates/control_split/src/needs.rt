@@ -14,7 +14,7 @@ use js_base::{HostId, OutOfMemory};
 use msg_cost::Spot;
 
 /// What the statements from a place of a block on need of their hosts: words of those who have to trust them.
-#[derive(Clone, Copy, Debug)]
+#[derive(Clone, Copy)]
 pub struct Ahead {
     /// All statements of the block from the place on.
     pub all: u64,

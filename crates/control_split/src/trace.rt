@@ -15,7 +15,7 @@ use std::alloc::Global;
 use std::marker::Model;
 
 /// What the walk gives.
-#[derive(Debug, Drop)]
+#[derive(Drop)]
 pub enum TraceItem {
     /// An instruction of a host. A branch has its number as its target.
     Instruction(HostId, Instr),

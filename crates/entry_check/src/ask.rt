@@ -3,7 +3,7 @@
 use js_base::{EntryId, FieldId, VarId};
 
 /// What one host asks of another.
-#[derive(Clone, Copy, Debug, PartialEq, Eq)]
+#[derive(Clone, Copy)]
 pub enum Ask {
     /// The element of a field.
     Get(FieldId),

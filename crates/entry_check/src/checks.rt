@@ -15,7 +15,7 @@ use std::alloc::Global;
 use std::marker::Model;
 
 /// The kinds of what is asked.
-#[derive(Clone, Copy, Debug, PartialEq, Eq)]
+#[derive(Clone, Copy)]
 pub enum Kind {
     Get,
     Set,
@@ -25,7 +25,7 @@ pub enum Kind {
 
 /// What each host may ask of one host. For each field, variable and entry it has a word with a bit for each host that
 /// may.
-#[derive(Debug, Drop)]
+#[derive(Drop)]
 pub struct Checks {
     gets: Vec<u64>,
     sets: Vec<u64>,

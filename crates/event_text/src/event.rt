@@ -4,7 +4,7 @@ use capability::Token;
 use js_base::{EntryId, FieldId, FrameId, HostId, RequestId, VarId};
 
 /// What happens next. The first host of a take is the sender, and the first of an act the one that misbehaves.
-#[derive(Clone, Copy, Debug, PartialEq, Eq)]
+#[derive(Clone, Copy)]
 pub enum Event {
     /// The second host takes the message at this place, from 0, of those in flight to it from the first.
     Take(HostId, HostId, u64),
@@ -15,7 +15,7 @@ pub enum Event {
 }
 
 /// A message as a misbehaving host makes it: a host's message whose token is one that it may come by.
-#[derive(Clone, Copy, Debug, PartialEq, Eq)]
+#[derive(Clone, Copy)]
 pub enum BadMessage {
     Get {
         request: RequestId,
@@ -62,7 +62,7 @@ pub enum BadMessage {
 }
 
 /// A token that a misbehaving host may present.
-#[derive(Clone, Copy, Debug, PartialEq, Eq)]
+#[derive(Clone, Copy)]
 pub enum BadToken {
     /// The token with this number, from 0, among those that misbehaving hosts were sent.
     Sent(u64),

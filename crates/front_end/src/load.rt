@@ -28,7 +28,7 @@ pub enum Loaded {
 }
 
 /// Why a file was not loaded.
-#[derive(Clone, Copy, Debug, PartialEq, Eq)]
+#[derive(Clone, Copy)]
 pub enum LoadStop {
     OutOfMemory,
     /// Nothing is held under its name.

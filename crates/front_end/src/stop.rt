@@ -8,7 +8,7 @@ use js_base::OutOfMemory;
 use std::alloc::AllocFailed;
 
 /// Why a command goes no further.
-#[derive(Debug, Drop)]
+#[derive(Drop)]
 pub enum Stop {
     OutOfMemory,
     /// This is due.

@@ -24,7 +24,7 @@ use std::alloc::{AllocError, Global};
 
 /// What is due for words and files: a refusal with its status and its line on the error output, or a report with its
 /// status on the output.
-#[derive(Debug, Drop)]
+#[derive(Drop)]
 pub enum Verdict {
     Refuse { status: Status, line: String },
     Print { status: Status, text: String },

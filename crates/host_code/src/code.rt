@@ -14,7 +14,7 @@ use std::marker::Model;
 pub const MOST_ITEMS: usize = 4_294_967_295;
 
 /// A host of the code.
-#[derive(Debug, Drop)]
+#[derive(Drop)]
 pub struct CodeHost {
     name: String,
     label: Label,
@@ -53,7 +53,7 @@ impl CodeHost {
 }
 
 /// A field or an array of the code.
-#[derive(Debug, Drop)]
+#[derive(Drop)]
 pub struct CodeField {
     name: String,
     label: u32,
@@ -146,7 +146,7 @@ impl CodeField {
 }
 
 /// A parameter, a local or a result of a method.
-#[derive(Debug, Drop)]
+#[derive(Drop)]
 pub struct CodeVar {
     name: String,
     label: u32,
@@ -185,7 +185,7 @@ impl CodeVar {
 }
 
 /// A place in a host's code at which a thread may start.
-#[derive(Clone, Copy, Debug, PartialEq, Eq)]
+#[derive(Clone, Copy)]
 pub struct Entry {
     pub host: HostId,
     /// The number of its instruction among those of the host.
@@ -197,7 +197,7 @@ pub struct Entry {
 }
 
 /// The instructions of one host.
-#[derive(Debug, Drop)]
+#[derive(Drop)]
 pub struct Part {
     instructions: Vec<Instr>,
 }
@@ -230,7 +230,7 @@ impl Part {
 /// What code is made of: the hosts, the labels that the rest names by their places, the fields and variables, the
 /// entries, the host of each call site, and each host's instructions. The program starts on the root host, at the entry
 /// of `main`.
-#[derive(Debug, Drop)]
+#[derive(Drop)]
 pub struct CodeParts {
     pub hosts: Vec<CodeHost>,
     pub labels: Vec<Label>,
@@ -245,7 +245,7 @@ pub struct CodeParts {
 }
 
 /// The code of all hosts. All that it names is there and where it has to be, so that each host can run its part.
-#[derive(Debug, Drop)]
+#[derive(Drop)]
 pub struct Code {
     all: CodeParts,
 }

@@ -10,7 +10,7 @@ use std::marker::Model;
 pub const MOST_NODES: usize = 256;
 
 /// A node of an expression in postfix order.
-#[derive(Clone, Copy, Debug, PartialEq, Eq)]
+#[derive(Clone, Copy)]
 pub enum Node {
     Number(i64),
     /// A variable of the thread's frame.
@@ -23,7 +23,7 @@ pub enum Node {
 }
 
 /// An expression: 1 to 256 nodes in postfix order that leave exactly one value.
-#[derive(Debug, Drop)]
+#[derive(Drop)]
 pub struct CodeExpr {
     nodes: Vec<Node>,
 }

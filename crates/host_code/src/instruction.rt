@@ -4,7 +4,7 @@ use crate::code_expr::CodeExpr;
 use js_base::{EntryId, FieldId, HostId, SiteId, StmtId, VarId};
 
 /// What an instruction does. A host runs one at a time.
-#[derive(Debug, Drop)]
+#[derive(Drop)]
 pub enum Op {
     /// One more temporary: the element of a field.
     Read(FieldId, CodeExpr),
@@ -37,7 +37,7 @@ pub enum Op {
 }
 
 /// An instruction, with the place of its program label among the code's labels and the statement that it was made for.
-#[derive(Debug, Drop)]
+#[derive(Drop)]
 pub struct Instr {
     pub label: u32,
     pub statement: StmtId,

@@ -9,7 +9,7 @@ use capability::Token;
 use js_base::{EntryId, FieldId, FrameId, HostId, RequestId, VarId};
 
 /// What one host tells another. A request has a number by which the answer is known.
-#[derive(Clone, Copy, Debug, PartialEq, Eq)]
+#[derive(Clone, Copy, Debug)]
 pub enum Message {
     /// What is the element of a field?
     Get {

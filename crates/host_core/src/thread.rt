@@ -15,7 +15,6 @@ use std::alloc::Global;
 use std::marker::Model;
 
 /// A thread. Its token is spent when it is sent on or left on a control stack; a thread that is dropped abandons it.
-#[derive(Debug)]
 pub struct Thread {
     /// The number of the next instruction.
     at: u32,
@@ -187,7 +186,7 @@ impl Thread {
 }
 
 /// What a thread waits for.
-#[derive(Clone, Copy, Debug, PartialEq, Eq)]
+#[derive(Clone, Copy)]
 pub enum Awaited {
     Value,
     Ack,
@@ -195,7 +194,7 @@ pub enum Awaited {
 }
 
 /// A thread that waits for an answer to its request from the host that it asked.
-#[derive(Debug, Drop)]
+#[derive(Drop)]
 pub struct Waiting {
     thread: Thread,
     awaited: Awaited,

@@ -16,7 +16,7 @@ use js_base::names::is_name;
 use toml::{Table, Value};
 
 /// The kinds of tables in a host file.
-#[derive(Clone, Copy, Debug, PartialEq, Eq)]
+#[derive(Clone, Copy)]
 pub enum TableKind {
     /// The file itself.
     File,
@@ -27,7 +27,7 @@ pub enum TableKind {
 }
 
 /// The forms that values have to have.
-#[derive(Clone, Copy, Debug, PartialEq, Eq)]
+#[derive(Clone, Copy)]
 pub enum Form {
     /// A text that is a name.
     Name,

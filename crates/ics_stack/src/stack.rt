@@ -29,7 +29,7 @@ pub struct NotTop {
 
 /// The control stack of a host. It makes a token for each entry that is pushed, and gives the entry up once, for that
 /// token, and only while it is on top.
-#[derive(Debug, Drop)]
+#[derive(Drop)]
 pub struct IcsStack {
     host: HostId,
     key: [u8; KEY_BYTES],

@@ -7,7 +7,7 @@ ghost use Rattle.js_base.specs.Name.{IsName};
 use std::marker::Model;
 
 /// A name: an ASCII letter or `_`, then ASCII letters, digits and `_`, and no keyword.
-#[derive(Debug, Drop)]
+#[derive(Drop)]
 pub struct Name {
     text: String,
 }

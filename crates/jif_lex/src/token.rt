@@ -5,7 +5,7 @@ ghost use Rattle.std.specs.Prelude.{◌≡◌, ◌↔◌, IsTrue};
 use crate::Name;
 
 /// A token, and the place at which it stands in the text.
-#[derive(Debug, Drop)]
+#[derive(Drop)]
 pub struct Token {
     pub kind: TokenKind,
     /// The place of its first byte, from 0.
@@ -15,7 +15,7 @@ pub struct Token {
 }
 
 /// What a token is.
-#[derive(Debug, Drop)]
+#[derive(Drop)]
 pub enum TokenKind {
     Name(Name),
     /// A number, at least 0.
@@ -47,7 +47,7 @@ impl TokenKind {
 }
 
 /// A word that the language has for itself.
-#[derive(Clone, Copy, Debug, PartialEq, Eq)]
+#[derive(Clone, Copy)]
 pub enum Word {
     Int,
     Void,
@@ -62,7 +62,7 @@ pub enum Word {
 }
 
 /// A symbol.
-#[derive(Clone, Copy, Debug, PartialEq, Eq)]
+#[derive(Clone, Copy)]
 pub enum Symbol {
     /// `{`
     LeftBrace,

@@ -4,7 +4,7 @@ ghost use Rattle.std.specs.Prelude.{◌≡◌};
 ghost use Rattle.jif_resolve.specs.First.{rank, comes_before, with_fault};
 
 /// What is wrong with a name.
-#[derive(Clone, Copy, Debug, PartialEq, Eq)]
+#[derive(Clone, Copy)]
 pub enum FaultKind {
     /// It stands for nothing.
     UnknownName,
@@ -17,7 +17,7 @@ pub enum FaultKind {
 }
 
 /// A fault at a token, which is counted from 0.
-#[derive(Clone, Copy, Debug, PartialEq, Eq)]
+#[derive(Clone, Copy)]
 pub struct Fault {
     pub at: u32,
     pub kind: FaultKind,

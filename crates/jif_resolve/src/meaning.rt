@@ -3,7 +3,7 @@
 use js_base::{FieldId, MethodId, VarId};
 
 /// What a name stands for.
-#[derive(Clone, Copy, Debug, PartialEq, Eq)]
+#[derive(Clone, Copy)]
 pub enum Meaning {
     /// A parameter or a local.
     Variable(VarId),

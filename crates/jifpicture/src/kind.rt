@@ -5,7 +5,7 @@ ghost use Rattle.jifpicture.specs.Arrows as arrows;
 
 /// What a message asks of a host, named as the message is printed. Answers are not shown, since each goes back to who
 /// asked.
-#[derive(Clone, Copy, Debug, PartialEq, Eq)]
+#[derive(Clone, Copy)]
 pub enum Kind {
     /// The element of a field.
     Get,

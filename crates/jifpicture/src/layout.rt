@@ -21,7 +21,7 @@ pub const TOP: u64 = 116;
 pub const ROW: u64 = 30;
 
 /// A row of the picture.
-#[derive(Clone, Copy, Debug, PartialEq, Eq)]
+#[derive(Clone, Copy)]
 pub enum Row {
     /// The names of the hosts.
     Head,

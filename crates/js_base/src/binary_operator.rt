@@ -1,7 +1,7 @@
 //! The binary operators of programs.
 
 /// A binary operator, from the loosest to the tightest.
-#[derive(Clone, Copy, Debug, PartialEq, Eq)]
+#[derive(Clone, Copy)]
 pub enum BinOp {
     Or,
     And,

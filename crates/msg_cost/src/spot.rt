@@ -3,7 +3,7 @@
 use js_base::HostId;
 
 /// Which host runs the statements of a block from some statement on.
-#[derive(Clone, Copy, Debug)]
+#[derive(Clone, Copy)]
 pub struct Spot {
     /// The host that holds the token of the block.
     pub host: HostId,

@@ -3,7 +3,7 @@
 use js_base::{FieldId, HostId, StmtId};
 
 /// A move of one field or one statement to a host.
-#[derive(Clone, Copy, Debug)]
+#[derive(Clone, Copy)]
 pub enum Step {
     /// The field goes to the host.
     Field(FieldId, HostId),

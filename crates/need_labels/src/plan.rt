@@ -5,7 +5,7 @@ use std::marker::Model;
 
 /// A host for each field and each statement. The host of a branch or a loop evaluates its guard, and that of a method's
 /// head is the method's home.
-#[derive(Debug, Drop)]
+#[derive(Drop)]
 pub struct Plan {
     fields: Vec<HostId>,
     statements: Vec<HostId>,

@@ -9,7 +9,7 @@ use js_base::HostId;
 use wire_msg::{Frame, WireError, read};
 
 /// What a frame comes to that arrives at a node.
-#[derive(Clone, Copy, Debug, PartialEq, Eq)]
+#[derive(Clone, Copy)]
 pub enum Arrival {
     /// It is dropped for this fault.
     Dropped(WireError),

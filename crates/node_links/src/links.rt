@@ -20,7 +20,7 @@ pub enum LinkError {
 }
 
 /// A frame that arrived, as its bytes came: it may be none.
-#[derive(Debug, Drop)]
+#[derive(Drop)]
 pub struct Arrived {
     pub bytes: Vec<u8>,
 }

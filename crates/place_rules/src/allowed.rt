@@ -3,7 +3,7 @@
 use std::marker::Model;
 
 /// Which hosts may hold each field and each statement: a word for each, with bit h set where host h may.
-#[derive(Debug, Drop)]
+#[derive(Drop)]
 pub struct Allowed {
     fields: Vec<u16>,
     statements: Vec<u16>,

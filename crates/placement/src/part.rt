@@ -7,7 +7,7 @@ use js_base::{FieldId, HostId, StmtId};
 use msg_cost::Step;
 
 /// A part of a program that stands on a host.
-#[derive(Clone, Copy, Debug)]
+#[derive(Clone, Copy)]
 pub enum Part {
     Field(FieldId),
     Statement(StmtId),

@@ -63,7 +63,7 @@ impl<T: Drop> From<AllocFailed<T>> for PrincipalError {
 }
 
 /// The declared principals by their names, at most `PRINCIPALS` and no two of one name, and who acts for whom.
-#[derive(Debug, Drop)]
+#[derive(Drop)]
 pub struct Principals {
     names: Vec<String>,
     /// The declared pairs. The first principal acts for the second.

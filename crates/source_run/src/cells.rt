@@ -7,7 +7,7 @@ ghost use Rattle.source_run.specs.Cells.{value_in, place_in, with_cell};
 use js_base::{OutOfMemory, VarId};
 
 /// The value of a variable.
-#[derive(Clone, Copy, Debug, PartialEq, Eq)]
+#[derive(Clone, Copy)]
 pub struct Cell {
     pub var: VarId,
     pub value: i64,

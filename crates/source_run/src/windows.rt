@@ -8,7 +8,7 @@ use js_base::{MethodId, OutOfMemory};
 use std::alloc::Global;
 
 /// Variables that follow one another: the number of the first one, and how many there are.
-#[derive(Clone, Copy, Debug, PartialEq, Eq)]
+#[derive(Clone, Copy)]
 pub struct Window {
     pub first: usize,
     pub count: usize,

@@ -13,7 +13,7 @@ use net_world::laws::step_laws;
 use net_world::{EventError, World};
 
 /// How a drive ended.
-#[derive(Clone, Copy, Debug, PartialEq, Eq)]
+#[derive(Clone, Copy)]
 pub struct Driven {
     /// How many events were made.
     pub made: u64,

@@ -10,7 +10,7 @@ use host_code::Message;
 use js_base::{FrameId, HostId, RequestId, SiteId};
 
 /// What a message says beside its token: its kind, and then what it names, 0 where its kind names no such thing.
-#[derive(Clone, Copy, Debug, PartialEq, Eq)]
+#[derive(Clone, Copy, PartialEq, Eq)]
 pub struct Parts {
     kind: u8,
     request: RequestId,

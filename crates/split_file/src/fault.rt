@@ -4,7 +4,7 @@ use js_base::OutOfMemory;
 use std::alloc::{AllocError, AllocFailed};
 
 /// What is wrong with bytes, the first fault from the front.
-#[derive(Clone, Copy, Debug, PartialEq, Eq)]
+#[derive(Clone, Copy)]
 pub enum Fault {
     /// The bytes end before an item does.
     Short,
@@ -19,7 +19,7 @@ pub enum Fault {
 }
 
 /// Why nothing was read.
-#[derive(Clone, Copy, Debug, PartialEq, Eq)]
+#[derive(Clone, Copy)]
 pub enum ReadError {
     /// Memory ran out.
     OutOfMemory,

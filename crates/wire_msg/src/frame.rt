@@ -3,7 +3,7 @@
 use host_code::Message;
 
 /// What a frame says.
-#[derive(Clone, Copy, Debug, PartialEq, Eq)]
+#[derive(Clone, Copy, Debug)]
 pub enum Frame {
     /// A message of one host to another.
     Message(Message),

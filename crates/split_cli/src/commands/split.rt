@@ -22,7 +22,7 @@ use split_file::write;
 use std::alloc::Global;
 
 /// The code of a program in its places.
-#[derive(Debug, Drop)]
+#[derive(Drop)]
 pub struct Split {
     /// Its split file.
     pub bytes: Vec<u8>,
