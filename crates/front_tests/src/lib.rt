@@ -3,8 +3,6 @@
 #![tactic(auto)]
 
 #[cfg(test)]
-mod built_runs;
-#[cfg(test)]
 mod changed_programs;
 #[cfg(test)]
 mod costs;

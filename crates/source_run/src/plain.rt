@@ -11,7 +11,7 @@ use js_base::OutOfMemory;
 use std::alloc::Global;
 
 /// How a run ended.
-#[derive(Clone, Copy, Debug, PartialEq, Eq)]
+#[derive(Clone, Copy)]
 pub enum RunEnd {
     /// The run came to its end after so many steps.
     Ended(u64),
