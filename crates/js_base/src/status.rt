@@ -1,4 +1,4 @@
-//! How a run ends, and its exit code.
+//! How a run ends, its exit code and its name.
 
 ghost use Rattle.std.specs.Prelude.{◌≡◌};
 
@@ -25,12 +25,16 @@ pub enum Status {
     Spent,
     /// A link to another host failed.
     LinkFault,
+    /// A program could not be started or waited for.
+    ChildFault,
+    /// A program that was started ended with another status than `Done`.
+    ChildEnded,
 }
 
 impl Status {
-    ghost use Rattle.js_base.specs.Status.{exit_code};
+    ghost use Rattle.js_base.specs.Status.{exit_code, status_name};
 
-    /// The exit code of the process: 0 for `Done`, and 2 to 10 for the others in order.
+    /// The exit code of the process: 0 for `Done`, and 2 to 12 for the others in order.
     pub fn code(self) -> u8
         ensures { result ≡ exit_code self }
     {
@@ -45,6 +49,27 @@ impl Status {
             Status::NoMemory => 8,
             Status::Spent => 9,
             Status::LinkFault => 10,
+            Status::ChildFault => 11,
+            Status::ChildEnded => 12,
+        }
+    }
+    /// The name of the status, as `main` of a node prints it.
+    pub fn name(self) -> &'static str
+        ensures { result.now ≡ status_name self }
+    {
+        match self {
+            Status::Done => "Done",
+            Status::Usage => "Usage",
+            Status::SourceRefused => "SourceRefused",
+            Status::InputRefused => "InputRefused",
+            Status::Differ => "Differ",
+            Status::FileFault => "FileFault",
+            Status::OutFault => "OutFault",
+            Status::NoMemory => "NoMemory",
+            Status::Spent => "Spent",
+            Status::LinkFault => "LinkFault",
+            Status::ChildFault => "ChildFault",
+            Status::ChildEnded => "ChildEnded",
         }
     }
 }
