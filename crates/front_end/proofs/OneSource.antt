@@ -1,7 +1,5 @@
 -- A program and a host file have one outcome: what they say, or the first cause for which one of them is refused.
 use Rattle.std.proofs.Common.{◌≡◌, ◌≢◌, ℕ, ◌≤◌, List, length, refl, sym, ap, ◌∙◌, arith}
-use Rattle.std.specs.Prelude.{◌++◌, codes}
-use Rattle.std.specs.Fmt.{decimal}
 use Rattle.js_base.specs.declared.limits.TheConstants.{PROGRAM_BYTES}
 use Rattle.principals.specs.ActsFor.{Declared, IsDeclared}
 use Rattle.jif_lex.specs.declared.token.Token.{Token}
@@ -35,8 +33,7 @@ use Rattle.front_end.specs.Stages.{given, stopped}
 use Rattle.front_end.specs.Sources.{Lexed, Parsed, HostsRead, Resolved, Source, Labelled, Drafted, Accepted}
 use Rattle.front_end.specs.Sources.{AcceptedWith}
 use Rattle.front_end.specs.Sources.{Sources}
-use Rattle.front_end.specs.Verdicts.{program_refused, why_no_tokens, name_of, why_not_parsed, hosts_refused}
-use Rattle.front_end.specs.Verdicts.{why_not_resolved, labels_refused}
+use Rattle.front_end.specs.Verdicts.{hosts_refused, labels_refused, not_lexed, not_parsed, not_resolved}
 use Rattle.front_end.proofs.Stages.{IsOne, give, stop_with, one_then}
 
 -- ---- what is known of the stages
@@ -124,25 +121,24 @@ lexed_once law text (stopped verdict) (given second) one two =
     absurd (one.2 (lexed_or_not law text second one.0 two.0 two.1 one.1))
 lexed_once law text (stopped verdict) (stopped other) one two =
     ap (stop_with {X = List Token}) (one.3
-    ∙ ap (λ (why : LexError). program_refused (why_no_tokens why))
-    (one_lexing law text one.0 two.0 one.1 two.1 one.2 two.2)
+    ∙ ap not_lexed (one_lexing law text one.0 two.0 one.1 two.1 one.2 two.2)
     ∙ sym two.3)
 
 -- ---- drafts
 
--- what a refusal of tokens tells
-refusal_text : grammar.Refusal → List ℕ
-refusal_text (grammar.unexpected at) = codes "unexpected token " ++ decimal at
-refusal_text (grammar.too_deep at) = codes "nested past 64"
-refusal_text (grammar.too_many counted at) = codes "too many " ++ name_of counted
+-- the error that tells a refusal of tokens
+parse_error : grammar.Refusal → ParseError
+parse_error (grammar.unexpected at) = parse.Unexpected at
+parse_error (grammar.too_deep at) = parse.TooDeep
+parse_error (grammar.too_many counted at) = parse.TooMany counted
 
 record TellsRefusal (list : List Token) (why : ParseError) : Type 0 where
   refusal : grammar.Refusal
   refused : grammar.IsRefused list refusal
-  told : why_not_parsed why ≡ refusal_text refusal
+  told : why ≡ parse_error refusal
 
 tells : (list : List Token) (why : ParseError) → IsRefusedBy list why → why ≢ parse.OutOfMemory → TellsRefusal list why
-unfolding refusal_text
+unfolding parse_error
 tells list parse.OutOfMemory refused not = absurd (not refl)
 tells list (parse.Unexpected at) refused not =
     record { refusal = grammar.unexpected at; refused = refused; told = refl }
@@ -162,8 +158,8 @@ parsed_once laws list (stopped verdict) (stopped other) one two =
     let here = tells list one.0 one.1 one.2 in
     let there = tells list two.0 two.1 two.2 in
     ap (stop_with {X = DraftShape}) (one.3
-    ∙ ap program_refused (here.told
-    ∙ ap refusal_text (laws.one_refusal list here.refusal there.refusal here.refused there.refused)
+    ∙ ap not_parsed (here.told
+    ∙ ap parse_error (laws.one_refusal list here.refusal there.refusal here.refused there.refused)
     ∙ sym there.told)
     ∙ sym two.3)
 
@@ -183,19 +179,19 @@ hosts_once laws bytes (stopped verdict) (stopped other) one two =
 
 -- ---- names
 
--- what a refusal of names tells
-name_text : verdicts.Refusal → List ℕ
-name_text (verdicts.for_fault fault) = why_not_resolved (names.error_for fault)
-name_text verdicts.no_main = codes "no main"
+-- the error that tells a refusal of names
+name_error : verdicts.Refusal → ResolveError
+name_error (verdicts.for_fault fault) = names.error_for fault
+name_error verdicts.no_main = resolve.NoMain
 
 record TellsName (principals : Declared) (draft : DraftShape) (why : ResolveError) : Type 0 where
   refusal : verdicts.Refusal
   refused : verdicts.IsRefused principals draft refusal
-  told : why_not_resolved why ≡ name_text refusal
+  told : why ≡ name_error refusal
 
 tells_name : (principals : Declared) (draft : DraftShape) (why : ResolveError) →
     names.IsRefusedFor principals draft why → why ≢ resolve.OutOfMemory → TellsName principals draft why
-unfolding name_text
+unfolding name_error
 tells_name principals draft resolve.OutOfMemory refused not = absurd (not refl)
 tells_name principals draft (resolve.UnknownName at) refused not =
     record {
@@ -226,8 +222,8 @@ resolved_once laws file draft declared (stopped verdict) (stopped other) one two
     let here = tells_name file.principals draft one.0 one.1 one.2 in
     let there = tells_name file.principals draft two.0 two.1 two.2 in
     ap (stop_with {X = ProgramTree}) (one.3
-    ∙ ap program_refused (here.told
-    ∙ ap name_text (laws.one_refusal file.principals draft here.refusal there.refusal here.refused there.refused)
+    ∙ ap not_resolved (here.told
+    ∙ ap name_error (laws.one_refusal file.principals draft here.refusal there.refusal here.refused there.refused)
     ∙ sym there.told)
     ∙ sym two.3)
 

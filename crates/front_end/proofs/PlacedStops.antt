@@ -1,10 +1,12 @@
 -- What stops a program and its hosts refuses one of them: what holds of each such refusal holds of what is then due.
-use Rattle.std.proofs.Common.{◌≡◌, ℕ, List, ⊎_elim, subst, sym}
+use Rattle.std.proofs.Common.{◌≡◌, ℕ, List, ⊎_elim, subst, sym, refl, inl, inr}
+use Rattle.std.specs.Prelude.{◌⊎◌}
 use Rattle.js_base.specs.declared.status.Status.TheVariants.{SourceRefused, InputRefused}
 use Rattle.front_end.specs.PlacedSources.{OnHosts, PlacedSources}
 use Rattle.front_end.specs.Sources.{Lexed, Parsed, Drafted, HostsRead, Resolved, Labelled, Accepted}
 use Rattle.front_end.specs.Sources.{AcceptedWith, Sources}
 use Rattle.front_end.specs.Stages.{Outcome, stopped, Then}
+use Rattle.front_end.specs.Refusals.{RefusalShape, refusal_status}
 use Rattle.front_end.specs.Verdicts.{VerdictShape, Refuse}
 use Rattle.front_end.proofs.Stages.{stop_with}
 
@@ -20,29 +22,31 @@ then_stops P {X} {Y} First Next first next verdict ends =
     subst P is (first no.0 no.1))
     ends
 
-module _ (P : VerdictShape → Type 0) (of_program : (line : List ℕ) → P (Refuse SourceRefused line))
-    (of_hosts : (line : List ℕ) → P (Refuse InputRefused line)) where
-  program_refused : (line : List ℕ) (verdict : VerdictShape) → verdict ≡ Refuse SourceRefused line → P verdict
-  program_refused line verdict is = subst P (sym is) (of_program line)
+-- a refusal of a program, or of a host file
+abbrev pub IsSourceRefusal : RefusalShape → Type 0
+IsSourceRefusal refusal = (refusal_status refusal ≡ SourceRefused) ⊎ (refusal_status refusal ≡ InputRefused)
 
-  hosts_refused : (line : List ℕ) (verdict : VerdictShape) → verdict ≡ Refuse InputRefused line → P verdict
-  hosts_refused line verdict is = subst P (sym is) (of_hosts line)
+module _ (P : VerdictShape → Type 0) (refuses : (refusal : RefusalShape) → IsSourceRefusal refusal → P (Refuse refusal))
+  where
+    refused : (refusal : RefusalShape) (verdict : VerdictShape) → IsSourceRefusal refusal → verdict ≡ Refuse refusal →
+        P verdict
+    refused refusal verdict of is = subst P (sym is) (refuses refusal of)
 
-  sources_stop : (program hosts : List ℕ) (verdict : VerdictShape) → Sources program hosts (stopped verdict) →
-      P verdict
-  sources_stop program hosts =
-      then_stops P (Drafted program) (AcceptedWith hosts)
-      (then_stops P (Lexed program) Parsed
-      (λ verdict was. program_refused _ verdict was.3)
-      (λ list verdict was. program_refused _ verdict was.3))
-      (λ draft. then_stops P (HostsRead hosts) (λ file. Accepted file draft)
-      (λ verdict was. hosts_refused _ verdict was.3)
-      (λ file. then_stops P (Resolved file draft) (Labelled file)
-      (λ verdict was. program_refused _ verdict was.3)
-      (λ tree verdict was. program_refused _ verdict was.3)))
+    sources_stop : (program hosts : List ℕ) (verdict : VerdictShape) → Sources program hosts (stopped verdict) →
+        P verdict
+    sources_stop program hosts =
+        then_stops P (Drafted program) (AcceptedWith hosts)
+        (then_stops P (Lexed program) Parsed
+        (λ verdict was. refused _ verdict (inl refl) was.3)
+        (λ list verdict was. refused _ verdict (inl refl) was.3))
+        (λ draft. then_stops P (HostsRead hosts) (λ file. Accepted file draft)
+        (λ verdict was. refused _ verdict (inr refl) was.3)
+        (λ file. then_stops P (Resolved file draft) (Labelled file)
+        (λ verdict was. refused _ verdict (inl refl) was.3)
+        (λ tree verdict was. refused _ verdict (inl refl) was.3)))
 
-  pub placed_stops : (program hosts : List ℕ) (verdict : VerdictShape) → PlacedSources program hosts (stopped verdict) →
-      P verdict
-  placed_stops program hosts =
-      then_stops P (Sources program hosts) OnHosts (sources_stop program hosts)
-      (λ source verdict was. program_refused _ verdict was.2)
+    pub placed_stops : (program hosts : List ℕ) (verdict : VerdictShape) → PlacedSources program hosts (stopped verdict) →
+        P verdict
+    placed_stops program hosts =
+        then_stops P (Sources program hosts) OnHosts (sources_stop program hosts)
+        (λ source verdict was. refused _ verdict (inl refl) was.2)

@@ -8,18 +8,14 @@ use Rattle.label_lattice.specs.declared.label.Label.{Label}
 use Rattle.label_lattice.specs.Printed.{printed_label}
 use Rattle.label_check.specs.declared.check_error.CheckError.{CheckError}
 use Rattle.label_check.specs.declared.check_error.CheckError.TheVariants as check
-use Rattle.js_base.specs.declared.status.Status.TheVariants.{SourceRefused}
 use Rattle.jif_tree.specs.Numbering.{statement_lines}
 use Rattle.jif_tree.specs.Trees.{ProgramTree}
 use Rattle.place_rules.specs.declared.place_error.PlaceError.{PlaceError}
 use Rattle.place_rules.specs.declared.place_error.PlaceError.TheVariants as place
-use Rattle.front_end.specs.Verdicts.{Refuse, error_line, refused_statement, why_not_labelled, labels_refused, unheld}
+use Rattle.front_end.specs.Refusals.{unheld, why_not_labelled}
 
 four_parts : (a b c d : List ℕ) → a ++ (b ++ (c ++ d)) ≡ a ++ b ++ c ++ d
 four_parts a b c d = simp append_assoc
-
-six_parts : (a b c d e f : List ℕ) → a ++ (b ++ (c ++ (d ++ (e ++ f)))) ≡ a ++ b ++ c ++ d ++ e ++ f
-six_parts a b c d e f = simp append_assoc
 
 pub flow_text : (principals : Declared) (why : CheckError) (statement : StmtId) (from to : Label)
     (first last text : List ℕ) → why ≡ check.BadFlow statement from to → first ≡ printed_label principals from →
@@ -45,21 +41,6 @@ begin_text principals why statement pc begin first last text is first_is last_is
     ∙ four_parts (codes "program label ") (printed_label principals pc) (codes " may not flow to begin label ")
     (printed_label principals begin)
     ∙ ap (why_not_labelled principals) (sym is)
-
--- the texts of a refusal, where the statements stand on these lines
-pub statement_text : (principals : Declared) (lines : List ℕ) (why : CheckError) (statement line : ℕ)
-    (cause text : List ℕ) → statement ≡ (refused_statement why).0 → line ≡ slice_index lines statement →
-    cause ≡ why_not_labelled principals why →
-    text ≡ codes "statement " ++ (decimal statement ++ (codes " (line " ++ (decimal line ++ (codes "): " ++ cause)))) →
-    Refuse SourceRefused (error_line text) ≡ labels_refused principals lines why
-statement_text principals lines why statement line cause text statement_is line_is cause_is text_is =
-    let opening = codes "statement " in let middle = codes " (line " in let closing = codes "): " in
-    ap (λ (bytes : List ℕ). Refuse SourceRefused (error_line bytes)) (text_is
-    ∙ six_parts opening (decimal statement) middle (decimal line) closing cause
-    ∙ ap (λ (n : ℕ). opening ++ decimal statement ++ middle ++ decimal n ++ closing ++ cause) line_is
-    ∙ ap (λ (n : ℕ). opening ++ decimal n ++ middle ++ decimal (slice_index lines n) ++ closing ++ cause) statement_is
-    ∙ ap (λ (why_not : List ℕ). opening ++ decimal (refused_statement why).0 ++ middle
-    ++ decimal (slice_index lines (refused_statement why).0) ++ closing ++ why_not) cause_is)
 
 five_parts : (a b c d e : List ℕ) → a ++ (b ++ (c ++ (d ++ e))) ≡ a ++ b ++ c ++ d ++ e
 five_parts a b c d e = simp append_assoc

@@ -32,8 +32,7 @@ use Rattle.label_check.specs.Checking as labels
 use Rattle.front_end.specs.Stages.{given, stopped}
 use Rattle.front_end.specs.Sources.{Lexed, Parsed, HostsRead, Resolved, Labelled, Drafted, Accepted, AcceptedWith}
 use Rattle.front_end.specs.Sources.{Sources}
-use Rattle.front_end.specs.Verdicts.{program_refused, why_no_tokens, why_not_parsed, hosts_refused, why_not_resolved}
-use Rattle.front_end.specs.Verdicts.{labels_refused}
+use Rattle.front_end.specs.Verdicts.{hosts_refused, labels_refused, not_lexed, not_parsed, not_resolved}
 use Rattle.front_end.proofs.SomeStages.{HasOutcome, some_then}
 
 -- ---- what is known of the stages
@@ -77,21 +76,21 @@ lexed_some law text =
     ⊎_elim
     (λ read. (given read.0, (read.1, read.2)))
     (λ fails. let why = fails.0 in
-    (stopped (program_refused (why_no_tokens why)), (why, fails.2, fails.1, refl)))
+    (stopped (not_lexed why), (why, fails.2, fails.1, refl)))
     (law text)
 
 refused_some : (list : List Token) (refusal : grammar.Refusal) → grammar.IsRefused list refusal →
     HasOutcome (Parsed list)
 refused_some list (grammar.unexpected n) refused = (
-  stopped (program_refused (why_not_parsed (parse.Unexpected n))),
+  stopped (not_parsed (parse.Unexpected n)),
   (parse.Unexpected n, refused, (λ same. let no = same in cc), refl),
 )
 refused_some list (grammar.too_deep n) refused = (
-  stopped (program_refused (why_not_parsed parse.TooDeep)),
+  stopped (not_parsed parse.TooDeep),
   (parse.TooDeep, (n, refused), (λ same. let no = same in cc), refl),
 )
 refused_some list (grammar.too_many counted n) refused = (
-  stopped (program_refused (why_not_parsed (parse.TooMany counted))),
+  stopped (not_parsed (parse.TooMany counted)),
   (parse.TooMany counted, (n, refused), (λ same. let no = same in cc), refl),
 )
 
@@ -116,19 +115,19 @@ fault_refused : (file : HostsShape) (draft : DraftShape) (at : ℕ) (which : Fau
     verdicts.IsRefused file.principals draft (verdicts.for_fault (record { at = at; kind = which })) →
     HasOutcome (Resolved file draft)
 fault_refused file draft at kind.UnknownName refused = (
-  stopped (program_refused (why_not_resolved (resolve.UnknownName at))),
+  stopped (not_resolved (resolve.UnknownName at)),
   (resolve.UnknownName at, refused, (λ same. let no = same in cc), refl),
 )
 fault_refused file draft at kind.Twice refused = (
-  stopped (program_refused (why_not_resolved (resolve.Twice at))),
+  stopped (not_resolved (resolve.Twice at)),
   (resolve.Twice at, refused, (λ same. let no = same in cc), refl),
 )
 fault_refused file draft at kind.WrongType refused = (
-  stopped (program_refused (why_not_resolved (resolve.WrongType at))),
+  stopped (not_resolved (resolve.WrongType at)),
   (resolve.WrongType at, refused, (λ same. let no = same in cc), refl),
 )
 fault_refused file draft at kind.WrongCount refused = (
-  stopped (program_refused (why_not_resolved (resolve.WrongCount at))),
+  stopped (not_resolved (resolve.WrongCount at)),
   (resolve.WrongCount at, refused, (λ same. let no = same in cc), refl),
 )
 
@@ -137,7 +136,7 @@ names_refused : (file : HostsShape) (draft : DraftShape) (refusal : verdicts.Ref
 names_refused file draft (verdicts.for_fault fault) refused =
     fault_refused file draft fault.at fault.kind refused
 names_refused file draft verdicts.no_main refused = (
-  stopped (program_refused (why_not_resolved resolve.NoMain)),
+  stopped (not_resolved resolve.NoMain),
   (resolve.NoMain, refused, (λ same. let no = same in cc), refl),
 )
 

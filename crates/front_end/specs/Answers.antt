@@ -11,6 +11,7 @@ use Rattle.js_base.specs.Sink.{Takes, TakesFront}
 use Rattle.js_base.specs.declared.sink.Sink as sinks
 use Rattle.js_base.specs.declared.status.Status.{Status}
 use Rattle.js_base.specs.declared.status.Status.TheVariants.{OutFault, NoMemory}
+use Rattle.front_end.specs.Refusals.{RefusalShape, error_line, no_memory_line, refusal_status, refusal_text}
 use Rattle.front_end.specs.Verdicts.{VerdictShape, Refuse, Print}
 
 -- a sink before and after: its faults, and what it has taken where it tells
@@ -52,40 +53,55 @@ Puts text status answer sink =
     ((answer ≡ status) × Takes text sink.taken_before sink.taken_after × (sink.faults_after ≡ sink.faults_before))
     ⊎ ((answer ≡ OutFault) × Rose sink.faults_before sink.faults_after × PutsFront text sink)
 
--- A refusal puts its line on the error output and nothing on the output. A report goes on the output, with nothing on
--- the error output.
-abbrev pub IsAnswered : VerdictShape → Status → SinkChange → SinkChange → Type 0
-IsAnswered (Refuse status line) answer out err = IsUntouched out × Puts line status answer err
-IsAnswered (Print status text) answer out err = IsUntouched err × Puts text status answer out
+-- A refusal puts its line on the error output, behind the program's name, and nothing on the output. A report goes on
+-- the output, with nothing on the error output.
+abbrev pub IsRefused : (program : List ℕ) → RefusalShape → Status → SinkChange → Type 0
+IsRefused program refusal answer err =
+    Puts (error_line program (refusal_text refusal)) (refusal_status refusal) answer err
+
+abbrev pub IsAnswered : (program : List ℕ) → VerdictShape → Status → SinkChange → SinkChange → Type 0
+IsAnswered program (Refuse refusal) answer out err =
+    IsUntouched out × IsRefused program refusal answer err
+IsAnswered program (Print status text) answer out err = IsUntouched err × Puts text status answer out
 
 -- ---- where memory ran out
 
 -- No more was put than a front of what is due, and then a front of the line that says that memory ran out.
-abbrev pub IsCutShort : (no_memory : List ℕ) → VerdictShape → SinkChange → SinkChange → Type 0
-IsCutShort no_memory (Refuse status line) out err = IsUntouched out × PutsFronts line no_memory err
-IsCutShort no_memory (Print status text) out err = PutsFront text out × PutsFront no_memory err
+abbrev pub IsRefusalCut : (program : List ℕ) → RefusalShape → SinkChange → Type 0
+IsRefusalCut program refusal err =
+    PutsFronts (error_line program (refusal_text refusal)) (no_memory_line program) err
+
+abbrev pub IsCutShort : (program : List ℕ) → VerdictShape → SinkChange → SinkChange → Type 0
+IsCutShort program (Refuse refusal) out err =
+    IsUntouched out × IsRefusalCut program refusal err
+IsCutShort program (Print status text) out err = PutsFront text out × PutsFront (no_memory_line program) err
 
 -- it ran out before anything was due, and no more was put than a front of the line that says so
-abbrev pub IsUndue : (no_memory : List ℕ) → SinkChange → SinkChange → Type 0
-IsUndue no_memory out err = IsUntouched out × PutsFront no_memory err
+abbrev pub IsUndue : (program : List ℕ) → SinkChange → SinkChange → Type 0
+IsUndue program out err = IsUntouched out × PutsFront (no_memory_line program) err
+
+-- the answer to a refusal, or want of memory while it was put
+abbrev pub Refuses : (program : List ℕ) → RefusalShape → Status → SinkChange → Type 0
+Refuses program refusal answer err =
+    ((answer ≡ NoMemory) × IsRefusalCut program refusal err) ⊎ IsRefused program refusal answer err
 
 -- the answer to what is due, or want of memory while it was put
-abbrev pub AnswersVerdict : (no_memory : List ℕ) → VerdictShape → Status → SinkChange → SinkChange → Type 0
-AnswersVerdict no_memory verdict answer out err =
-    ((answer ≡ NoMemory) × IsCutShort no_memory verdict out err) ⊎ IsAnswered verdict answer out err
+abbrev pub AnswersVerdict : (program : List ℕ) → VerdictShape → Status → SinkChange → SinkChange → Type 0
+AnswersVerdict program verdict answer out err =
+    ((answer ≡ NoMemory) × IsCutShort program verdict out err) ⊎ IsAnswered program verdict answer out err
 
 -- ---- the whole
 
 -- Memory ran out before anything was due, where something holds of what came before, or while what was due was put.
-abbrev pub RanOut : (no_memory : List ℕ) (Before : Type 0) (IsDue : VerdictShape → Type 0) → SinkChange → SinkChange →
+abbrev pub RanOut : (program : List ℕ) (Before : Type 0) (IsDue : VerdictShape → Type 0) → SinkChange → SinkChange →
     Type 0
-RanOut no_memory Before IsDue out err =
-    (Before × IsUndue no_memory out err)
-    ⊎ ((verdict : VerdictShape) × IsDue verdict × IsCutShort no_memory verdict out err)
+RanOut program Before IsDue out err =
+    (Before × IsUndue program out err)
+    ⊎ ((verdict : VerdictShape) × IsDue verdict × IsCutShort program verdict out err)
 
--- the answer is that to what is due, or want of memory
-abbrev pub AnswersTo : (no_memory : List ℕ) (Before : Type 0) (IsDue : VerdictShape → Type 0) → Status → SinkChange →
+-- the answer of a program of this name is that to what is due, or want of memory
+abbrev pub AnswersTo : (program : List ℕ) (Before : Type 0) (IsDue : VerdictShape → Type 0) → Status → SinkChange →
     SinkChange → Type 0
-AnswersTo no_memory Before IsDue answer out err =
-    ((answer ≡ NoMemory) × RanOut no_memory Before IsDue out err)
-    ⊎ ((verdict : VerdictShape) × IsDue verdict × IsAnswered verdict answer out err)
+AnswersTo program Before IsDue answer out err =
+    ((answer ≡ NoMemory) × RanOut program Before IsDue out err)
+    ⊎ ((verdict : VerdictShape) × IsDue verdict × IsAnswered program verdict answer out err)

@@ -5,6 +5,7 @@ pub mod PlacedCode
 pub mod PlacedShapes
 pub mod PlacedSources
 pub mod ReadPrograms
+pub mod Refusals
 pub mod SourceShapes
 pub mod Sources
 pub mod Stages

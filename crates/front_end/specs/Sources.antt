@@ -28,21 +28,20 @@ use Rattle.label_check.specs.declared.check_error.CheckError.{CheckError}
 use Rattle.label_check.specs.declared.check_error.CheckError.TheVariants as check
 use Rattle.label_check.specs.Checking as labels
 use Rattle.front_end.specs.Stages.{Outcome, given, stopped, Then}
-use Rattle.front_end.specs.Verdicts.{program_refused, why_no_tokens, why_not_parsed, hosts_refused, why_not_resolved}
-use Rattle.front_end.specs.Verdicts.{labels_refused}
+use Rattle.front_end.specs.Verdicts.{hosts_refused, labels_refused, not_lexed, not_parsed, not_resolved}
 
 -- the tokens of a program
 abbrev pub Lexed : List ℕ → Outcome (List Token) → Type 0
 Lexed bytes (given list) = (length bytes ≤ PROGRAM_BYTES) × ReadsAs bytes (tokens list)
 Lexed bytes (stopped verdict) =
-    (why : LexError) × LexFails bytes why × (why ≢ lex.OutOfMemory) × (verdict ≡ program_refused (why_no_tokens why))
+    (why : LexError) × LexFails bytes why × (why ≢ lex.OutOfMemory) × (verdict ≡ not_lexed why)
 
 -- the draft that tokens are
 abbrev pub Parsed : List Token → Outcome DraftShape → Type 0
 Parsed list (given draft) = grammar.IsProgramOf list draft
 Parsed list (stopped verdict) =
     (why : ParseError) × IsRefusedBy list why × (why ≢ parse.OutOfMemory)
-    × (verdict ≡ program_refused (why_not_parsed why))
+    × (verdict ≡ not_parsed why)
 
 -- the hosts of a host file
 abbrev pub HostsRead : List ℕ → Outcome HostsShape → Type 0
@@ -56,7 +55,7 @@ abbrev pub Resolved : HostsShape → DraftShape → Outcome ProgramTree → Type
 Resolved file draft (given tree) = IsProgramOf file.principals draft tree
 Resolved file draft (stopped verdict) =
     (why : ResolveError) × names.IsRefusedFor file.principals draft why × (why ≢ resolve.OutOfMemory)
-    × (verdict ≡ program_refused (why_not_resolved why))
+    × (verdict ≡ not_resolved why)
 
 -- a program and the hosts that it is for
 pub record Source : Type 0 where

@@ -77,11 +77,11 @@ pub fn read_places(alloc: Global, program: &Loaded, hosts: &Loaded) -> Result<Pl
         EndsAs placed_shape (PlacedSources p h) result }
 {
     let source = read_sources(alloc, program, hosts)?;
-    placed(alloc, source)
+    on_hosts(alloc, source)
 }
 
 /// The program in its places on its hosts, or what is due where some part of it has none.
-fn placed(alloc: Global, source: Source) -> Result<PlacedSource, Stop>
+pub fn on_hosts(alloc: Global, source: Source) -> Result<PlacedSource, Stop>
     ensures { EndsAs placed_shape (OnHosts (source_shape source)) result }
 {
     placement_laws();
@@ -93,6 +93,6 @@ fn placed(alloc: Global, source: Source) -> Result<PlacedSource, Stop>
             allowed,
             plan,
         }),
-        Err(why) => Err(stopped(Verdict::places_refused(alloc, &source.checked.program, &why))),
+        Err(why) => Err(stopped(Verdict::places_refused(alloc, &source.checked.program, why))),
     }
 }

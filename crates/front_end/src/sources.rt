@@ -12,7 +12,7 @@ ghost use Rattle.label_check.specs.Checking.{AreAuthorities};
 ghost use Rattle.front_end.specs.Loading.{EndsAs, IsLoaded};
 ghost use Rattle.front_end.specs.ReadPrograms.{AreShort, IsReadDraft, IsReadProgram};
 ghost use Rattle.front_end.specs.SourceShapes.{source_shape};
-ghost use Rattle.front_end.specs.Sources.{Lexed, Parsed, Drafted, HostsRead, Resolved, Labelled, Sources};
+ghost use Rattle.front_end.specs.Sources.{Accepted, Lexed, Parsed, Drafted, HostsRead, Resolved, Labelled, Sources};
 
 use crate::load::Loaded;
 use crate::statements::statement_lines;
@@ -55,12 +55,21 @@ pub fn read_sources(alloc: Global, program: &Loaded, hosts: &Loaded) -> Result<S
 {
     let draft = drafted(alloc, program)?;
     let hosts = hosts_read(alloc, hosts)?;
+    accepted(alloc, draft, hosts)
+}
+
+/// The accepted program of a draft with these hosts, or what is due where it is refused.
+pub fn accepted(alloc: Global, draft: Draft, hosts: Hosts) -> Result<Source, Stop>
+    requires draft { IsReadDraft (draft_shape draft) }
+    requires short { AreShort hosts }
+    ensures { EndsAs source_shape (Accepted hosts (draft_shape draft)) result }
+{
     let program = resolved(alloc, draft, &hosts)?;
     labelled(alloc, program, hosts)
 }
 
 /// The draft of a program.
-fn drafted(alloc: Global, program: &Loaded) -> Result<Draft, Stop>
+pub fn drafted(alloc: Global, program: &Loaded) -> Result<Draft, Stop>
     ensures drafted { (p : List ℕ) → IsLoaded PROGRAM_BYTES p program.now → EndsAs draft_shape (Drafted p) result }
     ensures read { IfOk result (λ draft. IsReadDraft (draft_shape draft)) }
 {
@@ -69,14 +78,14 @@ fn drafted(alloc: Global, program: &Loaded) -> Result<Draft, Stop>
 }
 
 /// The tokens of a program.
-fn lexed(alloc: Global, program: &Loaded) -> Result<Vec<Token>, Stop>
+pub fn lexed(alloc: Global, program: &Loaded) -> Result<Vec<Token>, Stop>
     ensures lexed { (p : List ℕ) → IsLoaded PROGRAM_BYTES p program.now →
         EndsAs (λ list. list.items) (Lexed p) result }
     ensures sound { IfOk result (λ list. AreTokens list.items) }
 {
     match tokens_of(alloc, program) {
         Ok(tokens) => Ok(tokens),
-        Err(why) => Err(stopped(Verdict::not_lexed(alloc, why))),
+        Err(why) => Err(stopped(Verdict::not_lexed(why))),
     }
 }
 
@@ -95,14 +104,14 @@ fn tokens_of(alloc: Global, program: &Loaded) -> Result<Vec<Token>, LexError>
 }
 
 /// The draft that tokens are.
-fn parsed(alloc: Global, tokens: &[Token]) -> Result<Draft, Stop>
+pub fn parsed(alloc: Global, tokens: &[Token]) -> Result<Draft, Stop>
     requires { AreTokens tokens.now }
     ensures parsed { EndsAs draft_shape (Parsed tokens.now) result }
     ensures read { IfOk result (λ draft. IsReadDraft (draft_shape draft)) }
 {
     match parse(alloc, tokens) {
         Ok(draft) => Ok(draft),
-        Err(why) => Err(stopped(Verdict::not_parsed(alloc, why))),
+        Err(why) => Err(stopped(Verdict::not_parsed(why))),
     }
 }
 
@@ -113,7 +122,7 @@ pub fn hosts_read(alloc: Global, file: &Loaded) -> Result<Hosts, Stop>
 {
     match hosts_of(alloc, file) {
         Ok(hosts) => Ok(hosts),
-        Err(why) => Err(stopped(Verdict::hosts_refused(alloc, &why))),
+        Err(why) => Err(stopped(Verdict::hosts_refused(why))),
     }
 }
 
@@ -131,7 +140,7 @@ fn hosts_of(alloc: Global, file: &Loaded) -> Result<Hosts, HostsError>
 }
 
 /// The program of a draft, by the principals of these hosts.
-fn resolved(alloc: Global, draft: Draft, hosts: &Hosts) -> Result<Program, Stop>
+pub fn resolved(alloc: Global, draft: Draft, hosts: &Hosts) -> Result<Program, Stop>
     requires { IsReadDraft (draft_shape draft) }
     ensures resolved { EndsAs program_tree (Resolved hosts.now (draft_shape draft)) result }
     ensures read { IfOk result (λ program. IsReadProgram (program_tree program)) }
@@ -142,12 +151,12 @@ fn resolved(alloc: Global, draft: Draft, hosts: &Hosts) -> Result<Program, Stop>
     program_laws();
     match resolve(alloc, draft, hosts.principals()) {
         Ok(program) => Ok(program),
-        Err(why) => Err(stopped(Verdict::not_resolved(alloc, why))),
+        Err(why) => Err(stopped(Verdict::not_resolved(why))),
     }
 }
 
 /// The program with its labels, by the principals of these hosts.
-fn labelled(alloc: Global, program: Program, hosts: Hosts) -> Result<Source, Stop>
+pub fn labelled(alloc: Global, program: Program, hosts: Hosts) -> Result<Source, Stop>
     requires read { IsReadProgram (program_tree program) }
     requires authorities { AreAuthorities hosts.principals (program_tree program) }
     requires short { AreShort hosts }
@@ -158,7 +167,7 @@ fn labelled(alloc: Global, program: Program, hosts: Hosts) -> Result<Source, Sto
         Ok(checked) => Ok(Source { hosts, checked }),
         Err(why) => {
             let principals = hosts.principals();
-            Err(stopped(Verdict::labels_refused(alloc, principals, &lines, &why)))
+            Err(stopped(Verdict::labels_refused(alloc, principals, &lines, why)))
         }
     }
 }

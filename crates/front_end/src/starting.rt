@@ -6,6 +6,7 @@ ghost use Rattle.front_end.specs.Loading.{EndsAs, IsLoaded};
 ghost use Rattle.front_end.specs.Starting.{StartingValues};
 
 use crate::load::Loaded;
+use crate::refusal::LineCause;
 use crate::stop::{Stop, stopped};
 use crate::verdict::Verdict;
 use event_text::{EventsError, read_start};
@@ -31,7 +32,9 @@ pub fn starting_values(
     };
     match read_start(alloc, program, bytes) {
         Ok(store) => Ok(store),
-        Err(EventsError::BadLine(line)) => Err(stopped(Verdict::no_form(alloc, name, line))),
+        Err(EventsError::BadLine(line)) => {
+            Err(stopped(Verdict::at_line(alloc, name, line, LineCause::NoForm)))
+        }
         Err(EventsError::TooLong) => Err(stopped(Verdict::too_long(alloc, name))),
         Err(EventsError::OutOfMemory) => Err(Stop::OutOfMemory),
     }

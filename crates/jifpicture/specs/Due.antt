@@ -1,23 +1,13 @@
 -- What is due for the words, by what the files hold and did. A word, a line and a file are lists of bytes.
-use Rattle.std.specs.Prelude.{◌≡◌, ◌≢◌, ℕ, ◌+◌, ◌⊎◌, List, [], ◌∷◌, ◌++◌, codes, length, Option, Some}
-use Rattle.js_base.specs.declared.status.Status.TheVariants.{Usage}
-use Rattle.js_base.specs.declared.text.TheConstants.{LINE_FEED}
+use Rattle.std.specs.Prelude.{◌≡◌, ◌≢◌, ℕ, ◌+◌, ◌⊎◌, List, [], ◌∷◌, codes, length, Option, Some}
 use Rattle.front_end.specs.Loads.{FilesChange, Told, LoadsWell, IsFirstAbsent, IsFileFault}
 use Rattle.front_end.specs.PlacedSources.{PlacedSources}
 use Rattle.front_end.specs.Stages.{DueThen}
-use Rattle.front_end.specs.Verdicts.{VerdictShape, Refuse, no_such_file}
+use Rattle.front_end.specs.Verdicts.{VerdictShape, no_such_file, usage as usage_of}
 use Rattle.jifpicture.specs.Picture.{picture_report}
 
--- a line of the program on the error output
-abbrev pub own_line : List ℕ → List ℕ
-own_line text = codes "jifpicture: " ++ text ++ LINE_FEED ∷ []
-
 abbrev pub usage : VerdictShape
-usage = Refuse Usage (own_line (codes "usage: P H"))
-
--- what is said where memory ran out
-abbrev pub no_memory_line : List ℕ
-no_memory_line = own_line (codes "no memory")
+usage = usage_of (codes "P H")
 
 -- what is due for a program and a host file that hold these bytes: a picture, or why one of them is refused
 abbrev pub DueForBytes : List ℕ → List ℕ → VerdictShape → Type 0

@@ -5,13 +5,16 @@ ghost use Rattle.js_base.specs.declared.limits.TheConstants.{HOSTS_BYTES, PROGRA
 ghost use Rattle.front_end.specs.Loading.{EndsIn, IsLoaded};
 ghost use Rattle.front_end.specs.Loads.{AreKept, files_change};
 ghost use Rattle.front_end.specs.Verdicts.{verdict_shape};
-ghost use Rattle.jifpicture.specs.Due.{DueForBytes, IsDue, IsDueForNames, usage};
+ghost use Rattle.jifpicture.specs.Due.{DueForBytes, IsDue, IsDueForNames};
 
 use crate::picture::picture_text;
 use front_end::{Asked, Loaded, Stop, Verdict, load_all, read_places};
 use js_base::limits::{HOSTS_BYTES, PROGRAM_BYTES};
 use js_base::{Files, OutOfMemory, Status};
 use std::alloc::Global;
+
+/// The only form of the words.
+const FORMS: &str = "P H";
 
 /// What is due for the words.
 pub fn due<F: Files>(alloc: Global, words: &[String], files: &mut F) -> Result<Verdict, OutOfMemory>
@@ -23,19 +26,8 @@ pub fn due<F: Files>(alloc: Global, words: &[String], files: &mut F) -> Result<V
 {
     match words {
         [program, hosts] => due_for_names(alloc, program.as_str(), hosts.as_str(), files),
-        _ => usage_refused(alloc),
+        _ => Verdict::usage(alloc, FORMS),
     }
-}
-
-/// The words are not two.
-fn usage_refused(alloc: Global) -> Result<Verdict, OutOfMemory>
-    ensures { IfOk result (λ verdict. verdict_shape verdict ≡ usage) }
-{
-    let line = String::from_str(alloc, "jifpicture: usage: P H\n")?;
-    Ok(Verdict::Refuse {
-        status: Status::Usage,
-        line,
-    })
 }
 
 /// What is due for the names of a program and a host file.

@@ -16,10 +16,16 @@ use front_end::answer;
 use js_base::{Files, Sink, Status};
 use std::alloc::Global;
 
+/// The program's name, which stands in front of its lines on the error output.
+const PROGRAM: &str = "jifpicture";
+
+/// The line that says that memory ran out.
+const NO_MEMORY: &str = "jifpicture: no memory\n";
+
 /// Runs `jifpicture` on the words after its name, which are the names of a program and a host file.
 ///
 /// It answers `Done` where the picture was put on `out`. Any other answer is a refusal or a fault, and but for `Usage`
-/// each comes where `jifsplit check` of the same files would answer it, with the same line on `err`:
+/// each comes where `jifsplit check` of the same files would answer it, with the same words on `err`:
 /// - `Usage`: the words are not two.
 /// - `SourceRefused`: the program is refused for its text, its names or its labels; or no host may hold some part of
 ///   it.
@@ -57,5 +63,5 @@ pub fn jifpicture<F: Files, S: Sink, E: Sink>(
 {
     picture_laws();
     let found = due(alloc, words, files);
-    answer(alloc, found, "jifpicture: no memory\n", out, err)
+    answer(alloc, PROGRAM, NO_MEMORY, found, out, err)
 }

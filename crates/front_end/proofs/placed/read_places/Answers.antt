@@ -13,5 +13,5 @@ returns-in_err-source c = λ p h loaded_p loaded_h.
 
 pub returns : goal.returns
 returns c = λ p h loaded_p loaded_h.
-    then_ends source_shape placed_shape (Sources p h) OnHosts c.in_ok-source.source c.placed.result
-    (c.in_ok-source.ensures p h loaded_p loaded_h) c.placed.ensures
+    then_ends source_shape placed_shape (Sources p h) OnHosts c.in_ok-source.source c.on_hosts.result
+    (c.in_ok-source.ensures p h loaded_p loaded_h) c.on_hosts.ensures

@@ -1,14 +1,13 @@
-use Rattle.jif_parse.specs.declared.parse_error.ParseError.{ParseError}
 use Rattle.jif_parse.specs.declared.parse_error.ParseError.TheVariants as parse
 use Rattle.jif_parse.specs.Parsing.{IsRefusedBy}
-use Rattle.front_end.specs.Verdicts.{program_refused, why_not_parsed}
+use Rattle.front_end.specs.Verdicts.{not_parsed}
 use Rattle.front_end.proofs.Stages.{refusal_stops}
 use Rattle.front_end.proofs.sources.parsed.Goals as goal
 
 pub returns-in-Err-clause-parsed : goal.returns-in-Err-clause-parsed
 returns-in-Err-clause-parsed c =
     refusal_stops (IsRefusedBy c.args.tokens.now) parse.OutOfMemory
-    (λ (why : ParseError). program_refused (why_not_parsed why)) c.in-Err.why c.not_parsed.result c.stopped.result
+    not_parsed c.in-Err.why c.not_parsed.result c.stopped.result
     c.in-Err.ensures.refused c.not_parsed.ensures.refused c.not_parsed.ensures.not_memory c.stopped.ensures
 
 pub returns-in-Ok-clause-read : goal.returns-in-Ok-clause-read

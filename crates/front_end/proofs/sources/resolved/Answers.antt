@@ -1,8 +1,7 @@
-use Rattle.jif_resolve.specs.declared.resolve_error.ResolveError.{ResolveError}
 use Rattle.jif_resolve.specs.declared.resolve_error.ResolveError.TheVariants as resolve
 use Rattle.jif_grammar.specs.DraftShapes.{draft_shape}
 use Rattle.jif_resolve.specs.Refusals.{IsRefusedFor}
-use Rattle.front_end.specs.Verdicts.{program_refused, why_not_resolved}
+use Rattle.front_end.specs.Verdicts.{not_resolved}
 use Rattle.front_end.proofs.Stages.{refusal_stops}
 use Rattle.front_end.proofs.sources.resolved.Goals as goal
 
@@ -24,6 +23,6 @@ returns-in-Ok-clause-authorities c =
 pub returns-in-Err-clause-resolved : goal.returns-in-Err-clause-resolved
 returns-in-Err-clause-resolved c =
     refusal_stops (IsRefusedFor c.args.hosts.now.principals (draft_shape c.args.draft)) resolve.OutOfMemory
-    (λ (why : ResolveError). program_refused (why_not_resolved why)) c.in-Err.why c.not_resolved.result
+    not_resolved c.in-Err.why c.not_resolved.result
     c.stopped.result (rw c.principals.ensures.principals at c.in-Err.ensures.refused)
     c.not_resolved.ensures.refused c.not_resolved.ensures.not_memory c.stopped.ensures

@@ -22,6 +22,6 @@ none_asked words other = λ same. other (sym (length-map words string_bytes) ∙
 pub returns-in_default-clause-due : goal.returns-in_default-clause-due
 returns-in_default-clause-due g c =
     let other : length c.args.words.now ≢ 2 = first_of (grind (arith, common_steps), search rules, grind arith) in
-    IfOk-weaker c.usage_refused.result _ _
+    IfOk-weaker c.usage.result _ _
     (λ verdict is. usage_due _ _ (verdict_shape verdict) (none_asked c.args.words.now other) refl refl is)
-    c.usage_refused.ensures
+    c.usage.ensures

@@ -1,5 +1,5 @@
 use Rattle.front_end.proofs.Refusals.{flow_text, begin_text}
-use Rattle.front_end.proofs.verdict.why_not_labelled.Goals as goal
+use Rattle.front_end.proofs.refusal_texts.why_not_labelled.Goals as goal
 
 pub returns-in_ok-format-in-BadFlow-clause-text : goal.returns-in_ok-format-in-BadFlow-clause-text
 returns-in_ok-format-in-BadFlow-clause-text c =

@@ -1,7 +1,7 @@
 use Rattle.std.proofs.Common.{◌∙◌}
 use Rattle.jif_tree.specs.Trees.{program_tree}
 use Rattle.front_end.proofs.Refusals.{unheld_text}
-use Rattle.front_end.proofs.verdict.unheld.Goals as goal
+use Rattle.front_end.proofs.refusal_texts.unheld.Goals as goal
 
 pub returns-in_ok-format-in-NoHostForStatement-clause-text :
     goal.returns-in_ok-format-in-NoHostForStatement-clause-text

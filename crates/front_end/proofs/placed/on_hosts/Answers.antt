@@ -3,7 +3,7 @@ use Rattle.jif_tree.specs.Trees.{program_tree}
 use Rattle.need_labels.specs.Labelled.{labelled_of}
 use Rattle.front_end.proofs.PlacedLists.{a_host_each}
 use Rattle.front_end.proofs.ReadLaws.{splittable}
-use Rattle.front_end.proofs.placed.placed.Goals as goal
+use Rattle.front_end.proofs.placed.on_hosts.Goals as goal
 
 pub invariant_of-result : goal.invariant_of-result
 invariant_of-result c =
