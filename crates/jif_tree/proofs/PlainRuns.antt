@@ -1,5 +1,5 @@
 -- Where no host misbehaves, an altered run is the plain run.
-use Rattle.std.proofs.Common.{◌≡◌, ◌∙◌, ap, refl, sym, inl, inr, arith, ℕ, zero, suc, ℤ, List, []}
+use Rattle.std.proofs.Common.{◌≡◌, ◌∙◌, ap, refl, inl, inr, arith, ℕ, zero, suc, ℤ, List, []}
 use Rattle.std.proofs.Common.{◌∷◌, length, map, Option, Some, None, IsSomeAnd, slice_get, Any}
 use Rattle.std.specs.List.{AllZip}
 use Rattle.js_base.specs.declared.ids.FieldId.{FieldId}
@@ -10,10 +10,10 @@ use Rattle.jif_tree.specs.declared.program.Expr as expr
 use Rattle.jif_tree.specs.Operators.{binary_value, negation, inversion}
 use Rattle.jif_tree.specs.Store.{element_at, row_of}
 use Rattle.jif_tree.specs.SourceRun.{Item, run, keep, Configuration, value_of, calls_after, operands, executed}
-use Rattle.jif_tree.specs.SourceRun.{after_item, step, after_steps, prefix}
+use Rattle.jif_tree.specs.SourceRun.{after_item, step, after_steps}
 use Rattle.jif_tree.specs.Altered.{Exposure, FieldIsAffected, VariableIsAffected}
 use Rattle.jif_tree.specs.Altered.{MayRead, MayGive, MayStep, MayBeLeft, Alters, steps, changes_field}
-use Rattle.jif_tree.specs.Altered.{changes_variable, leaves_out, AreAltered, IsAlteredRun}
+use Rattle.jif_tree.specs.Altered.{changes_variable, leaves_out, Altered}
 
 -- ---- nothing is affected
 
@@ -105,20 +105,10 @@ one_more : (program : Program) (n : ℕ) (c : Configuration) →
 one_more program zero c = refl
 one_more program (suc n) c = ap (step program) (one_more program n c)
 
-plain_from : (program : Program) (exposure : Exposure) → exposure.bad ≡ [] → (c : Configuration)
-    (others : List Configuration) → AreAltered program exposure c others → (n : ℕ) (there : Configuration) →
-    slice_get (c ∷ others) n ≡ Some there → there ≡ after_steps program n c
-plain_from program exposure none c others altered zero there is =
-    let same : c ≡ there = cc in
-    sym same
-plain_from program exposure none c [] altered (suc n) there is = absurd (cc)
-plain_from program exposure none c (next ∷ others) altered (suc n) there is =
-    plain_from program exposure none next others altered.1 n there is
-    ∙ ap (after_steps program n) (plain_step program exposure none c next altered.0) ∙ one_more program n c
-
-pub plain_run : (program : Program) (exposure : Exposure) (store : List (List ℤ)) (run : List Configuration) (n : ℕ)
-    (c : Configuration) → exposure.bad ≡ [] → IsAlteredRun program exposure store run → slice_get run n ≡ Some c →
-    c ≡ prefix program store n
-plain_run program exposure store [] n c none altered is = absurd altered
-plain_run program exposure store (first ∷ others) n c none altered is =
-    plain_from program exposure none first others altered.1 n c is ∙ ap (after_steps program n) altered.0
+pub plain_run : (program : Program) (exposure : Exposure) (c now : Configuration) (others : List Configuration) →
+    exposure.bad ≡ [] → Altered program exposure c others now → now ≡ after_steps program (length others) c
+plain_run program exposure c now [] none altered = altered
+plain_run program exposure c now (next ∷ others) none altered =
+    plain_run program exposure next now others none altered.1
+    ∙ ap (after_steps program (length others)) (plain_step program exposure none c next altered.0)
+    ∙ one_more program (length others) c

@@ -1,5 +1,5 @@
 -- What hosts that misbehave may make of a plain run. Each is known by the label that says who trusts it.
-use Rattle.std.specs.Prelude.{◌≡◌, ◌⊎◌, ℕ, ℤ, pos, List, [], ◌∷◌, Any, IsSomeAnd, slice_get, slice_index, ⊤}
+use Rattle.std.specs.Prelude.{◌≡◌, ◌⊎◌, ℕ, ℤ, pos, List, [], ◌∷◌, Any, IsSomeAnd, slice_get, slice_index}
 use Rattle.std.specs.List.{AllZip}
 use Rattle.js_base.specs.declared.ids.FieldId.{FieldId}
 use Rattle.js_base.specs.declared.ids.VarId.{VarId}
@@ -13,7 +13,6 @@ use Rattle.jif_tree.specs.Numbers.{IsNumber}
 use Rattle.jif_tree.specs.Operators.{binary_value, negation, inversion}
 use Rattle.jif_tree.specs.Store.{element_at, row_of, store_after_write}
 use Rattle.jif_tree.specs.SourceRun.{Item, run, keep, Configuration, variable, calls_after, operands, executed}
-use Rattle.jif_tree.specs.SourceRun.{configuration_at_start}
 
 -- ---- what they may affect
 
@@ -96,14 +95,8 @@ pub data Alters (program : Program) (exposure : Exposure) (c next : Configuratio
 
 -- ---- altered runs
 
--- each configuration comes next behind the one before it
-abbrev pub AreAltered : Program → Exposure → Configuration → List Configuration → Type 0
-AreAltered program exposure c [] = ⊤
-AreAltered program exposure c (next ∷ others) =
-    Alters program exposure c next × AreAltered program exposure next others
-
--- the configurations of a run from a store, as these hosts may alter it
-abbrev pub IsAlteredRun : Program → Exposure → List (List ℤ) → List Configuration → Type 0
-IsAlteredRun program exposure store [] = ⊥
-IsAlteredRun program exposure store (first ∷ others) =
-    (first ≡ configuration_at_start program store) × AreAltered program exposure first others
+-- what comes next, again and again or not at all: the configurations behind the first, of which this is the last
+abbrev pub Altered : Program → Exposure → Configuration → List Configuration → Configuration → Type 0
+Altered program exposure c [] now = now ≡ c
+Altered program exposure c (next ∷ others) now =
+    Alters program exposure c next × Altered program exposure next others now

@@ -1,6 +1,7 @@
 -- A configuration with a misbehaving host that principal 0 trusts, to see what the host may make of it.
 use Rattle.std.specs.Prelude.{ℕ, pos, List, [], ◌∷◌}
 use Rattle.js_base.specs.declared.ids.FieldId.{FieldId}
+use Rattle.js_base.specs.declared.ids.VarId.{VarId}
 use Rattle.label_lattice.specs.declared.label.Label.{Label}
 use Rattle.label_lattice.specs.Lattice.{free_rows}
 use Rattle.jif_tree.specs.declared.program.StmtKind as kind
@@ -19,12 +20,19 @@ field_of_0 = record { 0 = 0 }
 abbrev pub field_of_1 : FieldId
 field_of_1 = record { 0 = 1 }
 
+-- and two such variables
+abbrev pub variable_of_0 : VarId
+variable_of_0 = record { 0 = 0 }
+
+abbrev pub variable_of_1 : VarId
+variable_of_1 = record { 0 = 1 }
+
 -- Statement 0 is for principal 0, and statement 1 for principal 1.
 abbrev pub one_bad : Exposure
 one_bad = record {
   bad = trusted_by 1 ∷ [];
   fields = trusted_by 1 ∷ trusted_by 2 ∷ [];
-  variables = [];
+  variables = trusted_by 1 ∷ trusted_by 2 ∷ [];
   needs = 1 ∷ 2 ∷ [];
 }
 

@@ -1,9 +1,9 @@
-use Rattle.std.proofs.Common.{◌≡◌, ◌∙◌, ap, refl, sym, subst, inl, inr, lit<, arith, ℕ, zero, suc, pos, ◌∷◌, []}
+use Rattle.std.proofs.Common.{◌≡◌, ◌∙◌, ap, refl, sym, subst, inl, inr, lit<, arith, ℕ, zero, suc, ℤ, pos, List, ◌∷◌, []}
 use Rattle.std.proofs.Common.{length, Any}
 use Rattle.jif_tree.specs.declared.program.Program.{Program}
-use Rattle.jif_tree.specs.Store.{element_at, row_of}
+use Rattle.jif_tree.specs.Store.{element_at, row_of, store_after_write}
 use Rattle.jif_tree.specs.SourceRun.{Configuration}
-use Rattle.jif_tree.specs.Altered.{MayStep, MayBeLeft, Alters, steps, changes_field, changes_variable, leaves_out}
+use Rattle.jif_tree.specs.Altered.{FieldIsAffected, MayStep, MayBeLeft, Alters, steps, changes_field, changes_variable, leaves_out}
 use Rattle.jif_tree.specs.AlteredExamples.{one_bad, none_bad, for_0, for_1, pending_with}
 use Rattle.jif_tree.proofs.PlainRuns.{no_field}
 use Rattle.jif_tree.proofs.laws.altered_examples.Goals as goal
@@ -74,6 +74,45 @@ skips program before after first last (leaves_out item behind pending far is) =
 
 pub returns-clause-not_skipped : goal.returns-clause-not_skipped
 returns-clause-not_skipped c program = skips program _ _ refl refl
+
+pub returns-clause-local_as_any : goal.returns-clause-local_as_any
+returns-clause-local_as_any c value number = inr (any_one _ _ (λ principal reader trusts. trusts), number)
+
+pub returns-clause-local_as_is : goal.returns-clause-local_as_is
+returns-clause-local_as_is c value other (inl is) = other is
+returns-clause-local_as_is c value other (inr far) = not_both 0 refl (of_one _ _ far.0 1 (lit< tt) refl)
+
+pub returns-clause-result_left_out : goal.returns-clause-result_left_out
+returns-clause-result_left_out c = any_one _ _ (λ principal reader trusts. trusts)
+
+pub returns-clause-result_stays : goal.returns-clause-result_stays
+returns-clause-result_stays c left = not_both 0 refl (of_one _ _ left 1 (lit< tt) refl)
+
+-- what the second field holds
+abbrev second : Configuration → ℤ
+second c = element_at (row_of c.store 1) (pos 0)
+
+seven : (before next : Configuration) → second before ≡ pos 7 → next.store ≡ before.store → second next ≡ pos 9 → ⊥
+seven before next is same also =
+    let both : pos 7 ≡ pos 9 =
+    sym is ∙ ap (λ (store : List (List ℤ)). element_at (row_of store 1) (pos 0)) (sym same) ∙ also in
+    cc
+
+-- only the first field is affected, and a change of it leaves the second
+changed : (number : ℕ) (index value : ℤ) → FieldIsAffected one_bad (record { 0 = number }) →
+    element_at (row_of (store_after_write (pending_with []).store number index value) 1) (pos 0) ≡ pos 7
+changed zero index value far = refl
+changed (suc zero) index value far = absurd (not_both 0 refl (of_one _ _ far 1 (lit< tt) refl))
+changed (suc (suc number)) index value far = absurd far
+
+pub returns-clause-field_stays : goal.returns-clause-field_stays
+returns-clause-field_stays c program next (steps may) also = absurd may
+returns-clause-field_stays c program next (changes_field field index value far number is) also =
+    let both : pos 7 ≡ pos 9 = sym (changed field.0 index value far) ∙ ap second (sym is) ∙ also in
+    cc
+returns-clause-field_stays c program next (changes_variable call x value far number is) also =
+    seven (pending_with []) next refl (ap (λ (it : Configuration). it.store) is) also
+returns-clause-field_stays c program next (leaves_out item behind pending far is) also = absurd (cc)
 
 pub returns-clause-none_affected : goal.returns-clause-none_affected
 returns-clause-none_affected c field = no_field none_bad refl field
