@@ -59,9 +59,7 @@ module _ (laws : AreSplitLaws) (program : Program) (placed : PlacedProgram) (bad
   where_root_obeys : (state : HostShape) →
       state_at (world_at_start (split_code placed) placed.hosts.hosts bad store)
       (split_code placed).root ≡ Some state →
-      FollowsAltered program (exposure_of placed bad)
-      (split_code placed) placed.hosts.hosts
-      bad store events
+      FollowsAltered program (exposure_of placed bad) (split_code placed) placed.hosts.hosts bad store events world
   unfolding typed_split
   where_root_obeys state obeys =
       let typed =
@@ -73,7 +71,7 @@ module _ (laws : AreSplitLaws) (program : Program) (placed : PlacedProgram) (bad
       code_numbers store_numbers events world state reach said obeys
 
   pub follows_always : FollowsAltered program (exposure_of placed bad)
-      (split_code placed) placed.hosts.hosts bad store events
+      (split_code placed) placed.hosts.hosts bad store events world
   follows_always =
       let code = split_code placed in
       elim (cases_Bool (bit_at bad code.root.0 == 1)) [

@@ -2,15 +2,13 @@
 use Rattle.std.proofs.Common.{◌≡◌, ◌⊎◌, inl, inr, ℕ, suc, ℤ, List, [], ◌∷◌, ◌++◌, take, Some, refl}
 use Rattle.std.proofs.Common.{sym, ap, subst, arith}
 use Rattle.std.specs.Prelude.{slice_get, slice_index, All, IsSomeAnd}
-use Rattle.std.proofs.lemmas.List.Elements.{All-push, All-nil, All-take}
+use Rattle.std.proofs.lemmas.List.Elements.{All-push, All-nil}
 use Rattle.js_base.specs.declared.ids.HostId.{HostId}
 use Rattle.host_decl.specs.Hosts as declared_hosts
 use Rattle.jif_tree.specs.declared.program.Program.{Program}
 use Rattle.jif_tree.specs.Altered as altering
-use Rattle.jif_tree.specs.Altered.{Exposure, MayStep, AreAltered}
+use Rattle.jif_tree.specs.Altered.{Exposure, MayStep}
 use Rattle.jif_tree.specs.SourceRun.{Configuration, IsAtEnd, configuration_at_start}
-use Rattle.jif_tree.proofs.AlteredTracks as tracks
-use Rattle.jif_tree.proofs.AlteredTracks.{last_of}
 use Rattle.host_code.specs.Thread.{WaitingShape}
 use Rattle.host_code.specs.Code.{CodeShape}
 use Rattle.host_core.specs.Host.{HostShape}
@@ -24,17 +22,17 @@ use Rattle.split_rules.specs.Splittable.{IsSplittable}
 use Rattle.net_world.specs.Fits.{HasOwnToken}
 use Rattle.net_world.specs.World.{WorldShape, IsStep, IsRun, IsTurnStep, IsActStep, state_at, tokens_sent}
 use Rattle.net_world.specs.World.{world_at_start}
-use Rattle.net_world.proofs.StepLaws.{one_step}
+use Rattle.net_world.proofs.GoingOn.{IsKept, along}
 use Rattle.token_laws.specs.Numbers.{CodeHasNumbers, RowsHaveNumbers, EventHasNumbers, MessageHasNumbers}
 use Rattle.token_laws.specs.Reached.{IsReached}
 use Rattle.token_laws.proofs.Walks.{one_more}
 use Rattle.typed_steps.specs.Views.{Split, View}
-use Rattle.integrity.specs.Altering.{StandsFor, FollowsAltered}
+use Rattle.integrity.specs.Altering.{StandsFor, GoesOnAltered, FollowsAltered}
 use Rattle.integrity.specs.Exposed.{bad_labels}
 use Rattle.integrity.specs.Holding.{Holder, runs, asked, answered, stuck, passes, lost, halted, IsOwn, OwnsRunning}
 use Rattle.integrity.specs.Holding.{OwnsMessage}
 use Rattle.integrity.specs.Loose as loosening
-use Rattle.integrity.specs.Loose.{StandsLoosely, AlteredTo, Loosens, Recovers}
+use Rattle.integrity.specs.Loose.{StandsLoosely, Loosens, Recovers}
 use Rattle.integrity.specs.Outside.{Threat, threat_of}
 use Rattle.integrity.specs.Standing as standing
 use Rattle.integrity.specs.Standing.{threat_in, StandsBy, Goes, Stalls, Does}
@@ -65,8 +63,8 @@ record Follows (split : Split) (rows : List declared_hosts.HostShape) (bad : ℕ
   said : All EventHasNumbers events
   stands : Stands split world c
 
-record FollowStep (code : CodeShape) (start world : WorldShape) (event : Event) (after : WorldShape) : Type 0 where
-  step : IsStep code world event after
+-- what is known of an event
+record IsLawfulEvent (start : WorldShape) (event : Event) : Type 0 where
   own : HasOwnToken start event
   numbers : EventHasNumbers event
 
@@ -90,18 +88,6 @@ stands_for split world c (loose view stands) = record {
   halted = λ has. absurd (stands.goes_on has);
 }
 
--- an altered run to a configuration is one that ends with it
-altered_to : (program : Program) (exposure : Exposure) (c now : Configuration) (more : List Configuration) →
-    AlteredTo program exposure c more now → AreAltered program exposure c more
-altered_to program exposure c now [] altered = tt
-altered_to program exposure c now (next ∷ more) altered =
-    (altered.0, altered_to program exposure next now more altered.1)
-
-ends_with : (program : Program) (exposure : Exposure) (c now : Configuration) (more : List Configuration) →
-    AlteredTo program exposure c more now → now ≡ last_of c more
-ends_with program exposure c now [] altered = altered
-ends_with program exposure c now (next ∷ more) altered = ends_with program exposure next now more altered.1
-
 -- ---- the law
 
 module _ (laws : AreLaws) (split : Split) (placed : PlacedProgram) (bad : ℕ) (store : List (List ℤ))
@@ -109,38 +95,35 @@ module _ (laws : AreLaws) (split : Split) (placed : PlacedProgram) (bad : ℕ) (
     (splittable : IsSplittable placed) (allowed : IsAllowed placed)
     (held : IsHeld placed)
     (code_numbers : CodeHasNumbers split.code) (store_numbers : RowsHaveNumbers store) where
-  abbrev Step : WorldShape → Event → WorldShape → Type 0
-  Step world event after =
-      FollowStep split.code (world_at_start split.code placed.hosts.hosts bad store) world event after
+  abbrev Fits : Event → Type 0
+  Fits = IsLawfulEvent (world_at_start split.code placed.hosts.hosts bad store)
 
-  one_follows : (world first second : WorldShape) (event : Event) → Step world event first → Step world event second →
-      first ≡ second
-  one_follows world first second event step other = one_step split.code world first second event step.step other.step
-
+  -- the program goes on, and the world stands for what it has come to
   abbrev GoesOnHere : Configuration → WorldShape → Type 0
   GoesOnHere c after =
-      tracks.GoesOn Step one_follows split.program split.exposure (Follows split placed.hosts.hosts bad store) c after
+      (now : Configuration) × GoesOnAltered split.program split.exposure c now
+      × Follows split placed.hosts.hosts bad store after now
 
   exposed : split.exposure.bad ≡ bad_labels bad 0 placed.hosts.hosts
   exposed = ap (λ (t : Threat). t.exposure.bad) same
 
   module _ (world after : WorldShape) (c : Configuration) (event : Event)
-      (it : Follows split placed.hosts.hosts bad store world c) (step : Step world event after) where
+      (it : Follows split placed.hosts.hosts bad store world c) (fits : Fits event)
+      (step : IsStep split.code world event after) where
     next_follows : (now : Configuration) → Stands split after now → Follows split placed.hosts.hosts bad store after now
     next_follows now stands = record {
       events = it.events ++ event ∷ [];
-      reach = one_more split.code placed.hosts.hosts bad store it.events world after event it.reach step.own step.step;
-      said = All-push EventHasNumbers it.events event it.said step.numbers;
+      reach = one_more split.code placed.hosts.hosts bad store it.events world after event it.reach fits.own step;
+      said = All-push EventHasNumbers it.events event it.said fits.numbers;
       stands = stands;
     }
 
     here : Stands split after c → GoesOnHere c after
-    here stands = record { more = []; altered = tt; holds = next_follows c stands }
+    here stands = (c, ([], refl), next_follows c stands)
 
     stepped : (now : Configuration) → MayStep split.program split.exposure c c.pending now → Stands split after now →
         GoesOnHere c after
-    stepped now does stands =
-        record { more = now ∷ []; altered = (altering.steps does, tt); holds = next_follows now stands }
+    stepped now does stands = (now, (now ∷ [], (altering.steps does, refl)), next_follows now stands)
 
     goes_on : Goes split c after → GoesOnHere c after
     goes_on (standing.stays view holder free stands) = here (tight view holder stands)
@@ -152,13 +135,7 @@ module _ (laws : AreLaws) (split : Split) (placed : PlacedProgram) (bad : ℕ) (
         stepped now does (tight view (stuck host waiting) stands)
 
     loosens_on : Loosens split c after → GoesOnHere c after
-    loosens_on l = record {
-      more = l.more;
-      altered = altered_to split.program split.exposure c l.now l.more l.altered;
-      holds = next_follows (last_of c l.more)
-          (subst (λ now. Stands split after now) (ends_with split.program split.exposure c l.now l.more l.altered)
-          (loose l.view l.stands));
-    }
+    loosens_on l = (l.now, (l.more, l.altered), next_follows l.now (loose l.view l.stands))
 
     recovers_on : Recovers split c after → GoesOnHere c after
     recovers_on (loosening.waits view stands) = here (loose view stands)
@@ -170,7 +147,7 @@ module _ (laws : AreLaws) (split : Split) (placed : PlacedProgram) (bad : ℕ) (
     from_loose : (view : View) → StandsLoosely split c view world → GoesOnHere c after
     from_loose view stands =
         recovers_on (recovers laws split placed bad store it.events world after event c view same
-        splittable allowed it.reach step.own step.step stands)
+        splittable allowed it.reach fits.own step stands)
 
     turn_on : (host : HostId) → Goes split c after ⊎ (Stalls split c host after ⊎ Loosens split c after) →
         GoesOnHere c after
@@ -183,7 +160,7 @@ module _ (laws : AreLaws) (split : Split) (placed : PlacedProgram) (bad : ℕ) (
       outside holder stands apart =
           here (tight view holder
           (stands_kept laws split placed bad store it.events world after event c view holder same
-          splittable allowed it.reach step.own step.step stands apart))
+          splittable allowed it.reach fits.own step stands apart))
 
       turn_own : (host : HostId) (holder : Holder) → OwnsRunning holder host → StandsBy split c view holder world →
           IsTurnStep split.code world host after → GoesOnHere c after
@@ -253,87 +230,58 @@ module _ (laws : AreLaws) (split : Split) (placed : PlacedProgram) (bad : ℕ) (
           absurd (no_act split c view world is halted tt stands from to made acts.bad own)
 
   kept_tight : (world after : WorldShape) (c : Configuration) (event : Event) →
-      (it : Follows split placed.hosts.hosts bad store world c) → (step : Step world event after) → (view : View)
+      (it : Follows split placed.hosts.hosts bad store world c) → (fits : Fits event) →
+      (step : IsStep split.code world event after) → (view : View)
       (holder : Holder) → StandsBy split c view holder world → GoesOnHere c after
-  kept_tight world after c (Turn host) it step view holder stands =
-      elim (decide_turn split c view world (is world after c (Turn host) it step) holder host) [
-        | inl own ↦ turn_own world after c (Turn host) it step view host holder own stands step.step
-        | inr apart ↦ outside world after c (Turn host) it step view holder stands apart
+  kept_tight world after c (Turn host) it fits step view holder stands =
+      elim (decide_turn split c view world (is world after c (Turn host) it fits step) holder host) [
+        | inl own ↦ turn_own world after c (Turn host) it fits step view host holder own stands step
+        | inr apart ↦ outside world after c (Turn host) it fits step view holder stands apart
       ]
-  kept_tight world after c (Take from to place) it step view holder stands =
-      elim (decide_take split c view world (is world after c (Take from to place) it step) holder stands from to
+  kept_tight world after c (Take from to place) it fits step view holder stands =
+      elim (decide_take split c view world (is world after c (Take from to place) it fits step) holder stands from to
       place) [
         | inl own ↦
-            goes_on world after c (Take from to place) it step
+            goes_on world after c (Take from to place) it fits step
             (holder_taken split placed.hosts.hosts bad store it.events world after c view exposed it.reach code_numbers
-            store_numbers it.said holder from to place stands step.step own)
-        | inr apart ↦ outside world after c (Take from to place) it step view holder stands apart
+            store_numbers it.said holder from to place stands step own)
+        | inr apart ↦ outside world after c (Take from to place) it fits step view holder stands apart
       ]
-  kept_tight world after c (Act from to made) it step view holder stands =
-      elim (decide_act split c view world (is world after c (Act from to made) it step) holder stands from to
-      made step.step.bad step.step.message step.step.makes) [
+  kept_tight world after c (Act from to made) it fits step view holder stands =
+      elim (decide_act split c view world (is world after c (Act from to made) it fits step) holder stands from to
+      made step.bad step.message step.makes) [
         | inl own ↦
-            act_own world after c (Act from to made) it step view holder from to made own step.step step.own
-            step.numbers stands
-        | inr apart ↦ outside world after c (Act from to made) it step view holder stands apart
+            act_own world after c (Act from to made) it fits step view holder from to made own step fits.own
+            fits.numbers stands
+        | inr apart ↦ outside world after c (Act from to made) it fits step view holder stands apart
       ]
 
   kept_by : (world after : WorldShape) (c : Configuration) (event : Event) →
-      (it : Follows split placed.hosts.hosts bad store world c) → (step : Step world event after) →
+      (it : Follows split placed.hosts.hosts bad store world c) → (fits : Fits event) →
+      (step : IsStep split.code world event after) →
       Stands split world c →
       GoesOnHere c after
-  kept_by world after c event it step (tight view holder stands) =
-      kept_tight world after c event it step view holder stands
-  kept_by world after c event it step (loose view stands) = from_loose world after c event it step view stands
+  kept_by world after c event it fits step (tight view holder stands) =
+      kept_tight world after c event it fits step view holder stands
+  kept_by world after c event it fits step (loose view stands) = from_loose world after c event it fits step view stands
 
-  kept : (world after : WorldShape) (c : Configuration) (event : Event) →
-      Follows split placed.hosts.hosts bad store world c →
-      Step world event after → GoesOnHere c after
-  kept world after c event it step = kept_by world after c event it step it.stands
-
-  ran_of : (events : List Event) (world last : WorldShape) → IsRun split.code world events last →
-      All (HasOwnToken (world_at_start split.code placed.hosts.hosts bad store)) events → All EventHasNumbers events →
-      tracks.Ran Step one_follows split.program split.exposure (Follows split placed.hosts.hosts bad store) world
-      events last
-  ran_of [] world last ran own said = ran
-  ran_of (event ∷ events) world last ran own said = (
-    ran.0,
-    record { step = ran.1; own = own 0 event (omega arith); numbers = said 0 event (omega arith) },
-    ran_of events ran.0 last ran.2 (λ k d lt. own (suc k) d (omega arith)) (λ k d lt. said (suc k) d (omega arith)),
-  )
+  kept : IsKept (StandsFor split.code split.exposure) (GoesOnAltered split.program split.exposure) split.code Fits
+      (Follows split placed.hosts.hosts bad store)
+  kept world after c event it fits step = kept_by world after c event it fits step it.stands
 
   pub follows : (events : List Event) (last : WorldShape) (state : HostShape) →
       IsReached split.code placed.hosts.hosts bad store events last → All EventHasNumbers events →
       state_at (world_at_start split.code placed.hosts.hosts bad store) split.code.root ≡ Some state →
-      FollowsAltered split.program split.exposure split.code placed.hosts.hosts bad store events
+      FollowsAltered split.program split.exposure split.code placed.hosts.hosts bad store events last
   follows events last state reach said obeys =
       let start = world_at_start split.code placed.hosts.hosts bad store in
-      let c = configuration_at_start split.program store in
       let begin = stands_at_start split placed.hosts.hosts bad store state obeys in
-      let first : Follows split placed.hosts.hosts bad store (world_at_start split.code placed.hosts.hosts bad store)
-      (configuration_at_start split.program store) =
-      record {
+      along (StandsFor split.code split.exposure) (GoesOnAltered split.program split.exposure) split.code Fits
+      (Follows split placed.hosts.hosts bad store) (λ world c it. stands_for split world c it.stands) kept events start
+      last (configuration_at_start split.program store)
+      (record {
         events = [];
         reach = record { sound = reach.sound; hosts = reach.hosts; own = All-nil _; ran = refl };
         said = All-nil EventHasNumbers;
         stands = tight begin.0 (runs split.code.root begin.1) begin.2;
-      } in
-      let it =
-      tracks.along Step one_follows split.program split.exposure
-      (Follows split placed.hosts.hosts bad store) kept events start last
-      c first (ran_of events start last reach.ran reach.own said) in
-      record {
-        run = c ∷ it.others;
-        altered = (refl, it.altered);
-        places = it.places;
-        moments = it.moments;
-        first = it.first;
-        rising = it.rising;
-        stands = λ moment world within ran.
-            some_each (Follows split placed.hosts.hosts bad store world) (StandsFor split.code split.exposure world)
-            (slice_get (c ∷ it.others) (slice_index it.places moment))
-            (λ d has. stands_for split world d has.stands)
-            (it.stands moment world within
-            (ran_of (take moment events) start world ran (All-take (HasOwnToken start) moment events reach.own)
-            (All-take EventHasNumbers moment events said)));
-      }
+      }) (λ k d less. record { own = reach.own k d less; numbers = said k d less }) reach.ran

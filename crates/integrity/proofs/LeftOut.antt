@@ -12,7 +12,7 @@ use Rattle.label_lattice.specs.declared.label.Label.{Label}
 use Rattle.label_lattice.specs.Label.{IsTrustedBy}
 use Rattle.jif_tree.specs.declared.program.StmtKind.{StmtKind}
 use Rattle.jif_tree.specs.declared.program.StmtKind as kind
-use Rattle.jif_tree.specs.Altered.{StatementIsAffected, VariableIsAffected, MayBeLeft, leaves_out}
+use Rattle.jif_tree.specs.Altered.{Altered, StatementIsAffected, VariableIsAffected, MayBeLeft, leaves_out}
 use Rattle.jif_tree.specs.LabelRules.{method_at, result_of}
 use Rattle.jif_tree.specs.SourceRun as source
 use Rattle.jif_tree.specs.SourceRun.{Configuration}
@@ -32,7 +32,6 @@ use Rattle.typed_steps.specs.Variables.{HasResult, Holds}
 use Rattle.typed_steps.specs.Views.{Split, View}
 use Rattle.typed_steps.proofs.Basics.{all_map}
 use Rattle.typed_steps.proofs.HeldSteps.{holds_now}
-use Rattle.integrity.specs.Loose.{AlteredTo}
 use Rattle.integrity.specs.Standing.{threat_in}
 use Rattle.integrity.proofs.OpenSteps.{IsKnown, any_each, variable_affected}
 
@@ -86,7 +85,7 @@ pub record LeavesOut (split : Split) (c : Configuration) (view : View) (world : 
   where
     pub now : Configuration
     pub more : List Configuration
-    pub altered : AlteredTo split.program split.exposure c more now
+    pub altered : Altered split.program split.exposure c more now
     pub store : now.store ≡ c.store
     pub calls : now.calls ≡ c.calls
     pub keeper : HostId

@@ -1,20 +1,19 @@
 -- Where the root misbehaves, what misbehaving hosts may not affect is as it was at the start.
-use Rattle.std.proofs.Common.{◌≡◌, ◌∙◌, ℕ, ◌+◌, ◌<◌, inl, inr, ℤ, List, [], ◌∷◌, length, replicate}
-use Rattle.std.proofs.Common.{take, get_or, refl, sym, subst, arith, Option, Some, None}
+use Rattle.std.proofs.Common.{◌≡◌, ◌∙◌, ℕ, ◌+◌, ◌<◌, inl, inr, ℤ, List, [], ◌∷◌, ◌++◌}
+use Rattle.std.proofs.Common.{refl, sym, subst, Option, Some, None}
 use Rattle.std.specs.Prelude.{◌⊎◌, slice_get, All, IsSomeAnd, IsTrue}
 use Rattle.std.specs.Int.{bit_at}
-use Rattle.std.specs.List.Sorted.{IsNonDecreasing}
-use Rattle.std.proofs.lemmas.List.{get_or-replicate, length-replicate}
-use Rattle.std.proofs.lemmas.List.Elements.{All-nil, All-take}
+use Rattle.std.proofs.lemmas.List.Elements.{All-nil}
 use Rattle.host_decl.specs.Hosts as declared_hosts
 use Rattle.jif_tree.specs.declared.program.Program.{Program}
 use Rattle.jif_tree.specs.Altered.{Exposure, FieldIsAffected}
-use Rattle.jif_tree.specs.SourceRun.{configuration_at_start}
+use Rattle.jif_tree.specs.SourceRun.{Configuration, configuration_at_start}
 use Rattle.jif_tree.specs.Store.{row_of}
 use Rattle.host_code.specs.Code.{CodeShape}
 use Rattle.event_text.specs.declared.event.Event.{Event}
 use Rattle.host_core.specs.Host.{HostShape}
 use Rattle.net_world.specs.Fits.{HasOwnToken}
+use Rattle.net_world.proofs.GoingOn.{IsKept, along as along_events}
 use Rattle.net_world.specs.World.{WorldShape, IsRun, world_at_start, state_at, has_halted}
 use Rattle.split_rules.specs.Placed.{PlacedProgram, planned_from}
 use Rattle.split_rules.specs.Allowed.{IsAllowed}
@@ -23,7 +22,8 @@ use Rattle.split_rules.specs.Splittable.{IsSplittable}
 use Rattle.split_rules.specs.Typable.{IsTypable}
 use Rattle.split_rules.specs.TypedCode.{Table, IsTypedCode}
 use Rattle.token_laws.specs.Reached.{IsReached}
-use Rattle.integrity.specs.Altering.{StandsFor, FollowsAltered}
+use Rattle.token_laws.proofs.Walks.{one_more}
+use Rattle.integrity.specs.Altering.{StandsFor, GoesOnAltered, FollowsAltered}
 use Rattle.integrity.specs.Exposed.{FieldsStand, AreAsBefore, IsAsBefore, exposure_of}
 use Rattle.integrity.specs.Outside.{threat_of}
 use Rattle.integrity.proofs.OutsideLaws.{AreLaws, along}
@@ -67,26 +67,6 @@ root_runs : (code : CodeShape) (exposure : Exposure) (rows : List declared_hosts
 root_runs code exposure rows bad store world misbehaving stays =
     never_halts (state_at world code.root) (state_at (world_at_start code rows bad store) code.root)
     (IsAsBefore exposure) (stays code.root) (bad_at_start code rows bad store code.root misbehaving)
-
--- ---- one configuration
-
-abbrev first_places : ℕ → List ℕ
-first_places count = replicate count 0
-
-many_first : (count : ℕ) → length (first_places count) ≡ count
-many_first count = length-replicate count 0
-
-each_first : (count i d : ℕ) → i < count → get_or (first_places count) i d ≡ 0
-each_first count i d within = get_or-replicate count i 0 d within
-
-none_falls : (count : ℕ) → IsNonDecreasing (first_places count)
-none_falls count i j d le lt =
-    let many = many_first count in
-    let within : j < count = omega (arith, many, lt) in
-    let before : i < count = omega (arith, le, within) in
-    let one = each_first count i d before in
-    let other = each_first count j d within in
-    omega (arith, one, other)
 
 -- ---- the laws
 
@@ -136,25 +116,35 @@ module _ (laws : AreSplitLaws) (program : Program) (placed : PlacedProgram) (bad
       (configuration_at_start program store)
   starting events world reach = stands_after events events world world reach reach.own reach.ran
 
+  -- events lead to the world, and the program is at its start
+  record StandsStill (world : WorldShape) (c : Configuration) : Type 0 where
+    events : List Event
+    reach : IsReached (split_code placed) placed.hosts.hosts bad store events world
+    is : c ≡ configuration_at_start program store
+
+  stays_still : IsKept (StandsFor (split_code placed) (exposure_of placed bad))
+      (GoesOnAltered program (exposure_of placed bad)) (split_code placed)
+      (HasOwnToken (world_at_start (split_code placed) placed.hosts.hosts bad store)) StandsStill
+  stays_still world after c event it own step = (
+    c,
+    ([], refl),
+    record {
+      events = it.events ++ event ∷ [];
+      reach = one_more (split_code placed) placed.hosts.hosts bad store it.events world after event it.reach own step;
+      is = it.is;
+    },
+  )
+
   pub follows_nothing : (events : List Event) (world : WorldShape) →
       IsReached (split_code placed) placed.hosts.hosts bad store events world →
-      FollowsAltered program (exposure_of placed bad)
-      (split_code placed) placed.hosts.hosts
-      bad store events
+      FollowsAltered program (exposure_of placed bad) (split_code placed) placed.hosts.hosts bad store events world
   follows_nothing events world reach =
-      let start = world_at_start (split_code placed) placed.hosts.hosts bad store in
+      let code = split_code placed in
+      let exposure = exposure_of placed bad in
+      let start = world_at_start code placed.hosts.hosts bad store in
       let c = configuration_at_start program store in
-      record {
-        run = c ∷ [];
-        altered = (refl, tt);
-        places = first_places (length events + 1);
-        moments = many_first (length events + 1);
-        first = each_first (length events + 1) 0 0 (omega arith);
-        rising = none_falls (length events + 1);
-        stands = λ moment there within ran.
-            subst (λ (place : ℕ). IsSomeAnd (slice_get (c ∷ []) place)
-            (StandsFor (split_code placed) (exposure_of placed bad) there))
-            (sym (each_first (length events + 1) moment 0 (omega arith)))
-            (stands_after events (take moment events) there world reach
-            (All-take (HasOwnToken start) moment events reach.own) ran);
-      }
+      along_events (StandsFor code exposure) (GoesOnAltered program exposure) code (HasOwnToken start) StandsStill
+      (λ there at it. subst (StandsFor code exposure there) (sym it.is) (starting it.events there it.reach)) stays_still
+      events start world c
+      (record { events = []; reach = start_reached code placed.hosts.hosts bad store events world reach; is = refl })
+      reach.own reach.ran

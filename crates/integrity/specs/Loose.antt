@@ -2,8 +2,7 @@
 -- back nothing that goes on is the program's.
 use Rattle.std.specs.Prelude.{◌≡◌, ⊤, List, [], ◌∷◌, IsSomeAnd}
 use Rattle.std.specs.List.{AllByRecursion}
-use Rattle.jif_tree.specs.declared.program.Program.{Program}
-use Rattle.jif_tree.specs.Altered.{Exposure, Alters}
+use Rattle.jif_tree.specs.Altered.{Altered}
 use Rattle.jif_tree.specs.SourceRun.{Configuration}
 use Rattle.ics_stack.specs.declared.stack.StackEntry.{StackEntry}
 use Rattle.net_world.specs.World.{WorldShape, state_at, has_halted}
@@ -44,17 +43,11 @@ pub record StandsLoosely (split : Split) (c : Configuration) (view : View) (worl
 
 -- ---- what an event makes of it
 
--- an altered run from a configuration to another
-abbrev pub AlteredTo : Program → Exposure → Configuration → List Configuration → Configuration → Type 0
-AlteredTo program exposure c [] now = now ≡ c
-AlteredTo program exposure c (next ∷ more) now =
-    Alters program exposure c next × AlteredTo program exposure next more now
-
 -- The token of the first entry was handed over, and what was due before that is left out.
 pub record Loosens (split : Split) (c : Configuration) (after : WorldShape) : Type 0 where
   pub now : Configuration
   pub more : List Configuration
-  pub altered : AlteredTo split.program split.exposure c more now
+  pub altered : Altered split.program split.exposure c more now
   pub view : View
   pub stands : StandsLoosely split now view after
 

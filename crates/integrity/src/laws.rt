@@ -100,8 +100,7 @@ pub fn root_laws()
         let code = split_code placed in
         IsSplittable placed → IsAllowed placed →
         IsReached code placed.hosts.hosts bad store events world → bit_at bad code.root.0 ≡ 1 →
-        FollowsAltered program (exposure_of placed bad) code placed.hosts.hosts bad
-        store events }
+        FollowsAltered program (exposure_of placed bad) code placed.hosts.hosts bad store events world }
 {
     split_laws();
     trust_laws();
@@ -256,8 +255,7 @@ pub fn integrity_laws()
         let code = split_code placed in
         IsSet program placed → CodeHasNumbers code → RowsHaveNumbers store →
         IsReached code placed.hosts.hosts bad store events world → All EventHasNumbers events →
-        FollowsAltered program (exposure_of placed bad) code placed.hosts.hosts bad
-        store events }
+        FollowsAltered program (exposure_of placed bad) code placed.hosts.hosts bad store events world }
 {
     split_laws();
     trust_laws();

@@ -3,6 +3,7 @@ pub mod Counted
 pub mod Decisions
 pub mod Fitting
 pub mod Flights
+pub mod GoingOn
 pub mod Letters
 pub mod Moved
 pub mod Named

@@ -4,5 +4,6 @@ pub mod Flying
 pub mod Replay
 pub mod Secret
 pub mod Steps
+pub mod Together
 pub mod Told
 pub mod World

@@ -8,6 +8,5 @@ pub mod Events
 pub mod Plainly
 pub mod Possible
 pub mod Starts
-pub mod Tracks
 pub mod Obeyed
 pub mod Ending

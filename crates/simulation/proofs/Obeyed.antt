@@ -1,7 +1,7 @@
 -- The laws of hosts that all obey: every event keeps that the world stands for a configuration of the plain run.
 use Rattle.std.proofs.Common.{◌≡◌, ℕ, zero, suc, ◌<◌, inl, inr, false, List, [], ◌∷◌, length, Option, Some, None, refl}
-use Rattle.std.proofs.Common.{subst, arith}
-use Rattle.std.specs.Prelude.{ℤ, slice_get}
+use Rattle.std.proofs.Common.{ap, sym, subst, arith}
+use Rattle.std.specs.Prelude.{ℤ, ⊤, slice_get}
 use Rattle.std.specs.List.{AllByRecursion}
 use Rattle.std.proofs.lemmas.Option.{slice_get_within}
 use Rattle.std.proofs.lemmas.List.{length-map}
@@ -15,7 +15,8 @@ use Rattle.host_code.specs.Sound.{IsSoundCode}
 use Rattle.host_core.specs.Host.{HostShape}
 use Rattle.jif_tree.specs.Altered.{Exposure}
 use Rattle.jif_tree.specs.declared.program.Program.{Program}
-use Rattle.jif_tree.specs.SourceRun.{IsAtEnd, prefix}
+use Rattle.jif_tree.specs.SourceRun.{IsAtEnd, prefix, configuration_at_start}
+use Rattle.jif_tree.specs.SourceRun as run
 use Rattle.jif_tree.specs.Trees.{MethodTree, ProgramTree}
 use Rattle.jif_tree.specs.WellNumbered.{is_some, HasOptionalVariable, AreMethodsIn, IsMethodIn}
 use Rattle.net_world.specs.Choice.{NoneRuns, NothingFlies, IsNextEvent}
@@ -26,13 +27,13 @@ use Rattle.jif_tree.specs.SourceRun.{Configuration}
 use Rattle.typed_steps.specs.Views.{Split, AreRising}
 use Rattle.typed_steps.proofs.KnownReaders.{body_fit, nobody_reads}
 use Rattle.typed_steps.proofs.SeenResults.{results_seen}
-use Rattle.simulation.specs.Obeying.{IsSet, Follows}
+use Rattle.simulation.specs.Obeying.{IsSet, Counted, Follows, GoesOnPlainly, StandsPlainly}
 use Rattle.simulation.proofs.Possible.{next_happens, one_event}
 use Rattle.simulation.proofs.Simulates.{Simulates}
 use Rattle.simulation.proofs.Starts.{falls_at_start}
 use Rattle.simulation.proofs.Events.{halted_at_end, idle_halted}
 use Rattle.simulation.proofs.Plainly.{GivesPlain, prefix_kept, fields_are}
-use Rattle.simulation.proofs.Tracks.{IsKept, Tracks, track, track_end}
+use Rattle.net_world.proofs.GoingOn.{IsKept, along, at_last}
 use Rattle.net_world.specs.World.{IsStep, named_host, WorldShape, IsRun, world_at_start, state_at, has_halted}
 use Rattle.split_rules.specs.Placed.{PlacedProgram, planned_from}
 use Rattle.split_rules.specs.Allowed.{IsAllowed}
@@ -151,26 +152,56 @@ not_at_end split store n before now m within ends = elim (cases_eq m n) [
   | inr other ↦ before m (omega arith) ends
 ]
 
-kept : GivesPlain → (split : Split) (store : List (List ℤ)) → IsKept split.code (Stands split store)
-kept plain split store world after n event stands step =
-    let fits = shape_step split.code world after event split.sound stands.fits
-    (own_tokens split (prefix split.program store n) world after event stands.simulates step) step in
-    elim (prefix_kept plain split store n world after event stands.simulates stands.fits step) [
+-- the configuration is that after so many steps
+record StandsAfter (split : Split) (store : List (List ℤ)) (world : WorldShape) (c : Configuration) : Type 0 where
+  steps : ℕ
+  is : c ≡ prefix split.program store steps
+  stands : Stands split store world steps
+
+stands_plainly : (split : Split) (store : List (List ℤ)) (world : WorldShape) (c : Configuration) →
+    StandsAfter split store world c → StandsPlainly split.code world c
+stands_plainly split store world c it =
+    let at = prefix split.program store it.steps in
+    let sim = it.stands.simulates in
+    subst (StandsPlainly split.code world) (sym it.is)
+    (record {
+      fields = fields_are split world at.store sim.orderly.unaffected sim.holds.fields;
+      halted = λ halts. halted_at_end split at world sim halts;
+      idle = λ none nothing. idle_halted split at world sim none nothing;
+      none_ignored = λ host state is. sim.orderly.ignored host state is;
+    })
+
+kept : GivesPlain → (split : Split) (store : List (List ℤ)) →
+    IsKept (StandsPlainly split.code) (GoesOnPlainly split.program) split.code (λ event. ⊤) (StandsAfter split store)
+kept plain split store world after c event it fit step =
+    let n = it.steps in
+    let sim = it.stands.simulates in
+    let fits = shape_step split.code world after event split.sound it.stands.fits
+    (own_tokens split (prefix split.program store n) world after event sim step) step in
+    elim (prefix_kept plain split store n world after event sim it.stands.fits step) [
       | inl same ↦ (
-        n,
-        omega arith,
-        omega arith,
-        record
-            { simulates = same.now; not_before = stands.not_before; fits = fits },
+        c,
+        inl refl,
+        record {
+          steps = n;
+          is = it.is;
+          stands = record { simulates = same.now; not_before = it.stands.not_before; fits = fits };
+        },
       )
       | inr next ↦ (
-        suc n,
-        omega arith,
-        omega arith,
+        prefix split.program store (suc n),
+        inr (
+          subst (λ (k : Configuration). ¬ IsAtEnd k) (sym it.is) next.0,
+          ap (run.step split.program) (sym it.is),
+        ),
         record {
-          simulates = next.1.now;
-          not_before = not_at_end split store n stands.not_before next.0;
-          fits = fits;
+          steps = suc n;
+          is = refl;
+          stands = record {
+            simulates = next.1.now;
+            not_before = not_at_end split store n it.stands.not_before next.0;
+            fits = fits;
+          };
         },
       )
     ]
@@ -180,49 +211,53 @@ module _ (plain : GivesPlain) (split : Split) (store : List (List ℤ)) (hosts :
     (fits : ShapeFits split.code (world_at_start split.code hosts.hosts 0 store))
     (events : List Event) (world : WorldShape)
     (ran : IsRun split.code (world_at_start split.code hosts.hosts 0 store) events world) where
-  tracked : Tracks split.code (Stands split store) (world_at_start split.code hosts.hosts 0 store) 0 events
-  tracked =
-      track split.code (Stands split store) (kept plain split store) events
-      (world_at_start split.code hosts.hosts 0 store) world 0
-      (record { simulates = start; not_before = λ m within ends. omega arith; fits = fits }) ran
-
-  at_end : (n : ℕ) × Stands split store world n
-  at_end =
-      track_end split.code (Stands split store) (world_at_start split.code hosts.hosts 0 store) world 0 events tracked
-      ran
-
-  pub follows : Follows split.program split.code hosts.hosts store events
-  follows = record {
-    steps = tracked.steps;
-    moments = tracked.moments;
-    first = tracked.first;
-    rising = tracked.rising;
-    close = tracked.close;
-    fields = λ moment after within is.
-        let stands = (tracked.holds moment after within is).simulates in
-        fields_are split after _ stands.orderly.unaffected stands.holds.fields;
-    halted = λ moment after within is halts.
-        let stands = tracked.holds moment after within is in
-        record {
-          ends = halted_at_end split _ after stands.simulates halts;
-          not_before = stands.not_before;
-        };
+  at_start : StandsAfter split store (world_at_start split.code hosts.hosts 0 store)
+      (configuration_at_start split.program store)
+  at_start = record {
+    steps = 0;
+    is = refl;
+    stands = record { simulates = start; not_before = λ m within ends. omega arith; fits = fits };
   }
 
+  at_end : (c : Configuration) × StandsAfter split store world c
+  at_end =
+      at_last (StandsPlainly split.code) (GoesOnPlainly split.program) split.code (λ event. ⊤) (StandsAfter split store)
+      (kept plain split store) events (world_at_start split.code hosts.hosts 0 store) world
+      (configuration_at_start split.program store) at_start (λ k d less. tt) ran
+
+  pub follows : Follows split.program split.code hosts.hosts store events world
+  follows =
+      along (StandsPlainly split.code) (GoesOnPlainly split.program) split.code (λ event. ⊤) (StandsAfter split store)
+      (stands_plainly split store) (kept plain split store) events
+      (world_at_start split.code hosts.hosts 0 store) world (configuration_at_start split.program store) at_start
+      (λ k d less. tt) ran
+
+  pub counted : Counted split.program split.code store world
+  counted =
+      let stands = at_end.1.stands in
+      record {
+        steps = at_end.1.steps;
+        fields = fields_are split world _ stands.simulates.orderly.unaffected stands.simulates.holds.fields;
+        halted = λ halts. record {
+          ends = halted_at_end split _ world stands.simulates halts;
+          not_before = stands.not_before;
+        };
+      }
+
   pub idle : NoneRuns world → NothingFlies world → has_halted split.code.root world
-  idle none nothing = idle_halted split _ world at_end.1.simulates none nothing
+  idle none nothing = idle_halted split _ world at_end.1.stands.simulates none nothing
 
   pub next_possible : (event : Event) → IsNextEvent world (Some event) →
       (after : WorldShape) × IsStep split.code world event after
-  next_possible event next = next_happens split _ world at_end.1.simulates at_end.1.fits event next
+  next_possible event next = next_happens split _ world at_end.1.stands.simulates at_end.1.stands.fits event next
 
   pub one_possible : (first second : Event) (after other : WorldShape) → IsStep split.code world first after →
       IsStep split.code world second other → first ≡ second
   one_possible first second after other step also =
-      one_event split _ world after other at_end.1.simulates first second step also
+      one_event split _ world after other at_end.1.stands.simulates first second step also
 
   pub none_ignored : (host : HostId) (state : HostShape) → state_at world host ≡ Some state → state.ignored ≡ 0
-  none_ignored host state is = at_end.1.simulates.orderly.ignored host state is
+  none_ignored host state is = at_end.1.stands.simulates.orderly.ignored host state is
 
 -- ---- the laws
 
@@ -275,9 +310,13 @@ module _ (laws : SplitLaws) (program : Program) (placed : PlacedProgram) (store 
       shape_at_start (split_code placed) placed.hosts.hosts 0 store
       (laws.sound placed set.splittable) refl
 
-  pub fields_follow : Follows program (split_code placed) placed.hosts.hosts store events
+  pub fields_follow : Follows program (split_code placed) placed.hosts.hosts store events world
   unfolding split typed_split
   fields_follow = follows laws.plain split store placed.hosts start fits_there events world ran
+
+  pub steps_counted : Counted program (split_code placed) store world
+  unfolding split typed_split
+  steps_counted = counted laws.plain split store placed.hosts start fits_there events world ran
 
   pub idle_ends : NoneRuns world → NothingFlies world → has_halted (split_code placed).root world
   unfolding split typed_split

@@ -1,11 +1,11 @@
 -- What hosts that all obey promise together, where they run the code of a split program: their fields follow the plain
 -- run of the program.
-use Rattle.std.specs.Prelude.{◌≡◌, ℕ, ◌+◌, ◌<◌, ◌≤◌, ℤ, List, length, take, Some, slice_get, slice_index}
-use Rattle.std.specs.List.Sorted.{IsNonDecreasing}
+use Rattle.std.specs.Prelude.{◌≡◌, ◌⊎◌, ℕ, ℤ, List, Some, slice_get}
+use Rattle.js_base.specs.declared.ids.HostId.{HostId}
 use Rattle.host_decl.specs.Hosts as declared_hosts
 use Rattle.jif_tree.specs.declared.program.Program.{Program}
 use Rattle.jif_tree.specs.Store.{row_of}
-use Rattle.jif_tree.specs.SourceRun.{prefix, HasLength}
+use Rattle.jif_tree.specs.SourceRun.{Configuration, IsAtEnd, step, configuration_at_start, prefix, HasLength}
 use Rattle.jif_tree.specs.Results.{AreGivenBack, AreUnread}
 use Rattle.jif_tree.specs.Trees.{program_tree}
 use Rattle.host_code.specs.Code.{CodeShape, CodeFieldShape}
@@ -18,7 +18,9 @@ use Rattle.split_rules.specs.Asking.{AreGranted}
 use Rattle.split_rules.specs.Held.{IsHeld}
 use Rattle.split_rules.specs.SplitCode.{split_code}
 use Rattle.split_rules.specs.Splittable.{IsSplittable}
-use Rattle.net_world.specs.World.{WorldShape, IsRun, world_at_start, state_at, has_halted}
+use Rattle.net_world.specs.Choice.{NoneRuns, NothingFlies}
+use Rattle.net_world.specs.Together.{Together}
+use Rattle.net_world.specs.World.{WorldShape, world_at_start, state_at, has_halted}
 use Rattle.simulation.specs.Programs.{AreInOrder}
 
 -- A program, its needs, and a plan by which it can be split, so that hosts may hold what stands on them, are trusted
@@ -41,24 +43,28 @@ FieldsAre code world store =
     (number : ℕ) (field : CodeFieldShape) (state : HostShape) → slice_get code.fields number ≡ Some field →
     state_at world field.host ≡ Some state → row_of state.rows number ≡ row_of store number
 
--- where no host misbehaves, the world after the first of some events
-abbrev pub IsAfter : CodeShape → List declared_hosts.HostShape → List (List ℤ) → List Event → ℕ → WorldShape → Type 0
-IsAfter code rows store events moment world =
-    IsRun code (world_at_start code rows 0 store) (take moment events) world
+-- The fields are those of the configuration, which is at its end where the program has halted. Where no thread runs and
+-- nothing is in flight the program has halted. No message was ignored.
+pub record StandsPlainly (code : CodeShape) (world : WorldShape) (c : Configuration) : Type 0 where
+  pub fields : FieldsAre code world c.store
+  pub halted : has_halted code.root world → IsAtEnd c
+  pub idle : NoneRuns world → NothingFlies world → has_halted code.root world
+  pub none_ignored : (host : HostId) (state : HostShape) → state_at world host ≡ Some state → state.ignored ≡ 0
 
--- There is for each moment, from before the first event to after the last, a number of steps of the plain run: that of
--- the moment before, or one more. The fields at that moment are those after so many steps, and where the program has
--- halted so many steps are the whole run.
-pub record Follows (program : Program) (code : CodeShape) (rows : List declared_hosts.HostShape)
-    (store : List (List ℤ)) (events : List Event) : Type 0 where
-  pub steps : List ℕ
-  pub moments : length steps ≡ length events + 1
-  pub first : slice_index steps 0 ≡ 0
-  pub rising : IsNonDecreasing steps
-  pub close : (moment : ℕ) → moment < length events → slice_index steps (moment + 1) ≤ slice_index steps moment + 1
-  pub fields : (moment : ℕ) (world : WorldShape) → moment ≤ length events →
-      IsAfter code rows store events moment world →
-      FieldsAre code world (prefix program store (slice_index steps moment)).store
-  pub halted : (moment : ℕ) (world : WorldShape) → moment ≤ length events →
-      IsAfter code rows store events moment world → has_halted code.root world →
-      HasLength program store (slice_index steps moment)
+-- the plain run makes no step, or its next one
+abbrev pub GoesOnPlainly : Program → Configuration → Configuration → Type 0
+GoesOnPlainly program c now = (now ≡ c) ⊎ ((¬ IsAtEnd c) × (now ≡ step program c))
+
+-- Where nobody misbehaves, events leave a world, and all along the hosts stand for what the plain run has come to.
+abbrev pub Follows : Program → CodeShape → List declared_hosts.HostShape → List (List ℤ) → List Event → WorldShape →
+    Type 0
+Follows program code rows store events last =
+    Together (StandsPlainly code) (GoesOnPlainly program) code (world_at_start code rows 0 store)
+    (configuration_at_start program store) events last
+
+-- The fields of a world are those after so many steps of the plain run, which is at its end then, and not before, where
+-- the program has halted.
+pub record Counted (program : Program) (code : CodeShape) (store : List (List ℤ)) (world : WorldShape) : Type 0 where
+  pub steps : ℕ
+  pub fields : FieldsAre code world (prefix program store steps).store
+  pub halted : has_halted code.root world → HasLength program store steps

@@ -1,4 +1,5 @@
-use Rattle.simulation.proofs.Obeyed.{laws_of, fields_follow, idle_ends, nothing_ignored, next_there, one_there}
+use Rattle.simulation.proofs.Obeyed.{laws_of, fields_follow, steps_counted, idle_ends, nothing_ignored}
+use Rattle.simulation.proofs.Obeyed.{next_there, one_there}
 use Rattle.simulation.proofs.laws.obeying_laws.Goals as goal
 
 pub returns-clause-follows : goal.returns-clause-follows
@@ -7,6 +8,13 @@ returns-clause-follows c =
     c.altered_laws.ensures.plain in
     λ program placed store events world set ran.
     fields_follow laws program placed store events world set ran
+
+pub returns-clause-counted : goal.returns-clause-counted
+returns-clause-counted c =
+    let laws = laws_of c.split_laws.ensures.sound c.trust_laws.ensures.typable c.split_laws.ensures.typed
+    c.altered_laws.ensures.plain in
+    λ program placed store events world set ran.
+    steps_counted laws program placed store events world set ran
 
 pub returns-clause-idle : goal.returns-clause-idle
 returns-clause-idle c =
