@@ -7,7 +7,6 @@ use Rattle.std.specs.List.{position_or_len}
 use Rattle.std.specs.Str.Lines.{lines}
 use Rattle.std.proofs.lemmas.Bool.{cases_Bool, cases_lt}
 use Rattle.js_base.specs.declared.limits.TheConstants.{SCRIPT_BYTES}
-use Rattle.jif_tree.specs.declared.program.Field.{Field}
 use Rattle.host_code.specs.Code.{CodeShape, CodeHostShape}
 use Rattle.event_text.specs.declared.event.Event.{Event}
 use Rattle.event_text.specs.declared.script.EventsError.{EventsError}
@@ -18,7 +17,7 @@ use Rattle.event_text.specs.Misbehaving.{bad_of, bad_in_front, past_bad, with_ho
 use Rattle.event_text.specs.Settings.{FieldForm, form_of, setting_of, settings_in_front, past_settings, starting_rows}
 use Rattle.event_text.specs.Settings.{after_settings}
 use Rattle.event_text.specs.Script.{ScriptShape, with_start, script_of, EventsFail}
-use Rattle.event_text.specs.Start.{program_form, start_where_left, start_of, StartFails}
+use Rattle.event_text.specs.Start.{start_where_left, start_of, StartFails}
 use Rattle.event_text.proofs.Fronts.{lines-last, lines-first}
 
 -- ---- one or the other
@@ -43,7 +42,7 @@ some_script code bytes = elim (cases_lt SCRIPT_BYTES (length bytes)) [
     by (Ok script) is few = inl (script, few, is)
     by (Err line) is few = inr (BadLine line, not_bad_line line, (few, is))
 
-pub some_start : (fields : List Field) (bytes : List ℕ) →
+pub some_start : (fields : List FieldForm) (bytes : List ℕ) →
     ((start : List (List ℤ)) × (length bytes ≤ SCRIPT_BYTES) × (start_of fields bytes ≡ Ok start))
     ⊎ ((why : EventsError) × (why ≢ OutOfMemory) × StartFails fields bytes why)
 some_start fields bytes = elim (cases_lt SCRIPT_BYTES (length bytes)) [
@@ -166,10 +165,9 @@ left_over low high line start [] all is = absurd cc
 left_over low high line start (next ∷ others) all is =
     let here : next.number ≡ line = cc in (omega (arith, all.0), omega (arith, all.1))
 
-pub start_line : (fields : List Field) (bytes : List ℕ) (line : ℕ) → start_of fields bytes ≡ Err line →
+pub start_line : (fields : List FieldForm) (bytes : List ℕ) (line : ℕ) → start_of fields bytes ≡ Err line →
     (1 ≤ line) × (line ≤ length bytes)
 start_line fields bytes line is =
-    let forms = map program_form fields in
     let said = said_lines bytes in
-    left_over 1 (length bytes) line (after_settings (starting_rows forms) (settings_in_front forms said))
-    (past_settings forms said) (past_within 1 (length bytes) forms said (all_within bytes)) is
+    left_over 1 (length bytes) line (after_settings (starting_rows fields) (settings_in_front fields said))
+    (past_settings fields said) (past_within 1 (length bytes) fields said (all_within bytes)) is

@@ -7,6 +7,7 @@ pub mod Numbers
 pub mod OwnTokens
 pub mod Parts
 pub mod Script
+pub mod ScriptText
 pub mod Settings
 pub mod Start
 pub mod Words

@@ -1,5 +1,5 @@
 -- What the bytes of a file of starting values say.
-use Rattle.std.specs.Prelude.{◌≡◌, ℕ, ◌<◌, ◌≤◌, ℤ, List, [], ◌∷◌, map, length}
+use Rattle.std.specs.Prelude.{◌≡◌, ℕ, ◌<◌, ◌≤◌, ℤ, List, [], ◌∷◌, length}
 use Rattle.std.specs.Prelude.{Result, Ok, Err, ⊤}
 use Rattle.std.specs.String.{string_bytes}
 use Rattle.js_base.specs.declared.limits.TheConstants.{SCRIPT_BYTES}
@@ -24,11 +24,11 @@ start_of_lines fields said =
     start_where_left (after_settings (starting_rows fields) (settings_in_front fields said)) (past_settings fields said)
 
 -- the elements that each field starts with, or the first line that has no form
-abbrev pub start_of : List Field → List ℕ → Result (List (List ℤ)) ℕ
-start_of fields bytes = start_of_lines (map program_form fields) (said_lines bytes)
+abbrev pub start_of : List FieldForm → List ℕ → Result (List (List ℤ)) ℕ
+start_of fields bytes = start_of_lines fields (said_lines bytes)
 
 -- how reading starting values may fail
-abbrev pub StartFails : List Field → List ℕ → EventsError → Type 0
+abbrev pub StartFails : List FieldForm → List ℕ → EventsError → Type 0
 StartFails fields bytes error.OutOfMemory = ⊤
 StartFails fields bytes error.TooLong = SCRIPT_BYTES < length bytes
 StartFails fields bytes (error.BadLine n) = (length bytes ≤ SCRIPT_BYTES) × (start_of fields bytes ≡ Err n)

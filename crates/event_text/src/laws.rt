@@ -4,7 +4,6 @@ ghost use Rattle.std.specs.Prelude.{◌≡◌, ◌≢◌, ◌≤◌, ◌⊎◌, 
 ghost use Rattle.std.specs.Int.{bit_at};
 ghost use Rattle.std.specs.List.{list_any};
 ghost use Rattle.js_base.specs.declared.ids.HostId.{HostId};
-ghost use Rattle.jif_tree.specs.declared.program.Field.{Field};
 ghost use Rattle.host_code.specs.Code.{CodeShape};
 ghost use Rattle.event_text.specs.declared.event.Event.{Event};
 ghost use Rattle.event_text.specs.declared.script.EventsError.{EventsError};
@@ -14,6 +13,7 @@ ghost use Rattle.event_text.specs.EventText.{IsSaid, event_text};
 ghost use Rattle.event_text.specs.Lines.{words};
 ghost use Rattle.event_text.specs.Misbehaving.{with_hosts};
 ghost use Rattle.event_text.specs.OwnTokens.{IsOwnEvent};
+ghost use Rattle.event_text.specs.Settings.{FieldForm};
 ghost use Rattle.event_text.specs.Script.{ScriptShape, script_of, EventsFail};
 ghost use Rattle.event_text.specs.Start.{start_of, StartFails};
 
@@ -27,7 +27,7 @@ pub fn script_laws()
         ⊎ ((why : EventsError) × (why ≢ OutOfMemory) × EventsFail code bytes why) }
 
     // So do all bytes give starting values.
-    ensures some_start { (fields : List Field) (bytes : List ℕ) →
+    ensures some_start { (fields : List FieldForm) (bytes : List ℕ) →
         ((start : List (List ℤ)) × (length bytes ≤ SCRIPT_BYTES) × (start_of fields bytes ≡ Ok start))
         ⊎ ((why : EventsError) × (why ≢ OutOfMemory) × StartFails fields bytes why) }
 
@@ -46,6 +46,6 @@ pub fn script_laws()
     // A bad line is one of those of the text.
     ensures script_line { (code : CodeShape) (bytes : List ℕ) (line : ℕ) → script_of code bytes ≡ Err line →
         (1 ≤ line) × (line ≤ length bytes) }
-    ensures start_line { (fields : List Field) (bytes : List ℕ) (line : ℕ) → start_of fields bytes ≡ Err line →
+    ensures start_line { (fields : List FieldForm) (bytes : List ℕ) (line : ℕ) → start_of fields bytes ≡ Err line →
         (1 ≤ line) × (line ≤ length bytes) }
 {}

@@ -19,4 +19,5 @@ pub use event::{BadMessage, BadToken, Event};
 pub use event_texts::event_line;
 pub use laws::script_laws;
 pub use script::{EventsError, Script, read_events};
-pub use start::read_start;
+pub use settings::{ScriptField, setting_line};
+pub use start::{read_start, read_values};

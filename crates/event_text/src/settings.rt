@@ -5,6 +5,7 @@ ghost use Rattle.std.specs.Prelude.{position, IfOk, IfSome, Some};
 ghost use Rattle.std.specs.Prelude.{slice_get, option_copied};
 ghost use Rattle.std.specs.Option.{option_map, option_and_then};
 ghost use Rattle.std.specs.Str.{bytes_eq};
+ghost use Rattle.std.specs.String.{string_bytes};
 ghost use Rattle.std.specs.Str.Lines.{lines};
 ghost use Rattle.event_text.specs.Lines.{words, said_from};
 ghost use Rattle.event_text.specs.Numbers.{number_of, signed_of};
@@ -12,6 +13,7 @@ ghost use Rattle.event_text.specs.Settings.{FieldForm, field_named, setting_of, 
 ghost use Rattle.event_text.specs.Settings.{plain_setting, element_setting};
 ghost use Rattle.event_text.specs.Settings.{settings_in_front, past_settings, starting_rows, after_setting};
 ghost use Rattle.event_text.specs.Settings.{after_settings};
+ghost use Rattle.event_text.specs.ScriptText.{setting_text};
 
 use crate::lines::{Lines, next_line};
 use crate::numbers::{number, signed};
@@ -110,6 +112,23 @@ pub fn take_settings<'a, F: ScriptField>(
         left = after;
     }
     left
+}
+
+/// The line that sets an element of a field: `set FIELD VALUE`, or `set ARRAY INDEX VALUE` where it is an array.
+pub fn setting_line<F: ScriptField>(
+    alloc: Global,
+    field: &F,
+    index: u32,
+    value: i64,
+) -> Result<String, OutOfMemory>
+    ensures { IfOk result (λ line. string_bytes line ≡ setting_text (F.form field.now) index value) }
+{
+    let name = field.name();
+    if field.is_array() {
+        Ok(format!(in alloc; "set {name} {index} {value}")?)
+    } else {
+        Ok(format!(in alloc; "set {name} {value}")?)
+    }
 }
 
 /// The setting that a line says.

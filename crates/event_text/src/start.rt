@@ -33,27 +33,45 @@ impl ScriptField for Field {
     }
 }
 
-/// The starting values that a file gives the fields of a program: those of its `set` lines, of which the last for an
-/// element counts, and where there is none that of the program's text. Of the program only the fields are looked at.
+/// The starting values that a file gives fields: those of its `set` lines, of which the last for an element counts, and
+/// where there is none what the field starts with.
 ///
 /// # Errors
 /// `TooLong` where it has more than 16,777,216 bytes, otherwise `BadLine` of the first line that sets nothing.
 #[tactic(auto, using(crate::proofs::Rows::sizes_after))]
-pub fn read_start(alloc: Global, program: &Program, bytes: &[u8]) -> Result<Store, EventsError>
-    requires { length program.now.fields.items < 2 ^ 32 }
+pub fn read_values<F: ScriptField>(
+    alloc: Global,
+    fields: &[F],
+    bytes: &[u8],
+) -> Result<Store, EventsError>
+    requires { length fields.now < 2 ^ 32 }
     ensures answer { MatchResult result
-        (λ start. (length bytes.now ≤ SCRIPT_BYTES) × (start_of program.now.fields.items bytes.now ≡ Ok start))
-        (StartFails program.now.fields.items bytes.now) }
-    ensures rows { IfOk result (HasRows (map program_form program.now.fields.items)) }
+        (λ start. (length bytes.now ≤ SCRIPT_BYTES) × (start_of (map F.form fields.now) bytes.now ≡ Ok start))
+        (StartFails (map F.form fields.now) bytes.now) }
+    ensures rows { IfOk result (HasRows (map F.form fields.now)) }
 {
     if bytes.len() > SCRIPT_BYTES {
         return Err(EventsError::TooLong);
     }
-    let fields = &program.fields;
     let mut start = starting_store(alloc, fields)?;
     let left = take_settings(fields, Lines { bytes, number: 1 }, &mut start);
     match next_line(left) {
         Some((line, _)) => Err(EventsError::BadLine(line.number)),
         None => Ok(start),
     }
+}
+
+/// The starting values that a file gives the fields of a program.
+///
+/// # Errors
+/// As `read_values`.
+pub fn read_start(alloc: Global, program: &Program, bytes: &[u8]) -> Result<Store, EventsError>
+    requires { length program.now.fields.items < 2 ^ 32 }
+    ensures answer { MatchResult result
+        (λ start. (length bytes.now ≤ SCRIPT_BYTES)
+        × (start_of (map program_form program.now.fields.items) bytes.now ≡ Ok start))
+        (StartFails (map program_form program.now.fields.items) bytes.now) }
+    ensures rows { IfOk result (HasRows (map program_form program.now.fields.items)) }
+{
+    read_values(alloc, &program.fields, bytes)
 }
