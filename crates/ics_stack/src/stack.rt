@@ -161,6 +161,16 @@ impl IcsStack {
         Ok(Pending::of(top.entry, top.frame, top.kept))
     }
 
+    /// The token of the top entry.
+    pub fn top(&self) -> Option<Token>
+        ensures { result ≡ top_token self.now.entries }
+    {
+        match self.entries.last() {
+            Some(top) => Some(top.token),
+            None => None,
+        }
+    }
+
     /// How many entries there are.
     pub fn depth(&self) -> u64
         ensures depth { result ≡ length self.now.entries }
