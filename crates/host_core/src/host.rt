@@ -152,7 +152,14 @@ impl Host {
         }
     }
 
-    /// Whether the host answers no more.
+    /// Whether an earlier call of `deliver` or `turn` answered `OutOfMemory`.
+    pub fn stopped(&self) -> bool
+        ensures { result ≡ self.now.stopped }
+    {
+        self.stopped
+    }
+
+    /// Whether the host answers no more: one of its calls had no memory, or it has made 2^62.
     pub fn is_stopped(&self) -> bool
         ensures { IsTrue result ↔ IsStopped self.now }
     {
