@@ -1,13 +1,17 @@
 -- What a call of a host keeps.
 use Rattle.std.proofs.Common.{◌≡◌, ◌<◌, ◌≤◌, length, sym, ap, ◌∙◌, subst, arith}
-use Rattle.std.specs.Prelude.{Option}
+use Rattle.std.specs.Prelude.{◌↔◌, Option, Ok, IsErrOf}
 use Rattle.js_base.specs.declared.ids.HostId.{HostId}
 use Rattle.js_base.specs.declared.limits.TheConstants.{HOSTS}
 use Rattle.host_code.specs.declared.message.Message.{Message}
+use Rattle.host_code.specs.Thread.{ThreadShape}
 use Rattle.host_code.specs.Code.{CodeShape}
 use Rattle.host_code.specs.Sound.{IsOther, IsSoundCode}
 use Rattle.entry_check.specs.Checks.{ChecksShape, AreChecksOf}
-use Rattle.host_core.specs.Host.{HostShape, HostModel, Outcome, IsSameHost, state_of}
+use Rattle.host_core.specs.declared.host.HostError.{HostError}
+use Rattle.host_core.specs.declared.host.HostError.TheVariants.{Stopped}
+use Rattle.host_core.specs.Calls.{CountsCall, KeepsHost}
+use Rattle.host_core.specs.Host.{HostShape, HostModel, Outcome, IsSameHost, IsStopped, state_of}
 use Rattle.host_core.specs.Taking.{IsTaking}
 use Rattle.host_core.specs.Turn.{IsTurn}
 use Rattle.host_core.specs.Fits.{HostFits, OutcomeFits, SentFits, TokensFit}
@@ -54,6 +58,31 @@ pub turn_call_kept : (code : CodeShape) (before begun after : HostModel) (sent :
 turn_call_kept code before begun after sent sound fits state checks same step =
     step_kept code before begun after sent fits state checks same
     (turn_kept code (state_of before) (record { state = state_of after; sent = sent }) sound fits.state step)
+
+-- a step of the host without its thread is one of the host
+pub thread_taken : (begun after : HostModel) (running : Option ThreadShape)
+    → IsSameHost (record begun { running = running }) after → IsSameHost begun after
+thread_taken begun after running same = record {
+  me = same.me;
+  checks = same.checks;
+  calls = same.calls;
+  stopped = same.stopped;
+}
+
+-- a step that was made keeps the host
+pub made_keeps : (code : CodeShape) (before begun after : HostModel) → HostFits code after → after.me ≡ before.me
+    → CountsCall before begun → IsSameHost begun after
+    → (IsErrOf {T = Unit {0}} {E = HostError} (Ok tt) Stopped ↔ IsStopped before)
+    → KeepsHost {X = Unit {0}} code before after (Ok tt)
+made_keeps code before begun after fits me counted same stopped = record {
+  me = me;
+  fits = fits;
+  counted = record { calls = same.calls ∙ counted.calls; stopped = same.stopped ∙ counted.stopped };
+  err = tt;
+  stopped = stopped;
+  kept = λ none. cc;
+  out_of_memory = λ none. cc;
+}
 
 -- who asks is one of the hosts that there may be
 pub few_hosts : (code : CodeShape) (me from : HostId) → IsSoundCode code → IsOther code me from → from.0 < HOSTS

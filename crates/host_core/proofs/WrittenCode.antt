@@ -1,5 +1,5 @@
 -- Code that is written out: each instruction of a part fits, where they are shown to fit one after the other.
-use Rattle.std.proofs.Common.{◌≡◌, ◌+◌, ℕ, zero, suc, List, [], ◌∷◌, Option, Some, None, subst, arith}
+use Rattle.std.proofs.Common.{◌≡◌, ◌+◌, ℕ, zero, suc, List, [], ◌∷◌, Some, None, subst, arith}
 use Rattle.std.specs.Prelude.{slice_get, ⊤}
 use Rattle.js_base.specs.declared.ids.HostId.{HostId}
 use Rattle.host_code.specs.declared.instruction.Instr.{Instr}

@@ -1,4 +1,5 @@
 pub mod Awaiting
+pub mod Calls
 pub mod Fits
 pub mod Host
 pub mod Start

@@ -1,13 +1,12 @@
 //! The calls that change a host: its start, a message and a turn.
 
-ghost use Rattle.std.specs.Prelude.{◌≡◌, ◌<◌, ◌↔◌, ◌+◌, ◌^◌, OnOk, OnErr, IsErrOf, IsSome};
-ghost use Rattle.std.specs.Prelude.{IsTrue, IfOk, None, Some};
-ghost use Rattle.std.specs.Prelude.{length};
+ghost use Rattle.std.specs.Prelude.{◌≡◌, ◌<◌, ◌+◌, ◌^◌, OnOk, OnErr, IfOk, IsSome, None, Some, length};
 ghost use Rattle.host_code.specs.Code.{instruction_at};
 ghost use Rattle.host_code.specs.Sound.{IsHost, IsOther, IsSoundCode};
 ghost use Rattle.entry_check.specs.Checks.{AreChecksOf};
+ghost use Rattle.host_core.specs.Calls.{KeepsHost};
 ghost use Rattle.host_core.specs.Fits.{HostFits, SentFits, TokensFit};
-ghost use Rattle.host_core.specs.Host.{state_of, IsStopped, IsReady, IsSameHost, with_running};
+ghost use Rattle.host_core.specs.Host.{state_of, IsReady, IsSameHost, with_running};
 ghost use Rattle.host_core.specs.Taking.{IsTaking};
 ghost use Rattle.host_core.specs.Turn.{IsTurn, IsRunning, IsOperation, PushesWithin};
 
@@ -35,14 +34,7 @@ impl Host {
         requires tokens { TokensFit code.now message }
         ensures ok { IfOk result (λ sent.
             IsTaking code.now (state_of self.old) from message (record { state = state_of self.new; sent = sent })) }
-        ensures err { OnErr result (state_of self.new ≡ state_of self.old) }
-        ensures stopped { IsErrOf result HostError.Stopped ↔ IsStopped self.old }
-        ensures kept { IsErrOf result HostError.Stopped → self.new ≡ self.old }
-        ensures out_of_memory { IsErrOf result HostError.OutOfMemory → IsTrue self.new.stopped }
-        ensures counted { OnOk result
-            ((self.new.calls ≡ self.old.calls + 1) × (self.new.stopped ≡ self.old.stopped)) }
-        ensures fits { HostFits code.now self.new }
-        ensures me { self.new.me ≡ self.old.me }
+        ensures keeps { KeepsHost code.now self.old self.new result }
         ensures sent { IfOk result (λ sent. SentFits code.now self.old.me sent) }
     {
         let mut sent = None;
@@ -68,14 +60,7 @@ impl Host {
         requires tokens { TokensFit code.now message.now }
         ensures ok { OnOk result (IsTaking code.now (state_of self.old) from message.now
             (record { state = state_of self.new; sent = sent.new })) }
-        ensures err { OnErr result (state_of self.new ≡ state_of self.old) }
-        ensures stopped { IsErrOf result HostError.Stopped ↔ IsStopped self.old }
-        ensures kept { IsErrOf result HostError.Stopped → self.new ≡ self.old }
-        ensures out_of_memory { IsErrOf result HostError.OutOfMemory → IsTrue self.new.stopped }
-        ensures counted { OnOk result
-            ((self.new.calls ≡ self.old.calls + 1) × (self.new.stopped ≡ self.old.stopped)) }
-        ensures fits { HostFits code.now self.new }
-        ensures me { self.new.me ≡ self.old.me }
+        ensures keeps { KeepsHost code.now self.old self.new result }
         ensures sent { OnOk result (SentFits code.now self.old.me sent.new) }
         ensures unsent { OnErr result (sent.new ≡ sent.old) }
     {
@@ -99,14 +84,7 @@ impl Host {
         requires fits { HostFits code.now self.old }
         ensures ok { IfOk result (λ sent.
             IsTurn code.now (state_of self.old) (record { state = state_of self.new; sent = sent })) }
-        ensures err { OnErr result (state_of self.new ≡ state_of self.old) }
-        ensures stopped { IsErrOf result HostError.Stopped ↔ IsStopped self.old }
-        ensures kept { IsErrOf result HostError.Stopped → self.new ≡ self.old }
-        ensures out_of_memory { IsErrOf result HostError.OutOfMemory → IsTrue self.new.stopped }
-        ensures counted { OnOk result
-            ((self.new.calls ≡ self.old.calls + 1) × (self.new.stopped ≡ self.old.stopped)) }
-        ensures fits { HostFits code.now self.new }
-        ensures me { self.new.me ≡ self.old.me }
+        ensures keeps { KeepsHost code.now self.old self.new result }
         ensures sent { IfOk result (λ sent. SentFits code.now self.old.me sent) }
     {
         let mut sent = None;
@@ -123,14 +101,7 @@ impl Host {
         requires fits { HostFits code.now self.old }
         ensures ok { OnOk result (IsTurn code.now (state_of self.old)
             (record { state = state_of self.new; sent = sent.new })) }
-        ensures err { OnErr result (state_of self.new ≡ state_of self.old) }
-        ensures stopped { IsErrOf result HostError.Stopped ↔ IsStopped self.old }
-        ensures kept { IsErrOf result HostError.Stopped → self.new ≡ self.old }
-        ensures out_of_memory { IsErrOf result HostError.OutOfMemory → IsTrue self.new.stopped }
-        ensures counted { OnOk result
-            ((self.new.calls ≡ self.old.calls + 1) × (self.new.stopped ≡ self.old.stopped)) }
-        ensures fits { HostFits code.now self.new }
-        ensures me { self.new.me ≡ self.old.me }
+        ensures keeps { KeepsHost code.now self.old self.new result }
         ensures sent { OnOk result (SentFits code.now self.old.me sent.new) }
         ensures unsent { OnErr result (sent.new ≡ sent.old) }
     {
@@ -282,7 +253,7 @@ impl Host {
 }
 
 /// A code is sound.
-fn code_laws(code: &Code)
+pub(crate) fn code_laws(code: &Code)
     ensures { IsSoundCode code.now }
 {
     let _hosts = code.hosts();

@@ -1,11 +1,11 @@
 -- The step is that of the table, and keeps what holds of the host.
-use Rattle.std.proofs.Common.{◌≡◌, ap, ◌∙◌, subst}
+use Rattle.std.proofs.Common.{◌≡◌, ap, ◌∙◌, rules, subst}
 use Rattle.std.specs.Prelude.{Option}
 use Rattle.host_code.specs.Thread.{ThreadShape}
 use Rattle.host_core.specs.Host.{HostShape, HostModel, state_of, Outcome}
 use Rattle.host_core.specs.Turn.{IsTurn, IsTurnOf}
 use Rattle.host_core.specs.contracts.host.Host.{the_view}
-use Rattle.host_core.proofs.CallsKept.{turn_call_kept}
+use Rattle.host_core.proofs.CallsKept.{turn_call_kept, made_keeps, thread_taken}
 use Rattle.host_core.proofs.host.Host.turn_into.Goals as goal
 
 pub returns-in-Ok-clause-ok : goal.returns-in-Ok-clause-ok
@@ -18,19 +18,17 @@ returns-in-Ok-clause-ok c =
     let same : host ≡ state_of c.args.self.now = ap state_of c.self.view_is ∙ c.begin.ensures.same in
     subst (λ (h : HostShape). IsTurn code h outcome) same taken
 
-pub returns-in-Ok-clause-fits : goal.returns-in-Ok-clause-fits
-returns-in-Ok-clause-fits c =
+pub returns-in-Ok-clause-keeps : goal.returns-in-Ok-clause-keeps
+returns-in-Ok-clause-keeps c =
+    let fits =
     (turn_call_kept c.args.code.now c.args.self.now (the_view c.self.inside) c.run.new.self c.run.new.sent
     c.code_laws.ensures
     c.requires.fits (ap state_of c.self.view_is ∙ c.begin.ensures.same)
     (ap (λ (h : HostModel). h.checks) c.self.view_is ∙ c.begin.ensures.checks)
-    (record {
-      me = c.in-Ok.ensures.same.me;
-      checks = c.in-Ok.ensures.same.checks;
-      calls = c.in-Ok.ensures.same.calls;
-      stopped = c.in-Ok.ensures.same.stopped;
-    })
-    (returns-in-Ok-clause-ok c)).0
+    (thread_taken (the_view c.self.inside) c.run.new.self c.take.new.self c.in-Ok.ensures.same)
+    (returns-in-Ok-clause-ok c)).0 in
+    made_keeps c.args.code.now c.args.self.now (the_view c.self.inside) c.run.new.self fits (search rules) (search rules)
+    (thread_taken (the_view c.self.inside) c.run.new.self c.take.new.self c.in-Ok.ensures.same) c.in_ok-begin.ensures.stopped
 
 pub returns-in-Ok-clause-sent : goal.returns-in-Ok-clause-sent
 returns-in-Ok-clause-sent c =
@@ -38,10 +36,5 @@ returns-in-Ok-clause-sent c =
     c.code_laws.ensures
     c.requires.fits (ap state_of c.self.view_is ∙ c.begin.ensures.same)
     (ap (λ (h : HostModel). h.checks) c.self.view_is ∙ c.begin.ensures.checks)
-    (record {
-      me = c.in-Ok.ensures.same.me;
-      checks = c.in-Ok.ensures.same.checks;
-      calls = c.in-Ok.ensures.same.calls;
-      stopped = c.in-Ok.ensures.same.stopped;
-    })
+    (thread_taken (the_view c.self.inside) c.run.new.self c.take.new.self c.in-Ok.ensures.same)
     (returns-in-Ok-clause-ok c)).1
