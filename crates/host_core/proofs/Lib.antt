@@ -7,5 +7,6 @@ pub mod Rooms
 pub mod SomeOutcome
 pub mod StartKept
 pub mod TakingKept
+pub mod ToldKept
 pub mod TurnKept
 pub mod WrittenCode

@@ -4,5 +4,6 @@ pub mod Fits
 pub mod Host
 pub mod Start
 pub mod Taking
+pub mod Told
 pub mod Turn
 pub mod Values

@@ -9,9 +9,11 @@ mod starts;
 mod take_answers;
 mod take_requests;
 mod thread;
+mod told;
 mod turn_transfers;
 mod turn_values;
 mod values;
 
 pub use host::{Host, HostError, Sent};
 pub use laws::step_laws;
+pub use told::ToldHost;
