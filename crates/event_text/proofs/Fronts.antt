@@ -128,7 +128,7 @@ words-first line rest start end at e ends some =
 
 -- LINES
 
-lines_of_parts-cons : (part : List ℕ) (parts : List (List ℕ)) → 0 < length parts →
+pub lines_of_parts-cons : (part : List ℕ) (parts : List (List ℕ)) → 0 < length parts →
     lines_of_parts (part ∷ parts) ≡ strip_carriage_return part ∷ lines_of_parts parts
 lines_of_parts-cons part [] some = absurd (omega arith)
 lines_of_parts-cons part (next ∷ others) some = refl

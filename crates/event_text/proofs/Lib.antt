@@ -3,10 +3,15 @@ pub mod Fronts
 pub mod MarkedParts
 pub mod MadeParts
 pub mod Naming
+pub mod NamesAgain
+pub mod NumbersAgain
 pub mod Outcomes
+pub mod PrintedBytes
+pub mod PrintedLines
 pub mod OwnTokens
 pub mod Rows
 pub mod SaidAgain
+pub mod SaidEvents
 pub mod SaidNumbers
 pub mod SaidParts
 pub mod SaidWords

@@ -68,6 +68,6 @@ pub record IsPrintable (code : CodeShape) (bad : ℕ) (rows : List (List ℤ)) (
   pub hosts : IsDistinct bytes_eq (map (λ host. host.name) code.hosts)
   pub fields : IsDistinct bytes_eq (map (λ field. field.name) code.fields)
   pub among : (number : ℕ) → bit_at bad number ≡ 1 → number < length code.hosts
-  pub rows : HasRows (map form_of code.fields) rows
+  pub sizes : HasRows (map form_of code.fields) rows
   pub values : All (All (FitsSigned w64)) rows
-  pub events : All (IsSaid code bad) events
+  pub said : All (IsSaid code bad) events

@@ -35,6 +35,10 @@ pub fn script_laws()
     ensures said_again { (code : CodeShape) (bad : ℕ) (event : Event) → IsSaid code bad event →
         event_of code bad (words (event_text code event)) ≡ Some event }
 
+    // So whoever has a script may print its events again.
+    ensures events_said { (code : CodeShape) (bytes : List ℕ) (script : ScriptShape) →
+        script_of code bytes ≡ Ok script → All (λ one. IsSaid code script.bad one.1) script.events }
+
     // The bits that are set are those of the hosts that the lines name.
     ensures bad_bits { (hosts : List HostId) (number : ℕ) →
         (bit_at (with_hosts 0 hosts) number ≡ 1) ↔ (list_any (λ host. host.0 == number) hosts ≡ true) }
