@@ -8,6 +8,8 @@ pub mod NumbersAgain
 pub mod Outcomes
 pub mod PrintedBytes
 pub mod PrintedLines
+pub mod PrintedWords
+pub mod SettingsAgain
 pub mod OwnTokens
 pub mod Rows
 pub mod SaidAgain

@@ -14,7 +14,7 @@ use Rattle.std.proofs.lemmas.Fmt.{decimal_is_IsNumeral, first_decimal, decimal_d
 use Rattle.std.proofs.lemmas.Str.Parse.{digit_from_value}
 use Rattle.event_text.specs.Numbers.{is_plain_number, number_of, not_below_zero, below_zero, signed_of}
 
-all_digits : (text : List ℕ) → AllDigits 10 text → list_all is_ascii_digit text ≡ true
+pub all_digits : (text : List ℕ) → AllDigits 10 text → list_all is_ascii_digit text ≡ true
 all_digits [] all = refl
 all_digits (byte ∷ text) all =
     let here = digit_from_value byte all.0 in

@@ -22,17 +22,17 @@ use Rattle.event_text.proofs.SaidParts.{one_are, two_are, three_are, four_are, h
 use Rattle.event_text.proofs.SaidParts.{request_said, frame_said, entry_said, token_said}
 use Rattle.event_text.proofs.SaidWords.{joined, words_again}
 
-abbrev space : ℕ
+abbrev pub space : ℕ
 space = 32
 
-spaced_two : (a b : Word) → a ++ codes " " ++ b ≡ joined space (a ∷ b ∷ [])
+pub spaced_two : (a b : Word) → a ++ codes " " ++ b ≡ joined space (a ∷ b ∷ [])
 spaced_two a b = append_assoc a (codes " ") b
 
-spaced_three : (a b c : Word) → a ++ codes " " ++ b ++ codes " " ++ c ≡ joined space (a ∷ b ∷ c ∷ [])
+pub spaced_three : (a b c : Word) → a ++ codes " " ++ b ++ codes " " ++ c ≡ joined space (a ∷ b ∷ c ∷ [])
 spaced_three a b c = append_assoc (a ++ codes " " ++ b) (codes " ") c ∙ append_assoc (a ++ codes " ") b (space ∷ c)
     ∙ append_assoc a (codes " ") (b ++ space ∷ c)
 
-spaced_four : (a b c d : Word) → a ++ codes " " ++ b ++ codes " " ++ c ++ codes " " ++ d
+pub spaced_four : (a b c d : Word) → a ++ codes " " ++ b ++ codes " " ++ c ++ codes " " ++ d
     ≡ joined space (a ∷ b ∷ c ∷ d ∷ [])
 spaced_four a b c d =
     append_assoc (a ++ codes " " ++ b ++ codes " " ++ c) (codes " ") d

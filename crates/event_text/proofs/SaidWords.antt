@@ -52,13 +52,13 @@ joined_parts mark (byte ∷ text) =
 abbrev is_filled : Word → Bool
 is_filled part = not (length part == 0)
 
-abbrev IsPlain : ℕ → Type 0
+abbrev pub IsPlain : ℕ → Type 0
 IsPlain byte = is_blank byte ≡ false
 
 -- some bytes, and no blank among them
-record IsWord (word : Word) : Type 0 where
-  some : 0 < length word
-  plain : All IsPlain word
+pub record IsWord (word : Word) : Type 0 where
+  pub some : 0 < length word
+  pub plain : All IsPlain word
 
 filled : (word : Word) → 0 < length word → is_filled word ≡ true
 filled word some = grind (arith, nat_tests)
@@ -95,7 +95,7 @@ words_are line = filled_words (slice_split is_blank line) (parts_plain line)
 
 -- ---- and joined by spaces they are those words
 
-joined_words : (said : List Word) → AllByRecursion IsWord said → words (joined 32 said) ≡ said
+pub joined_words : (said : List Word) → AllByRecursion IsWord said → words (joined 32 said) ≡ said
 joined_words [] all = refl
 joined_words (word ∷ []) all =
     ap (filter is_filled) (slice_split_none is_blank word all.0.plain) ∙ kept word [] all.0.some

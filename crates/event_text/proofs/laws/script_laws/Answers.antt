@@ -7,6 +7,7 @@ use Rattle.event_text.proofs.PrintedLines.{said_again as printed_again}
 use Rattle.event_text.proofs.PrintedBytes.{event_printed}
 use Rattle.event_text.proofs.NamesAgain.{place_again}
 use Rattle.event_text.proofs.NumbersAgain.{signed_again}
+use Rattle.event_text.proofs.SettingsAgain.{say_in_front}
 use Rattle.event_text.proofs.laws.script_laws.Goals as goal
 
 pub returns : goal.returns
