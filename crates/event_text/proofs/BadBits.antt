@@ -10,7 +10,7 @@ use Rattle.js_base.specs.declared.ids.HostId.{HostId}
 use Rattle.js_base.proofs.BitLemmas.{is_bit}
 use Rattle.event_text.specs.Misbehaving.{with_hosts}
 
-abbrev has_number : ℕ → HostId → Bool
+abbrev pub has_number : ℕ → HostId → Bool
 has_number number host = host.0 == number
 
 abbrev Named : ℕ → List HostId → Type 0

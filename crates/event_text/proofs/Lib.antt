@@ -1,3 +1,4 @@
+pub mod BadAgain
 pub mod BadBits
 pub mod Fronts
 pub mod MarkedParts
@@ -9,6 +10,7 @@ pub mod Outcomes
 pub mod PrintedBytes
 pub mod PrintedLines
 pub mod PrintedWords
+pub mod ScriptAgain
 pub mod SettingsAgain
 pub mod OwnTokens
 pub mod Rows

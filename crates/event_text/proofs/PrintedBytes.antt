@@ -129,11 +129,11 @@ then_printed : {front mark back : List ℕ} → IsPrinted front → IsPrinted ma
     IsPrinted (front ++ mark ++ back)
 then_printed one between two = both_printed (both_printed one between) two
 
-two_printed : {kind a b : List ℕ} → IsPrinted kind → IsPrinted a → IsPrinted b →
+pub two_printed : {kind a b : List ℕ} → IsPrinted kind → IsPrinted a → IsPrinted b →
     IsPrinted (kind ++ a ++ codes " " ++ b)
 two_printed named one two = then_printed (both_printed named one) space_printed two
 
-three_printed : {kind a b c : List ℕ} → IsPrinted kind → IsPrinted a → IsPrinted b → IsPrinted c →
+pub three_printed : {kind a b c : List ℕ} → IsPrinted kind → IsPrinted a → IsPrinted b → IsPrinted c →
     IsPrinted (kind ++ a ++ codes " " ++ b ++ codes " " ++ c)
 three_printed named one two three = then_printed (two_printed named one two) space_printed three
 

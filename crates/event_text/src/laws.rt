@@ -1,10 +1,11 @@
 //! The laws of scripts: what bytes say, or why they say nothing.
 
-ghost use Rattle.std.specs.Prelude.{◌≡◌, ◌≢◌, ◌≤◌, ◌⊎◌, ◌↔◌, ◌==◌, ℕ, ℤ, true, List, length, Some, Ok, Err, All};
+ghost use Rattle.std.specs.Prelude.{◌≡◌, ◌≢◌, ◌≤◌, ◌⊎◌, ◌↔◌, ◌==◌, ◌+◌, ℕ, ℤ, true, List, length, Some, Ok, Err, All};
 ghost use Rattle.std.specs.Int.{bit_at};
 ghost use Rattle.std.specs.List.{list_any};
 ghost use Rattle.js_base.specs.declared.ids.HostId.{HostId};
 ghost use Rattle.host_code.specs.Code.{CodeShape};
+ghost use Rattle.host_code.specs.Sound.{IsSoundCode};
 ghost use Rattle.event_text.specs.declared.event.Event.{Event};
 ghost use Rattle.event_text.specs.declared.script.EventsError.{EventsError};
 ghost use Rattle.event_text.specs.declared.script.EventsError.TheVariants.{OutOfMemory};
@@ -14,6 +15,7 @@ ghost use Rattle.event_text.specs.Lines.{words};
 ghost use Rattle.event_text.specs.Misbehaving.{with_hosts};
 ghost use Rattle.event_text.specs.OwnTokens.{IsOwnEvent};
 ghost use Rattle.event_text.specs.Settings.{FieldForm};
+ghost use Rattle.event_text.specs.ScriptText.{front_lines, script_text, on_lines, IsPrintable};
 ghost use Rattle.event_text.specs.Script.{ScriptShape, script_of, EventsFail};
 ghost use Rattle.event_text.specs.Start.{start_of, StartFails};
 
@@ -38,6 +40,15 @@ pub fn script_laws()
     // So whoever has a script may print its events again.
     ensures events_said { (code : CodeShape) (bytes : List ℕ) (script : ScriptShape) →
         script_of code bytes ≡ Ok script → All (λ one. IsSaid code script.bad one.1) script.events }
+
+    // A script that is printed is read as that script, whatever a script of the code can say.
+    ensures script_again { (code : CodeShape) (bad : ℕ) (start : List (List ℤ)) (events : List Event) →
+        IsSoundCode code → IsPrintable code bad start events →
+        script_of code (script_text code bad start events) ≡ Ok (record {
+            bad = bad;
+            start = start;
+            events = on_lines (length (front_lines code bad start) + 1) events;
+        }) }
 
     // The bits that are set are those of the hosts that the lines name.
     ensures bad_bits { (hosts : List HostId) (number : ℕ) →
