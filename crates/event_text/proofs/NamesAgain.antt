@@ -1,6 +1,6 @@
 -- Among distinct names a name is found at its place.
-use Rattle.std.proofs.Common.{◌≡◌, ◌<◌, ◌+◌, ℕ, Bool, true, false, List, [], ◌∷◌, map, length, get_or, Option, Some, None}
-use Rattle.std.proofs.Common.{refl, ap, sym, subst, ◌∙◌, inl, inr, arith, slice_get}
+use Rattle.std.proofs.Common.{◌≡◌, ℕ, Bool, true, List, map, length, get_or, Some}
+use Rattle.std.proofs.Common.{refl, ap, sym, ◌∙◌, inl, inr, arith, slice_get}
 use Rattle.std.proofs.Common.{true≢false}
 use Rattle.std.specs.Prelude.{position, nat_lt}
 use Rattle.std.specs.List.{IsDistinct, position_or_len}

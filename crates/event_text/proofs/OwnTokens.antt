@@ -1,11 +1,10 @@
 -- The events of a script present what misbehaving hosts were sent, or tokens of such hosts.
 use Rattle.std.proofs.Common.{◌≡◌, ◌<◌, ◌==◌, ℕ, Bool, true, false, List, [], ◌∷◌, length, Option, Some, None, Result}
 use Rattle.std.proofs.Common.{Ok, Err}
-use Rattle.std.proofs.Common.{refl, subst, sym, inl, inr, arith}
+use Rattle.std.proofs.Common.{refl, subst, inl, inr, arith}
 use Rattle.std.specs.Prelude.{All, ℤ, map, position, if◌then◌else◌, codes}
 use Rattle.std.specs.Int.{bit_at}
 use Rattle.std.specs.List.{AllByRecursion}
-use Rattle.std.specs.Option.{option_map}
 use Rattle.std.specs.Str.{bytes_eq}
 use Rattle.std.proofs.lemmas.Bool.Decides.{nat_tests}
 use Rattle.std.proofs.lemmas.List.Elements.{All-from_recursion}
@@ -17,15 +16,15 @@ use Rattle.event_text.specs.declared.event.Event.TheVariants.{Take, Turn, Act}
 use Rattle.event_text.specs.declared.event.BadMessage.{BadMessage}
 use Rattle.event_text.specs.declared.event.BadMessage.TheVariants as bad
 use Rattle.event_text.specs.declared.event.BadToken.{BadToken}
-use Rattle.event_text.specs.declared.event.BadToken.TheVariants.{Sent, Own}
+use Rattle.event_text.specs.declared.event.BadToken.TheVariants.{Sent}
 use Rattle.event_text.specs.Acts.{among, own_token, own_in, token_of, get_of, set_of, forward_of, sync_of, rgoto_of}
 use Rattle.event_text.specs.Acts.{lgoto_of, value_of, ack_of, answer_of, message_of}
 use Rattle.event_text.specs.Events.{turn_of, take_of, act_of, event_of, with_event, events_of}
 use Rattle.event_text.specs.Lines.{LineShape, said_lines}
 use Rattle.event_text.specs.Misbehaving.{bad_in_front, past_bad, with_hosts}
-use Rattle.event_text.specs.Numbers.{number_of, signed_of}
+use Rattle.event_text.specs.Numbers.{number_of}
 use Rattle.event_text.specs.OwnTokens.{IsOwnToken, IsOwnMessage, IsOwnEvent}
-use Rattle.event_text.specs.Parts.{host_named, field_of, variable_of, parts, colon, request_of, frame_of, entry_of}
+use Rattle.event_text.specs.Parts.{host_named, parts, colon}
 use Rattle.event_text.specs.Script.{ScriptShape, script_of, with_start}
 use Rattle.event_text.specs.Settings.{FieldForm, form_of, settings_in_front, past_settings, starting_rows}
 use Rattle.event_text.specs.Settings.{after_settings}

@@ -1,12 +1,12 @@
 -- Lines that are printed are read as these lines.
-use Rattle.std.proofs.Common.{◌≡◌, ◌≤◌, ◌<◌, ◌+◌, ◌-◌, ◌==◌, ℕ, Bool, true, false, List, [], ◌∷◌, ◌++◌, length, get_or}
-use Rattle.std.proofs.Common.{refl, ap, sym, subst, ◌∙◌, inl, inr, arith, take, All, eqb, append_assoc}
-use Rattle.std.specs.Prelude.{nat_le, if◌then◌else◌, slice_index}
-use Rattle.std.specs.List.{list_all, flat_map, slice_split, AllByRecursion}
+use Rattle.std.proofs.Common.{◌≡◌, ◌+◌, ◌-◌, ◌==◌, ℕ, Bool, true, false, List, [], ◌∷◌, ◌++◌, length}
+use Rattle.std.proofs.Common.{refl, ap, ◌∙◌, arith, All, append_assoc}
+use Rattle.std.specs.Prelude.{slice_index}
+use Rattle.std.specs.List.{list_all, slice_split, AllByRecursion}
 use Rattle.std.specs.Str.Lines.{lines, lines_of_parts, strip_carriage_return}
 use Rattle.std.proofs.lemmas.Bool.{and_parts}
 use Rattle.std.proofs.lemmas.Bool.Decides.{nat_tests}
-use Rattle.std.proofs.lemmas.List.Concat.{flat_map-cons, flat_map-append}
+use Rattle.std.proofs.lemmas.List.Concat.{flat_map-cons}
 use Rattle.std.proofs.lemmas.List.Elements.{All-nil, All-cons}
 use Rattle.std.proofs.lemmas.List.Splits.{slice_split_at, length-slice_split}
 use Rattle.event_text.specs.Lines.{LineShape, line_of, words, is_skipped, said_from, said_lines}

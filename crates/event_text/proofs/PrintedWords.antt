@@ -1,23 +1,23 @@
 -- What names and numbers are printed as are words, and lines of them have these words.
-use Rattle.std.proofs.Common.{◌≡◌, ◌<◌, ◌==◌, ◌^◌, ℕ, suc, ℤ, pos, negsuc, Bool, true, false, List, [], ◌∷◌, ◌++◌, length, refl}
+use Rattle.std.proofs.Common.{◌≡◌, ◌<◌, ◌^◌, ℕ, suc, ℤ, pos, negsuc, Bool, true, List, [], ◌∷◌, ◌++◌, length, refl}
 use Rattle.std.proofs.Common.{ap, ◌∙◌, arith, All, codes}
 use Rattle.std.specs.Prelude.{FitsSigned, nat_lt}
 use Rattle.std.specs.Char.{is_ascii_digit}
 use Rattle.std.specs.Fmt.{decimal, signed_decimal}
 use Rattle.std.specs.Int.{w64}
-use Rattle.std.specs.List.{list_all, AllByRecursion}
+use Rattle.std.specs.List.{list_all}
 use Rattle.std.proofs.lemmas.Bool.{and_parts}
 use Rattle.std.proofs.lemmas.Bool.Decides.{nat_tests}
 use Rattle.std.proofs.lemmas.Fmt.{decimal_is_IsNumeral}
 use Rattle.std.proofs.lemmas.List.Elements.{All-nil, All-cons}
 use Rattle.js_base.specs.Name.{IsName, continues_name}
 use Rattle.js_base.proofs.NameTexts.{all_continue}
-use Rattle.event_text.specs.Lines.{is_blank, words}
+use Rattle.event_text.specs.Lines.{words}
 use Rattle.event_text.specs.Words.{Word}
 use Rattle.event_text.proofs.NumbersAgain.{all_digits}
 use Rattle.event_text.proofs.PrintedBytes.{all_weaker}
 use Rattle.event_text.proofs.SaidAgain.{spaced_two, spaced_three, spaced_four}
-use Rattle.event_text.proofs.SaidWords.{IsPlain, IsWord, joined, joined_words}
+use Rattle.event_text.proofs.SaidWords.{IsPlain, IsWord, joined_words}
 
 -- above a space
 abbrev is_dark : ℕ → Bool

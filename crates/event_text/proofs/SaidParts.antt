@@ -1,5 +1,5 @@
 -- A part of an event is printed as the word that says it.
-use Rattle.std.proofs.Common.{◌≡◌, ◌<◌, ◌==◌, ◌^◌, ℕ, Bool, true, false, List, [], ◌∷◌, ◌++◌, length, get_or}
+use Rattle.std.proofs.Common.{◌≡◌, ◌==◌, ◌^◌, ℕ, List, [], ◌∷◌, ◌++◌, get_or}
 use Rattle.std.proofs.Common.{Option, Some, None, refl, ap, sym, subst, ◌∙◌, inl, inr, arith}
 use Rattle.std.specs.Prelude.{position, slice_get, codes, nat_lt}
 use Rattle.std.specs.Fmt.{decimal}
@@ -19,9 +19,9 @@ use Rattle.js_base.specs.declared.ids.FrameId.{FrameId}
 use Rattle.js_base.specs.declared.ids.RequestId.{RequestId}
 use Rattle.host_code.specs.Code.{CodeShape, CodeHostShape, CodeFieldShape, CodeVariableShape}
 use Rattle.host_code.specs.MessageText.{host_text, field_text, variable_text, request_text, frame_text, entry_text}
-use Rattle.host_code.specs.MessageText.{name_of_host, name_of_field, name_of_variable, token_text}
+use Rattle.host_code.specs.MessageText.{name_of_host, name_of_field, name_of_variable}
 use Rattle.event_text.specs.declared.event.BadToken.{BadToken}
-use Rattle.event_text.specs.declared.event.BadToken.TheVariants.{Sent, Own}
+use Rattle.event_text.specs.declared.event.BadToken.TheVariants.{Sent}
 use Rattle.event_text.specs.Acts.{among, own_token, own_in, token_of}
 use Rattle.event_text.specs.EventText.{bad_token_text}
 use Rattle.event_text.specs.Numbers.{number_of}

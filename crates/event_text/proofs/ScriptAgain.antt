@@ -1,8 +1,8 @@
 -- A script that is printed is read as that script.
-use Rattle.std.proofs.Common.{◌≡◌, ◌∙◌, ◌<◌, ◌≤◌, ◌+◌, ℕ, zero, suc, ℤ, Bool, true, false, List, [], ◌∷◌, ◌++◌, map, length}
-use Rattle.std.proofs.Common.{Option, Some, None, Result, Ok, Err, refl, ap, sym, subst, inl, inr, arith, All, slice_get, codes}
+use Rattle.std.proofs.Common.{◌≡◌, ◌∙◌, ◌≤◌, ◌+◌, ℕ, ℤ, Bool, true, false, List, [], ◌∷◌, ◌++◌, map, length}
+use Rattle.std.proofs.Common.{Some, None, Ok, refl, ap, sym, subst, inl, inr, arith, All, slice_get, codes}
 use Rattle.std.proofs.Common.{append_assoc, length-append}
-use Rattle.std.specs.Prelude.{if◌then◌else◌, is_some, nat_eq, ◌==◌}
+use Rattle.std.specs.Prelude.{if◌then◌else◌, nat_eq, ◌==◌}
 use Rattle.std.specs.Fmt.{decimal, signed_decimal}
 use Rattle.std.specs.List.{AllByRecursion, IsDistinct, starts_with}
 use Rattle.std.specs.Option.{option_map}
@@ -23,7 +23,7 @@ use Rattle.event_text.specs.EventText.{IsSaid, event_text}
 use Rattle.event_text.specs.Events.{event_of, events_of}
 use Rattle.event_text.specs.Lines.{LineShape, words, is_skipped, said_lines}
 use Rattle.event_text.specs.Misbehaving.{bad_of, bad_in_front, past_bad, with_hosts}
-use Rattle.event_text.specs.Script.{ScriptShape, script_of, script_of_lines, with_start, script_behind_bad}
+use Rattle.event_text.specs.Script.{script_of, script_of_lines, with_start, script_behind_bad}
 use Rattle.event_text.specs.ScriptText.{bad_lines, setting_text, row_lines, setting_lines, front_lines, script_text}
 use Rattle.event_text.specs.ScriptText.{on_lines, text_of_lines, IsPrintable}
 use Rattle.event_text.specs.Settings.{FieldForm, form_of, setting_of, settings_in_front, past_settings}
@@ -136,9 +136,10 @@ settings_behind hosts fields [] [] say printed = tt
 settings_behind hosts fields [] (setting ∷ settings) say printed = tt
 settings_behind hosts fields (line ∷ lines) [] say printed = absurd say
 settings_behind hosts fields (line ∷ lines) (setting ∷ settings) say printed =
-    let alone = setting_alone hosts fields (words line) setting say.0 in
-    (record { printed = printed.0; saying = alone.saying; no_host = alone.no_host },
-    settings_behind hosts fields lines settings say.1 printed.1)
+    let alone = setting_alone hosts fields (words line) setting say.0 in (
+      record { printed = printed.0; saying = alone.saying; no_host = alone.no_host },
+      settings_behind hosts fields lines settings say.1 printed.1,
+    )
 
 setting_printed : (field : FieldForm) → IsPrinted field.name → (index : ℕ) (value : ℤ) →
     IsPrinted (setting_text field index value)
@@ -207,8 +208,7 @@ module _ (code : CodeShape) (bad : ℕ) (fields : List FieldForm) where
   events_behind sound (event ∷ events) said =
       let (line, is) = All-head (IsSaid code bad) event events said in
       let alone = event_alone code bad fields (words (event_text code event)) event
-      (said_again code bad line event is) in
-      (
+      (said_again code bad line event is) in (
         record {
           behind = record {
             printed = event_printed code sound event;
@@ -336,9 +336,10 @@ module _ (code : CodeShape) (bad : ℕ) (start : List (List ℤ)) (events : List
   fields_printed : (left : List CodeFieldShape) → All (FieldFits code) left →
       AllByRecursion (λ field. IsPrinted field.name) (map form_of left)
   fields_printed [] all = tt
-  fields_printed (field ∷ left) all =
-      (name_printed field.name (All-head (FieldFits code) field left all).name,
-      fields_printed left (All-tail (FieldFits code) field left all))
+  fields_printed (field ∷ left) all = (
+    name_printed field.name (All-head (FieldFits code) field left all).name,
+    fields_printed left (All-tail (FieldFits code) field left all),
+  )
 
   -- ---- what the lines say
 

@@ -1,12 +1,10 @@
 -- Settings that are printed are read as these settings, and make the rows that they were printed of.
-use Rattle.std.proofs.Common.{◌≡◌, ◌∙◌, ◌<◌, ◌≤◌, ◌+◌, ◌^◌, ℕ, zero, suc, ℤ, pos, Bool, true, false, List, [], ◌∷◌, ◌++◌}
-use Rattle.std.proofs.Common.{map, length, replicate, Option, Some, None, refl, ap, sym, subst, arith, All, slice_get, codes}
+use Rattle.std.proofs.Common.{◌≡◌, ◌∙◌, ◌<◌, ◌≤◌, ◌+◌, ◌^◌, ℕ, suc, ℤ, Bool, true, false, List, [], ◌∷◌, ◌++◌}
+use Rattle.std.proofs.Common.{length, replicate, Some, refl, ap, sym, subst, arith, All, slice_get, codes}
 use Rattle.std.proofs.Common.{append_assoc, length-append, add-zero}
-use Rattle.std.specs.Prelude.{FitsSigned, if◌then◌else◌, is_some, nat_lt, slice_set, unwrap_or}
+use Rattle.std.specs.Prelude.{FitsSigned, if◌then◌else◌, nat_lt, slice_set}
 use Rattle.std.specs.Fmt.{decimal, signed_decimal}
 use Rattle.std.specs.Int.{w64}
-use Rattle.std.specs.List.{AllByRecursion}
-use Rattle.std.specs.Option.{option_and_then}
 use Rattle.std.specs.Ordering.{int_eq}
 use Rattle.std.proofs.lemmas.Bool.Decides.{nat_tests, Decides-int_eq}
 use Rattle.std.proofs.lemmas.List.Elements.{All-head, All-tail}
@@ -16,10 +14,9 @@ use Rattle.js_base.specs.declared.limits.TheConstants.{ARRAY_SIZE}
 use Rattle.jif_tree.specs.Store.{row_of}
 use Rattle.event_text.specs.declared.settings.Setting.{Setting}
 use Rattle.event_text.specs.Lines.{LineShape, words}
-use Rattle.event_text.specs.Numbers.{number_of, signed_of}
 use Rattle.event_text.specs.ScriptText.{setting_text, row_lines, setting_lines}
-use Rattle.event_text.specs.Settings.{FieldForm, HasRows, field_named, setting_at, of_plain, of_element, plain_setting}
-use Rattle.event_text.specs.Settings.{element_setting, setting_of, settings_in_front, past_settings, starting_rows}
+use Rattle.event_text.specs.Settings.{FieldForm, HasRows, field_named, setting_at}
+use Rattle.event_text.specs.Settings.{setting_of, settings_in_front, past_settings, starting_rows}
 use Rattle.event_text.specs.Settings.{after_setting, after_settings}
 use Rattle.event_text.proofs.NumbersAgain.{number_again, signed_again}
 use Rattle.event_text.proofs.PrintedLines.{numbered_lines}

@@ -45,9 +45,9 @@ pub fn script_laws()
     ensures script_again { (code : CodeShape) (bad : ℕ) (start : List (List ℤ)) (events : List Event) →
         IsSoundCode code → IsPrintable code bad start events →
         script_of code (script_text code bad start events) ≡ Ok (record {
-            bad = bad;
-            start = start;
-            events = on_lines (length (front_lines code bad start) + 1) events;
+          bad = bad;
+          start = start;
+          events = on_lines (length (front_lines code bad start) + 1) events;
         }) }
 
     // The bits that are set are those of the hosts that the lines name.
