@@ -1,5 +1,5 @@
 -- Hosts that are driven are driven in one way.
-use Rattle.std.proofs.Common.{◌≡◌, ℕ, zero, suc, ◌<◌, ◌≤◌, List, [], ◌∷◌, length, Some, None, refl, ap}
+use Rattle.std.proofs.Common.{◌≡◌, ℕ, zero, suc, ◌<◌, ◌≤◌, List, [], ◌∷◌, length, map, Some, None, refl, ap}
 use Rattle.std.proofs.Common.{sym, subst, ◌∙◌, arith, ⊎_elim, inl, inr}
 use Rattle.std.specs.Prelude.{◌⊎◌, ℤ}
 use Rattle.std.proofs.lemmas.Bool.{cases_lt}
@@ -15,6 +15,7 @@ use Rattle.front_end.specs.PlacedCode.{code_of}
 use Rattle.simulation.specs.Driven.{IsDriven}
 use Rattle.split_cli.specs.Driven.{DrivesTo, rested, spent}
 use Rattle.front_end.specs.PlacedSources.{PlacedSource}
+use Rattle.event_text.specs.Start.{program_form}
 use Rattle.front_end.specs.Starting.{StartingValues}
 use Rattle.front_end.specs.Verdicts.{VerdictShape, Print}
 use Rattle.front_end.proofs.OneStart.{start_moved, start_once}
@@ -196,8 +197,8 @@ pub drive_once : OneStep → (text : CodeShape → ℕ → WorldShape → List �
 drive_once step text file start most placed first second one two =
     let program = one.0 in
     let report : List (List ℤ) → VerdictShape → Type 0 = λ values. TellsDrive text placed values most in
-    one_due (StartingValues file start program.fields.items) report first second
-    (start_once file start program.fields.items)
+    one_due (StartingValues file start (map program_form program.fields.items)) report first second
+    (start_once file start (map program_form program.fields.items))
     (λ values was. report_once step text placed values most first second) one.2
-    (due_moved (StartingValues file start two.0.fields.items) (StartingValues file start program.fields.items) report
+    (due_moved (StartingValues file start (map program_form two.0.fields.items)) (StartingValues file start (map program_form program.fields.items)) report
     report second (λ end. start_moved file start program two.0 end (one.1 ∙ sym two.1)) (λ values is. is) two.2)

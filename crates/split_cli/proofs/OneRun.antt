@@ -1,5 +1,5 @@
 -- A run of a program from a file of starting values has one report, and programs with the same tree have the same.
-use Rattle.std.proofs.Common.{◌≡◌, ℕ, List, sym, ap, ◌∙◌}
+use Rattle.std.proofs.Common.{◌≡◌, ℕ, List, map, sym, ap, ◌∙◌}
 use Rattle.std.specs.Prelude.{ℤ}
 use Rattle.jif_tree.specs.declared.program.Program.{Program}
 use Rattle.jif_tree.specs.Trees.{ProgramTree, program_tree}
@@ -8,6 +8,7 @@ use Rattle.source_run.specs.declared.plain.RunEnd.TheVariants.{Ended, NotYet}
 use Rattle.source_run.specs.Alike.{RunAlike}
 use Rattle.source_run.specs.Runs.{RunsTo}
 use Rattle.split_cli.specs.PlainRun.{run_report, IsRunReport, DueForRun}
+use Rattle.event_text.specs.Start.{program_form}
 use Rattle.front_end.specs.Starting.{StartingValues}
 use Rattle.front_end.specs.Verdicts.{VerdictShape}
 use Rattle.front_end.proofs.OneStart.{start_moved, start_once}
@@ -53,10 +54,10 @@ pub run_once : RunLaws → (file start : List ℕ) (steps : ℕ) (tree : Program
 run_once laws file start steps tree first second one two =
     let program = one.0 in
     let same : program_tree program ≡ program_tree two.0 = one.1 ∙ sym two.1 in
-    one_due (StartingValues file start program.fields.items) (IsRunReport program steps) first second
-    (start_once file start program.fields.items)
+    one_due (StartingValues file start (map program_form program.fields.items)) (IsRunReport program steps) first second
+    (start_once file start (map program_form program.fields.items))
     (λ values was. report_once laws steps program values first second) one.2
-    (due_moved (StartingValues file start two.0.fields.items) (StartingValues file start program.fields.items)
+    (due_moved (StartingValues file start (map program_form two.0.fields.items)) (StartingValues file start (map program_form program.fields.items))
     (IsRunReport two.0 steps) (IsRunReport program steps) second
     (λ end. start_moved file start program two.0 end same)
     (λ values. report_moved laws steps program two.0 values second same) two.2)

@@ -1,5 +1,5 @@
 -- For a drive of a program in its places something is due, whatever the file of starting values holds and is told.
-use Rattle.std.proofs.Common.{ℕ, ◌≤◌, List, All, length, refl}
+use Rattle.std.proofs.Common.{ℕ, ◌≤◌, List, All, length, map, refl}
 use Rattle.std.specs.Prelude.{ℤ}
 use Rattle.js_base.specs.declared.limits.TheConstants.{HOSTS_BYTES}
 use Rattle.principals.specs.ActsFor.{Declared}
@@ -26,6 +26,7 @@ use Rattle.split_cli.specs.Drive.{first_world, TellsDrive, DueForDriven}
 use Rattle.front_end.specs.PlacedCode.{code_of, program_of}
 use Rattle.front_end.specs.PlacedSources.{PlacedSource, PlacedSources, labelled_source}
 use Rattle.front_end.specs.Stages.{given}
+use Rattle.event_text.specs.Start.{program_form}
 use Rattle.front_end.specs.Starting.{StartingValues}
 use Rattle.front_end.specs.Verdicts.{Print}
 use Rattle.split_cli.proofs.DriveDue.{code_hosts}
@@ -91,8 +92,8 @@ drive_some starts steps laws program hosts placed accepted text file start most 
     let code = code_of placed in
     let sound = sound_code laws program hosts placed accepted in
     let due =
-    some_due (StartingValues file start tree.fields.items) (λ values. TellsDrive text placed values most)
-    (start_some starts file start tree.fields.items)
+    some_due (StartingValues file start (map program_form tree.fields.items)) (λ values. TellsDrive text placed values most)
+    (start_some starts file start (map program_form tree.fields.items))
     (λ values was. report_some steps text placed values most sound
     (laws.start code placed.source.file.hosts 0 values sound (code_hosts placed code refl))) in
     (due.0, (tree, seen.1, due.1))

@@ -6,7 +6,7 @@ use Rattle.js_base.specs.declared.status.Status.TheVariants.{Done}
 use Rattle.front_end.specs.declared.step_counts.TheConstants.{STEPS}
 use Rattle.split_cli.specs.Check.{plan_report}
 use Rattle.front_end.specs.PlacedCode.{cost_of}
-use Rattle.split_cli.specs.Commands.{CommandShape, Check, Run, Replay, Drive, Compare, Split, Make, files_of}
+use Rattle.split_cli.specs.Commands.{CommandShape, Check, Run, Replay, Drive, Compare, Split, Make, files_of, forms}
 use Rattle.split_cli.specs.Compare.{DueForCompare}
 use Rattle.split_cli.specs.Drive.{DueForDrive, drive_text}
 use Rattle.split_cli.specs.Due.{DueForBytes, DueForCommand, absent, loaded, Due, no_words, for_command}
@@ -179,5 +179,5 @@ due_some laws words held =
     ⊎_elim
     (λ asked. let due = command_due laws held asked.0 in
     (due.0, due.1, for_command asked.0 due.0 due.1 asked.1 asked.2 due.2))
-    (λ none. (0, usage, no_words none))
+    (λ none. (0, usage forms, no_words none))
     (words_form words)

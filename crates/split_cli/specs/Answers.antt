@@ -1,14 +1,13 @@
 -- What the top call answers and puts out, by what is due.
-use Rattle.std.specs.Prelude.{ℕ, List}
+use Rattle.std.specs.Prelude.{ℕ, List, codes}
 use Rattle.js_base.specs.declared.status.Status.{Status}
 use Rattle.front_end.specs.Answers as answers
 use Rattle.front_end.specs.Answers.{SinkChange}
 use Rattle.front_end.specs.Loads.{FilesChange}
-use Rattle.front_end.specs.Verdicts.{no_memory_line}
 use Rattle.split_cli.specs.Due.{IsDue, MaySave, OfCommand}
 
 -- The answer is that to what is due, or want of memory. Where memory ran out before anything was due, no more was saved
 -- than the command may save.
 abbrev pub AnswersTo : List (List ℕ) → FilesChange → Status → SinkChange → SinkChange → Type 0
 AnswersTo words files =
-    answers.AnswersTo no_memory_line (OfCommand (λ command. MaySave command files) words files) (IsDue words files)
+    answers.AnswersTo (codes "jifsplit") (OfCommand (λ command. MaySave command files) words files) (IsDue words files)

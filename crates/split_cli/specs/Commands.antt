@@ -2,7 +2,7 @@
 --
 -- A number of steps is part of the command. Words ask for `run` with a number exactly where the last word is how that
 -- number is written, so no clause reads digits.
-use Rattle.std.specs.Prelude.{◌≢◌, ℕ, ◌≤◌, List, [], ◌∷◌, codes, ⊤}
+use Rattle.std.specs.Prelude.{◌≢◌, ℕ, ◌≤◌, List, [], ◌∷◌, ◌++◌, codes, ⊤}
 use Rattle.std.specs.Fmt.{decimal}
 use Rattle.front_end.specs.StepCounts.{IsStepCount}
 use Rattle.split_cli.specs.declared.words.TheConstants.{MADE_STATEMENTS}
@@ -51,6 +51,12 @@ files_of (Drive program hosts start events) = program ∷ hosts ∷ start ∷ []
 files_of (Compare program hosts one other) = program ∷ hosts ∷ one ∷ other ∷ []
 files_of (Split program hosts out) = program ∷ hosts ∷ []
 files_of (Make statements) = []
+
+-- all forms of the words, as they are shown to who asks for no command
+abbrev pub forms : List ℕ
+forms =
+    codes "check P H / split P H OUT / run P H START N / replay P H EVENTS / drive P H START N"
+    ++ codes " / compare P H EVENTS1 EVENTS2 / make N"
 
 -- the words ask for no command
 abbrev pub HaveNoForm : List (List ℕ) → Type 0

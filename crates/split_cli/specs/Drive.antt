@@ -1,10 +1,11 @@
 -- What is due for an accepted program in its places, whose hosts are driven from the starting values of a file.
-use Rattle.std.specs.Prelude.{◌≡◌, ℕ, ℤ, List, ◌∷◌, ◌++◌, codes, length}
+use Rattle.std.specs.Prelude.{◌≡◌, ℕ, ℤ, List, ◌∷◌, ◌++◌, codes, length, map}
 use Rattle.std.specs.Fmt.{decimal}
 use Rattle.js_base.specs.declared.status.Status.{Status}
 use Rattle.jif_tree.specs.declared.program.Program.{Program}
 use Rattle.jif_tree.specs.Trees.{program_tree}
 use Rattle.event_text.specs.declared.event.Event.{Event}
+use Rattle.event_text.specs.Start.{program_form}
 use Rattle.host_code.specs.Code.{CodeShape}
 use Rattle.net_world.specs.World.{WorldShape, world_at_start}
 use Rattle.split_cli.specs.Driven.{DrivesTo}
@@ -50,7 +51,8 @@ abbrev pub DueForDriven : (CodeShape → ℕ → WorldShape → List ℕ) → Li
     VerdictShape → Type 0
 DueForDriven text file start most placed verdict =
     (program : Program) × (program_tree program ≡ placed.source.tree)
-    × DueThen (StartingValues file start program.fields.items) (λ values. TellsDrive text placed values most) verdict
+    × DueThen (StartingValues file start (map program_form program.fields.items))
+    (λ values. TellsDrive text placed values most) verdict
 
 abbrev pub DueForDrive : List ℕ → List ℕ → ℕ → PlacedSource → VerdictShape → Type 0
 DueForDrive = DueForDriven drive_text

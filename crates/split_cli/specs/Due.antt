@@ -3,7 +3,7 @@ use Rattle.std.specs.Prelude.{◌≡◌, ℕ, ◌+◌, ◌⊎◌, List, [], ◌�
 use Rattle.std.specs.List.{AllZip}
 use Rattle.js_base.specs.declared.status.Status.TheVariants.{Done}
 use Rattle.split_cli.specs.Commands.{CommandShape, Check, Run, Replay, Drive, Compare, Split, Make}
-use Rattle.split_cli.specs.Commands.{IsCommand, words_of, files_of, HaveNoForm}
+use Rattle.split_cli.specs.Commands.{IsCommand, words_of, files_of, forms, HaveNoForm}
 use Rattle.front_end.specs.Verdicts.{VerdictShape, Print, usage, no_such_file}
 use Rattle.front_end.specs.Loads.{FilesChange, Told, AreKept, LoadsWell, IsFirstAbsent, IsFileFault}
 use Rattle.split_cli.specs.Saves.{SavesUnder, IsSaved, IsSaveFault}
@@ -89,7 +89,7 @@ MaySave command files = AreKept files
 -- What is due for the words where no load fails, and the number of loads that come before it.
 pub data Due (words : List (List ℕ)) (held : Option (List ℕ → Option (List ℕ))) : ℕ → VerdictShape →
     Type 0 where
-  no_words : HaveNoForm words → Due words held 0 usage
+  no_words : HaveNoForm words → Due words held 0 (usage forms)
   for_command : (command : CommandShape) (number : ℕ) (verdict : VerdictShape) → IsCommand command →
       words ≡ words_of command → DueForCommand held command number verdict → Due words held number verdict
 

@@ -1,5 +1,5 @@
 -- What is due for a run of an accepted program from the starting values of a file.
-use Rattle.std.specs.Prelude.{◌≡◌, ℕ, ℤ, List, [], ◌∷◌, ◌++◌, codes}
+use Rattle.std.specs.Prelude.{◌≡◌, ℕ, ℤ, List, [], ◌∷◌, ◌++◌, codes, map}
 use Rattle.std.specs.Fmt.{decimal}
 use Rattle.js_base.specs.declared.status.Status.{Status}
 use Rattle.js_base.specs.declared.status.Status.TheVariants.{Done, Spent}
@@ -10,6 +10,7 @@ use Rattle.source_run.specs.declared.plain.RunEnd.TheVariants.{Ended, NotYet}
 use Rattle.source_run.specs.Runs.{RunsTo}
 use Rattle.split_cli.specs.Report.{row_line}
 use Rattle.front_end.specs.Stages.{DueThen}
+use Rattle.event_text.specs.Start.{program_form}
 use Rattle.front_end.specs.Starting.{StartingValues}
 use Rattle.front_end.specs.Text.{lines_text}
 use Rattle.front_end.specs.Verdicts.{VerdictShape, Print}
@@ -48,4 +49,4 @@ pub record IsRunReport (program : Program) (steps : ℕ) (values : List (List �
 abbrev pub DueForRun : List ℕ → List ℕ → ℕ → ProgramTree → VerdictShape → Type 0
 DueForRun file start steps tree verdict =
     (program : Program) × (program_tree program ≡ tree)
-    × DueThen (StartingValues file start program.fields.items) (IsRunReport program steps) verdict
+    × DueThen (StartingValues file start (map program_form program.fields.items)) (IsRunReport program steps) verdict

@@ -19,7 +19,7 @@ use crate::following::Seen;
 use crate::message_parts::{is_same_event, is_same_sent};
 use crate::releasing::first_release;
 use event_text::Event;
-use front_end::{PlacedSource, Stop, Verdict, stopped};
+use front_end::{LineCause, PlacedSource, Stop, Verdict, stopped};
 use host_code::{Code, CodeField, Message};
 use jif_tree::{Row, Store};
 use js_base::{HostId, OutOfMemory, Status};
@@ -27,13 +27,13 @@ use net_world::World;
 use std::alloc::Global;
 
 /// Whether the same hosts misbehave in both runs, by a bit for each host.
-pub fn same_misbehave(alloc: Global, one: u16, other: u16) -> Result<(), Stop>
+pub fn same_misbehave(one: u16, other: u16) -> Result<(), Stop>
     ensures { EndsAs (λ _. tt) (SameBits one other) result }
 {
     if one == other {
         Ok(())
     } else {
-        Err(stopped(Verdict::bad_differ(alloc)))
+        Err(Stop::Due(Verdict::bad_differ()))
     }
 }
 
@@ -114,7 +114,9 @@ pub fn same_events(alloc: Global, name: &str, one: &Seen<'_>, other: &Seen<'_>) 
 {
     match going_apart(&one.events, &other.events) {
         None => Ok(()),
-        Some(line) => Err(stopped(Verdict::events_differ(alloc, name, line))),
+        Some(line) => {
+            Err(stopped(Verdict::at_line(alloc, name, line, LineCause::EventsDiffer)))
+        },
     }
 }
 
@@ -138,7 +140,9 @@ pub fn is_prompt(alloc: Global, name: &str, seen: &Seen<'_>) -> Result<(), Stop>
 {
     match seen.late {
         None => Ok(()),
-        Some(line) => Err(stopped(Verdict::not_prompt(alloc, name, line))),
+        Some(line) => {
+            Err(stopped(Verdict::at_line(alloc, name, line, LineCause::NotPrompt)))
+        },
     }
 }
 

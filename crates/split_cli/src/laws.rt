@@ -10,6 +10,7 @@ ghost use Rattle.simulation.specs.Driven.{IsDriven};
 ghost use Rattle.split_shades.specs.Sites.{ReleasesNothing};
 ghost use Rattle.front_end.specs.Verdicts.{VerdictShape, usage, no_such_file};
 ghost use Rattle.front_end.specs.Loads.{FilesChange};
+ghost use Rattle.split_cli.specs.Commands.{forms};
 ghost use Rattle.split_cli.specs.Due.{Due, IsDue};
 ghost use Rattle.split_cli.specs.MadePrograms.{made_head, made_program};
 ghost use Rattle.split_cli.specs.Releases.{program_releases};
@@ -46,7 +47,7 @@ pub fn due_laws()
 
     // Worked: no words are due the usage line after no load. Where no file is held, a check is due the line that its
     // program is absent, after one load.
-    ensures worked_no_words { (held : Option (List ℕ → Option (List ℕ))) → Due [] held 0 usage }
+    ensures worked_no_words { (held : Option (List ℕ → Option (List ℕ))) → Due [] held 0 (usage forms) }
     ensures worked_absent { Due (codes "check" ∷ codes "P" ∷ codes "H" ∷ []) (Some (λ name. None)) 1
         (no_such_file (codes "P")) }
 

@@ -16,7 +16,7 @@ ghost use Rattle.net_world.specs.Replay.{IsReplayError};
 ghost use Rattle.split_cli.specs.Replay.{AreRefused, EventsHappen, ScriptRead};
 
 use event_text::{Event, EventsError, Script, read_events};
-use front_end::{Loaded, PlacedSource, Stop, Verdict, stopped};
+use front_end::{LineCause, Loaded, PlacedSource, Stop, Verdict, stopped};
 use host_code::Code;
 use js_base::OutOfMemory;
 use net_world::laws::fits_laws;
@@ -37,7 +37,9 @@ pub fn read_script(alloc: Global, name: &str, code: &Code, script: &Loaded) -> R
     };
     match read_events(alloc, code, bytes) {
         Ok(said) => Ok(said),
-        Err(EventsError::BadLine(line)) => Err(stopped(Verdict::no_form(alloc, name, line))),
+        Err(EventsError::BadLine(line)) => {
+            Err(stopped(Verdict::at_line(alloc, name, line, LineCause::NoForm)))
+        },
         Err(EventsError::TooLong) => Err(stopped(Verdict::too_long(alloc, name))),
         Err(EventsError::OutOfMemory) => Err(Stop::OutOfMemory),
     }
@@ -94,11 +96,18 @@ pub fn events_refused(alloc: Global, name: &str, error: ReplayError) -> Stop
         IsReplayError code world said error → StopsWith (AreRefused name.now code world said) result }
 {
     match error {
-        ReplayError::NotThere(line) => stopped(Verdict::not_there(alloc, name, line)),
-        ReplayError::HostBusy(line) => stopped(Verdict::host_busy(alloc, name, line)),
-        ReplayError::NotBad(line) => stopped(Verdict::not_misbehaving(alloc, name, line)),
+        ReplayError::NotThere(line) => {
+            stopped(Verdict::at_line(alloc, name, line, LineCause::NotThere))
+        }
+        ReplayError::HostBusy(line) => {
+            stopped(Verdict::at_line(alloc, name, line, LineCause::HostBusy))
+        }
+        ReplayError::NotBad(line) => {
+            stopped(Verdict::at_line(alloc, name, line, LineCause::NotMisbehaving))
+        }
         ReplayError::NoSuchToken(line, number, count) => {
-            stopped(Verdict::no_such_token(alloc, name, line, number, count))
+            let why = LineCause::NoSuchToken { number, count };
+            stopped(Verdict::at_line(alloc, name, line, why))
         }
         ReplayError::OutOfMemory => Stop::OutOfMemory,
     }

@@ -41,6 +41,17 @@ use simulation::{ending_laws, obeying_laws};
 use split_rules::{asking_laws, split_laws};
 use std::alloc::Global;
 
+/// The program's name, which stands in front of its lines on the error output.
+const PROGRAM: &str = "jifsplit";
+
+/// The line that says that memory ran out.
+const NO_MEMORY: &str = "jifsplit: no memory\n";
+
+/// All forms of the words.
+const FORMS: &str =
+    "check P H / split P H OUT / run P H START N / replay P H EVENTS / drive P H START N / \
+    compare P H EVENTS1 EVENTS2 / make N";
+
 /// Runs `jifsplit` on the words after its name.
 ///
 /// It answers `Done` where the report of the command was put on `out`, `Spent` where it was put for a run that its
@@ -127,7 +138,7 @@ pub fn jifsplit<F: Files, S: Sink, E: Sink>(
     integrity_laws();
     due_laws();
     let found = due(alloc, words, files);
-    answer(alloc, found, "jifsplit: no memory\n", out, err)
+    answer(alloc, PROGRAM, NO_MEMORY, found, out, err)
 }
 
 /// What is due for the words.
@@ -144,7 +155,7 @@ fn due<F: Files>(alloc: Global, words: &[String], files: &mut F) -> Result<Verdi
 {
     match command_of(words) {
         Some(asked) => due_for(alloc, &asked, files),
-        None => Verdict::usage(alloc),
+        None => Verdict::usage(alloc, FORMS),
     }
 }
 

@@ -92,7 +92,7 @@ fn due_for_said(
     let run = follow(alloc, name, code, world, one.events())?;
     let other_world = first_world(alloc, placed, code, other)?;
     let other_run = follow(alloc, other_name, code, other_world, other.events())?;
-    same_misbehave(alloc, one.bad(), other.bad())?;
+    same_misbehave(one.bad(), other.bad())?;
     same_starts(alloc, unlike)?;
     same_events(alloc, name, &run.seen, &other_run.seen)?;
     is_prompt(alloc, name, &run.seen)?;

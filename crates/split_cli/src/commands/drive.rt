@@ -63,7 +63,7 @@ fn due_for_loaded(
 {
     let placed = read_places(alloc, program, hosts)?;
     let source = &placed.source;
-    let store = starting_values(alloc, name, start, &source.checked.program)?;
+    let store = starting_values(alloc, name, start, &source.checked.program.fields)?;
     Ok(driven(alloc, &placed, &store, most)?)
 }
 

@@ -50,7 +50,7 @@ fn due_for_made(
     let placed = read_places(alloc, program, hosts)?;
     let source = &placed.source;
     let start = as_loaded(String::new(alloc), SCRIPT_BYTES);
-    let store = starting_values(alloc, "", &start, &source.checked.program)?;
+    let store = starting_values(alloc, "", &start, &source.checked.program.fields)?;
     Ok(driven(alloc, statements, &placed, &store)?)
 }
 

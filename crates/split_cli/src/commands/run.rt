@@ -59,7 +59,7 @@ fn due_for_loaded(
 {
     let source = read_sources(alloc, program, hosts)?;
     let program = &source.checked.program;
-    let store = starting_values(alloc, name, start, program)?;
+    let store = starting_values(alloc, name, start, &program.fields)?;
     Ok(run_from(alloc, program, store, steps)?)
 }
 

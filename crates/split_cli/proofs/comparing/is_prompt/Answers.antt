@@ -12,6 +12,6 @@ pub returns-in-Some : goal.returns-in-Some
 returns-in-Some c = λ last.
     premise_stops (c.args.seen.now.late ≡ None)
     (λ verdict. (line : ℕ) × (c.args.seen.now.late ≡ Some line) × (verdict ≡ not_prompt c.args.name.now line))
-    c.not_prompt.result c.stopped.result
-    (IfOk-weaker c.not_prompt.result _ _ (λ verdict is. (c.in-Some.line, c.in-Some.is, is)) c.not_prompt.ensures)
+    c.at_line.result c.stopped.result
+    (IfOk-weaker c.at_line.result _ _ (λ verdict is. (c.in-Some.line, c.in-Some.is, is)) c.at_line.ensures)
     c.stopped.ensures

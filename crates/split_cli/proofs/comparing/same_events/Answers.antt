@@ -17,11 +17,11 @@ returns-in-Some c = λ last last_too.
     let other = (run_with c.args.other.now last_too).seen in
     premise_stops (AreAlike (events_in one) (events_in other))
     (λ verdict. (line : ℕ) × GoApart one other line × (verdict ≡ events_differ c.args.name.now line))
-    c.events_differ.result c.stopped.result
-    (IfOk-weaker c.events_differ.result _ _ (λ verdict is. (
+    c.at_line.result c.stopped.result
+    (IfOk-weaker c.at_line.result _ _ (λ verdict is. (
       c.in-Some.line,
       rw (c.deref.ensures.value, c.deref-2.ensures.value) at c.in-Some.ensures,
       is,
     ))
-    c.events_differ.ensures)
+    c.at_line.ensures)
     c.stopped.ensures

@@ -26,11 +26,11 @@ returns-in-Ok-clause-read c = λ e loaded.
 pub returns-in-Err-BadLine-clause-read : goal.returns-in-Err-BadLine-clause-read
 returns-in-Err-BadLine-clause-read c = λ e loaded.
     let Stops : VerdictShape → Type 0 = λ verdict. ScriptRead c.args.name.now e c.args.code.now (stopped verdict) in
-    stopped_with Stops c.no_form.result c.stopped-in-Err-BadLine.result
-    (IfOk-weaker c.no_form.result _ _ (λ verdict is.
+    stopped_with Stops c.at_line.result c.stopped-in-Err-BadLine.result
+    (IfOk-weaker c.at_line.result _ _ (λ verdict is.
     subst Stops (sym is) (script_has_bad_line c.args.name.now e c.deref.result.now c.args.code.now
     c.in-Err-BadLine.line
     (are_bytes e c.deref.result.now c.args.script.now c.in-Bytes.bytes c.in-Bytes.is c.deref.ensures.value loaded)
     (rw c.in-Err-BadLine.field-0-is at c.in-Err-BadLine.ensures.answer).1))
-    c.no_form.ensures)
+    c.at_line.ensures)
     c.stopped-in-Err-BadLine.ensures

@@ -1,11 +1,13 @@
-use Rattle.std.proofs.Common.{[], ◌∙◌, ap, inl, inr}
+use Rattle.std.proofs.Common.{[], ◌∙◌, ap, subst, inl, inr, List, map}
+use Rattle.jif_tree.specs.declared.program.Field.{Field}
 use Rattle.jif_tree.specs.Trees.{program_tree}
+use Rattle.event_text.specs.Start.{program_form}
 use Rattle.split_cli.specs.MadePrograms.{made_hosts, made_program}
 use Rattle.split_cli.specs.Making.{DueForMade, DueForMake}
 use Rattle.front_end.specs.PlacedShapes.{PlacedModel, placed_shape}
 use Rattle.front_end.specs.PlacedSources.{PlacedSources}
 use Rattle.front_end.specs.SourceShapes.{SourceModel}
-use Rattle.front_end.specs.Stages.{stopped}
+use Rattle.front_end.specs.Stages.{given, stopped}
 use Rattle.front_end.specs.Starting.{StartingValues}
 use Rattle.front_end.proofs.Stages.{due_handed_on, due_stops, memory_ran_out, stops_weaker}
 use Rattle.split_cli.proofs.commands.make.due_for_made.Goals as goal
@@ -25,12 +27,17 @@ returns-in_err-store c =
     ∙ ap (λ (placed : PlacedModel). program_tree placed.source.checked.program) c.placed.view_is in
     due_handed_on (DueForMake c.args.statements) c.in_err-store.field-0.0 c.from_residual-in_err-store.result
     c.from_residual-in_err-store.ensures
-    (stops_weaker (λ verdict. StartingValues [] [] program.fields.items (stopped verdict))
+    (stops_weaker (λ verdict. StartingValues [] [] (map program_form c.deref.result.now) (stopped verdict))
     (DueForMake c.args.statements) c.in_err-store.field-0.0
     (λ verdict stops. inl (
       placed_shape c.in_ok-placed.placed,
       c.in_ok-placed.ensures (made_program c.args.statements) made_hosts c.requires.program c.requires.hosts,
-      (program, tree, inr stops),
+      (
+        program,
+        tree,
+        inr (subst (λ (fields : List Field).
+            StartingValues [] [] (map program_form fields) (stopped verdict)) c.deref.ensures.value stops),
+      ),
     ))
     (c.in_err-store.ensures [] (rw c.new.ensures.bytes at c.as_loaded-start.ensures)))
 
@@ -50,7 +57,9 @@ returns c =
             ∙ ap (λ (placed : PlacedModel). program_tree placed.source.checked.program) c.placed.view_is,
         inl (
           c.in_ok-store.store,
-          c.in_ok-store.ensures [] (rw c.new.ensures.bytes at c.as_loaded-start.ensures),
+          subst (λ (fields : List Field).
+            StartingValues [] [] (map program_form fields) (given c.in_ok-store.store)) c.deref.ensures.value
+            (c.in_ok-store.ensures [] (rw c.new.ensures.bytes at c.as_loaded-start.ensures)),
           c.in_ok-driven.ensures,
         ),
       ),

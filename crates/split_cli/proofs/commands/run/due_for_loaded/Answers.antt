@@ -1,11 +1,13 @@
-use Rattle.std.proofs.Common.{[], ◌∷◌, ap, inl, inr}
+use Rattle.std.proofs.Common.{[], ◌∷◌, ap, subst, inl, inr, List, map}
+use Rattle.jif_tree.specs.declared.program.Field.{Field}
 use Rattle.jif_tree.specs.Trees.{program_tree}
+use Rattle.event_text.specs.Start.{program_form}
 use Rattle.split_cli.specs.Commands.{Run}
 use Rattle.split_cli.specs.Due.{DueForBytes}
 use Rattle.split_cli.specs.PlainRun.{DueForRun}
 use Rattle.front_end.specs.SourceShapes.{SourceModel, source_shape}
 use Rattle.front_end.specs.Sources.{Source, Sources}
-use Rattle.front_end.specs.Stages.{stopped}
+use Rattle.front_end.specs.Stages.{given, stopped}
 use Rattle.front_end.specs.Starting.{StartingValues}
 use Rattle.front_end.proofs.Stages.{due_handed_on, due_stops, memory_ran_out, stops_weaker}
 use Rattle.split_cli.proofs.commands.run.due_for_loaded.Goals as goal
@@ -23,12 +25,17 @@ returns-in_err-store c = λ names others p h s loaded_p loaded_h loaded_s.
     let tree = ap (λ (source : SourceModel). program_tree source.checked.program) c.source.view_is in
     due_handed_on (DueForBytes (Run names others c.args.name.now c.args.steps) (p ∷ h ∷ s ∷ []))
     c.in_err-store.field-0.0 c.from_residual-in_err-store.result c.from_residual-in_err-store.ensures
-    (stops_weaker (λ verdict. StartingValues c.args.name.now s program.fields.items (stopped verdict))
+    (stops_weaker (λ verdict. StartingValues c.args.name.now s (map program_form c.deref.result.now) (stopped verdict))
     (DueForBytes (Run names others c.args.name.now c.args.steps) (p ∷ h ∷ s ∷ [])) c.in_err-store.field-0.0
     (λ verdict stops. inl (
       source_shape c.in_ok-source.source,
       c.in_ok-source.ensures p h loaded_p loaded_h,
-      (program, tree, inr stops),
+      (
+        program,
+        tree,
+        inr (subst (λ (fields : List Field).
+            StartingValues c.args.name.now s (map program_form fields) (stopped verdict)) c.deref.ensures.value stops),
+      ),
     ))
     (c.in_err-store.ensures s loaded_s))
 
@@ -45,6 +52,8 @@ returns c = λ names others p h s loaded_p loaded_h loaded_s.
       (
         c.source.inside.checked.program,
         ap (λ (source : SourceModel). program_tree source.checked.program) c.source.view_is,
-        inl (c.in_ok-store.store, c.in_ok-store.ensures s loaded_s, c.in_ok-run_from.ensures),
+        inl (c.in_ok-store.store, subst (λ (fields : List Field).
+            StartingValues c.args.name.now s (map program_form fields) (given c.in_ok-store.store)) c.deref.ensures.value
+            (c.in_ok-store.ensures s loaded_s), c.in_ok-run_from.ensures),
       ),
     )
